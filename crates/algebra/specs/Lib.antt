@@ -1,0 +1,2 @@
+pub mod CommRing
+pub mod Sum
