@@ -1,2 +1,3 @@
 pub mod Remainder
 pub mod Bridge
+pub mod Identities
