@@ -1,3 +1,4 @@
 pub mod Remainder
 pub mod Bridge
 pub mod Identities
+pub mod Sums
