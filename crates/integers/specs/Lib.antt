@@ -3,3 +3,5 @@ pub mod Bridge
 pub mod Identities
 pub mod Sums
 pub mod Lists
+pub mod Over
+pub mod Flat
