@@ -143,7 +143,7 @@ sub-parts : (a b : ℕ) (t : Bool) → ltb a b ≡ t
 sub-parts a b true e = omega (arith, ltb-true a b e)
 sub-parts a b false e = omega (arith, ltb-false a b e)
 
-subℕ-pn : (a b : ℕ) → P (subℕ a b) + b ≡ N (subℕ a b) + a
+pub subℕ-pn : (a b : ℕ) → P (subℕ a b) + b ≡ N (subℕ a b) + a
 subℕ-pn a b = sub-parts a b (ltb a b) refl
 
 pub add-pn : (x y : ℤ) → P (x +ℤ y) + (N x + N y) ≡ N (x +ℤ y) + (P x + P y)

@@ -5,3 +5,4 @@ pub mod Sums
 pub mod Lists
 pub mod Over
 pub mod Flat
+pub mod Difference
