@@ -42,6 +42,10 @@ module _ (𝓡 : CommRing) where
   pub add-left-comm : (a b c : Carrier) → a ⊕ (b ⊕ c) ≡ b ⊕ (a ⊕ c)
   add-left-comm a b c = rw (← add-assoc a b c, add-comm a b) (add-assoc b a c)
 
+  -- two sums added, first with first and second with second
+  pub add-interchange : (a b c d : Carrier) → a ⊕ b ⊕ (c ⊕ d) ≡ a ⊕ c ⊕ (b ⊕ d)
+  add-interchange a b c d = rw (add-assoc a b (c ⊕ d), add-left-comm b c d, ← add-assoc a c (b ⊕ d))
+
   pub mul-left-comm : (a b c : Carrier) → a ⊗ (b ⊗ c) ≡ b ⊗ (a ⊗ c)
   mul-left-comm a b c = rw (← mul-assoc a b c, mul-comm a b) (mul-assoc b a c)
 
