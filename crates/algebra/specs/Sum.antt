@@ -99,9 +99,9 @@ module _ (𝓡 : CommRing) where
   unfolding sum
   sum-reverse zero f = refl
   sum-reverse (suc n) f =
-      let last : suc n - 1 - n ≡ 0 = omega arith in
+      let last : 0 ≡ suc n - 1 - n = omega arith in
       let shift : (i : ℕ) → i < n → suc (n - 1 - i) ≡ suc n - 1 - i = λ i l. omega arith in
+      let rest : sum n (λ i. f (suc (n - 1 - i))) ≡ sum n (λ i. f (suc n - 1 - i)) = sum-cong n _ _ (λ i l. ap f (shift i l)) in
       sum-first n f
       ∙ add-comm (f 0) (sum n (λ i. f (suc i)))
-      ∙ ap₂ _⊕_ (sum-reverse n (λ i. f (suc i)) ∙ sum-cong n (λ i. f (suc (n - 1 - i))) (λ i. f (suc n - 1 - i)) (λ i l. ap f (shift i l)))
-      (ap f (sym last))
+      ∙ ap₂ _⊕_ (sum-reverse n (λ i. f (suc i)) ∙ rest) (ap f last)
