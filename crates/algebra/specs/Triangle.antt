@@ -4,7 +4,7 @@
 --   rows r f     the sum of f i j over i ≤ j < r, row after row
 --   pair r i j   the place of the pair (i, j) in the order of rows, from 0 to pairs-count r - 1
 use Prim.Native.Nat.{ℕ, zero, suc, _+_, _-_, _*_, _≤_, _<_}
-use mathlib.Core.Path.{_≡_, refl, sym, ap, ap₂, _∙_}
+use mathlib.Core.Path.{_≡_, refl, sym, ap, _∙_}
 use mathlib.Core.Logic.{_⊎_, inl, inr}
 use native.Mathlib.Nat.{le-refl, eq-or-lt-of-le, sub-self, add-sub-cancel-left}
 use native.Mathlib.Omega.{arith}
