@@ -1,2 +1,6 @@
 pub mod CommRing
 pub mod Sum
+pub mod Triangle
+pub mod NormalForm
+pub mod Solver
+mod SolverExamples
