@@ -1,2 +1,3 @@
 pub mod CommRing
+pub mod Residue
 pub mod Sum

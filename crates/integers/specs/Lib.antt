@@ -1,1 +1,2 @@
 pub mod Remainder
+pub mod RemainderLaws
