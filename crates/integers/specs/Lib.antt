@@ -1,2 +1,5 @@
+pub mod Bridge
+pub mod CentreLaws
+pub mod MachineDivision
 pub mod Remainder
 pub mod RemainderLaws
