@@ -141,3 +141,13 @@ module _ (m : ℕ) (m>0 : 0 < m) where
   pub emod-mul : (x y : ℤ) → emod (x *ℤ y) m ≡ (emod x m * emod y m) % m
   emod-mul x y = emod-mul-left x y ∙ ap (λ t. emod t m) (*ℤ-comm (pos (emod x m)) y) ∙ emod-mul-left y (pos (emod x m))
       ∙ emod-pos (emod y m * emod x m) ∙ ap (λ t. t % m) (mul-comm (emod y m) (emod x m))
+
+  -- sums and products of congruent numbers are congruent
+  pub emod-add-cong : (a b x y : ℤ) → emod a m ≡ emod x m → emod b m ≡ emod y m → emod (a +ℤ b) m ≡ emod (x +ℤ y) m
+  emod-add-cong a b x y e f = rw (emod-add a b, emod-add x y, e, f)
+
+  pub emod-mul-cong : (a b x y : ℤ) → emod a m ≡ emod x m → emod b m ≡ emod y m → emod (a *ℤ b) m ≡ emod (x *ℤ y) m
+  emod-mul-cong a b x y e f = rw (emod-mul a b, emod-mul x y, e, f)
+
+  pub emod-neg-cong : (a x : ℤ) → emod a m ≡ emod x m → emod (negℤ a) m ≡ emod (negℤ x) m
+  emod-neg-cong a x e = rw (emod-neg a, emod-neg x, e)
