@@ -1,3 +1,4 @@
 pub mod CommRing
+pub mod Integers
 pub mod Residue
 pub mod Sum

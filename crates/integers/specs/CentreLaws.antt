@@ -1,7 +1,7 @@
 -- Laws of the centred remainder `centre m z`: its range, that it is congruent to z, that it is the only such number, and that it is
 -- never longer than z.
 use mathlib.Core.Path.{_≡_, refl, sym, ap, _∙_}
-use Prim.Native.Nat.{ℕ, _+_, _-_, _*_, _/_, _%_, _≤_, _<_}
+use Prim.Native.Nat.{ℕ, _+_, _-_, _/_, _%_, _≤_, _<_}
 use native.Mathlib.Decide.{decLt, decLe}
 use native.Mathlib.Nat.{mod-eq-of-lt}
 use native.Mathlib.Omega.{arith}
@@ -9,7 +9,8 @@ use lib.IntN.{ℤ, pos, negℤ, natAbs, _+ℤ_, _-ℤ_, _*ℤ_}
 use lib.Signed.{_≤ℤ_, _<ℤ_}
 use Rattle.integers.specs.Bridge.{P, N, pn-min, natAbs-pn, add-pn, neg-pn, sub-pn, mul-pn, zarith}
 use Rattle.integers.specs.Remainder.{emod, ediv, centre}
-use Rattle.integers.specs.RemainderLaws.{emod-lt, emod-pos, emod-add, emod-eq, emod-add-cong, emod-mul-cong, emod-neg-cong, division-pn}
+use Rattle.integers.specs.RemainderLaws.{emod-lt, emod-pos, emod-add, emod-eq, division-pn}
+use Rattle.integers.specs.RemainderLaws.{emod-add-cong, emod-mul-cong, emod-neg-cong}
 
 -- the range of a centred remainder: -m ≤ 2c < m, in the parts of c, so that omega reads it
 pub record Centred (m : ℕ) (c : ℤ) : Type 0 where
