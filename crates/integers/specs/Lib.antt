@@ -5,3 +5,6 @@ pub mod MachineDivision
 pub mod Remainder
 pub mod RemainderLaws
 pub mod Sums
+pub mod Lists
+pub mod Over
+pub mod Flat
