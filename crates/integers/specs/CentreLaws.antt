@@ -1,7 +1,7 @@
 -- Laws of the centred remainder `centre m z`: its range, that it is congruent to z, that it is the only such number, and that it is
 -- never longer than z.
 use mathlib.Core.Path.{_≡_, refl, sym, ap, _∙_}
-use Prim.Native.Nat.{ℕ, _+_, _-_, _/_, _%_, _≤_, _<_}
+use Prim.Native.Nat.{ℕ, _-_, _/_, _%_, _≤_, _<_}
 use native.Mathlib.Decide.{decLt, decLe}
 use native.Mathlib.Nat.{mod-eq-of-lt}
 use native.Mathlib.Omega.{arith}
@@ -36,12 +36,9 @@ module _ (m : ℕ) (m>0 : 0 < m) where
   pub centre-range : (z : ℤ) → Centred m (centre m z)
   unfolding centre
   centre-range z =
-      let x : ℤ = z +ℤ pos (m / 2) in
-      let d : P (pos (emod x m) -ℤ pos (m / 2)) + (m / 2) ≡ N (pos (emod x m) -ℤ pos (m / 2)) + emod x m =
-      omega (arith, sub-pn (pos (emod x m)) (pos (m / 2))) in
-      let s = pn-min (pos (emod x m) -ℤ pos (m / 2)) in
-      let h = emod-lt m m>0 x in
-      record { low = omega arith; high = omega arith }
+      let e : ℕ = emod (z +ℤ pos (m / 2)) m in
+      let l : e < m = emod-lt m m>0 (z +ℤ pos (m / 2)) in
+      omega (arith, sub-pn (pos e) (pos (m / 2)), pn-min (pos e -ℤ pos (m / 2)))
 
   pub centre-low : (z : ℤ) → negℤ (pos (m / 2)) ≤ℤ centre m z
   centre-low z = omega (zarith, centre-range z .low, neg-pn (pos (m / 2)))
