@@ -1,3 +1,4 @@
 pub mod CommRing
 pub mod Sum
 pub mod Vec
+pub mod Negacyclic
