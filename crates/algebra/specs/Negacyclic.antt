@@ -97,3 +97,121 @@ module _ (𝓚 : CommRing) where
   pub coeff-timesX-suc : {d : ℕ} (u : Vec K d) (k : ℕ) → suc k < d → coeff (timesX u) (suc k) ≡ coeff u k
   unfolding timesX
   coeff-timesX-suc {d} u k h = coeff-shift-suc (⊖ coeff u (d - 1)) u k h
+
+  -- addition and scaling, by coefficients
+  pub plus-assoc : {d : ℕ} (u v w : Vec K d) → plus (plus u v) w ≡ plus u (plus v w)
+  plus-assoc u v w = ext 𝟘 _ _ (λ k h. simp (coeff-add, add-assoc))
+
+  pub plus-comm : {d : ℕ} (u v : Vec K d) → plus u v ≡ plus v u
+  plus-comm u v = ext 𝟘 _ _ (λ k h. simp coeff-add (add-comm _ _))
+
+  pub plus-zero : {d : ℕ} (u : Vec K d) → plus u (zeros d) ≡ u
+  plus-zero u = ext 𝟘 _ _ (λ k h. simp (coeff-add, coeff-zero, add-zero))
+
+  pub plus-negate : {d : ℕ} (u : Vec K d) → plus u (negate u) ≡ zeros d
+  plus-negate u = ext 𝟘 _ _ (λ k h. simp (coeff-add, coeff-neg, coeff-zero, add-neg))
+
+  plus-interchange : {d : ℕ} (u v w x : Vec K d) → plus (plus u v) (plus w x) ≡ plus (plus u w) (plus v x)
+  plus-interchange u v w x = ext 𝟘 _ _ (λ k h. simp coeff-add (add-interchange 𝓚 _ _ _ _))
+
+  scale-plus : {d : ℕ} (c : K) (u v : Vec K d) → scale c (plus u v) ≡ plus (scale c u) (scale c v)
+  scale-plus c u v = ext 𝟘 _ _ (λ k h. simp (coeff-scale, coeff-add, mul-add))
+
+  scale-scale : {d : ℕ} (b c : K) (u : Vec K d) → scale b (scale c u) ≡ scale c (scale b u)
+  scale-scale b c u = ext 𝟘 _ _ (λ k h. simp coeff-scale (mul-left-comm 𝓚 b c _))
+
+  scale-zero : {d : ℕ} (u : Vec K d) → scale 𝟘 u ≡ zeros d
+  scale-zero u = ext 𝟘 _ _ (λ k h. simp (coeff-scale, coeff-zero, zero-mul))
+
+  -- X · is a linear map
+  timesX-plus : {d : ℕ} (u v : Vec K d) → timesX (plus u v) ≡ plus (timesX u) (timesX v)
+  timesX-plus {d} u v = ext 𝟘 _ _ entry
+    where
+      entry : (k : ℕ) → k < d → coeff (timesX (plus u v)) k ≡ coeff (plus (timesX u) (timesX v)) k
+      entry zero h = simp (coeff-add, coeff-timesX-zero, neg-distrib)
+      entry (suc k) h = simp (coeff-add, coeff-timesX-suc)
+
+  timesX-scale : {d : ℕ} (c : K) (u : Vec K d) → timesX (scale c u) ≡ scale c (timesX u)
+  timesX-scale {d} c u = ext 𝟘 _ _ entry
+    where
+      entry : (k : ℕ) → k < d → coeff (timesX (scale c u)) k ≡ coeff (scale c (timesX u)) k
+      entry zero h = simp (coeff-scale, coeff-timesX-zero, mul-neg)
+      entry (suc k) h = simp (coeff-scale, coeff-timesX-suc)
+
+  -- a linear map that commutes with X
+  record Linear {d : ℕ} (f : Vec K d → Vec K d) : Type 0 where
+    plus-law : (v w : Vec K d) → f (plus v w) ≡ plus (f v) (f w)
+    scale-law : (c : K) (v : Vec K d) → f (scale c v) ≡ scale c (f v)
+    timesX-law : (v : Vec K d) → f (timesX v) ≡ timesX (f v)
+
+  Linear-zero : {d : ℕ} {f : Vec K d → Vec K d} → Linear f → f (zeros d) ≡ zeros d
+  Linear-zero {d} {f} l = ap f (sym (scale-zero (zeros d))) ∙ l .scale-law 𝟘 (zeros d) ∙ scale-zero (f (zeros d))
+
+  -- it commutes with every product
+  Linear-times : {n d : ℕ} {f : Vec K d → Vec K d} → Linear f → (u : Vec K n) (v : Vec K d) → f (times u v) ≡ times u (f v)
+  unfolding times
+  Linear-times l nil v = Linear-zero l
+  Linear-times l (cons a u) v = rw (l .plus-law, l .scale-law, l .timesX-law, Linear-times l u v)
+
+  timesX-linear : {d : ℕ} → Linear {d = d} timesX
+  timesX-linear = record { plus-law = timesX-plus; scale-law = timesX-scale; timesX-law = λ v. refl }
+
+  scale-linear : {d : ℕ} (c : K) → Linear {d = d} (scale c)
+  scale-linear c = record { plus-law = scale-plus c; scale-law = scale-scale c; timesX-law = λ v. sym (timesX-scale c v) }
+
+  pub times-plus : {n d : ℕ} (u : Vec K n) (v w : Vec K d) → times u (plus v w) ≡ plus (times u v) (times u w)
+  unfolding times
+  times-plus nil v w = sym (plus-zero _)
+  times-plus (cons a u) v w = rw (times-plus u v w, scale-plus, timesX-plus) (plus-interchange _ _ _ _)
+
+  times-linear : {n d : ℕ} (u : Vec K n) → Linear {d = d} (times u)
+  times-linear u =
+      record {
+        plus-law = times-plus u;
+        scale-law = λ c v. sym (Linear-times (scale-linear c) u v);
+        timesX-law = λ v. sym (Linear-times timesX-linear u v);
+      }
+
+  times-left-comm : {m n d : ℕ} (u : Vec K m) (v : Vec K n) (w : Vec K d) → times u (times v w) ≡ times v (times u w)
+  times-left-comm u v w = Linear-times (times-linear u) v w
+
+  -- u · 1 = u, also for a polynomial u of lower degree
+  coeff-times-one : {n d : ℕ} (u : Vec K n) → n ≤ d → (k : ℕ) → k < d → coeff (times u (constant d 𝟙)) k ≡ coeff u k
+  unfolding at times
+  coeff-times-one {d = d} nil l k h = coeff-zero d k
+  coeff-times-one {d = d} (cons a u) l zero h =
+      let past : coeff (times u (constant d 𝟙)) (d - 1) ≡ 𝟘 =
+      coeff-times-one u (omega arith) (d - 1) (omega arith) ∙ at-past 𝟘 u (omega arith) in
+      simp (coeff-add, coeff-scale, coeff-constant, coeff-timesX-zero, past, neg-zero, mul-one, add-zero)
+  coeff-times-one {d = d} (cons a u) l (suc k) h =
+      let below : coeff (times u (constant d 𝟙)) k ≡ coeff u k = coeff-times-one u (omega arith) k (omega arith) in
+      simp (coeff-add, coeff-scale, coeff-constant-suc, coeff-timesX-suc, below, mul-zero, zero-add)
+
+  pub times-one : {d : ℕ} (u : Vec K d) → times u (constant d 𝟙) ≡ u
+  times-one u = ext 𝟘 _ _ (coeff-times-one u (omega arith))
+
+  pub times-comm : {d : ℕ} (u v : Vec K d) → times u v ≡ times v u
+  times-comm u v = ap (times u) (sym (times-one v)) ∙ times-left-comm u v _ ∙ ap (times v) (times-one u)
+
+  pub times-assoc : {d : ℕ} (u v w : Vec K d) → times (times u v) w ≡ times u (times v w)
+  times-assoc u v w = times-comm (times u v) w ∙ times-left-comm w u v ∙ ap (times u) (times-comm w v)
+
+abbrev pub Negacyclic : CommRing → ℕ → CommRing
+Negacyclic 𝓚 d =
+    record {
+      Carrier = Vec (𝓚 .Carrier) d;
+      isSet = Vec-set (𝓚 .isSet);
+      zero = zeros 𝓚 d;
+      one = constant 𝓚 d (𝓚 .one);
+      add = plus 𝓚;
+      mul = times 𝓚;
+      neg = negate 𝓚;
+      add-assoc = plus-assoc 𝓚;
+      add-comm = plus-comm 𝓚;
+      add-zero = plus-zero 𝓚;
+      add-neg = plus-negate 𝓚;
+      mul-assoc = times-assoc 𝓚;
+      mul-comm = times-comm 𝓚;
+      mul-one = times-one 𝓚;
+      mul-add = times-plus 𝓚;
+    }
