@@ -2,3 +2,6 @@ pub mod CommRing
 pub mod Sum
 pub mod Vec
 pub mod Negacyclic
+pub mod Convolution
+pub mod Constant
+pub mod Conjugation

@@ -139,16 +139,16 @@ module _ (𝓚 : CommRing) where
       entry (suc k) h = simp (coeff-scale, coeff-timesX-suc)
 
   -- a linear map that commutes with X
-  record Linear {d : ℕ} (f : Vec K d → Vec K d) : Type 0 where
-    plus-law : (v w : Vec K d) → f (plus v w) ≡ plus (f v) (f w)
-    scale-law : (c : K) (v : Vec K d) → f (scale c v) ≡ scale c (f v)
-    timesX-law : (v : Vec K d) → f (timesX v) ≡ timesX (f v)
+  pub record Linear {d : ℕ} (f : Vec K d → Vec K d) : Type 0 where
+    pub plus-law : (v w : Vec K d) → f (plus v w) ≡ plus (f v) (f w)
+    pub scale-law : (c : K) (v : Vec K d) → f (scale c v) ≡ scale c (f v)
+    pub timesX-law : (v : Vec K d) → f (timesX v) ≡ timesX (f v)
 
   Linear-zero : {d : ℕ} {f : Vec K d → Vec K d} → Linear f → f (zeros d) ≡ zeros d
   Linear-zero {d} {f} l = ap f (sym (scale-zero (zeros d))) ∙ l .scale-law 𝟘 (zeros d) ∙ scale-zero (f (zeros d))
 
   -- it commutes with every product
-  Linear-times : {n d : ℕ} {f : Vec K d → Vec K d} → Linear f → (u : Vec K n) (v : Vec K d) → f (times u v) ≡ times u (f v)
+  pub Linear-times : {n d : ℕ} {f : Vec K d → Vec K d} → Linear f → (u : Vec K n) (v : Vec K d) → f (times u v) ≡ times u (f v)
   unfolding times
   Linear-times l nil v = Linear-zero l
   Linear-times l (cons a u) v = rw (l .plus-law, l .scale-law, l .timesX-law, Linear-times l u v)
@@ -164,12 +164,18 @@ module _ (𝓚 : CommRing) where
   times-plus nil v w = sym (plus-zero _)
   times-plus (cons a u) v w = rw (times-plus u v w, scale-plus, timesX-plus) (plus-interchange _ _ _ _)
 
+  pub times-timesX : {n d : ℕ} (u : Vec K n) (v : Vec K d) → times u (timesX v) ≡ timesX (times u v)
+  times-timesX u v = sym (Linear-times timesX-linear u v)
+
+  pub times-scale : {n d : ℕ} (u : Vec K n) (c : K) (v : Vec K d) → times u (scale c v) ≡ scale c (times u v)
+  times-scale u c v = sym (Linear-times (scale-linear c) u v)
+
   times-linear : {n d : ℕ} (u : Vec K n) → Linear {d = d} (times u)
   times-linear u =
       record {
         plus-law = times-plus u;
-        scale-law = λ c v. sym (Linear-times (scale-linear c) u v);
-        timesX-law = λ v. sym (Linear-times timesX-linear u v);
+        scale-law = times-scale u;
+        timesX-law = times-timesX u;
       }
 
   times-left-comm : {m n d : ℕ} (u : Vec K m) (v : Vec K n) (w : Vec K d) → times u (times v w) ≡ times v (times u w)
