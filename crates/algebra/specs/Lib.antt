@@ -5,3 +5,4 @@ pub mod Negacyclic
 pub mod Convolution
 pub mod Constant
 pub mod Conjugation
+pub mod ConjugationProduct
