@@ -1,20 +1,20 @@
 -- The conjugation of 𝓚[X]/(X^d + 1), which sends X to its inverse -X^(d-1), and the constant term `ct`.
 -- The constant term of σ(u) · v is the inner product of the coefficients of u and v.
-use mathlib.Core.Path.{_≡_, refl, sym, ap, ap₂, _∙_}
+use mathlib.Core.Path.{_≡_, ap, _∙_}
 use Prim.Native.Nat.{ℕ, zero, suc, _+_, _-_, _<_}
 use native.Mathlib.Omega.{arith}
-use Rattle.algebra.specs.CommRing.{CommRing, neg-neg, neg-distrib, mul-neg}
+use Rattle.algebra.specs.CommRing.{CommRing, neg-neg, neg-distrib}
 use Rattle.algebra.specs.Sum.{sum, sum-cong}
 use Rattle.algebra.specs.Vec.{Vec, build, at-build, ext}
-use Rattle.algebra.specs.Negacyclic.{Negacyclic, coeff, constant, plus, times, times-comm, coeff-zero, coeff-add}
-use Rattle.algebra.specs.Convolution.{wrapped, wrapped-yes, wrapped-no, coeff-mul}
+use Rattle.algebra.specs.Negacyclic.{Negacyclic, coeff, constant, plus, times, times-comm, coeff-add}
+use Rattle.algebra.specs.Convolution.{wrapped, wrapped-yes, wrapped-no, coeff-mul, coeff-sum}
 use Rattle.algebra.specs.Constant.{coeff-constant-mul}
 
 module _ (𝓚 : CommRing) where
   infixl 65 _⊕_
   infixl 70 _⊗_
   infix 75 ⊖_
-  open CommRing 𝓚 using (Carrier as K, zero as 𝟘, one as 𝟙, add as _⊕_, mul as _⊗_, neg as ⊖_)
+  open CommRing 𝓚 using (Carrier as K, zero as 𝟘, add as _⊕_, mul as _⊗_, neg as ⊖_)
   open CommRing 𝓚 using (mul-comm)
 
   -- the coefficients of σ(u): u_0, and -u_(d-k) for X^k
@@ -64,9 +64,7 @@ module _ (𝓚 : CommRing) where
   ct-add u v = coeff-add 𝓚 u v 0
 
   pub ct-sum : {d : ℕ} (n : ℕ) (f : ℕ → Vec K d) → ct (sum (Negacyclic 𝓚 d) n f) ≡ sum 𝓚 n (λ i. ct (f i))
-  unfolding sum
-  ct-sum {d} zero f = coeff-zero 𝓚 d 0
-  ct-sum (suc n) f = ct-add _ (f n) ∙ ap (λ x. x ⊕ ct (f n)) (ct-sum n f)
+  ct-sum n f = coeff-sum 𝓚 n f 0
 
   pub ct-constant-mul : {d : ℕ} (c : K) (u : Vec K d) → ct (times 𝓚 (constant 𝓚 d c) u) ≡ c ⊗ ct u
   ct-constant-mul c u = coeff-constant-mul 𝓚 c u 0

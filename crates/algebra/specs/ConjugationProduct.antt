@@ -1,11 +1,11 @@
 -- The conjugation of 𝓚[X]/(X^d + 1) is a homomorphism of rings.
-use mathlib.Core.Path.{_≡_, refl, sym, ap, _∙_}
+use mathlib.Core.Path.{_≡_, sym, ap, _∙_}
 use Prim.Native.Nat.{ℕ, zero, suc, _-_, _<_}
 use native.Mathlib.Omega.{arith}
 use Rattle.algebra.specs.CommRing.{CommRing, neg-neg, neg-zero, mul-neg}
 use Rattle.algebra.specs.Vec.{Vec, ext}
 use Rattle.algebra.specs.Negacyclic.{Linear, Linear-times, coeff, constant, scale, timesX, times}
-use Rattle.algebra.specs.Negacyclic.{coeff-constant, coeff-constant-suc, coeff-scale, coeff-timesX-zero, coeff-timesX-suc}
+use Rattle.algebra.specs.Negacyclic.{coeff-constant-suc, coeff-scale, coeff-timesX-zero, coeff-timesX-suc}
 use Rattle.algebra.specs.Negacyclic.{times-plus, times-scale, times-timesX, times-one, times-comm}
 use Rattle.algebra.specs.Conjugation.{conjugate, coeff-conjugate-zero, coeff-conjugate, conjugate-add, conjugate-conjugate}
 

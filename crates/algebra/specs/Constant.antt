@@ -1,9 +1,7 @@
 -- The constants of 𝓚[X]/(X^d + 1): `constant` is a homomorphism of rings from 𝓚, and a product by a constant multiplies each coefficient.
--- The ring's 1 is `constant d 1` by definition.
 use mathlib.Core.Path.{_≡_, refl, sym, ap, _∙_}
 use Prim.Native.Nat.{ℕ, zero, suc, _<_}
 use Rattle.algebra.specs.CommRing.{CommRing, neg-zero, mul-zero}
-use Rattle.algebra.specs.Sum.{sum}
 use Rattle.algebra.specs.Vec.{Vec, ext}
 use Rattle.algebra.specs.Negacyclic.{Negacyclic, coeff, zeros, constant, plus, negate, scale, times}
 use Rattle.algebra.specs.Negacyclic.{coeff-zero, coeff-constant, coeff-constant-suc, coeff-add, coeff-neg, coeff-scale}
@@ -22,6 +20,15 @@ module _ (𝓚 : CommRing) where
       entry : (k : ℕ) → k < d → coeff 𝓚 (constant 𝓚 d 𝟘) k ≡ coeff 𝓚 (zeros 𝓚 d) k
       entry zero h = simp (coeff-constant, coeff-zero)
       entry (suc k) h = simp (coeff-constant-suc, coeff-zero)
+
+  pub constant-one : (d : ℕ) → constant 𝓚 d 𝟙 ≡ Negacyclic 𝓚 d .one
+  constant-one d = refl
+
+  pub coeff-one : (d : ℕ) → 0 < d → coeff 𝓚 (Negacyclic 𝓚 d .one) 0 ≡ 𝟙
+  coeff-one d h = coeff-constant 𝓚 d 𝟙 h
+
+  pub coeff-one-suc : (d k : ℕ) → coeff 𝓚 (Negacyclic 𝓚 d .one) (suc k) ≡ 𝟘
+  coeff-one-suc d k = coeff-constant-suc 𝓚 d 𝟙 k
 
   pub constant-add : (d : ℕ) (a b : K) → constant 𝓚 d (a ⊕ b) ≡ plus 𝓚 (constant 𝓚 d a) (constant 𝓚 d b)
   constant-add d a b = ext 𝟘 _ _ entry

@@ -1,4 +1,4 @@
--- The coefficients of a product in 𝓚[X]/(X^d + 1), as a double loop computes them, and the element X with X^d = -1.
+-- The coefficients of a product in 𝓚[X]/(X^d + 1), as a double loop computes them, and of a sum of elements; the element X, with X^d = -1.
 use mathlib.Core.Path.{_≡_, refl, sym, ap, ap₂, _∙_}
 use mathlib.Core.Bool.{cond}
 use Prim.Native.Nat.{ℕ, zero, suc, _+_, _-_, _≤_, _<_}
@@ -9,7 +9,7 @@ use borrow.Author.Tests.{le-leb, lt-leb}
 use Rattle.algebra.specs.CommRing.{CommRing}
 use Rattle.algebra.specs.Sum.{sum, sum-cong, sum-first}
 use Rattle.algebra.specs.Vec.{Vec, nil, cons, at, ext}
-use Rattle.algebra.specs.Negacyclic.{coeff, constant, negate, timesX, times}
+use Rattle.algebra.specs.Negacyclic.{Negacyclic, coeff, constant, negate, timesX, times}
 use Rattle.algebra.specs.Negacyclic.{coeff-zero, coeff-add, coeff-neg, coeff-scale, coeff-timesX-zero, coeff-timesX-suc}
 use Rattle.algebra.specs.Negacyclic.{times-timesX, times-one, times-comm}
 
@@ -82,6 +82,11 @@ module _ (𝓚 : CommRing) where
   pub coeff-mul : {d : ℕ} (u v : Vec K d) (k : ℕ) → k < d → coeff 𝓚 (times 𝓚 u v) k ≡ sum 𝓚 d (λ i. coeff 𝓚 u i ⊗ wrapped v k i)
   coeff-mul {d} u v k h =
       coeff-times u v k ∙ sum-cong 𝓚 d _ _ (λ i l. ap (_⊗_ (coeff 𝓚 u i)) (coeff-timesPowerX v i k (omega arith) h))
+
+  pub coeff-sum : {d : ℕ} (n : ℕ) (f : ℕ → Vec K d) (k : ℕ) → coeff 𝓚 (sum (Negacyclic 𝓚 d) n f) k ≡ sum 𝓚 n (λ i. coeff 𝓚 (f i) k)
+  unfolding sum
+  coeff-sum {d} zero f k = coeff-zero 𝓚 d k
+  coeff-sum (suc n) f k = coeff-add 𝓚 _ (f n) k ∙ ap (λ x. x ⊕ coeff 𝓚 (f n) k) (coeff-sum n f k)
 
   -- the element X
   unfoldable pub indeterminate : (d : ℕ) → Vec K d

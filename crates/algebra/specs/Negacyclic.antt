@@ -1,10 +1,10 @@
 -- The ring 𝓚[X]/(X^d + 1) over any commutative ring 𝓚, for any d. An element is the vector of its d coefficients, lowest power first.
 -- For d = 0 it is the trivial ring.
-use mathlib.Core.Path.{_≡_, refl, sym, ap, ap₂, _∙_}
+use mathlib.Core.Path.{_≡_, refl, sym, ap, _∙_}
 use Prim.Native.Nat.{ℕ, zero, suc, _-_, _≤_, _<_}
 use native.Mathlib.Omega.{arith}
 use Rattle.algebra.specs.CommRing.{CommRing, zero-add, zero-mul, mul-zero, neg-zero, mul-neg, neg-distrib}
-use Rattle.algebra.specs.CommRing.{add-mul, add-interchange, mul-left-comm}
+use Rattle.algebra.specs.CommRing.{add-interchange, mul-left-comm}
 use Rattle.algebra.specs.Vec.{Vec, nil, cons, at, at-past, at-map, at-zipWith, ext, map, zipWith, Vec-set}
 
 module _ (𝓚 : CommRing) where
@@ -12,7 +12,7 @@ module _ (𝓚 : CommRing) where
   infixl 70 _⊗_
   infix 75 ⊖_
   open CommRing 𝓚 using (Carrier as K, zero as 𝟘, one as 𝟙, add as _⊕_, mul as _⊗_, neg as ⊖_)
-  open CommRing 𝓚 using (add-assoc, add-comm, add-zero, add-neg, mul-assoc, mul-comm, mul-one, mul-add)
+  open CommRing 𝓚 using (add-assoc, add-comm, add-zero, add-neg, mul-one, mul-add)
 
   -- the coefficient of X^k
   abbrev pub coeff : {d : ℕ} → Vec K d → ℕ → K
