@@ -75,9 +75,13 @@ module _ (𝓚 : CommRing) where
         timesX-law = λ v. sym (timesX-conjugate _) ∙ rw (← times-timesX, timesX-conjugate);
       }
 
+  through-product : {d : ℕ} (u w : Vec K d) → through u w ≡ times 𝓚 w (conjugate 𝓚 u)
+  unfolding through
+  through-product {d} u w =
+      ap (through u) (sym (times-one 𝓚 w))
+      ∙ Linear-times 𝓚 (through-linear u) w (constant 𝓚 d 𝟙)
+      ∙ rw (conjugate-constant, times-one)
+
   pub conjugate-mul : {d : ℕ} (u v : Vec K d) → conjugate 𝓚 (times 𝓚 u v) ≡ times 𝓚 (conjugate 𝓚 u) (conjugate 𝓚 v)
   unfolding through
-  conjugate-mul {d} u v =
-      let product : through u (times 𝓚 (conjugate 𝓚 v) (constant 𝓚 d 𝟙)) ≡ times 𝓚 (conjugate 𝓚 v) (through u (constant 𝓚 d 𝟙)) =
-      Linear-times 𝓚 (through-linear u) (conjugate 𝓚 v) (constant 𝓚 d 𝟙) in
-      (rw (times-one, conjugate-conjugate, conjugate-constant, times-one) at product) ∙ times-comm 𝓚 _ _
+  conjugate-mul u v = (rw conjugate-conjugate at (through-product u (conjugate 𝓚 v))) ∙ times-comm 𝓚 _ _

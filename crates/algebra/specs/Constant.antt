@@ -52,7 +52,7 @@ module _ (𝓚 : CommRing) where
       entry (suc k) h = simp (coeff-constant-suc, coeff-scale, mul-zero)
 
   -- c · u = u · (c · 1) = c · (u · 1)
-  constant-times : {d : ℕ} (c : K) (u : Vec K d) → times 𝓚 (constant 𝓚 d c) u ≡ scale 𝓚 c u
+  pub constant-times : {d : ℕ} (c : K) (u : Vec K d) → times 𝓚 (constant 𝓚 d c) u ≡ scale 𝓚 c u
   constant-times {d} c u =
       times-comm 𝓚 (constant 𝓚 d c) u
       ∙ ap (times 𝓚 u) (ap (constant 𝓚 d) (sym (mul-one c)) ∙ sym (scale-constant d c 𝟙))

@@ -47,7 +47,7 @@ module _ (𝓚 : CommRing) where
       let wraps : d + suc k - suc i ≡ d + k - i = omega arith in
       rw (leb·suc-suc, suc-sub-suc k i, wraps)
 
-  coeff-timesPowerX : {d : ℕ} (v : Vec K d) (i k : ℕ) → i ≤ d → k < d → coeff 𝓚 (timesPowerX i v) k ≡ wrapped v k i
+  pub coeff-timesPowerX : {d : ℕ} (v : Vec K d) (i k : ℕ) → i ≤ d → k < d → coeff 𝓚 (timesPowerX i v) k ≡ wrapped v k i
   unfolding timesPowerX
   coeff-timesPowerX v zero k l h =
       let same : k - 0 ≡ k = omega arith in

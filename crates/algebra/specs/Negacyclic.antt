@@ -33,6 +33,7 @@ module _ (𝓚 : CommRing) where
   unfoldable pub negate : {d : ℕ} → Vec K d → Vec K d
   negate u = map ⊖_ u
 
+  -- c · u, for a number c
   unfoldable pub scale : {d : ℕ} → K → Vec K d → Vec K d
   scale c u = map (_⊗_ c) u
 
@@ -186,9 +187,9 @@ module _ (𝓚 : CommRing) where
   unfolding at times
   coeff-times-one {d = d} nil l k h = coeff-zero d k
   coeff-times-one {d = d} (cons a u) l zero h =
-      let past : coeff (times u (constant d 𝟙)) (d - 1) ≡ 𝟘 =
-      coeff-times-one u (omega arith) (d - 1) (omega arith) ∙ at-past 𝟘 u (omega arith) in
-      simp (coeff-add, coeff-scale, coeff-constant, coeff-timesX-zero, past, neg-zero, mul-one, add-zero)
+      let last : coeff (times u (constant d 𝟙)) (d - 1) ≡ coeff u (d - 1) = coeff-times-one u (omega arith) (d - 1) (omega arith) in
+      let past : coeff u (d - 1) ≡ 𝟘 = at-past 𝟘 u (omega arith) in
+      simp (coeff-add, coeff-scale, coeff-constant, coeff-timesX-zero, last, past, neg-zero, mul-one, add-zero)
   coeff-times-one {d = d} (cons a u) l (suc k) h =
       let below : coeff (times u (constant d 𝟙)) k ≡ coeff u k = coeff-times-one u (omega arith) k (omega arith) in
       simp (coeff-add, coeff-scale, coeff-constant-suc, coeff-timesX-suc, below, mul-zero, zero-add)
@@ -202,6 +203,7 @@ module _ (𝓚 : CommRing) where
   pub times-assoc : {d : ℕ} (u v w : Vec K d) → times (times u v) w ≡ times u (times v w)
   times-assoc u v w = times-comm (times u v) w ∙ times-left-comm w u v ∙ ap (times u) (times-comm w v)
 
+-- the ring
 abbrev pub Negacyclic : CommRing → ℕ → CommRing
 Negacyclic 𝓚 d =
     record {
