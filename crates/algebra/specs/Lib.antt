@@ -1,5 +1,9 @@
 pub mod CommRing
 pub mod Sum
+pub mod Triangle
+pub mod NormalForm
+pub mod Solver
+mod SolverExamples
 pub mod Vec
 pub mod Negacyclic
 pub mod Convolution
