@@ -6,3 +6,9 @@ pub mod Triangle
 pub mod NormalForm
 pub mod Solver
 mod SolverExamples
+pub mod Vec
+pub mod Negacyclic
+pub mod Convolution
+pub mod Constant
+pub mod Conjugation
+pub mod ConjugationProduct
