@@ -50,7 +50,7 @@ def coefficient(rng):
 def random_sizes(rng):
     """Small sizes, none refused, every size at its least value now and then."""
     return Sizes(
-        d=rng.choice((2, 2, 4, 8)), n=rng.randint(1, 4), r=rng.randint(1, 3), K=rng.randint(0, 2), L=rng.randint(0, 2),
+        d=rng.choice((2, 2, 4, 8)), n=rng.choice((1, 2, 3, 4, 7)), r=rng.randint(1, 3), K=rng.randint(0, 2), L=rng.randint(0, 2),
         w=rng.randint(0, 3), kappa=rng.randint(1, 2), kappa1=rng.randint(1, 2), kappa2=rng.randint(1, 2),
         b=rng.choice(BASES), b1=rng.choice(BASES), b2=rng.choice(BASES), t1=rng.choice((2, 2, 3, 8)), t2=rng.choice((2, 2, 3, 8)),
         nu=rng.randint(1, 4), mu=rng.randint(1, 5), beta_squared=sizes.LARGEST_BOUND, target_beta_squared=sizes.LARGEST_BOUND,
@@ -352,7 +352,7 @@ def test_accepted_exactly_if_the_next_instance_is_solved():
     """Demand 2: "an opening is accepted exactly if, padded, it solves the next instance"."""
     rng = random.Random(6)
     seen = {}
-    for _ in range(150):
+    for _ in range(120):
         s, _, honest = honest_case(rng)
         if rng.random() < 0.3:
             honest |= {name: [0] * len(honest[name]) for name in ("B", "C", "D", "u1", "u2")}
@@ -373,6 +373,41 @@ def test_accepted_exactly_if_the_next_instance_is_solved():
             assert joined == y["opening"]
             seen[answer] = seen.get(answer, 0) + 1
     assert {number for _, number in seen} >= {0, 3, 4, 5, 6, 7, 8, 9}, seen
+
+
+def test_next_instance_of_the_whole_case():
+    """Written out by hand: check 5, 6, 7, 8, 3, 4, each as a by i, then j (six elements), φ by part (three of six), b."""
+    none, rest = [0, 0], [0, 0] * 5
+    tail = {
+        5: [0, -1, 0, -8] + none * 4,
+        6: none * 2 + [1, 0, 4, 0] + none * 2,
+        7: none * 4 + [1, 0, 8, 0],
+        8: none * 2 + [1, 0, 4, 0] + [1, 0, 8, 0],
+        3: [1, 0] + none + [1, 0] + none * 3,
+        4: none * 4 + [1, 0, 1, 0],
+    }
+    a = {6: [1, 0, 8, 0] + none + [16, 0] + none * 2}
+    z = {5: [1, 0] + rest + [4, 0] + rest}
+    b = {8: [-3, 4], 3: [2, 2]}
+    expected = [number for check in tail for number in a.get(check, none * 6) + z.get(check, none * 12) + tail[check] + b.get(check, none)]
+    s, x = whole_case()
+    assert fold.answer("next_instance", s, x) == ("written", expected)
+
+
+def test_sizes_of_the_next_instance():
+    s, x = whole_case()
+    # n' is the larger of the two, both rounded up.
+    assert sizes.next_rank(s._replace(n=7, nu=1, mu=4)) == 7
+    assert sizes.next_rank(s._replace(n=7, nu=2, mu=4)) == 4
+    assert sizes.next_rank(s._replace(n=7, nu=4, mu=4)) == 2
+    # "an empty stretch has the same a in check 6 as a full one"; b = 65536 makes b² 99.
+    wide = s._replace(nu=2, b=65536)
+    kind, written = fold.answer("next_instance", wide, x)
+    a = fold.whole_constraints(2, 6, 5, written)[1].function.a
+    assert kind == "written"
+    assert {pair: a_ij for pair, a_ij in a.items() if any(a_ij)} == {
+        (0, 0): [1, 0], (1, 1): [1, 0], (0, 2): [131072, 0], (1, 3): [131072, 0], (2, 2): [99, 0], (3, 3): [99, 0]
+    }
 
 
 def test_the_next_instance_is_folded_in_turn():
