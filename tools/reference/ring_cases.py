@@ -1,0 +1,256 @@
+"""The stored input and output of the test program of the ring layer.
+
+`python3 tools/reference/ring_cases.py DIR` writes DIR/stdin and DIR/stdout. The cases are always the same (fixed seed).
+Input: one case a line, decimal integers parted by blanks, first the operation's number, then its arguments.
+Output: one line a case, the results parted by single blanks. A result of yes or no is 1 or 0.
+Elements given to operations 2 to 8 and 12 are any signed 32-bit numbers, and the results are those modulo q, centred.
+"""
+
+import pathlib
+import random
+import sys
+
+import ring
+from ring import DEGREES, LARGEST
+
+BASES = (2, 3, 4, 5, 7, 16, 255, 256, 65535, 65536)
+COUNTS = range(2, 9)
+
+LEAST_I32, LARGEST_I32 = -(2**31), 2**31 - 1
+LEAST_I64, LARGEST_I64 = -(2**63), 2**63 - 1
+
+LARGEST_INPUT_BYTES = 200000
+LARGEST_INPUT_NUMBERS = 30000
+LARGEST_LINE_NUMBERS = 1500
+
+
+# Operations: the results of one case from its arguments
+
+def cut(numbers, size):
+    """Consecutive blocks of `size` numbers."""
+    return [numbers[k : k + size] for k in range(0, len(numbers), size)]
+
+
+def on_two_elements(operation):
+    """`d a[d] b[d]`"""
+    return lambda d, *numbers: operation(list(numbers[:d]), list(numbers[d:]))
+
+
+def on_one_element(operation):
+    """`d a[d]`"""
+    return lambda d, *numbers: operation(list(numbers))
+
+
+def inner_product(d, n, *numbers):
+    """`d n u[n*d] v[n*d]`"""
+    return ring.inner_product(d, cut(list(numbers[: n * d]), d), cut(list(numbers[n * d :]), d))
+
+
+def element_digits(d, base, count, *a):
+    """`d B t a[d]`, the lowest digit's d numbers first."""
+    return [x for element in ring.element_digits(base, count, list(a)) for x in element]
+
+
+OPERATIONS = {
+    1: lambda x: [ring.centred(x)],
+    2: on_two_elements(ring.add),
+    3: on_two_elements(ring.subtract),
+    4: on_one_element(ring.negate),
+    5: on_two_elements(ring.multiply),
+    6: on_one_element(ring.conjugate),
+    7: lambda d, number, *a: ring.scale(number, a),
+    8: on_one_element(ring.half),
+    9: lambda base, count, x: ring.digits(base, count, x),
+    10: element_digits,
+    11: lambda base, count, *digits: [ring.recompose(base, digits)],
+    12: inner_product,
+    13: lambda n, *x: [int(ring.in_range(x))],
+    14: lambda n, *x: [int(ring.are_projection_entries(x))],
+    15: lambda d, *c: [int(ring.is_challenge(c))],
+    16: lambda bound, n, *x: [int(ring.squared_norm(x) <= bound)],
+    17: lambda bound, n, m, *xy: [int(ring.squared_norm(xy) <= bound)],
+    18: lambda d, *a: [ring.constant_term(a)],
+}
+
+
+# Cases
+
+def coefficients(rng, count):
+    """Numbers in the coefficient range."""
+    return [rng.randint(-LARGEST, LARGEST) for _ in range(count)]
+
+
+def small(rng, count):
+    """Numbers from -9 to 9."""
+    return [rng.randint(-9, 9) for _ in range(count)]
+
+
+def ends(rng, count):
+    """Both ends of the coefficient range."""
+    return [rng.choice((-LARGEST, LARGEST)) for _ in range(count)]
+
+
+def any_numbers(rng, count):
+    """Any signed 32-bit numbers, those just outside the coefficient range and the ends of the type more often."""
+    edges = (LEAST_I32, LARGEST_I32, LARGEST + 1, -LARGEST - 1)
+    return [rng.choice(edges) if rng.random() < 0.5 else rng.randint(LEAST_I32, LARGEST_I32) for _ in range(count)]
+
+
+def constant(number):
+    """The same number everywhere."""
+    return lambda rng, count: [number] * count
+
+
+def centring_cases(rng):
+    """Operation 1."""
+    q = ring.Q
+    values = [0, 1, -1, LARGEST, LARGEST + 1, LARGEST + 2, -LARGEST, -LARGEST - 1, q, -q, 2 * q, 65536**2, 2**32, 2**31]
+    values += [k * q + e for k in (-2147483694, -65536, -1, 1, 65536, 2147483694) for e in (LARGEST, LARGEST + 1, -1, 1)]
+    values += [LEAST_I64, LEAST_I64 + 1, LARGEST_I64, LARGEST_I64 - 1, LARGEST**2, -(LARGEST**2), LEAST_I32, LARGEST_I32]
+    values += [rng.randint(LEAST_I64, LARGEST_I64) for _ in range(40)]
+    return [(1, x) for x in values]
+
+
+def element_cases(rng):
+    """Operations 2 to 8, over every degree."""
+    cases = [(5, 2, 1, 2, 1, 2), (5, 2, 0, 1, 0, 1), (6, 4, 1, 2, 3, 4), (8, 2, 1, 0), (7, 2, 65536, 65536, 0)]
+    kinds = (small, coefficients, ends, any_numbers, constant(LARGEST), constant(LEAST_I32))
+    numbers = (LEAST_I32, LARGEST_I32, LARGEST + 1, 0, 1, -1, 2, 65536)
+    for d in DEGREES:
+        for kind in kinds:
+            for operation in (2, 3, 5):
+                if d < 64 or kind in (coefficients, any_numbers) or operation == 5:
+                    cases.append((operation, d, *kind(rng, d), *kind(rng, d)))
+        for kind in (coefficients, any_numbers):
+            for operation in (4, 6, 8):
+                cases.append((operation, d, *kind(rng, d)))
+            cases.append((7, d, rng.randint(LEAST_I32, LARGEST_I32), *kind(rng, d)))
+        power = [0] * d
+        power[d - 1] = 1
+        cases.append((5, d, *power, *power))
+    for number in numbers:
+        cases.append((7, 4, number, *coefficients(rng, 4)))
+        cases.append((7, 2, number, *any_numbers(rng, 2)))
+    for number in (0, 1, 2, -1, LARGEST, -LARGEST, LEAST_I32, LARGEST_I32, LARGEST + 1, -LARGEST - 1):
+        for operation in (4, 6, 8):
+            cases.append((operation, 2, number, number))
+    return cases
+
+
+def digit_cases(rng):
+    """Operations 9, 10 and 11, over every base and count of digits."""
+    cases = [(9, 4, 2, -3), (9, 4, 2, 2), (9, 4, 2, -2), (9, 4, 2, 6)]
+    for base in BASES:
+        halves = [base // 2, -(base // 2), base // 2 - 1, -(base // 2) - 1, (base + 1) // 2, base + base // 2, -base - base // 2]
+        high_half = [sign * (base // 2) * base**k for sign in (1, -1) for k in range(1, 8)]
+        values = halves + [x for x in high_half if ring.in_range([x])] + [base, -base, 0, 1, -1]
+        for count in COUNTS:
+            chosen = [LARGEST, -LARGEST] + rng.sample(values, 5) + coefficients(rng, 2)
+            if count == 2:
+                chosen += values
+            cases += [(9, base, count, x) for x in chosen]
+            cases.append((11, base, count, *coefficients(rng, count)))
+            cases.append((11, base, count, *ring.digits(base, count, rng.choice((LARGEST, -LARGEST)))))
+            cases.append((11, base, count, *ends(rng, count)))
+    for d, base, count in zip(DEGREES, (2, 3, 255, 256, 65535, 65536), (8, 2, 5, 4, 3, 2), strict=True):
+        cases.append((10, d, base, count, *coefficients(rng, d)))
+        cases.append((10, d, base, count, *ends(rng, d - 1), base // 2))
+    return cases
+
+
+def inner_product_cases(rng):
+    """Operation 12."""
+    cases = []
+    for d, n, kind in (
+        (2, 1, small), (2, 8, any_numbers), (4, 3, coefficients), (8, 8, ends), (16, 5, coefficients), (32, 2, any_numbers),
+        (64, 1, ends), (64, 8, coefficients), (64, 8, constant(LEAST_I32)),
+    ):
+        cases.append((12, d, n, *kind(rng, n * d), *kind(rng, n * d)))
+    return cases
+
+
+def predicate_cases(rng):
+    """Operations 13, 14 and 15."""
+    cases = []
+    edges = (LARGEST, -LARGEST, LARGEST + 1, -LARGEST - 1, LARGEST_I32, LEAST_I32, 2, -2, 1, -1, 0)
+    for operation in (13, 14):
+        cases.append((operation, 0))
+        for edge in edges:
+            cases.append((operation, 1, edge))
+            cases.append((operation, 4, 0, 1, -1, edge))
+            cases.append((operation, 4, edge, 0, 1, -1))
+        cases.append((operation, 64, *(rng.randint(-1, 1) for _ in range(64))))
+        cases.append((operation, 64, *coefficients(rng, 64)))
+    for d in (32, 64):
+        for twos, ones in ((17, 3), (18, 0), (17, 4), (10, 31), (10, 32), (16, 7), (16, 8)):
+            if twos + ones <= d:
+                c = [rng.choice((-2, 2)) for _ in range(twos)] + [rng.choice((-1, 1)) for _ in range(ones)]
+                c += [0] * (d - len(c))
+                rng.shuffle(c)
+                cases.append((15, d, *c))
+    for d in DEGREES:
+        cases.append((15, d, *[0] * d))
+        cases.append((15, d, *[2] * d))
+    for d in (2, 4, 8):
+        for wrong in (3, -3, 2, -2, 65536, LEAST_I32, LARGEST_I32, LARGEST):
+            cases.append((15, d, *[1] * (d - 1), wrong))
+            cases.append((15, d, wrong, *[0] * (d - 1)))
+    return cases
+
+
+def norm_cases(rng):
+    """Operations 16 and 17: bounds just met and just missed, and sums that pass 2^63 and 2^64."""
+    # Squares that add to 2^63 - 1.
+    full = [LEAST_I32, LARGEST_I32, 65535, 362, 5]
+    assert ring.squared_norm(full) == LARGEST_I64
+    vectors = [[], [0], [1], [-3, 4], [LARGEST], [-LARGEST, LARGEST], [LEAST_I32], [LEAST_I32] * 2, full, full + [1]]
+    vectors += [[LEAST_I32] * 4, [LEAST_I32] * 4 + [1], [LEAST_I32] * 8, [65536] * 4, [LARGEST_I32] * 4, [LARGEST] * 64]
+    vectors += [[LEAST_I32] * 64, coefficients(rng, 64), small(rng, 20), any_numbers(rng, 1)]
+    cases = []
+    for x in vectors:
+        norm = ring.squared_norm(x)
+        bounds = {bound for bound in (norm - 1, norm, norm + 1, norm % 2**64, norm % 2**63) if 0 <= bound <= LARGEST_I64}
+        bounds |= {0, LARGEST_I64} if len(x) < 20 else {LARGEST_I64}
+        for bound in sorted(bounds):
+            cases.append((16, bound, len(x), *x))
+            n = rng.randint(0, len(x))
+            cases.append((17, bound, n, len(x) - n, *x))
+    return cases
+
+
+def constant_term_cases(rng):
+    """Operation 18."""
+    return [(18, d, *coefficients(rng, d)) for d in DEGREES] + [(18, 2, LARGEST, 1), (18, 2, -LARGEST, 0)]
+
+
+def all_cases():
+    """Every case, in the order of the operations."""
+    rng = random.Random(20)
+    cases = []
+    for group in (
+        centring_cases, element_cases, digit_cases, inner_product_cases, predicate_cases, norm_cases, constant_term_cases,
+    ):
+        cases += group(rng)
+    return cases
+
+
+def text(lines):
+    """One line a list of numbers."""
+    return "".join(" ".join(map(str, numbers)) + "\n" for numbers in lines)
+
+
+def main():
+    directory = pathlib.Path(sys.argv[1])
+    cases = all_cases()
+    results = [OPERATIONS[operation](*arguments) for operation, *arguments in cases]
+    stdin, stdout = text(cases), text(results)
+    assert len(stdin) < LARGEST_INPUT_BYTES, len(stdin)
+    assert sum(map(len, cases)) < LARGEST_INPUT_NUMBERS
+    assert max(map(len, cases)) <= LARGEST_LINE_NUMBERS
+    (directory / "stdin").write_text(stdin)
+    (directory / "stdout").write_text(stdout)
+    print(f"{len(cases)} cases, {sum(map(len, cases))} numbers, {len(stdin)} and {len(stdout)} bytes")
+
+
+if __name__ == "__main__":
+    main()

@@ -1,0 +1,220 @@
+"""The sizes of a fold, the lengths of its lists, and where a call stops: document 01, "Where a call stops".
+
+Every list is flat: numbers one after another in the order of the sheet. Quotations are from document 01.
+"""
+
+from collections import namedtuple
+
+from ring import DEGREES, are_projection_entries, in_range, is_challenge
+
+# "Header: d n r K L w κ κ1 κ2 b b1 b2 t1 t2 ν μ β² β'²."
+Sizes = namedtuple(
+    "Sizes",
+    "d n r K L w kappa kappa1 kappa2 b b1 b2 t1 t2 nu mu beta_squared target_beta_squared",
+)
+
+# "Five is the count, since q^4 < 2^128."
+AGGREGATES = 5
+
+# Row 6: "β² or β'² negative or above 999999999999999".
+LARGEST_BOUND = 999999999999999
+
+# Row 11: "n' above 256 (next instance only)".
+LARGEST_RANK = 256
+
+
+def pairs(r):
+    """The pairs i <= j, by i, then j (from 0): "a_ij for i ≤ j (each pair counted once)"."""
+    return [(i, j) for i in range(r) for j in range(i, r)]
+
+
+def pair_count(r):
+    """The number of pairs i <= j: "(r²+r)/2"."""
+    return (r * r + r) // 2
+
+
+def rounded_up(x, y):
+    """x/y, "rounded up"."""
+    return (x + y - 1) // y
+
+
+# The next instance's sizes
+
+def tail_rank(s):
+    """ "m = rκt1 + (r²+r)/2 · (t1+t2)." """
+    return s.r * s.kappa * s.t1 + pair_count(s.r) * (s.t1 + s.t2)
+
+
+def z_chunk(s):
+    """ "z low and z high are cut into ν stretches each of n/ν elements", rounded up."""
+    return rounded_up(s.n, s.nu)
+
+
+def tail_chunk(s):
+    """ "the rest into μ stretches of m/μ elements", rounded up."""
+    return rounded_up(tail_rank(s), s.mu)
+
+
+def next_rank(s):
+    """ "n' is the larger of the two". """
+    return max(z_chunk(s), tail_chunk(s))
+
+
+def next_multiplicity(s):
+    """ "r' = 2ν+μ". """
+    return 2 * s.nu + s.mu
+
+
+def next_constraint_count(s):
+    """ "K' = κ+κ1+κ2+3". """
+    return s.kappa + s.kappa1 + s.kappa2 + 3
+
+
+# Lengths
+
+def whole_constraint_length(d, n, r):
+    """ "each whole constraint as a (by i, then j), φ (by part), b". """
+    return (pair_count(r) + r * n + 1) * d
+
+
+def constant_term_constraint_length(d, n, r):
+    """ "each constant-term one likewise, its b a line of one field". """
+    return (pair_count(r) + r * n) * d + 1
+
+
+# The count of numbers of each list. The lists of the sheet stand first, in its order: "A, B, C, D by rows; each whole
+# constraint ..; each constant-term one ..; u1; projection rows (by row, then part); p, ψ, ω ..; b''; α; δ; u2; c; the opening."
+LENGTHS = {
+    "A": lambda s: s.kappa * s.n * s.d,
+    "B": lambda s: s.kappa1 * LENGTHS["t_digits"](s),
+    "C": lambda s: s.kappa1 * LENGTHS["g_digits"](s),
+    "D": lambda s: s.kappa2 * LENGTHS["h_digits"](s),
+    "whole": lambda s: s.K * whole_constraint_length(s.d, s.n, s.r),
+    "constant_term": lambda s: s.L * constant_term_constraint_length(s.d, s.n, s.r),
+    "u1": lambda s: s.kappa1 * s.d,
+    "rows": lambda s: s.w * s.r * s.n * s.d,
+    "p": lambda s: s.w,
+    "psi": lambda s: AGGREGATES * s.L,
+    "omega": lambda s: AGGREGATES * s.w,
+    "second_b": lambda s: AGGREGATES * s.d,
+    "alpha": lambda s: s.K * s.d,
+    "delta": lambda s: AGGREGATES * s.d,
+    "u2": lambda s: s.kappa2 * s.d,
+    "c": lambda s: s.r * s.d,
+    "opening": lambda s: (2 * s.n + tail_rank(s)) * s.d,
+    "witness": lambda s: s.r * s.n * s.d,
+    "z_digits": lambda s: 2 * s.n * s.d,
+    "t_digits": lambda s: s.r * s.t1 * s.kappa * s.d,
+    "g_digits": lambda s: pair_count(s.r) * s.t2 * s.d,
+    "h_digits": lambda s: pair_count(s.r) * s.t1 * s.d,
+    "next_whole": lambda s: next_constraint_count(s)
+    * whole_constraint_length(s.d, next_rank(s), next_multiplicity(s)),
+}
+
+SHEET_LISTS = tuple(LENGTHS)[: tuple(LENGTHS).index("opening") + 1]
+
+
+# Refusals
+
+# What each call takes: sizes, lists whose numbers it reads, lists of which only the length counts (those it writes,
+# and the opening in the question of a part). "a call tests only what it takes".
+Call = namedtuple("Call", "sizes reads lengths_only")
+
+CALLS = {
+    "message_1": Call(
+        "d n r kappa kappa1 b1 b2 t1 t2".split(),
+        "A B C witness".split(),
+        "t_digits g_digits u1".split(),
+    ),
+    "message_2": Call("d n r w".split(), "rows witness".split(), ["p"]),
+    "message_3": Call(
+        "d n r L w".split(),
+        "constant_term rows psi omega witness".split(),
+        ["second_b"],
+    ),
+    "message_4": Call(
+        "d n r K L w kappa2 b1 t1".split(),
+        "D whole constant_term rows psi omega alpha delta witness".split(),
+        "h_digits u2".split(),
+    ),
+    "message_5": Call("d n r b".split(), "c witness".split(), ["z_digits"]),
+    "verify": Call(
+        [name for name in Sizes._fields if name not in ("nu", "mu")],
+        list(SHEET_LISTS),
+        [],
+    ),
+    "next_instance": Call(
+        list(Sizes._fields),
+        [name for name in SHEET_LISTS if name != "opening"],
+        ["next_whole"],
+    ),
+    "next_part": Call("d n r kappa t1 t2 nu mu".split(), [], ["opening"]),
+}
+
+
+def size_refusal(taken, s, part=None):
+    """Rows 1 to 6, over the sizes named in `taken` and, if one is asked for, the part; 0 if none applies."""
+
+    def outside(names, low, high):
+        return any(not low <= getattr(s, name) <= high for name in names.split() if name in taken)
+
+    # 1: "d not listed"
+    if "d" in taken and s.d not in DEGREES:
+        return 1
+    # 2: "n not 1..256, r not 1..16, K or L not 0..32, w not 0..256, a part number outside its range"
+    if outside("n", 1, 256) or outside("r", 1, 16) or outside("K L", 0, 32) or outside("w", 0, 256):
+        return 2
+    # "(2 for a part outside 1..r')"
+    if part is not None and not 1 <= part <= next_multiplicity(s):
+        return 2
+    # 3: "κ, κ1 or κ2 not 1..8"
+    if outside("kappa kappa1 kappa2", 1, 8):
+        return 3
+    # 4: "b, b1, b2 not 2..65536; t1, t2 not 2..8"
+    if outside("b b1 b2", 2, 65536) or outside("t1 t2", 2, 8):
+        return 4
+    # 5: "ν or μ below 1, 2ν+μ above 16"
+    if "nu" in taken and (s.nu < 1 or s.mu < 1 or 2 * s.nu + s.mu > 16):
+        return 5
+    # 6: "β² or β'² negative or above 999999999999999"
+    if outside("beta_squared target_beta_squared", 0, LARGEST_BOUND):
+        return 6
+    return 0
+
+
+def number_refusal(s, lists):
+    """Rows 8 to 10, over the given lists of numbers; 0 if none applies."""
+    # 8: "coefficient, or other number modulo q, out of range"
+    if not all(in_range(numbers) for numbers in lists.values()):
+        return 8
+    # 9: "projection entry not -1, 0, 1"
+    if "rows" in lists and not are_projection_entries(lists["rows"]):
+        return 9
+    # 10: "challenge outside the rule"
+    if "c" in lists:
+        challenges = lists["c"]
+        if not all(is_challenge(challenges[k : k + s.d]) for k in range(0, len(challenges), s.d)):
+            return 10
+    return 0
+
+
+def refusal(call, s, lists, part=None):
+    """The number of the row by which the call is refused, 0 if by none: "Lowest number first; a call tests only what it takes."
+
+    `lists` holds lists by name. A list that the call writes may be left out; then its length is taken to be right.
+    """
+    taken = CALLS[call]
+    number = size_refusal(taken.sizes, s, part)
+    if number:
+        return number
+    # 7: "a slice's length is not what the sizes give"
+    for name in taken.reads + [name for name in taken.lengths_only if name in lists]:
+        if len(lists[name]) != LENGTHS[name](s):
+            return 7
+    number = number_refusal(s, {name: lists[name] for name in taken.reads})
+    if number:
+        return number
+    # 11: "n' above 256 (next instance only)"
+    if call == "next_instance" and next_rank(s) > LARGEST_RANK:
+        return 11
+    return 0
