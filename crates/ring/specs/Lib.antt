@@ -1,0 +1,3 @@
+pub mod Modulus
+pub mod Length
+pub mod Range
