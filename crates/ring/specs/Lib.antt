@@ -1,3 +1,5 @@
 pub mod Modulus
 pub mod Length
 pub mod Range
+pub mod LengthLaws
+pub mod RangeLaws
