@@ -1,5 +1,6 @@
 pub mod Modulus
+pub mod Words
 pub mod Length
-pub mod Range
 pub mod LengthLaws
+pub mod Range
 pub mod RangeLaws

@@ -2,25 +2,27 @@
 --     allWithin-at, allWithin-of        the test by index: true is a bound for each number
 --     allWithin-false                   one number above the bound
 --     allWithin-append, -take, -drop, -part, -mono    joined slices, a part of a slice, a greater bound
---     allWithin-take-suc                one number more, as a loop that counts up tests it
+--     Tested                            the invariant of the loop of `all_within`, with its start, its step and its two ends
 --     coefficients-.., projections-..   the same at the bounds of rows 8 and 9
 --     challenge-..                      row 10: what the rule says of each number, of the squared length and of the sum of absolute values
 use mathlib.Core.Path.{_≡_, refl, sym, ap, _∙_, subst}
 use mathlib.Core.Bool.{Bool, true, false, cond}
 use mathlib.Core.List.{List, [], _∷_, _++_}
-use Prim.Native.Nat.{ℕ, zero, suc, _+_, _-_, _*_, _≤_, _<_}
+use Prim.Native.Nat.{ℕ, zero, suc, _+_, _-_, _*_, _^_, _≤_, _<_}
 use native.Mathlib.Nat.{le-trans}
+use native.Mathlib.Numerals.{add-one}
 use native.Mathlib.Omega.{arith}
 use lib.Dec.{T, leb, lit≤}
 use lib.ListN.{length, getD, take, drop, take-append-drop}
-use lib.Seq.{take-suc}
+use lib.Seq.{take-suc, take-all}
 use lib.IntN.{ℤ, pos, natAbs}
 use lib.Signed.{mag}
 use mir.Syntax.{w32}
-use mir.Val.{SFits}
+use mir.Val.{SFits, toZ, ofZ}
 use borrow.Author.Tests.{le-leb, lt-leb, leb-true}
 use Rattle.integers.specs.Bridge.{zarith, natAbs-pn, pn-min, bnd}
 use Rattle.integers.specs.Sums.{normSq, sq, total, total-mono, normSq-total}
+use Rattle.ring.specs.Words.{word}
 use Rattle.ring.specs.Range.{allWithin, coefficients, projections, challenge}
 
 -- ---- both tests of a conjunction
@@ -105,6 +107,32 @@ pub allWithin-take-suc : (b : ℕ) (xs : List ℤ) (i : ℕ) → i < length xs �
     → natAbs (getD xs i (pos 0)) ≤ b → allWithin b (take (suc i) xs) ≡ true
 allWithin-take-suc b xs i h e k =
     rw (take-suc xs i (pos 0)) (allWithin-join b (take i xs) (getD xs i (pos 0) ∷ []) e (single b (getD xs i (pos 0)) k))
+
+-- ---- the loop of `all_within`: the first i numbers are within the bound, and m is the absolute value of the next
+
+pub record Tested (b : ℕ) (xs : List ℤ) (i : ℕ) : Type 0 where
+  pub below : i ≤ length xs
+  pub passed : allWithin b (take i xs) ≡ true
+
+pub tested-start : (b : ℕ) (xs : List ℤ) → Tested b xs 0
+unfolding allWithin
+tested-start b xs = record { below = omega arith; passed = refl }
+
+-- the answer of `magnitude`, which reads the element back from its bits
+module _ (b : ℕ) (xs : List ℤ) (i m : ℕ) (fits : mag (getD xs i (pos 0)) < 2 ^ 31)
+    (e : m ≡ natAbs (toZ w32 (ofZ w32 (getD xs i (pos 0))))) where
+  absolute : m ≡ natAbs (getD xs i (pos 0))
+  absolute = e ∙ ap natAbs (word (getD xs i (pos 0)) fits)
+
+  pub tested-step : Tested b xs i → i < length xs → m ≤ b → Tested b xs (i + 1)
+  tested-step inv h k =
+      record { below = omega arith; passed = rw add-one (allWithin-take-suc b xs i h (inv .passed) (omega (arith, absolute))) }
+
+  pub tested-false : b < m → false ≡ allWithin b xs
+  tested-false k = sym (allWithin-false b xs i (omega (arith, absolute)))
+
+pub tested-end : (b : ℕ) (xs : List ℤ) (i : ℕ) → Tested b xs i → length xs ≤ i → true ≡ allWithin b xs
+tested-end b xs i inv h = sym (rw (take-all i xs) at (inv .passed))
 
 -- ---- row 8
 

@@ -1,17 +1,26 @@
 use mathlib.Core.Path.{_≡_, refl, sym, ap, _∙_}
 use mathlib.Core.Bool.{true, false}
-use Prim.Native.Nat.{ℕ, _-_, _≤_}
+use Prim.Native.Nat.{ℕ, _-_, _*_, _^_, _≤_, _<_}
 use native.Mathlib.Numerals.{add-one}
 use native.Mathlib.Omega.{arith}
 use lib.ListN.{length, take, getD}
-use lib.IntN.{natAbs}
-use mir.Facts.{toZ-ofZ}
+use lib.IntN.{ℤ, natAbs}
+use lib.Signed.{mag}
+use mir.Syntax.{w32}
+use mir.Val.{toZ, ofZ}
+use Rattle.integers.specs.Sums.{sq}
+use Rattle.ring.specs.Words.{word}
 use Rattle.ring.specs.LengthLaws.{Compared, compared-start, compared-step, compared-above, compared-end}
 use Rattle.ring.proofs.length.compare.Statement.{statement}
 use Rattle.ring.proofs.length.compare.Tie as tie
 use Rattle.ring.proofs.length.compare.Reads as reads
 use Rattle.ring.proofs.length.compare.Lts as lts
 use Rattle.ring.proofs.length.square.Reads as square-reads
+
+-- what `square` gives for an element of the slice
+squared : (x : ℤ) {s : ℕ} → mag x < 2 ^ 31 → s ≡ natAbs (toZ w32 (ofZ w32 x)) * natAbs (toZ w32 (ofZ w32 x)) → s ≡ sq x
+unfolding sq
+squared x g e = e ∙ ap (λ (z : ℤ). natAbs z * natAbs z) (word x g)
 
 abbrev Inv-loop : tie.InvT-loop
 Inv-loop bound xs rest₀ i₀ rest i = Compared bound xs rest i
@@ -37,7 +46,12 @@ square-requires c κs = tt
 
 -- src/length.rt:40:13
 returns : tie.Need-returns Inv-loop μ-loop
-returns c = ?
+returns c =
+    compared-above _ _ _ _ _
+    (c .before .before .before .before .loop .inv)
+    (c .before .before .before .loop-test .taken)
+    (squared _ (c .before .before .square-arg .given) (c .before .square .ensures))
+    (c .if1 .taken)
 
 -- src/length.rt:43:9
 add-i : tie.Need-add-i Inv-loop μ-loop
@@ -49,7 +63,12 @@ loop-less c = omega arith
 
 -- src/length.rt:37:5
 loop-again : tie.Need-loop-again Inv-loop μ-loop
-loop-again c = ?
+loop-again c =
+    compared-step _ _ _ _ _
+    (c .before .before .before .before .loop .inv)
+    (c .before .before .before .loop-test .taken)
+    (squared _ (c .before .before .square-arg .given) (c .before .square .ensures))
+    (c .if1 .left)
 
 -- src/length.rt:32:1
 returns-2 : tie.Need-returns-2 Inv-loop μ-loop

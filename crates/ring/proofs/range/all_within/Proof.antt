@@ -1,13 +1,8 @@
-use mathlib.Core.Path.{_≡_, refl, sym, ap, _∙_}
-use mathlib.Core.Bool.{true, false}
-use Prim.Native.Nat.{ℕ, _-_, _≤_}
-use native.Mathlib.Numerals.{add-one}
+-- `ring::range::all_within` meets its contract. The loop's invariant: the first i numbers are within the bound. Assumes nothing.
+use Prim.Native.Nat.{_-_}
 use native.Mathlib.Omega.{arith}
-use lib.ListN.{length, take, getD}
-use lib.IntN.{natAbs}
-use mir.Facts.{toZ-ofZ}
-use Rattle.ring.specs.Range.{allWithin}
-use Rattle.ring.specs.RangeLaws.{allWithin-false, allWithin-take-suc}
+use lib.ListN.{length}
+use Rattle.ring.specs.RangeLaws.{Tested, tested-start, tested-step, tested-false, tested-end}
 use Rattle.ring.proofs.range.all_within.Statement.{statement}
 use Rattle.ring.proofs.range.all_within.Tie as tie
 use Rattle.ring.proofs.range.all_within.Reads as reads
@@ -15,46 +10,47 @@ use Rattle.ring.proofs.range.all_within.Lts as lts
 use Rattle.ring.proofs.range.magnitude.Reads as magnitude-reads
 
 abbrev Inv-loop : tie.InvT-loop
-Inv-loop bound xs i₀ i = (i ≤ length xs) × (allWithin bound (take i xs) ≡ true)
+Inv-loop bound xs i₀ i = Tested bound xs i
 
 abbrev μ-loop : tie.MeasureT-loop
 μ-loop bound xs i₀ i = length xs - i
 
--- src/range.rt:24:5
 loop-holds : tie.Need-loop-holds Inv-loop μ-loop
-loop-holds c = ?
+loop-holds c = tested-start _ _
 
--- src/range.rt:25:27
 mul-magnitude : tie.Need-mul-magnitude Inv-loop μ-loop
 mul-magnitude c = omega arith
 
--- src/range.rt:25:27
 shared-slice-copy-out-magnitude : tie.Need-shared-slice-copy-out-magnitude Inv-loop μ-loop
 shared-slice-copy-out-magnitude c = omega arith
 
--- src/range.rt:25:13
 magnitude-requires : tie.Need-magnitude-requires Inv-loop μ-loop
 magnitude-requires c κs = tt
 
--- src/range.rt:27:13
 returns : tie.Need-returns Inv-loop μ-loop
-returns c = ?
+returns c =
+    tested-false _ _ (c .before .before .before .before .loop .i) _
+    (c .before .before .magnitude-arg .given)
+    (c .before .magnitude .ensures)
+    (c .if1 .taken)
 
--- src/range.rt:29:9
 add-i : tie.Need-add-i Inv-loop μ-loop
 add-i c = omega arith
 
--- src/range.rt:24:5
 loop-less : tie.Need-loop-less Inv-loop μ-loop
 loop-less c = omega arith
 
--- src/range.rt:24:5
 loop-again : tie.Need-loop-again Inv-loop μ-loop
-loop-again c = ?
+loop-again c =
+    tested-step _ _ _ _
+    (c .before .before .magnitude-arg .given)
+    (c .before .magnitude .ensures)
+    (c .before .before .before .before .loop .inv)
+    (c .before .before .before .loop-test .taken)
+    (c .if1 .left)
 
--- src/range.rt:20:1
 returns-2 : tie.Need-returns-2 Inv-loop μ-loop
-returns-2 c = let t : _≡_ {A = ℕ} 0 1 = c .before .loop .inv .1 in ?
+returns-2 c = tested-end _ _ _ (c .before .loop .inv) (c .loop-test .left)
 
 pub all-within-spec : {M : Type 1} → statement M
 all-within-spec =
