@@ -1,18 +1,19 @@
 -- Laws of the comparison of a squared length with a bound.
 --     remaining-within, remaining-above    the two answers
+--     lessened-within, lessened-above      one more length, by the margin's variant
 --     lessened-remaining    one bound for two lengths: lessening by each is comparing the sum
 --     holds-remaining       the answer as a test
 --     Compared              the invariant of the loop of `compare`, with its start, its step and its two ends
 use mathlib.Core.Path.{_≡_, refl, sym, ap, _∙_}
 use mathlib.Core.Bool.{Bool, true, false}
-use mathlib.Core.List.{List, [], _∷_, _++_}
-use Prim.Native.Nat.{ℕ, zero, suc, _+_, _-_, _*_, _≤_, _<_}
+use mathlib.Core.List.{List, _++_}
+use Prim.Native.Nat.{ℕ, suc, _+_, _-_, _≤_, _<_}
 use native.Mathlib.Numerals.{add-one}
 use native.Mathlib.Omega.{arith}
 use lib.Dec.{leb}
 use lib.ListN.{length, getD, take}
 use lib.Seq.{take-all}
-use lib.IntN.{ℤ, pos, natAbs}
+use lib.IntN.{ℤ, pos}
 use borrow.Author.Tests.{le-leb, lt-leb, leb-true, leb-false}
 use Rattle.integers.specs.Sums.{normSq, sq, normSq-append, normSq-take-suc, normSq-take-le}
 use Rattle.ring.specs.declared.length.Margin.{Margin}
@@ -36,6 +37,14 @@ holds-remaining b n = holds-marginIf (leb n b)
     holds-marginIf : (t : Bool) → holds (marginIf t (Within (b - n))) ≡ t
     holds-marginIf true = refl
     holds-marginIf false = refl
+
+pub lessened-within : (n : ℕ) {margin : Margin} {rest : ℕ} → margin ≡ Within rest → remaining rest n ≡ lessened margin n
+unfolding lessened
+lessened-within n e = rw e refl
+
+pub lessened-above : (n : ℕ) {margin : Margin} → margin ≡ Above → Above ≡ lessened margin n
+unfolding lessened
+lessened-above n e = rw e refl
 
 -- ---- several lengths against one bound
 

@@ -6,9 +6,9 @@
 --     coefficients-.., projections-..   the same at the bounds of rows 8 and 9
 --     challenge-..                      row 10: what the rule says of each number, of the squared length and of the sum of absolute values
 use mathlib.Core.Path.{_≡_, refl, sym, ap, _∙_, subst}
-use mathlib.Core.Bool.{Bool, true, false, cond}
+use mathlib.Core.Bool.{Bool, true, false, cond, _&&_}
 use mathlib.Core.List.{List, [], _∷_, _++_}
-use Prim.Native.Nat.{ℕ, zero, suc, _+_, _-_, _*_, _^_, _≤_, _<_}
+use Prim.Native.Nat.{ℕ, zero, suc, _+_, _*_, _^_, _≤_, _<_}
 use native.Mathlib.Nat.{le-trans}
 use native.Mathlib.Numerals.{add-one}
 use native.Mathlib.Omega.{arith}
@@ -20,8 +20,11 @@ use lib.Signed.{mag}
 use mir.Syntax.{w32}
 use mir.Val.{SFits, toZ, ofZ}
 use borrow.Author.Tests.{le-leb, lt-leb, leb-true}
-use Rattle.integers.specs.Bridge.{zarith, natAbs-pn, pn-min, bnd}
+use Rattle.integers.specs.Bridge.{zarith, natAbs-pn}
 use Rattle.integers.specs.Sums.{normSq, sq, total, total-mono, normSq-total}
+use Rattle.ring.specs.declared.length.Margin.{Margin}
+use Rattle.ring.specs.Length.{remaining, holds}
+use Rattle.ring.specs.LengthLaws.{holds-remaining}
 use Rattle.ring.specs.Words.{word}
 use Rattle.ring.specs.Range.{allWithin, coefficients, projections, challenge}
 
@@ -34,6 +37,10 @@ both-left false t e = e
 both-right : (s t : Bool) → cond s t false ≡ true → t ≡ true
 both-right true t e = e
 both-right false t e = absurd (subst T (sym e) tt)
+
+both-and : (s t : Bool) → s && t ≡ cond s t false
+both-and true t = refl
+both-and false t = refl
 
 both-false : (s : Bool) → cond s false false ≡ false
 both-false true = refl
@@ -169,6 +176,12 @@ projections-part m n xs e = allWithin-part 1 m n xs e
 
 -- ---- row 10
 
+-- the rule as two tests, the second on what 71 leaves
+pub challenge-tests : (xs : List ℤ) {small short : Bool} {margin : Margin} → small ≡ allWithin 2 xs → margin ≡ remaining 71 (normSq xs)
+    → short ≡ holds margin → small && short ≡ challenge xs
+unfolding challenge
+challenge-tests xs e m h = rw (e, h, m, holds-remaining) (both-and (allWithin 2 xs) (leb (normSq xs) 71))
+
 challenge-within : (xs : List ℤ) → challenge xs ≡ true → allWithin 2 xs ≡ true
 unfolding challenge
 challenge-within xs e = both-left (allWithin 2 xs) (leb (normSq xs) 71) e
@@ -183,11 +196,12 @@ challenge-normSq xs e = leb-true (normSq xs) 71 (both-right (allWithin 2 xs) (le
 -- the sum of the absolute values, which are at most their squares
 pub challenge-sum : (xs : List ℤ) → challenge xs ≡ true → total (length xs) (λ i. natAbs (getD xs i (pos 0))) ≤ 71
 challenge-sum xs e =
-    omega
-    (arith,
-    challenge-normSq xs e,
-    normSq-total xs,
-    total-mono (length xs) (λ i. natAbs (getD xs i (pos 0))) (λ i. sq (getD xs i (pos 0))) (λ i h. natAbs-sq (getD xs i (pos 0))))
+    omega (
+      arith,
+      challenge-normSq xs e,
+      normSq-total xs,
+      total-mono (length xs) (λ i. natAbs (getD xs i (pos 0))) (λ i. sq (getD xs i (pos 0))) (λ i h. natAbs-sq (getD xs i (pos 0))),
+    )
 
 pub challenge-coefficients : (xs : List ℤ) → challenge xs ≡ true → coefficients xs ≡ true
 unfolding coefficients

@@ -1,9 +1,9 @@
-use mathlib.Core.Path.{_≡_, refl, sym, ap, _∙_}
-use mathlib.Core.Bool.{true, false}
-use Prim.Native.Nat.{ℕ, _-_, _*_, _^_, _≤_, _<_}
-use native.Mathlib.Numerals.{add-one}
+-- `ring::length::compare` meets its contract. The loop's invariant: what is left and the squared length so far make up the bound.
+-- Assumes nothing.
+use mathlib.Core.Path.{_≡_, ap, _∙_}
+use Prim.Native.Nat.{ℕ, _-_, _*_, _^_, _<_}
 use native.Mathlib.Omega.{arith}
-use lib.ListN.{length, take, getD}
+use lib.ListN.{length}
 use lib.IntN.{ℤ, natAbs}
 use lib.Signed.{mag}
 use mir.Syntax.{w32}
@@ -13,9 +13,6 @@ use Rattle.ring.specs.Words.{word}
 use Rattle.ring.specs.LengthLaws.{Compared, compared-start, compared-step, compared-above, compared-end}
 use Rattle.ring.proofs.length.compare.Statement.{statement}
 use Rattle.ring.proofs.length.compare.Tie as tie
-use Rattle.ring.proofs.length.compare.Reads as reads
-use Rattle.ring.proofs.length.compare.Lts as lts
-use Rattle.ring.proofs.length.square.Reads as square-reads
 
 -- what `square` gives for an element of the slice
 squared : (x : ℤ) {s : ℕ} → mag x < 2 ^ 31 → s ≡ natAbs (toZ w32 (ofZ w32 x)) * natAbs (toZ w32 (ofZ w32 x)) → s ≡ sq x
@@ -28,23 +25,18 @@ Inv-loop bound xs rest₀ i₀ rest i = Compared bound xs rest i
 abbrev μ-loop : tie.MeasureT-loop
 μ-loop bound xs rest₀ i₀ rest i = length xs - i
 
--- src/length.rt:37:5
 loop-holds : tie.Need-loop-holds Inv-loop μ-loop
 loop-holds c = compared-start _ _
 
--- src/length.rt:38:24
 mul-square : tie.Need-mul-square Inv-loop μ-loop
 mul-square c = omega arith
 
--- src/length.rt:38:24
 shared-slice-copy-out-square : tie.Need-shared-slice-copy-out-square Inv-loop μ-loop
 shared-slice-copy-out-square c = omega arith
 
--- src/length.rt:38:13
 square-requires : tie.Need-square-requires Inv-loop μ-loop
 square-requires c κs = tt
 
--- src/length.rt:40:13
 returns : tie.Need-returns Inv-loop μ-loop
 returns c =
     compared-above _ _ _ _ _
@@ -53,15 +45,12 @@ returns c =
     (squared _ (c .before .before .square-arg .given) (c .before .square .ensures))
     (c .if1 .taken)
 
--- src/length.rt:43:9
 add-i : tie.Need-add-i Inv-loop μ-loop
 add-i c = omega arith
 
--- src/length.rt:37:5
 loop-less : tie.Need-loop-less Inv-loop μ-loop
 loop-less c = omega arith
 
--- src/length.rt:37:5
 loop-again : tie.Need-loop-again Inv-loop μ-loop
 loop-again c =
     compared-step _ _ _ _ _
@@ -70,7 +59,6 @@ loop-again c =
     (squared _ (c .before .before .square-arg .given) (c .before .square .ensures))
     (c .if1 .left)
 
--- src/length.rt:32:1
 returns-2 : tie.Need-returns-2 Inv-loop μ-loop
 returns-2 c = compared-end _ _ _ _ (c .before .loop .inv) (c .loop-test .left)
 

@@ -11,9 +11,6 @@ use mir.Val.{Fits, SFits}
 use mir.Facts.{toZ-ofZ}
 use Rattle.ring.proofs.length.square.Statement.{statement}
 use Rattle.ring.proofs.length.square.Tie as tie
-use Rattle.ring.proofs.length.square.Reads as reads
-use Rattle.ring.proofs.length.square.Lts as lts
-use Rattle.ring.proofs.range.magnitude.Reads as magnitude-reads
 
 magnitude-requires : tie.Need-magnitude-requires
 magnitude-requires c κs = search needs

@@ -5,9 +5,6 @@ use lib.ListN.{length}
 use Rattle.ring.specs.RangeLaws.{Tested, tested-start, tested-step, tested-false, tested-end}
 use Rattle.ring.proofs.range.all_within.Statement.{statement}
 use Rattle.ring.proofs.range.all_within.Tie as tie
-use Rattle.ring.proofs.range.all_within.Reads as reads
-use Rattle.ring.proofs.range.all_within.Lts as lts
-use Rattle.ring.proofs.range.magnitude.Reads as magnitude-reads
 
 abbrev Inv-loop : tie.InvT-loop
 Inv-loop bound xs i₀ i = Tested bound xs i
