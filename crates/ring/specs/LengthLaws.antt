@@ -75,18 +75,18 @@ lessened-append b xs ys = lessened-remaining b (normSq xs) (normSq ys) ∙ ap (r
 -- ---- the loop of `compare`: the first i numbers are paid for, and rest is left of the bound
 
 pub record Compared (bound : ℕ) (xs : List ℤ) (rest i : ℕ) : Type 0 where
-  pub within : i ≤ length xs
+  pub below : i ≤ length xs
   pub paid : rest + normSq (take i xs) ≡ bound
 
 pub compared-start : (bound : ℕ) (xs : List ℤ) → Compared bound xs bound 0
 unfolding normSq
-compared-start bound xs = record { within = omega arith; paid = omega arith }
+compared-start bound xs = record { below = omega arith; paid = omega arith }
 
 module _ (bound : ℕ) (xs : List ℤ) (rest i s : ℕ) (inv : Compared bound xs rest i) where
   -- the next square fits into what is left
   pub compared-step : i < length xs → s ≡ sq (getD xs i (pos 0)) → s ≤ rest → Compared bound xs (rest - s) (i + 1)
   compared-step h e k =
-      record { within = omega arith; paid = rw add-one (omega (arith, inv .paid, normSq-take-suc xs i h)) }
+      record { below = omega arith; paid = rw add-one (omega (arith, inv .paid, normSq-take-suc xs i h)) }
 
   -- it does not: the whole is above the bound
   pub compared-above : i < length xs → s ≡ sq (getD xs i (pos 0)) → rest < s → Above ≡ remaining bound (normSq xs)
@@ -94,7 +94,8 @@ module _ (bound : ℕ) (xs : List ℤ) (rest i s : ℕ) (inv : Compared bound xs
       sym (remaining-above bound (normSq xs) (omega (arith, inv .paid, normSq-take-suc xs i h, normSq-take-le xs (suc i))))
 
 -- all numbers are paid for
-pub compared-end : (bound : ℕ) (xs : List ℤ) (rest i : ℕ) → Compared bound xs rest i → length xs ≤ i → Within rest ≡ remaining bound (normSq xs)
+pub compared-end : (bound : ℕ) (xs : List ℤ) (rest i : ℕ) → Compared bound xs rest i → length xs ≤ i
+    → Within rest ≡ remaining bound (normSq xs)
 compared-end bound xs rest i inv h =
     let e : rest + normSq xs ≡ bound = rw (take-all i xs) at (inv .paid) in
     let s : rest ≡ bound - normSq xs = omega arith in

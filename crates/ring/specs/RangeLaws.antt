@@ -46,17 +46,9 @@ both-false : (s : Bool) → cond s false false ≡ false
 both-false true = refl
 both-false false = refl
 
-n-square : (n : ℕ) → n ≤ n * n
-n-square zero = omega arith
-n-square (suc n) = omega arith
-
 single : (b : ℕ) (x : ℤ) → natAbs x ≤ b → allWithin b (x ∷ []) ≡ true
 unfolding allWithin
 single b x h = rw (le-leb (natAbs x) b h) refl
-
-pub natAbs-sq : (x : ℤ) → natAbs x ≤ sq x
-unfolding sq
-natAbs-sq x = n-square (natAbs x)
 
 -- ---- the test by index
 
@@ -143,7 +135,6 @@ tested-end b xs i inv h = sym (rw (take-all i xs) at (inv .passed))
 
 -- ---- row 8
 
--- a number modulo q is within the range of an i32, and its opposite too
 pub coefficients-at : (xs : List ℤ) → coefficients xs ≡ true → (i : ℕ) → natAbs (getD xs i (pos 0)) ≤ 2147483598
 unfolding coefficients
 coefficients-at xs e i = allWithin-at 2147483598 xs e i
@@ -152,6 +143,7 @@ pub coefficients-of : (xs : List ℤ) → ((i : ℕ) → i < length xs → natAb
 unfolding coefficients
 coefficients-of xs h = allWithin-of 2147483598 xs h
 
+-- an i32 holds each
 pub coefficients-fits : (xs : List ℤ) → coefficients xs ≡ true → (i : ℕ) → SFits w32 (getD xs i (pos 0))
 coefficients-fits xs e i =
     omega (zarith, coefficients-at xs e i, natAbs-pn (getD xs i (pos 0)))
@@ -192,6 +184,14 @@ challenge-at xs e i = allWithin-at 2 xs (challenge-within xs e) i
 pub challenge-normSq : (xs : List ℤ) → challenge xs ≡ true → normSq xs ≤ 71
 unfolding challenge
 challenge-normSq xs e = leb-true (normSq xs) 71 (both-right (allWithin 2 xs) (leb (normSq xs) 71) e)
+
+n-square : (n : ℕ) → n ≤ n * n
+n-square zero = omega arith
+n-square (suc n) = omega arith
+
+pub natAbs-sq : (x : ℤ) → natAbs x ≤ sq x
+unfolding sq
+natAbs-sq x = n-square (natAbs x)
 
 -- the sum of the absolute values, which are at most their squares
 pub challenge-sum : (xs : List ℤ) → challenge xs ≡ true → total (length xs) (λ i. natAbs (getD xs i (pos 0))) ≤ 71

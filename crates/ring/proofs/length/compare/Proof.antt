@@ -43,7 +43,7 @@ returns c =
     (c .before .before .before .before .loop .inv)
     (c .before .before .before .loop-test .taken)
     (squared _ (c .before .before .square-arg .given) (c .before .square .ensures))
-    (c .if1 .taken)
+    (omega arith)
 
 add-i : tie.Need-add-i Inv-loop μ-loop
 add-i c = omega arith
@@ -57,7 +57,7 @@ loop-again c =
     (c .before .before .before .before .loop .inv)
     (c .before .before .before .loop-test .taken)
     (squared _ (c .before .before .square-arg .given) (c .before .square .ensures))
-    (c .if1 .left)
+    (omega arith)
 
 returns-2 : tie.Need-returns-2 Inv-loop μ-loop
 returns-2 c = compared-end _ _ _ _ (c .before .loop .inv) (c .loop-test .left)
