@@ -2,3 +2,4 @@ pub mod Remainder
 pub mod Bridge
 pub mod Identities
 pub mod Sums
+pub mod Lists
