@@ -1,2 +1,3 @@
 pub mod CommRing
 pub mod Sum
+pub mod Triangle
