@@ -1,3 +1,5 @@
 pub mod CommRing
 pub mod Sum
 pub mod Triangle
+pub mod Vec
+pub mod Negacyclic
