@@ -1,5 +1,8 @@
-pub mod Remainder
 pub mod Bridge
+pub mod CentreLaws
 pub mod Identities
+pub mod MachineDivision
+pub mod Remainder
+pub mod RemainderLaws
 pub mod Sums
 pub mod Lists
