@@ -1,9 +1,9 @@
 -- The ring laws of ℤ that lib.IntN lacks, and a few identities for moving terms from one side of an equation to the other.
 -- `ring-order` sorts sums and products: `simp ring-order` proves an identity that needs no cancellation.
 use mathlib.Core.Path.{_≡_, ap}
-use Prim.Native.Nat.{ℕ, _+_, _*_}
+use Prim.Native.Nat.{ℕ, _*_}
 use lib.IntN.{ℤ, pos, negℤ, _+ℤ_, _-ℤ_, _*ℤ_, +ℤ-assoc, +ℤ-comm, *ℤ-comm}
-use Rattle.integers.specs.Bridge.{P, N, pn-eq, add-pn, sub-pn, neg-pn, mul-pn, zarith}
+use Rattle.integers.specs.Bridge.{P, N, add-pn, sub-pn, neg-pn, mul-pn, zarith}
 
 -- ---- products
 

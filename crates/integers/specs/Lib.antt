@@ -6,3 +6,5 @@ pub mod Remainder
 pub mod RemainderLaws
 pub mod Sums
 pub mod Lists
+pub mod Over
+pub mod Flat

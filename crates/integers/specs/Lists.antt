@@ -8,7 +8,6 @@ use mathlib.Core.Bool.{Bool, true, false, cond}
 use mathlib.Core.List.{List, [], _∷_, _++_, map}
 use Prim.Native.Nat.{ℕ, zero, suc, _+_, _-_, _≤_, _<_}
 use native.Mathlib.Nat.{le-of-suc-le-suc, suc-add, zero-add, suc-sub-suc, sub-zero, suc-inj}
-use native.Mathlib.Numerals.{add-one}
 use native.Mathlib.Omega.{arith}
 use lib.Dec.{ltb}
 use lib.ListN.{length, getD, take, drop, set, replicate}
@@ -82,7 +81,10 @@ module _ {ℓ} {A : Type ℓ} where
   set-tab zero k f g v h e d = let no : ⊥ = omega arith in absurd no
   set-tab (suc n) zero f g v h e d = cc (e, tab-cong n (λ i. f (suc i)) (λ i. g (suc i)) (λ i b. d (suc i) (omega arith)))
   set-tab (suc n) (suc k) f g v h e d =
-      cc (d 0 (omega arith), set-tab n k (λ i. f (suc i)) (λ i. g (suc i)) v (le-of-suc-le-suc h) e (λ i ne. d (suc i) (λ q. ne (suc-inj q))))
+      cc (
+        d 0 (omega arith),
+        set-tab n k (λ i. f (suc i)) (λ i. g (suc i)) v (le-of-suc-le-suc h) e (λ i ne. d (suc i) (λ q. ne (suc-inj q))),
+      )
 
   -- ---- an array that a loop fills
 
