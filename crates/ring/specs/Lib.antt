@@ -1,3 +1,3 @@
 pub mod Modulus
-pub mod Length
-pub mod Range
+pub mod Element
+pub mod Digits

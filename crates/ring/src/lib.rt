@@ -1,4 +1,2 @@
 // Arithmetic in R = Z_q[X]/(X^d+1), q = 2^32 - 99: document 01, 'Ring and digits'.
-pub mod length;
 pub mod modulus;
-pub mod range;
