@@ -5,8 +5,11 @@
 --     el d xs p     element p of a flat list with d numbers to an element
 --     coeffs u      the d centred coefficients of an element
 --     array u       sixty-four numbers: the centred coefficients, then zeros
+--     same u v      the test that two elements are equal
+use mathlib.Core.Bool.{Bool, true, false, cond}
 use mathlib.Core.List.{List}
-use Prim.Native.Nat.{ℕ, _*_, _<_, _≤_}
+use Prim.Native.Nat.{ℕ, zero, suc, _*_, _<_, _≤_}
+use lib.Dec.{eqb}
 use lib.ListN.{getD, drop}
 use lib.IntN.{ℤ, pos}
 use Rattle.integers.specs.Lists.{tab}
@@ -14,6 +17,11 @@ use Rattle.algebra.specs.CommRing.{CommRing}
 use Rattle.algebra.specs.Vec.{Vec, build}
 use Rattle.algebra.specs.Negacyclic.{Negacyclic, coeff, constant}
 use Rattle.ring.specs.Modulus.{Zq, red, cent}
+
+-- a test holds at every k below n
+unfoldable pub every : ℕ → (ℕ → Bool) → Bool
+every zero p = true
+every (suc n) p = cond (every n p) (p n) false
 
 -- the degrees that elements by value have room for
 pub record Degree (d : ℕ) : Type 0 where
@@ -38,3 +46,7 @@ array d u = tab 64 (λ k. cent (coeff Zq u k))
 -- a number modulo q as an element
 unfoldable pub number : (d : ℕ) → ℤ → R d .Carrier
 number d c = constant Zq d (red c)
+
+-- two elements are the same: their coefficients are, one by one
+unfoldable pub same : (d : ℕ) → R d .Carrier → R d .Carrier → Bool
+same d u v = every d (λ k. eqb (coeff Zq u k .val) (coeff Zq v k .val))
