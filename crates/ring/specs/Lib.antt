@@ -3,3 +3,4 @@ pub mod ModulusLaws
 pub mod Centring
 pub mod Element
 pub mod Digits
+pub mod DigitLaws
