@@ -62,28 +62,28 @@ module _ (b : ℕ) (b>1 : 2 ≤ b) where
 
   -- ---- what is left
 
+  pub rest-size : (z : ℤ) → natAbs (rest b z) * b ≤ natAbs z + natAbs (low b z)
+  rest-size z =
+      let k = rest b z in
+      omega (
+        zarith,
+        rest-low z,
+        add-pn (k *ℤ pos b) (low b z),
+        abs-mul k (pos b),
+        pn-min (k *ℤ pos b),
+        natAbs-pn z,
+        natAbs-pn (low b z),
+        ap (λ (t : ℕ). t * b) (natAbs-pn k),
+      )
+
   pub rest-bound : (z : ℤ) → natAbs (rest b z) ≤ natAbs z
   rest-bound z = cases (decLe (natAbs (rest b z)) (natAbs z))
     where
-      size : natAbs (rest b z) * b ≤ natAbs z + natAbs (low b z)
-      size =
-          let k = rest b z in
-          omega (
-            zarith,
-            rest-low z,
-            add-pn (k *ℤ pos b) (low b z),
-            abs-mul k (pos b),
-            pn-min (k *ℤ pos b),
-            natAbs-pn z,
-            natAbs-pn (low b z),
-            ap (λ (t : ℕ). t * b) (natAbs-pn k),
-          )
-
       cases : Dec (natAbs (rest b z) ≤ natAbs z) → natAbs (rest b z) ≤ natAbs z
       cases (yes h) = h
       cases (no h) =
           let more : suc (natAbs z) ≤ natAbs (rest b z) = omega arith in
-          let no : ⊥ = omega (arith, size, low-bound z, mul-le-mul-right b more, mul-le-mul-left (natAbs z) b>1) in
+          let no : ⊥ = omega (arith, rest-size z, low-bound z, mul-le-mul-right b more, mul-le-mul-left (natAbs z) b>1) in
           absurd no
 
   pub rests-bound : (e : ℕ) (z : ℤ) → natAbs (rests b e z) ≤ natAbs z

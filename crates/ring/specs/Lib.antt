@@ -4,3 +4,5 @@ pub mod Centring
 pub mod Element
 pub mod Digits
 pub mod DigitLaws
+pub mod DigitSteps
+pub mod DigitBlocks
