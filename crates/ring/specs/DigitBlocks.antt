@@ -84,6 +84,13 @@ module _ (b to from : ℕ) (old : List ℤ) where
 
 -- ---- all the digits
 
+-- stretch k ends before the last begins
+pub stretch-fits : (t w k : ℕ) → k + 1 < t → k * w + w ≤ (t - 1) * w
+stretch-fits t w k h = let l : k + 1 ≤ t - 1 = omega arith in omega (arith, mul-le-mul-right w l)
+
+pub last-fits : (t w : ℕ) → 0 < t → (t - 1) * w + w ≡ t * w
+last-fits t w h = let e : t - 1 + 1 ≡ t = omega arith in omega (arith, ap (λ (s : ℕ). s * w) e)
+
 module _ (b t w : ℕ) (old : List ℤ) where
   pub split-start : length old ≡ t * w → Splitting b t w 0 old old
   unfolding rests
@@ -156,6 +163,6 @@ module _ (b t w : ℕ) (old : List ℤ) where
         ext-getD (pos 0) new (split b t numbers)
         (done .same ∙ sym (length-split b t numbers ∙ ap (λ (s : ℕ). t * s) wide))
         (λ p h.
-          let below : p < t * w = omega (arith, done .same) in
-          let some = positive p below in
-          rw (← div-add-mod' p w) (same-entry (p / w) (p % w) (div-lt-iff-lt-mul some .1 below) (mod-lt p some)))
+        let below : p < t * w = omega (arith, done .same) in
+        let some = positive p below in
+        rw (← div-add-mod' p w) (same-entry (p / w) (p % w) (div-lt-iff-lt-mul some .1 below) (mod-lt p some)))

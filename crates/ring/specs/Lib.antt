@@ -6,3 +6,4 @@ pub mod Digits
 pub mod DigitLaws
 pub mod DigitSteps
 pub mod DigitBlocks
+pub mod DigitSums

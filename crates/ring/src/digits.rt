@@ -6,7 +6,6 @@ ghost use lib.IntN.{pos, _+ℤ_, _*ℤ_};
 ghost use Rattle.ring.specs.Modulus.{centred};
 ghost use Rattle.ring.specs.Digits.{Base, low, rest, split, value};
 ghost use Rattle.ring.specs.DigitBlocks.{Peeled};
-
 use crate::modulus::centre;
 
 // The low digit of x: congruent to x modulo the base, at least -base/2 and below base/2.

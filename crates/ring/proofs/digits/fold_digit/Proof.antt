@@ -6,37 +6,27 @@ use Rattle.ring.specs.DigitSteps.{base-held, base-product-fits, horner-f
 use borrow.Author.Needs.{needs}
 use Rattle.ring.proofs.digits.fold_digit.Statement.{statement}
 use Rattle.ring.proofs.digits.fold_digit.Tie as tie
-use Rattle.ring.proofs.digits.fold_digit.Reads as reads
-use Rattle.ring.proofs.digits.fold_digit.Lts as lts
-use Rattle.ring.proofs.modulus.centre.Reads as centre-reads
 
--- src/digits.rt:69:19
 cast-product : tie.Need-cast-product
 cast-product c = rw (toZ-ofZ (c .fits .acc)) (widen (c .fits .acc))
 
--- src/digits.rt:69:32
 cast-product-2 : tie.Need-cast-product-2
 cast-product-2 c = search needs
 
--- src/digits.rt:69:19
 mul-product : tie.Need-mul-product
 mul-product c = rw (wide (c .fits .acc), base-held (c .pre)) (base-product-fits (c .pre) (c .fits .acc))
 
--- src/digits.rt:70:17
 cast-digit : tie.Need-cast-digit
 cast-digit c = rw (toZ-ofZ (c .fits .x)) (widen (c .fits .x))
 
--- src/digits.rt:71:12
 add-centre : tie.Need-add-centre
 add-centre c =
     let product = base-product-fits (c .pre) (c .fits .acc) in
     rw (wide (c .fits .acc), base-held (c .pre), wide (c .fits .x), toZ-ofZ product) (horner-fits (c .pre) (c .fits .acc) (c .fits .x))
 
--- src/digits.rt:71:5
 centre-requires : tie.Need-centre-requires
 centre-requires c κs = search needs
 
--- src/digits.rt:65:1
 returns : tie.Need-returns
 returns c =
     let base = c .before .pre in

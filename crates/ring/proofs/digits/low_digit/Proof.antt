@@ -7,48 +7,36 @@ use Rattle.ring.specs.DigitSteps.{digit-held, low-fits}
 use borrow.Author.Needs.{needs}
 use Rattle.ring.proofs.digits.low_digit.Statement.{statement}
 use Rattle.ring.proofs.digits.low_digit.Tie as tie
-use Rattle.ring.proofs.digits.low_digit.Reads as reads
-use Rattle.ring.proofs.digits.low_digit.Lts as lts
 
--- src/digits.rt:17:13
 cast-b : tie.Need-cast-b
 cast-b c = search needs
 
--- src/digits.rt:18:16
 div-half : tie.Need-div-half
 div-half c = (omega arith, half-quotient-fits (c .pre))
 
--- src/digits.rt:19:21
 cast-remainder : tie.Need-cast-remainder
 cast-remainder c = rw (toZ-ofZ (c .fits .x)) (widen (c .fits .x))
 
--- src/digits.rt:19:21
 rem-remainder : tie.Need-rem-remainder
 rem-remainder c = (omega (arith, c .pre .least), remainder-quotient-fits (c .pre) (c .fits .x))
 
--- src/digits.rt:20:32
 add-shifted : tie.Need-add-shifted
 add-shifted c = sum-half-fits (c .pre)
 
--- src/digits.rt:20:19
 add-shifted-2 : tie.Need-add-shifted-2
 add-shifted-2 c = sum-offset-fits (c .pre) (c .fits .x)
 
--- src/digits.rt:21:17
 rem-digit : tie.Need-rem-digit
 rem-digit c = (omega (arith, c .pre .least), digit-quotient-fits (c .pre) (c .fits .x))
 
--- src/digits.rt:22:6
 sub-result : tie.Need-sub-result
 sub-result c = rw (digit-held (c .pre) (c .fits .x)) (widen (low-fits (c .pre) (c .args .x)))
 
--- src/digits.rt:22:5
 cast-result : tie.Need-cast-result
 cast-result c =
     let low = low-fits (c .pre) (c .args .x) in
     rw (digit-held (c .pre) (c .fits .x), toZ-ofZ (widen low)) low
 
--- src/digits.rt:13:1
 returns : tie.Need-returns
 returns c =
     let low = low-fits (c .pre) (c .args .x) in

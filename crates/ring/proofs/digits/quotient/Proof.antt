@@ -8,41 +8,31 @@ use Rattle.ring.specs.DigitSteps.{sub-low-fits, rest-quotient-fits, rest
 use borrow.Author.Needs.{needs}
 use Rattle.ring.proofs.digits.quotient.Statement.{statement}
 use Rattle.ring.proofs.digits.quotient.Tie as tie
-use Rattle.ring.proofs.digits.quotient.Reads as reads
-use Rattle.ring.proofs.digits.quotient.Lts as lts
-use Rattle.ring.proofs.digits.low_digit.Reads as low-digit-reads
 
--- src/digits.rt:30:9
 low-digit-requires : tie.Need-low-digit-requires
 low-digit-requires c κs = search needs
 
--- src/digits.rt:31:22
 cast-difference : tie.Need-cast-difference
 cast-difference c = let x = c .before .fits .x in rw (toZ-ofZ x) (widen x)
 
--- src/digits.rt:31:33
 cast-difference-2 : tie.Need-cast-difference-2
 cast-difference-2 c = let r : SFits w32 (c .low-digit .result) = record { sfits = c .low-digit .ok } in rw (toZ-ofZ r) (widen r)
 
--- src/digits.rt:31:22
 sub-difference : tie.Need-sub-difference
 sub-difference c = sub-low-fits (c .before .pre) (c .before .fits .x) (record { sfits = c .low-digit .ok }) (c .low-digit .ensures)
 
--- src/digits.rt:32:19
 cast-result : tie.Need-cast-result
 cast-result c = search needs
 
--- src/digits.rt:32:6
 div-result : tie.Need-div-result
-div-result c =
-    (omega (arith, c .before .pre .least),
-    rest-quotient-fits (c .before .pre) (c .before .fits .x) (record { sfits = c .low-digit .ok }) (c .low-digit .ensures))
+div-result c = (
+  omega (arith, c .before .pre .least),
+  rest-quotient-fits (c .before .pre) (c .before .fits .x) (record { sfits = c .low-digit .ok }) (c .low-digit .ensures),
+)
 
--- src/digits.rt:32:5
 cast-result-2 : tie.Need-cast-result-2
 cast-result-2 c = rest-narrow-fits (c .before .pre) (c .before .fits .x) (record { sfits = c .low-digit .ok }) (c .low-digit .ensures)
 
--- src/digits.rt:26:1
 returns : tie.Need-returns
 returns c = rest-held (c .before .pre) (c .before .fits .x) (record { sfits = c .low-digit .ok }) (c .low-digit .ensures)
 

@@ -1,54 +1,74 @@
+-- `ring::digits::recompose_number` meets its contract. The loop's invariant: `acc` holds the value of the digits from `left` on.
+use mathlib.Core.Path.{_≡_}
+use mathlib.Core.List.{List}
+use Prim.Native.Nat.{ℕ, _+_, _*_, _-_, _≤_}
+use native.Mathlib.Omega.{arith}
+use lib.ListN.{getD}
+use lib.IntN.{ℤ, pos}
+use mir.Syntax.{w32}
+use mir.Val.{ofZ}
+use Rattle.ring.specs.Modulus.{centred}
+use Rattle.ring.specs.DigitSums.{tail, sum-start, sum-step, sum-end, place-fits}
 use Rattle.ring.proofs.digits.recompose_number.Statement.{statement}
 use Rattle.ring.proofs.digits.recompose_number.Tie as tie
-use Rattle.ring.proofs.digits.recompose_number.Reads as reads
-use Rattle.ring.proofs.digits.recompose_number.Lts as lts
-use Rattle.ring.proofs.digits.fold_digit.Reads as fold-digit-reads
+
+abbrev digits-of : List ℤ → ℕ → ℕ → ℕ → ℤ
+digits-of digits at width e = getD digits (at + e * width) (pos 0)
 
 abbrev Inv-loop : tie.InvT-loop
-Inv-loop base count width digits at left₀ acc₀ left acc = ?
+Inv-loop base count width digits at left₀ acc₀ left acc = (acc ≡ ofZ w32 (centred (tail base count (digits-of digits at width) left))) × (left ≤ count)
 
 abbrev μ-loop : tie.MeasureT-loop
-μ-loop base count width digits at left₀ acc₀ left acc = ?
+μ-loop base count width digits at left₀ acc₀ left acc = left
 
--- src/digits.rt:82:5
 loop-holds : tie.Need-loop-holds Inv-loop μ-loop
-loop-holds c = ?
+loop-holds c = (sum-start (c .args .base) (c .args .count) (digits-of (c .args .digits .now) (c .args .at) (c .args .width)), omega arith)
 
--- src/digits.rt:83:9
 sub-left : tie.Need-sub-left Inv-loop μ-loop
-sub-left c = ?
+sub-left c = omega arith
 
--- src/digits.rt:84:49
 mul-fold-digit : tie.Need-mul-fold-digit Inv-loop μ-loop
-mul-fold-digit c = ?
+mul-fold-digit c =
+    let start = c .before .before in
+    omega (arith, place-fits (start .args .count) (start .args .width) (c .before .loop .left - 1) (omega arith), start .pre .1)
 
--- src/digits.rt:84:44
 add-fold-digit : tie.Need-add-fold-digit Inv-loop μ-loop
-add-fold-digit c = ?
+add-fold-digit c =
+    let start = c .before .before in
+    omega (arith, place-fits (start .args .count) (start .args .width) (c .before .loop .left - 1) (omega arith), start .pre .1)
 
--- src/digits.rt:84:37
 mul-fold-digit-2 : tie.Need-mul-fold-digit-2 Inv-loop μ-loop
-mul-fold-digit-2 c = ?
+mul-fold-digit-2 c =
+    let start = c .before .before in
+    omega (arith, place-fits (start .args .count) (start .args .width) (c .before .loop .left - 1) (omega arith), start .pre .1)
 
--- src/digits.rt:84:37
 shared-slice-copy-out-fold-digit : tie.Need-shared-slice-copy-out-fold-digit Inv-loop μ-loop
-shared-slice-copy-out-fold-digit c = ?
+shared-slice-copy-out-fold-digit c =
+    let start = c .before .before in
+    omega (arith, place-fits (start .args .count) (start .args .width) (c .before .loop .left - 1) (omega arith), start .pre .1)
 
--- src/digits.rt:84:9
 fold-digit-requires : tie.Need-fold-digit-requires Inv-loop μ-loop
-fold-digit-requires c κs = ?
+fold-digit-requires c κs = c .before .before .before .pre .0
 
--- src/digits.rt:82:5
 loop-less : tie.Need-loop-less Inv-loop μ-loop
-loop-less c = ?
+loop-less c = omega arith
 
--- src/digits.rt:82:5
 loop-again : tie.Need-loop-again Inv-loop μ-loop
-loop-again c = ?
+loop-again c =
+    let start = c .before .before .before .before in
+    let at = c .before .before .before .loop in (
+      sum-step (start .args .base) (start .args .count) (digits-of (start .args .digits .now) (start .args .at) (start .args .width)) (at .left)
+          (at .acc) (c .fold-digit .result) (omega arith) (at .inv .1) (at .inv .0) (record { sfits = c .before .fold-digit-arg .given })
+          (c .fold-digit .ensures),
+      omega arith,
+    )
 
--- src/digits.rt:75:1
 returns : tie.Need-returns Inv-loop μ-loop
-returns c = ?
+returns c =
+    let start = c .before .before in
+    let at = c .before .loop in
+    sum-end (start .args .base) (start .args .count) (digits-of (start .args .digits .now) (start .args .at) (start .args .width)) (at .left)
+    (at .acc) (omega arith) (at .inv .0)
 
 pub recompose-number-spec : {M : Type 1} → statement M
 recompose-number-spec =
