@@ -1,3 +1,5 @@
 pub mod Modulus
+pub mod ModulusLaws
+pub mod Centring
 pub mod Element
 pub mod Digits
