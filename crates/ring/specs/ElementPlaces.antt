@@ -2,17 +2,19 @@
 --     coeff-el, el-zero, el-drop, el-take   elements of a list and of its parts
 --     el-over, el-over-other                an element stored at a place
 --     el-overs, el-overs-other              several elements stored from a place on
---     el-flat, el-flat-coeffs, el-tab       elements of a list that is given element by element
+--     el-flat, el-flat-coeffs       elements of a list that is given element by element
 use mathlib.Core.Path.{_≡_, refl, sym, ap, _∙_}
-use mathlib.Core.Logic.{_⊎_, inl, inr, _≢_}
+use mathlib.Core.Bool.{Bool, true, false}
+use mathlib.Core.Logic.{_≢_}
 use mathlib.Core.List.{List}
 use Prim.Native.Nat.{ℕ, _+_, _*_, _<_, _≤_}
 use native.Mathlib.Nat.{zero-mul, zero-add, add-mul, add-assoc, mul-le-mul-right}
 use native.Mathlib.Omega.{arith}
 use lib.ListN.{length, getD, take, drop}
+use lib.Dec.{ltb}
 use lib.IntN.{ℤ, pos}
 use lib.Seq.{drop-drop, getD-drop, getD-take}
-use Rattle.integers.specs.Lists.{tab, getD-tab}
+use borrow.Author.Tests.{ltb-true, ltb-false}
 use Rattle.integers.specs.Over.{over, getD-over, getD-over-before, getD-over-after}
 use Rattle.integers.specs.Flat.{flat, getD-flat}
 use Rattle.algebra.specs.Negacyclic.{coeff}
@@ -84,14 +86,11 @@ module _ (d : ℕ) where
       el-lift (over out (p * d) l) l p (λ k q. getD-over out (p * d) l k (pos 0) h (omega arith))
 
   pub el-over-other : (out l : List ℤ) (p r : ℕ) → p * d ≤ length out → length l ≡ d → r ≢ p → el d (over out (p * d) l) r ≡ el d out r
-  el-over-other out l p r h e ne = side (order r p ne)
+  el-over-other out l p r h e ne = side (ltb r p) refl
     where
-      order : (x y : ℕ) → x ≢ y → (x < y) ⊎ (y + 1 ≤ x)
-      order x y f = omega arith
-
-      side : (r < p) ⊎ (p + 1 ≤ r) → el d (over out (p * d) l) r ≡ el d out r
-      side (inl b) = el-overs-before out l p r h b
-      side (inr b) = el-overs-after out l p 1 r h (omega arith) b
+      side : (t : Bool) → ltb r p ≡ t → el d (over out (p * d) l) r ≡ el d out r
+      side true b = el-overs-before out l p r h (ltb-true r p b)
+      side false b = el-overs-after out l p 1 r h (omega arith) (omega (arith, ltb-false r p b))
 
   -- ---- a list given element by element
 

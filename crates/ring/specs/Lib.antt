@@ -3,3 +3,7 @@ pub mod ModulusLaws
 pub mod Centring
 pub mod Element
 pub mod Digits
+pub mod ElementLaws
+pub mod ElementArrays
+pub mod ElementPlaces
+pub mod ElementEquality
