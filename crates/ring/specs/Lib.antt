@@ -7,3 +7,7 @@ pub mod DigitLaws
 pub mod DigitSteps
 pub mod DigitBlocks
 pub mod DigitSums
+pub mod ElementLaws
+pub mod ElementArrays
+pub mod ElementPlaces
+pub mod ElementEquality
