@@ -11,3 +11,4 @@ pub mod ElementLaws
 pub mod ElementArrays
 pub mod ElementPlaces
 pub mod ElementEquality
+pub mod DigitElements
