@@ -4,3 +4,16 @@ pub mod Length
 pub mod LengthLaws
 pub mod Range
 pub mod RangeLaws
+pub mod ModulusLaws
+pub mod Centring
+pub mod Element
+pub mod Digits
+pub mod DigitLaws
+pub mod DigitSteps
+pub mod DigitBlocks
+pub mod DigitSums
+pub mod ElementLaws
+pub mod ElementArrays
+pub mod ElementPlaces
+pub mod ElementEquality
+pub mod DigitElements
