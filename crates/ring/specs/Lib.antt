@@ -7,3 +7,4 @@ pub mod ElementLaws
 pub mod ElementArrays
 pub mod ElementPlaces
 pub mod ElementEquality
+pub mod ElementSteps
