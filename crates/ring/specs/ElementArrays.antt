@@ -25,6 +25,7 @@ use Rattle.ring.specs.Modulus.{Zq, red, cent, centred}
 use Rattle.ring.specs.ModulusLaws.{red-zero, red-one, red-add, red-mul, red-neg, cent-red, centred-fixed, two-halves}
 use Rattle.ring.specs.Element.{R, lift, el, coeffs, array, number}
 use Rattle.ring.specs.ElementLaws.{element-ext, coeff-lift, coeff-past}
+use Rattle.ring.specs.ElementPlaces.{coeff-el}
 
 cent-zero : cent (Zq .zero) ≡ pos 0
 cent-zero = ap cent (sym red-zero) ∙ cent-red (pos 0) ∙ centred-fixed (omega arith)
@@ -61,6 +62,9 @@ module _ (d : ℕ) where
 
   pub array-lift : (xs : List ℤ) → array d (lift d xs) ≡ tab 64 (upto d (λ k. centred (getD xs k (pos 0))) (pos 0))
   array-lift xs = array-fill (lift d xs) _ (λ k l. ap cent (coeff-lift d xs k l) ∙ cent-red (getD xs k (pos 0)))
+
+  pub array-el : (xs : List ℤ) (p : ℕ) → array d (el d xs p) ≡ tab 64 (upto d (λ k. centred (getD xs (p * d + k) (pos 0))) (pos 0))
+  array-el xs p = array-fill (el d xs p) _ (λ k l. ap cent (coeff-el d xs p k l) ∙ cent-red (getD xs (p * d + k) (pos 0)))
 
   pub array-add : (xs ys : List ℤ)
       → array d (R d .add (lift d xs) (lift d ys)) ≡ tab 64 (upto d (λ k. centred (getD xs k (pos 0) +ℤ getD ys k (pos 0))) (pos 0))

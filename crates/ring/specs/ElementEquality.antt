@@ -1,7 +1,7 @@
 -- The test that two elements are equal: `same d u v` is true exactly when u ≡ v. Below it, the laws of `every`.
 use mathlib.Core.Path.{_≡_, refl, ap, ap₂, _∙_}
 use mathlib.Core.Logic.{_↔_, _⊎_, inl, inr}
-use mathlib.Core.Bool.{Bool, true, false, cond}
+use mathlib.Core.Bool.{Bool, true, false, cond, _&&_}
 use mathlib.Core.List.{List}
 use Prim.Native.Nat.{ℕ, zero, suc, _+_, _<_}
 use native.Mathlib.Nat.{le-step, lt-suc-self, eq-or-lt-of-le}
@@ -45,10 +45,14 @@ pub every-zero : (p : ℕ → Bool) → every 0 p ≡ true
 unfolding every
 every-zero p = refl
 
--- one more test, as a loop that counts up adds it
 pub every-add-one : (n : ℕ) (p : ℕ → Bool) → every (n + 1) p ≡ cond (every n p) (p n) false
 unfolding every
 every-add-one n p = rw add-one
+
+-- one more test, as a loop that counts up adds it
+pub every-next : (n : ℕ) (p : ℕ → Bool) (all t : Bool) → all ≡ every n p → t ≡ p n → (all && t) ≡ every (n + 1) p
+every-next n p true t e q = rw (every-add-one n p, ← e) q
+every-next n p false t e q = rw (every-add-one n p, ← e) refl
 
 pub every-cong : (n : ℕ) (p r : ℕ → Bool) → ((k : ℕ) → k < n → p k ≡ r k) → every n p ≡ every n r
 unfolding every

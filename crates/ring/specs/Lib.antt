@@ -17,3 +17,4 @@ pub mod ElementArrays
 pub mod ElementPlaces
 pub mod ElementEquality
 pub mod DigitElements
+pub mod ElementSteps

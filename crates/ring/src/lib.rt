@@ -2,4 +2,6 @@
 pub mod length;
 pub mod range;
 pub mod digits;
+pub mod constants;
+pub mod element;
 pub mod modulus;

@@ -1,0 +1,14 @@
+-- `ring::element::Element::multiplicative_identity` meets its contract.
+use mathlib.Core.Path.{sym}
+use Rattle.ring.specs.ElementArrays.{array-one}
+use Rattle.ring.proofs.element.Element.multiplicative_identity.Statement.{statement}
+use Rattle.ring.proofs.element.Element.multiplicative_identity.Tie as tie
+use Rattle.ring.proofs.element.Element.multiplicative_identity.Reads as reads
+use Rattle.ring.proofs.element.Element.multiplicative_identity.Lts as lts
+
+-- src/element.rt:276:5
+returns : tie.Need-returns
+returns c = λ d h. sym (array-one d h)
+
+pub multiplicative-identity-spec : {M : Type 1} → statement M
+multiplicative-identity-spec = tie.close (tie.spec returns)
