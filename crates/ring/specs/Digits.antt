@@ -11,7 +11,7 @@ use Prim.Native.Nat.{ℕ, zero, suc, _^_, _≤_}
 use lib.Dec.{ltb}
 use lib.IntN.{ℤ, pos, _-ℤ_}
 use lib.Signed.{quotZ}
-use Rattle.integers.specs.Lists.{flat}
+use Rattle.integers.specs.Flat.{flat}
 use Rattle.integers.specs.Remainder.{centre}
 use Rattle.algebra.specs.Sum.{sum}
 use Rattle.ring.specs.Element.{R, number}

@@ -1,3 +1,5 @@
 pub mod Modulus
 pub mod Element
 pub mod Digits
+pub mod Product
+pub mod ProductLaws

@@ -1,0 +1,108 @@
+use Rattle.ring.proofs.product.extend.Statement.{statement}
+use Rattle.ring.proofs.product.extend.Tie as tie
+use Rattle.ring.proofs.product.extend.Reads as reads
+use Rattle.ring.proofs.product.extend.Lts as lts
+use Rattle.ring.proofs.modulus.residue.Reads as residue-reads
+
+abbrev Inv-loop : tie.InvT-loop
+Inv-loop d v p e₀ last i₀ e i = ?
+
+abbrev μ-loop : tie.MeasureT-loop
+μ-loop d v p e₀ last i₀ e i = ?
+
+-- src/product.rt:37:16
+mul-last : tie.Need-mul-last Inv-loop μ-loop
+mul-last c = ?
+
+-- src/product.rt:37:25
+sub-last : tie.Need-sub-last Inv-loop μ-loop
+sub-last c = ?
+
+-- src/product.rt:37:16
+add-last : tie.Need-add-last Inv-loop μ-loop
+add-last c = ?
+
+-- src/product.rt:39:5
+loop-holds : tie.Need-loop-holds Inv-loop μ-loop
+loop-holds c = ?
+
+-- src/product.rt:40:27
+sub-residue : tie.Need-sub-residue Inv-loop μ-loop
+sub-residue c = ?
+
+-- src/product.rt:40:25
+mul-residue : tie.Need-mul-residue Inv-loop μ-loop
+mul-residue c = ?
+
+-- src/product.rt:40:25
+shared-slice-copy-out-residue : tie.Need-shared-slice-copy-out-residue Inv-loop μ-loop
+shared-slice-copy-out-residue c = ?
+
+-- src/product.rt:40:13
+residue-requires : tie.Need-residue-requires Inv-loop μ-loop
+residue-requires c κs = ?
+
+-- src/product.rt:41:9
+mul-e : tie.Need-mul-e Inv-loop μ-loop
+mul-e c = ?
+
+-- src/product.rt:41:9
+element-write-e : tie.Need-element-write-e Inv-loop μ-loop
+element-write-e c = ?
+
+-- src/product.rt:42:20
+sub-e : tie.Need-sub-e Inv-loop μ-loop
+sub-e c = ?
+
+-- src/product.rt:42:11
+add-e : tie.Need-add-e Inv-loop μ-loop
+add-e c = ?
+
+-- src/product.rt:42:9
+mul-e-2 : tie.Need-mul-e-2 Inv-loop μ-loop
+mul-e-2 c = ?
+
+-- src/product.rt:42:9
+element-write-e-2 : tie.Need-element-write-e-2 Inv-loop μ-loop
+element-write-e-2 c = ?
+
+-- src/product.rt:43:9
+add-i : tie.Need-add-i Inv-loop μ-loop
+add-i c = ?
+
+-- src/product.rt:39:5
+loop-less : tie.Need-loop-less Inv-loop μ-loop
+loop-less c = ?
+
+-- src/product.rt:39:5
+loop-again : tie.Need-loop-again Inv-loop μ-loop
+loop-again c = ?
+
+-- src/product.rt:32:1
+returns : tie.Need-returns Inv-loop μ-loop
+returns c = ?
+
+pub extend-spec : {M : Type 1} → statement M
+extend-spec =
+    tie.close
+    (tie.spec
+    Inv-loop
+    μ-loop
+    mul-last
+    sub-last
+    add-last
+    loop-holds
+    sub-residue
+    mul-residue
+    shared-slice-copy-out-residue
+    residue-requires
+    mul-e
+    element-write-e
+    sub-e
+    add-e
+    mul-e-2
+    element-write-e-2
+    add-i
+    loop-less
+    loop-again
+    returns)
