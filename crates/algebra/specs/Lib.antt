@@ -1,4 +1,5 @@
 pub mod CommRing
+pub mod Integers
 pub mod Residue
 pub mod Sum
 pub mod Triangle

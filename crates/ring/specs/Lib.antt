@@ -1,4 +1,6 @@
 pub mod Modulus
+pub mod ModulusLaws
+pub mod Centring
 pub mod Element
 pub mod Digits
 pub mod Product
