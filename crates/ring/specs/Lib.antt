@@ -4,4 +4,5 @@ pub mod Centring
 pub mod Element
 pub mod Digits
 pub mod Product
+pub mod ColumnLaws
 pub mod ProductLaws

@@ -1,3 +1,9 @@
+-- `ring::product::column` meets its contract. The loop's invariant: the sum modulo 2^64 and the sum of the upper halves, after i terms.
+use borrow.Author.Needs.{needs}
+use Prim.Native.Nat.{_-_}
+use native.Mathlib.Omega.{arith}
+use Rattle.ring.specs.Product.{term, folded, highs}
+use Rattle.ring.specs.ColumnLaws.{Running, product-fits, term-small, running-start, running-high, running-high-fits, running-step, running-end, running-end-fits}
 use Rattle.ring.proofs.product.column.Statement.{statement}
 use Rattle.ring.proofs.product.column.Tie as tie
 use Rattle.ring.proofs.product.column.Reads as reads
@@ -6,78 +12,71 @@ use Rattle.std.proofs.num.wrapping_add_u64.Reads as wrapping-add-u64-reads
 use Rattle.std.proofs.num.wrapping_sub_u64.Reads as wrapping-sub-u64-reads
 
 abbrev Inv-loop : tie.InvT-loop
-Inv-loop d start a e sum₀ high₀ i₀ sum high i = ?
+Inv-loop d start a e sum₀ high₀ i₀ sum high i = Running d (term a e start) i sum high
 
 abbrev μ-loop : tie.MeasureT-loop
-μ-loop d start a e sum₀ high₀ i₀ sum high i = ?
+μ-loop d start a e sum₀ high₀ i₀ sum high i = d - i
 
--- src/product.rt:56:5
 loop-holds : tie.Need-loop-holds Inv-loop μ-loop
-loop-holds c = ?
+loop-holds c = running-start _ _ (term-small _ _ _)
 
--- src/product.rt:57:17
 mul-x : tie.Need-mul-x Inv-loop μ-loop
-mul-x c = ?
+mul-x c = omega arith
 
--- src/product.rt:57:17
 element-copy-out-x : tie.Need-element-copy-out-x Inv-loop μ-loop
-element-copy-out-x c = ?
+element-copy-out-x c = omega arith
 
--- src/product.rt:58:19
 add-y : tie.Need-add-y Inv-loop μ-loop
-add-y c = ?
+add-y c = omega arith
 
--- src/product.rt:58:17
 mul-y : tie.Need-mul-y Inv-loop μ-loop
-mul-y c = ?
+mul-y c = omega arith
 
--- src/product.rt:58:17
 element-copy-out-y : tie.Need-element-copy-out-y Inv-loop μ-loop
-element-copy-out-y c = ?
+element-copy-out-y c = omega arith
 
--- src/product.rt:59:23
 mul-product : tie.Need-mul-product Inv-loop μ-loop
-mul-product c = ?
+mul-product c = product-fits _ _
 
--- src/product.rt:60:9
 wrapping-add-u64-requires : tie.Need-wrapping-add-u64-requires Inv-loop μ-loop
-wrapping-add-u64-requires c κs = ?
+wrapping-add-u64-requires c κs = tt
 
--- src/product.rt:61:16
 add-high : tie.Need-add-high Inv-loop μ-loop
-add-high c = ?
+unfolding term
+add-high c =
+    running-high-fits (c .before .before .before .before .loop .inv) (c .before .before .before .before .before .pre .0)
 
--- src/product.rt:62:9
 add-i : tie.Need-add-i Inv-loop μ-loop
-add-i c = ?
+add-i c = omega arith
 
--- src/product.rt:56:5
 loop-less : tie.Need-loop-less Inv-loop μ-loop
-loop-less c = ?
+loop-less c = omega arith
 
--- src/product.rt:56:5
 loop-again : tie.Need-loop-again Inv-loop μ-loop
-loop-again c = ?
+unfolding term
+loop-again c =
+    running-step (c .before .before .before .before .loop .inv) (c .before .before .before .before .before .pre .0)
+    (c .before .before .before .loop-test .taken) (c .wrapping-add-u64 .ensures)
 
--- src/product.rt:64:17
 mul-taken : tie.Need-mul-taken Inv-loop μ-loop
-mul-taken c = ?
+mul-taken c = omega arith
 
--- src/product.rt:65:9
 wrapping-sub-u64-requires : tie.Need-wrapping-sub-u64-requires Inv-loop μ-loop
-wrapping-sub-u64-requires c κs = ?
+wrapping-sub-u64-requires c κs = tt
 
--- src/product.rt:66:11
 mul-result : tie.Need-mul-result Inv-loop μ-loop
-mul-result c = ?
+mul-result c =
+    omega (arith, running-high (c .before .before .loop .inv) (c .before .before .before .pre .0))
 
--- src/product.rt:66:5
 add-result : tie.Need-add-result Inv-loop μ-loop
-add-result c = ?
+add-result c =
+    running-end-fits (c .before .before .loop .inv) (c .before .before .before .pre .0) (c .before .loop-test .left)
+    (c .wrapping-sub-u64 .ok) (c .wrapping-sub-u64 .ensures)
 
--- src/product.rt:49:1
 returns : tie.Need-returns Inv-loop μ-loop
-returns c = ?
+returns c =
+    running-end (c .before .before .loop .inv) (c .before .before .before .pre .0) (c .before .loop-test .left)
+    (c .wrapping-sub-u64 .ok) (c .wrapping-sub-u64 .ensures)
 
 pub column-spec : {M : Type 1} → statement M
 column-spec =
