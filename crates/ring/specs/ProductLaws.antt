@@ -11,19 +11,20 @@ use lib.Dec.{ltb, leb, ltb→lt}
 use lib.ListN.{length, getD, set, drop, length-set}
 use lib.Seq.{getD-set-same, getD-set-other, getD-drop}
 use lib.IntN.{ℤ, pos}
-use mir.Syntax.{w64}
-use mir.Val.{Fits}
+use mir.Syntax.{w32, w64}
+use mir.Val.{Fits, SFits, toZ, ofZ}
+use mir.Facts.{toZ-ofZ}
 use borrow.Author.Tests.{ltb-true, ltb-false}
 use Rattle.integers.specs.Lists.{tab, tab-cong, upto, upto-below, upto-above}
 use Rattle.integers.specs.Remainder.{emod}
-use Rattle.integers.specs.Sums.{total}
+use Rattle.integers.specs.RemainderLaws.{emod-lt}
 use Rattle.algebra.specs.Sum.{sum, sum-cong, sum-one-more}
 use Rattle.algebra.specs.Vec.{at-build, at-past}
 use Rattle.algebra.specs.Negacyclic.{coeff, coeff-add, coeff-zero}
 use Rattle.algebra.specs.Convolution.{wrapped, wrapped-yes, wrapped-no, coeff-mul}
 use Rattle.algebra.specs.Residue.{make, make-val, make-add, make-mul, neg, reduce-pos}
 use Rattle.ring.specs.Modulus.{q, q-positive, Zq, red, cent, centred}
-use Rattle.ring.specs.ModulusLaws.{q-value, red-residue, cent-red, red-zero, centred-fixed}
+use Rattle.ring.specs.ModulusLaws.{q-value, q-above, red-residue, cent-red, red-zero, centred-fixed}
 use Rattle.ring.specs.Element.{Degree, R, lift, el, array}
 use Rattle.ring.specs.Product.{term, folded, column, most, Residues, Extended, Room, Added, Holds}
 use Rattle.ring.specs.ColumnLaws.{term-small, folded-most, folded-mod, make-total}
@@ -54,10 +55,18 @@ pub coeff-el : (d : ℕ) (xs : List ℤ) (p i : ℕ) → i < d → coeff Zq (el 
 unfolding el lift
 coeff-el d xs p i h = at-build (Zq .zero) d (λ k. red (getD (drop (p * d) xs) k (pos 0))) h ∙ ap red (getD-drop (p * d) xs i (pos 0))
 
-pub residue-el : (d : ℕ) (xs : List ℤ) (p i : ℕ) {r at : ℕ} → i < d → at ≡ p * d + i → r ≡ emod (getD xs at (pos 0)) q
-    → r ≡ coeff Zq (el d xs p) i .val
-residue-el d xs p i {r} {at} h place e =
-    e ∙ ap (λ t. emod (getD xs t (pos 0)) q) place ∙ sym (red-residue _) ∙ ap (λ x. x .val) (sym (coeff-el d xs p i h))
+-- the residue that a load computes, from an element as a call passes it on
+pub residue-el : (d : ℕ) (xs : List ℤ) (p i : ℕ) {r at : ℕ} → SFits w32 (getD xs at (pos 0)) → i < d → at ≡ p * d + i
+    → r ≡ emod (toZ w32 (ofZ w32 (getD xs at (pos 0)))) q → r ≡ coeff Zq (el d xs p) i .val
+residue-el d xs p i {r} {at} g h place e =
+    e
+    ∙ ap (λ z. emod z q) (toZ-ofZ {w = w32} {z = getD xs at (pos 0)} g)
+    ∙ ap (λ t. emod (getD xs t (pos 0)) q) place
+    ∙ sym (red-residue _)
+    ∙ ap (λ x. x .val) (sym (coeff-el d xs p i h))
+
+pub residue-small : (z : ℤ) {r : ℕ} → r ≡ emod z q → r ≤ 4294967197
+residue-small z e = omega (arith, emod-lt q q-above z, q-value)
 
 pub cent-zero : cent (Zq .zero) ≡ pos 0
 cent-zero = ap cent (sym red-zero) ∙ cent-red (pos 0) ∙ centred-fixed (omega arith)
