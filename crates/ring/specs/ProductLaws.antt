@@ -4,11 +4,11 @@ use mathlib.Core.Logic.{_⊎_, inl, inr, _≢_}
 use mathlib.Core.Bool.{Bool, true, false}
 use mathlib.Core.List.{List}
 use Prim.Native.Nat.{ℕ, zero, suc, _+_, _-_, _*_, _/_, _%_, _^_, _≤_, _<_}
-use native.Mathlib.Nat.{eq-or-lt-of-le}
+use native.Mathlib.Nat.{eq-or-lt-of-le, mul-le-mul-left, mul-le-mul-right}
 use native.Mathlib.Numerals.{add-one}
 use native.Mathlib.Omega.{arith}
 use lib.Dec.{ltb, leb, ltb→lt}
-use lib.ListN.{length, getD, set, drop, length-set}
+use lib.ListN.{length, getD, set, drop, replicate, length-set, getD-replicate}
 use lib.Seq.{getD-set-same, getD-set-other, getD-drop}
 use lib.IntN.{ℤ, pos}
 use mir.Syntax.{w32, w64}
@@ -18,6 +18,7 @@ use borrow.Author.Tests.{ltb-true, ltb-false}
 use Rattle.integers.specs.Lists.{tab, tab-cong, upto, upto-below, upto-above}
 use Rattle.integers.specs.Remainder.{emod}
 use Rattle.integers.specs.RemainderLaws.{emod-lt}
+use Rattle.algebra.specs.CommRing.{zero-add}
 use Rattle.algebra.specs.Sum.{sum, sum-cong, sum-one-more}
 use Rattle.algebra.specs.Vec.{at-build, at-past}
 use Rattle.algebra.specs.Negacyclic.{coeff, coeff-add, coeff-zero}
@@ -207,3 +208,57 @@ holds-end {d} {u} {n} {acc} degree r = tab-cong 64 _ _ (λ k b. entry k b (le-or
     entry : (k : ℕ) → k < 64 → (d ≤ k) ⊎ (k < d) → upto d (λ j. centred (pos (getD acc j 0))) (pos 0) k ≡ cent (coeff Zq u k)
     entry k b (inl h) = upto-above d _ (pos 0) k h ∙ sym (ap cent (at-past (Zq .zero) u h) ∙ cent-zero)
     entry k b (inr h) = upto-below d _ (pos 0) k h ∙ sym (cent-red (pos (getD acc k 0))) ∙ ap cent (red-pos (getD acc k 0) ∙ r .value k h)
+
+-- ---- the loop over the pairs of an inner product
+
+abbrev pub pair : (d : ℕ) → List ℤ → ℕ → List ℤ → ℕ → ℕ → R d .Carrier
+pair d u p v s k = R d .mul (el d u (p + k)) (el d v (s + k))
+
+pub record Summed (d n : ℕ) (f : ℕ → R d .Carrier) (acc a e : List ℕ) (k : ℕ) : Type 0 where
+  pub within : k ≤ n
+  pub held : Holds d (sum (R d) k f) k acc
+  pub left : length a ≡ 64
+  pub right : length e ≡ 128
+
+pub summed-start : (d n : ℕ) (f : ℕ → R d .Carrier) → Degree d → Summed d n f (replicate 64 0) (replicate 64 0) (replicate 128 0) 0
+unfolding sum
+summed-start d n f degree =
+    record { within = omega arith; held = holds-start degree _ refl (λ k b. getD-replicate 64 k 0 0 b); left = refl; right = refl }
+
+module _ {d n : ℕ} {f : ℕ → R d .Carrier} {acc a e : List ℕ} {k : ℕ} (now : Summed d n f acc a e k) (degree : Degree d) where
+  pub summed-step : {x y : R d .Carrier} {a′ e′ acc′ : List ℕ} → k < n → f k ≡ R d .mul x y → Residues d x d a′ → Extended d y d e′
+      → Added d a′ e′ acc d acc′ → Summed d n f acc′ a′ e′ (k + 1)
+  summed-step {x} {y} h is left right sums =
+      record {
+        within = omega arith;
+        held = rw (sum-one-more (R d) k f, is) (holds-step degree left right (now .held) sums);
+        left = left .size;
+        right = right .size;
+      }
+
+  pub summed-end : n ≤ k → tab 64 (upto d (λ j. centred (pos (getD acc j 0))) (pos 0)) ≡ array d (sum (R d) n f)
+  summed-end h =
+      let all : k ≡ n = omega (arith, now .within) in
+      holds-end degree (now .held) ∙ ap (λ t. array d (sum (R d) t f)) all
+
+-- element p + k of n elements from element p on lies within the list
+module _ {d n k len : ℕ} (p : ℕ) (degree : Degree d) (h : k < n) (room : (p + n) * d ≤ len) where
+  pub element-within : (p + k) * d + d ≤ len
+  element-within =
+      let step : (p + k + 1) * d ≤ (p + n) * d = mul-le-mul-right d (omega arith) in
+      omega arith
+
+  pub index-within : p + k ≤ len
+  index-within = omega (arith, mul-le-mul-left (p + n) (degree .positive))
+
+-- ---- a product is an inner product of one pair
+
+pub el-first : (d : ℕ) (xs : List ℤ) → el d xs (0 + 0) ≡ lift d xs
+unfolding el
+el-first d xs =
+    let start : (0 + 0) * d ≡ 0 = omega arith in
+    ap (λ t. lift d (drop t xs)) start
+
+pub one-pair : (d : ℕ) (a b : List ℤ) → sum (R d) 1 (pair d a 0 b 0) ≡ R d .mul (lift d a) (lift d b)
+unfolding sum
+one-pair d a b = zero-add (R d) (pair d a 0 b 0 0) ∙ ap₂ (R d .mul) (el-first d a) (el-first d b)
