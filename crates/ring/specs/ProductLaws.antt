@@ -99,10 +99,10 @@ module _ {d : ℕ} {u : R d .Carrier} {i : ℕ} (small : Degree d) (h : i < d) w
       record {
         size = length-set (set e i v) (d + i) w ∙ first;
         front = λ j b. getD-set-other (set e i v) (d + i) j w 0 (λ g. omega arith)
-          ∙ fill (λ j. j) (λ j. coeff Zq u (d - 1 - j) .val) e i v (omega (arith, r .size, small .small)) at-front (λ j b g. omega arith) (r .front) j b;
+            ∙ fill (λ j. j) (λ j. coeff Zq u (d - 1 - j) .val) e i v (omega (arith, r .size, small .small)) at-front (λ j b g. omega arith) (r .front) j b;
         back = fill (λ j. d + j) (λ j. q - coeff Zq u (d - 1 - j) .val) (set e i v) i w (omega (arith, first, small .small))
-          (at-back ∙ ap₂ _-_ (sym q-value) at-front)
-          (λ j b g. omega arith) (λ j b. getD-set-other e i (d + j) v 0 (λ g. omega arith) ∙ r .back j b);
+            (at-back ∙ ap₂ _-_ (sym q-value) at-front)
+            (λ j b g. omega arith) (λ j b. getD-set-other e i (d + j) v 0 (λ g. omega arith) ∙ r .back j b);
       }
 
 pub extended-start : (d : ℕ) (u : R d .Carrier) (e : List ℕ) → length e ≡ 128 → Extended d u 0 e
@@ -123,7 +123,7 @@ module _ {d : ℕ} {a e old new : List ℕ} {k v : ℕ} (r : Added d a e old k n
       record {
         size = length-set new k _ ∙ r .size;
         below = fill (λ j. j) (λ j. getD old j 0 + column d a e j) new k _ (omega (arith, r .size)) (ap₂ _+_ (r .above k (omega arith)) is)
-          (λ j b g. omega arith) (r .below);
+            (λ j b g. omega arith) (r .below);
         above = λ j b. getD-set-other new k j _ 0 (λ g. omega arith) ∙ r .above j (omega arith);
       }
 
@@ -187,10 +187,10 @@ module _ {d : ℕ} {x y w : R d .Carrier} {n : ℕ} {a e old new : List ℕ} (de
         size = sums .size;
         small = λ k b. small k b (le-or-lt d k);
         value = λ k b.
-          ap (make q q-positive) (sums .below k b)
-          ∙ make-add q q-positive (getD old k 0) (column d a e k)
-          ∙ ap₂ (Zq .add) (held .value k b) (column-value left right k b)
-          ∙ sym (coeff-add Zq w (R d .mul x y) k);
+            ap (make q q-positive) (sums .below k b)
+            ∙ make-add q q-positive (getD old k 0) (column d a e k)
+            ∙ ap₂ (Zq .add) (held .value k b) (column-value left right k b)
+            ∙ sym (coeff-add Zq w (R d .mul x y) k);
       }
     where
       small : (k : ℕ) → k < 64 → (d ≤ k) ⊎ (k < d) → getD new k 0 ≤ (n + 1) * most

@@ -10,8 +10,8 @@ ghost use Rattle.algebra.specs.Sum.{sum};
 ghost use Rattle.ring.specs.Modulus.{centred};
 ghost use Rattle.ring.specs.Element.{Degree, R, lift, el, array};
 ghost use Rattle.ring.specs.Product.{term, folded, Residues, Extended, Room, Added};
-
-use crate::modulus::{from_residue, residue};
+use crate::modulus::from_residue;
+use crate::modulus::residue;
 use std::num;
 
 // The coefficients of element p of u.
@@ -47,7 +47,7 @@ fn extend(d: usize, v: &[i32], p: usize, e: &mut [u64; 128])
 // One column: the sum of d products, up to a multiple of q, and below 2^46. It adds the products modulo 2^64 and their upper halves
 // exactly; what the upper halves leave of the sum is the lower halves, and an upper half counts 99 since 2^32 is 99 modulo q.
 fn column(d: usize, start: usize, a: &[u64; 64], e: &[u64; 128]) -> u64
-    requires { ⌜ (d ≤ 64) × (start < d) ⌝ }
+    requires { ⌜ (d ≤ 64) × (start ≤ 64) ⌝ }
     ensures { λ r. ⌜ r ≡ folded d (term (now (a .entry)) (now (e .entry)) start) ⌝ }
 {
     let mut sum: u64 = 0;

@@ -6,9 +6,6 @@ use Rattle.ring.specs.Product.{column, Added}
 use Rattle.ring.specs.ProductLaws.{added-start, added-step, added-fits}
 use Rattle.ring.proofs.product.add_pair.Statement.{statement}
 use Rattle.ring.proofs.product.add_pair.Tie as tie
-use Rattle.ring.proofs.product.add_pair.Reads as reads
-use Rattle.ring.proofs.product.add_pair.Lts as lts
-use Rattle.ring.proofs.product.column.Reads as column-reads
 
 abbrev Inv-loop : tie.InvT-loop
 Inv-loop d a e acc₀ k₀ acc k = (k ≤ d) × Added d a e acc₀ k acc
@@ -16,59 +13,46 @@ Inv-loop d a e acc₀ k₀ acc k = (k ≤ d) × Added d a e acc₀ k acc
 abbrev μ-loop : tie.MeasureT-loop
 μ-loop d a e acc₀ k₀ acc k = d - k
 
--- src/product.rt:76:5
 loop-holds : tie.Need-loop-holds Inv-loop μ-loop
 loop-holds c = (omega arith, added-start _ _ _ _ (c .pre .1 .size))
 
--- src/product.rt:77:31
 sub-column : tie.Need-sub-column Inv-loop μ-loop
 sub-column c = omega arith
 
--- src/product.rt:77:31
 sub-column-2 : tie.Need-sub-column-2 Inv-loop μ-loop
 sub-column-2 c = omega arith
 
--- src/product.rt:77:13
 column-requires : tie.Need-column-requires Inv-loop μ-loop
 column-requires c κs = (omega arith, omega arith)
 
--- src/product.rt:78:18
 mul-acc : tie.Need-mul-acc Inv-loop μ-loop
 mul-acc c = omega arith
 
--- src/product.rt:78:18
 element-copy-out-acc : tie.Need-element-copy-out-acc Inv-loop μ-loop
 element-copy-out-acc c = omega arith
 
--- src/product.rt:78:18
 add-acc : tie.Need-add-acc Inv-loop μ-loop
 unfolding column
 add-acc c = added-fits (c .before .before .before .loop .inv .1) (omega arith) (c .before .column .ensures) (c .before .before .before .before .pre .0 .small) (c .before .before .before .before .pre .1)
 
--- src/product.rt:78:9
 mul-acc-2 : tie.Need-mul-acc-2 Inv-loop μ-loop
 mul-acc-2 c = omega arith
 
--- src/product.rt:78:9
 element-write-acc : tie.Need-element-write-acc Inv-loop μ-loop
 element-write-acc c = omega arith
 
--- src/product.rt:79:9
 add-k : tie.Need-add-k Inv-loop μ-loop
 add-k c = omega arith
 
--- src/product.rt:76:5
 loop-less : tie.Need-loop-less Inv-loop μ-loop
 loop-less c = omega arith
 
--- src/product.rt:76:5
 loop-again : tie.Need-loop-again Inv-loop μ-loop
 unfolding column
 loop-again c = (omega arith, added-step (c .before .before .before .loop .inv .1) (omega arith) (c .before .column .ensures))
 
--- src/product.rt:70:1
 returns : tie.Need-returns Inv-loop μ-loop
-returns c = 
+returns c =
     let all : c .before .loop .k ≡ c .before .before .args .d = omega arith in
     rw all at (c .before .loop .inv .1)
 

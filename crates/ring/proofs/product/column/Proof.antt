@@ -6,10 +6,6 @@ use Rattle.ring.specs.Product.{term, folded, highs}
 use Rattle.ring.specs.ColumnLaws.{Running, product-fits, term-small, running-start, running-high, running-high-fits, running-step, running-end, running-end-fits}
 use Rattle.ring.proofs.product.column.Statement.{statement}
 use Rattle.ring.proofs.product.column.Tie as tie
-use Rattle.ring.proofs.product.column.Reads as reads
-use Rattle.ring.proofs.product.column.Lts as lts
-use Rattle.std.proofs.num.wrapping_add_u64.Reads as wrapping-add-u64-reads
-use Rattle.std.proofs.num.wrapping_sub_u64.Reads as wrapping-sub-u64-reads
 
 abbrev Inv-loop : tie.InvT-loop
 Inv-loop d start a e sum₀ high₀ i₀ sum high i = Running d (term a e start) i sum high
@@ -70,8 +66,11 @@ mul-result c =
 
 add-result : tie.Need-add-result Inv-loop μ-loop
 add-result c =
-    running-end-fits (c .before .before .loop .inv) (c .before .before .before .pre .0) (c .before .loop-test .left)
-    (c .wrapping-sub-u64 .ok) (c .wrapping-sub-u64 .ensures)
+    omega (
+      arith,
+      running-end-fits (c .before .before .loop .inv) (c .before .before .before .pre .0) (c .before .loop-test .left)
+          (c .wrapping-sub-u64 .ok) (c .wrapping-sub-u64 .ensures),
+    )
 
 returns : tie.Need-returns Inv-loop μ-loop
 returns c =

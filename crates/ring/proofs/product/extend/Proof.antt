@@ -7,9 +7,6 @@ use Rattle.ring.specs.Product.{Extended}
 use Rattle.ring.specs.ProductLaws.{residue-el, residue-small, extended-start, extended-step}
 use Rattle.ring.proofs.product.extend.Statement.{statement}
 use Rattle.ring.proofs.product.extend.Tie as tie
-use Rattle.ring.proofs.product.extend.Reads as reads
-use Rattle.ring.proofs.product.extend.Lts as lts
-use Rattle.ring.proofs.modulus.residue.Reads as residue-reads
 
 abbrev Inv-loop : tie.InvT-loop
 Inv-loop d v p e₀ last i₀ e i = (i ≤ d) × Extended d (el d v p) i e
@@ -17,82 +14,63 @@ Inv-loop d v p e₀ last i₀ e i = (i ≤ d) × Extended d (el d v p) i e
 abbrev μ-loop : tie.MeasureT-loop
 μ-loop d v p e₀ last i₀ e i = d - i
 
--- src/product.rt:37:16
 mul-last : tie.Need-mul-last Inv-loop μ-loop
 mul-last c = omega arith
 
--- src/product.rt:37:25
 sub-last : tie.Need-sub-last Inv-loop μ-loop
 sub-last c = c .pre .0 .positive
 
--- src/product.rt:37:16
 add-last : tie.Need-add-last Inv-loop μ-loop
 add-last c = omega arith
 
--- src/product.rt:39:5
 loop-holds : tie.Need-loop-holds Inv-loop μ-loop
 loop-holds c = (omega arith, extended-start _ _ _ (c .pre .1 .1))
 
--- src/product.rt:40:27
 sub-residue : tie.Need-sub-residue Inv-loop μ-loop
 sub-residue c = omega arith
 
--- src/product.rt:40:25
 mul-residue : tie.Need-mul-residue Inv-loop μ-loop
 mul-residue c = omega arith
 
--- src/product.rt:40:25
 shared-slice-copy-out-residue : tie.Need-shared-slice-copy-out-residue Inv-loop μ-loop
 shared-slice-copy-out-residue c = omega arith
 
--- src/product.rt:40:13
 residue-requires : tie.Need-residue-requires Inv-loop μ-loop
 residue-requires c κs = tt
 
--- src/product.rt:41:9
 mul-e : tie.Need-mul-e Inv-loop μ-loop
 mul-e c = omega arith
 
--- src/product.rt:41:9
 element-write-e : tie.Need-element-write-e Inv-loop μ-loop
 element-write-e c = omega arith
 
--- src/product.rt:42:20
 sub-e : tie.Need-sub-e Inv-loop μ-loop
-sub-e c = residue-small _ (c .residue .ensures)
+sub-e c = omega (arith, residue-small _ (c .residue .ensures))
 
--- src/product.rt:42:11
 add-e : tie.Need-add-e Inv-loop μ-loop
 add-e c = omega arith
 
--- src/product.rt:42:9
 mul-e-2 : tie.Need-mul-e-2 Inv-loop μ-loop
 mul-e-2 c = omega arith
 
--- src/product.rt:42:9
 element-write-e-2 : tie.Need-element-write-e-2 Inv-loop μ-loop
 element-write-e-2 c = omega arith
 
--- src/product.rt:43:9
 add-i : tie.Need-add-i Inv-loop μ-loop
 add-i c = omega arith
 
--- src/product.rt:39:5
 loop-less : tie.Need-loop-less Inv-loop μ-loop
 loop-less c = omega arith
 
--- src/product.rt:39:5
 loop-again : tie.Need-loop-again Inv-loop μ-loop
-loop-again c = 
-    (
-      omega arith,
-      extended-step (c .before .before .before .before .pre .0) (c .before .before .loop-test .taken) (c .before .before .before .loop .inv .1)
+loop-again c = (
+  omega arith,
+  extended-step (c .before .before .before .before .pre .0) (c .before .before .loop-test .taken) (c .before .before .before .loop .inv .1)
       (residue-el _ (c .before .before .before .before .args .v .now) (c .before .before .before .before .args .p) _ (record { sfits = c .before .residue-arg .given }) (omega arith) (omega arith) (c .residue .ensures)) refl,
-    )
+)
 
--- src/product.rt:32:1
 returns : tie.Need-returns Inv-loop μ-loop
-returns c = 
+returns c =
     let all : c .before .loop .i ≡ c .before .before .args .d = omega arith in
     rw all at (c .before .loop .inv .1)
 

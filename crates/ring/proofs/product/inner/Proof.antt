@@ -5,12 +5,6 @@ use native.Mathlib.Omega.{arith}
 use Rattle.ring.specs.ProductLaws.{pair, Summed, summed-start, summed-step, summed-end, holds-room, element-within, index-within}
 use Rattle.ring.proofs.product.inner.Statement.{statement}
 use Rattle.ring.proofs.product.inner.Tie as tie
-use Rattle.ring.proofs.product.inner.Reads as reads
-use Rattle.ring.proofs.product.inner.Lts as lts
-use Rattle.ring.proofs.product.add_pair.Reads as add-pair-reads
-use Rattle.ring.proofs.product.extend.Reads as extend-reads
-use Rattle.ring.proofs.product.finish.Reads as finish-reads
-use Rattle.ring.proofs.product.load.Reads as load-reads
 
 abbrev Inv-loop : tie.InvT-loop
 Inv-loop d n u p v s acc₀ a₀ e₀ k₀ acc a e k = Summed d n (pair d u p v s) acc a e k
@@ -18,61 +12,48 @@ Inv-loop d n u p v s acc₀ a₀ e₀ k₀ acc a e k = Summed d n (pair d u p v 
 abbrev μ-loop : tie.MeasureT-loop
 μ-loop d n u p v s acc₀ a₀ e₀ k₀ acc a e k = n - k
 
--- src/product.rt:107:5
 loop-holds : tie.Need-loop-holds Inv-loop μ-loop
 loop-holds c = summed-start _ _ _ (c .pre .0)
 
--- src/product.rt:108:20
 add-load : tie.Need-add-load Inv-loop μ-loop
 add-load c = omega (arith, index-within (c .before .before .args .p) (c .before .before .pre .0) (c .loop-test .taken) (c .before .before .pre .1 .1))
 
--- src/product.rt:108:9
 load-requires : tie.Need-load-requires Inv-loop μ-loop
-load-requires c κs = 
-    (
-      c .before .before .before .pre .0,
-      (element-within (c .before .before .before .args .p) (c .before .before .before .pre .0) (c .before .loop-test .taken) (c .before .before .before .pre .1 .1), c .before .before .loop .inv .left),
-    )
+load-requires c κs = (
+  c .before .before .before .pre .0,
+  (element-within (c .before .before .before .args .p) (c .before .before .before .pre .0) (c .before .loop-test .taken) (c .before .before .before .pre .1 .1), c .before .before .loop .inv .left),
+)
 
--- src/product.rt:109:22
 add-extend : tie.Need-add-extend Inv-loop μ-loop
 add-extend c = omega (arith, index-within (c .before .before .before .before .args .s) (c .before .before .before .before .pre .0) (c .before .before .loop-test .taken) (c .before .before .before .before .pre .1 .2))
 
--- src/product.rt:109:9
 extend-requires : tie.Need-extend-requires Inv-loop μ-loop
-extend-requires c κs = 
-    (
-      c .before .before .before .before .before .pre .0,
-      (
-        element-within (c .before .before .before .before .before .args .s) (c .before .before .before .before .before .pre .0) (c .before .before .before .loop-test .taken) (c .before .before .before .before .before .pre .1 .2),
-        c .before .before .before .before .loop .inv .right,
-      ),
-    )
+extend-requires c κs = (
+  c .before .before .before .before .before .pre .0,
+  (
+    element-within (c .before .before .before .before .before .args .s) (c .before .before .before .before .before .pre .0) (c .before .before .before .loop-test .taken) (c .before .before .before .before .before .pre .1 .2),
+    c .before .before .before .before .loop .inv .right,
+  ),
+)
 
--- src/product.rt:110:9
 add-pair-requires : tie.Need-add-pair-requires Inv-loop μ-loop
-add-pair-requires c κs = 
+add-pair-requires c κs =
     (c .before .before .before .before .before .before .before .before .before .pre .0, holds-room (c .before .before .before .before .before .before .before .before .loop .inv .held) (omega (arith, c .before .before .before .before .before .before .before .before .loop .inv .within, c .before .before .before .before .before .before .before .before .before .pre .1 .0)))
 
--- src/product.rt:111:9
 add-k : tie.Need-add-k Inv-loop μ-loop
 add-k c = omega arith
 
--- src/product.rt:107:5
 loop-less : tie.Need-loop-less Inv-loop μ-loop
 loop-less c = omega arith
 
--- src/product.rt:107:5
 loop-again : tie.Need-loop-again Inv-loop μ-loop
-loop-again c = 
+loop-again c =
     summed-step (c .before .before .before .before .before .before .before .before .before .loop .inv) (c .before .before .before .before .before .before .before .before .before .before .pre .0) (c .before .before .before .before .before .before .before .before .loop-test .taken) refl (c .before .before .before .before .before .before .load .ensures) (c .before .before .before .before .extend .ensures)
     (c .add-pair .ensures)
 
--- src/product.rt:113:5
 finish-requires : tie.Need-finish-requires Inv-loop μ-loop
 finish-requires c κs = c .before .before .before .pre .0
 
--- src/product.rt:98:1
 returns : tie.Need-returns Inv-loop μ-loop
 returns c = c .finish .ensures ∙ summed-end (c .before .before .before .loop .inv) (c .before .before .before .before .pre .0) (c .before .before .loop-test .left)
 

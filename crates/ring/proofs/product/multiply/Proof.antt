@@ -1,25 +1,22 @@
+-- `ring::product::multiply` meets its contract: a product is an inner product of one pair.
+use mathlib.Core.Path.{ap, _∙_}
+use Rattle.ring.specs.Element.{array}
+use Rattle.ring.specs.ProductLaws.{one-pair}
 use borrow.Author.Needs.{needs}
 use Rattle.ring.proofs.product.multiply.Statement.{statement}
 use Rattle.ring.proofs.product.multiply.Tie as tie
-use Rattle.ring.proofs.product.multiply.Reads as reads
-use Rattle.ring.proofs.product.multiply.Lts as lts
-use Rattle.ring.proofs.product.inner.Reads as inner-reads
 
--- src/product.rt:121:17
 slice-aggregate-inner : tie.Need-slice-aggregate-inner
 slice-aggregate-inner c = search needs
 
--- src/product.rt:121:24
 slice-aggregate-inner-2 : tie.Need-slice-aggregate-inner-2
 slice-aggregate-inner-2 c = search needs
 
--- src/product.rt:121:5
 inner-requires : tie.Need-inner-requires
 inner-requires c κs = search needs
 
--- src/product.rt:117:1
 returns : tie.Need-returns
-returns c = ?
+returns c = c .inner .ensures ∙ ap (array _) (one-pair _ _ _)
 
 pub multiply-spec : {M : Type 1} → statement M
 multiply-spec =
