@@ -18,3 +18,6 @@ pub mod ElementPlaces
 pub mod ElementEquality
 pub mod DigitElements
 pub mod ElementSteps
+pub mod Product
+pub mod ColumnLaws
+pub mod ProductLaws

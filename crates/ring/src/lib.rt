@@ -5,3 +5,4 @@ pub mod digits;
 pub mod constants;
 pub mod element;
 pub mod modulus;
+pub mod product;

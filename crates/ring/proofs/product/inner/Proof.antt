@@ -1,0 +1,76 @@
+-- `ring::product::inner` meets its contract. The accumulator holds the sum of the products of the first k pairs.
+use mathlib.Core.Path.{_≡_, refl, _∙_}
+use Prim.Native.Nat.{_-_, _≤_}
+use native.Mathlib.Omega.{arith}
+use Rattle.ring.specs.ProductLaws.{pair, Summed, summed-start, summed-step, summed-end, holds-room, element-within, index-within}
+use Rattle.ring.proofs.product.inner.Statement.{statement}
+use Rattle.ring.proofs.product.inner.Tie as tie
+
+abbrev Inv-loop : tie.InvT-loop
+Inv-loop d n u p v s acc₀ a₀ e₀ k₀ acc a e k = Summed d n (pair d u p v s) acc a e k
+
+abbrev μ-loop : tie.MeasureT-loop
+μ-loop d n u p v s acc₀ a₀ e₀ k₀ acc a e k = n - k
+
+loop-holds : tie.Need-loop-holds Inv-loop μ-loop
+loop-holds c = summed-start _ _ _ (c .pre .0)
+
+add-load : tie.Need-add-load Inv-loop μ-loop
+add-load c = omega (arith, index-within (c .before .before .args .p) (c .before .before .pre .0) (c .loop-test .taken) (c .before .before .pre .1 .1))
+
+load-requires : tie.Need-load-requires Inv-loop μ-loop
+load-requires c κs = (
+  c .before .before .before .pre .0,
+  (element-within (c .before .before .before .args .p) (c .before .before .before .pre .0) (c .before .loop-test .taken) (c .before .before .before .pre .1 .1), c .before .before .loop .inv .left),
+)
+
+add-extend : tie.Need-add-extend Inv-loop μ-loop
+add-extend c = omega (arith, index-within (c .before .before .before .before .args .s) (c .before .before .before .before .pre .0) (c .before .before .loop-test .taken) (c .before .before .before .before .pre .1 .2))
+
+extend-requires : tie.Need-extend-requires Inv-loop μ-loop
+extend-requires c κs = (
+  c .before .before .before .before .before .pre .0,
+  (
+    element-within (c .before .before .before .before .before .args .s) (c .before .before .before .before .before .pre .0) (c .before .before .before .loop-test .taken) (c .before .before .before .before .before .pre .1 .2),
+    c .before .before .before .before .loop .inv .right,
+  ),
+)
+
+add-pair-requires : tie.Need-add-pair-requires Inv-loop μ-loop
+add-pair-requires c κs =
+    (c .before .before .before .before .before .before .before .before .before .pre .0, holds-room (c .before .before .before .before .before .before .before .before .loop .inv .held) (omega (arith, c .before .before .before .before .before .before .before .before .loop .inv .within, c .before .before .before .before .before .before .before .before .before .pre .1 .0)))
+
+add-k : tie.Need-add-k Inv-loop μ-loop
+add-k c = omega arith
+
+loop-less : tie.Need-loop-less Inv-loop μ-loop
+loop-less c = omega arith
+
+loop-again : tie.Need-loop-again Inv-loop μ-loop
+loop-again c =
+    summed-step (c .before .before .before .before .before .before .before .before .before .loop .inv) (c .before .before .before .before .before .before .before .before .before .before .pre .0) (c .before .before .before .before .before .before .before .before .loop-test .taken) refl (c .before .before .before .before .before .before .load .ensures) (c .before .before .before .before .extend .ensures)
+    (c .add-pair .ensures)
+
+finish-requires : tie.Need-finish-requires Inv-loop μ-loop
+finish-requires c κs = c .before .before .before .pre .0
+
+returns : tie.Need-returns Inv-loop μ-loop
+returns c = c .finish .ensures ∙ summed-end (c .before .before .before .loop .inv) (c .before .before .before .before .pre .0) (c .before .before .loop-test .left)
+
+pub inner-spec : {M : Type 1} → statement M
+inner-spec =
+    tie.close
+    (tie.spec
+    Inv-loop
+    μ-loop
+    loop-holds
+    add-load
+    load-requires
+    add-extend
+    extend-requires
+    add-pair-requires
+    add-k
+    loop-less
+    loop-again
+    finish-requires
+    returns)

@@ -1,0 +1,60 @@
+-- How products in R are computed, in natural numbers: what the kernels of src/product.rt make of arrays of residues.
+--     term a e start i     term i of a column: a_i times e_(start + i), each modulo 2^32
+--     highs n f            the sum of the upper halves of the terms
+--     folded n f           the lower halves, and 99 times the upper halves: congruent to the sum of the terms modulo q = 2^32 - 99
+-- One operand of a product lies in an array as it is, the other one reversed and followed by its negacyclic copy, so that each coefficient
+-- of the product is one column.
+use mathlib.Core.Path.{_≡_}
+use mathlib.Core.List.{List}
+use Prim.Native.Nat.{ℕ, _+_, _-_, _*_, _/_, _%_, _≤_, _<_}
+use lib.ListN.{length, getD}
+use Rattle.integers.specs.Sums.{total}
+use Rattle.algebra.specs.Negacyclic.{coeff}
+use Rattle.algebra.specs.Residue.{make}
+use Rattle.ring.specs.Modulus.{q, q-positive, Zq}
+use Rattle.ring.specs.Element.{R}
+
+unfoldable pub term : List ℕ → List ℕ → ℕ → ℕ → ℕ
+term a e start i = (getD a i 0 % 4294967296) * (getD e (start + i) 0 % 4294967296)
+
+unfoldable pub highs : ℕ → (ℕ → ℕ) → ℕ
+highs n f = total n (λ i. f i / 4294967296)
+
+unfoldable pub folded : ℕ → (ℕ → ℕ) → ℕ
+folded n f = (total n f - 4294967296 * highs n f) + 99 * highs n f
+
+-- column k of the product of two arrays
+unfoldable pub column : ℕ → List ℕ → List ℕ → ℕ → ℕ
+column d a e k = folded d (term a e (d - 1 - k))
+
+-- the largest value of a column
+unfoldable pub most : ℕ
+most = 70368744177664
+
+-- the first n coefficients of an element, in an array of residues
+pub record Residues (d : ℕ) (u : R d .Carrier) (n : ℕ) (a : List ℕ) : Type 0 where
+  pub size : length a ≡ 64
+  pub entry : (i : ℕ) → i < n → getD a i 0 ≡ coeff Zq u i .val
+
+-- the last n coefficients of an element, reversed, and their negatives d places further
+pub record Extended (d : ℕ) (u : R d .Carrier) (n : ℕ) (e : List ℕ) : Type 0 where
+  pub size : length e ≡ 128
+  pub front : (i : ℕ) → i < n → getD e i 0 ≡ coeff Zq u (d - 1 - i) .val
+  pub back : (i : ℕ) → i < n → getD e (d + i) 0 ≡ q - coeff Zq u (d - 1 - i) .val
+
+-- an accumulator with room for one more column at each place
+pub record Room (acc : List ℕ) : Type 0 where
+  pub size : length acc ≡ 64
+  pub small : (k : ℕ) → k < 64 → getD acc k 0 ≤ 4096 * most
+
+-- the first n columns of a product added to an accumulator
+pub record Added (d : ℕ) (a e old : List ℕ) (n : ℕ) (new : List ℕ) : Type 0 where
+  pub size : length new ≡ 64
+  pub below : (k : ℕ) → k < n → getD new k 0 ≡ getD old k 0 + column d a e k
+  pub above : (k : ℕ) → n ≤ k → getD new k 0 ≡ getD old k 0
+
+-- an accumulator after n products: it holds an element, up to multiples of q
+pub record Holds (d : ℕ) (u : R d .Carrier) (n : ℕ) (acc : List ℕ) : Type 0 where
+  pub size : length acc ≡ 64
+  pub small : (k : ℕ) → k < 64 → getD acc k 0 ≤ n * most
+  pub value : (k : ℕ) → k < d → make q q-positive (getD acc k 0) ≡ coeff Zq u k

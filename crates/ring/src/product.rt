@@ -1,0 +1,122 @@
+// Products and inner products in R. Residues are unsigned; one operand is reversed and extended by its negacyclic copy, so that each
+// coefficient of a product is one column of d terms. Whole products are summed wrapping and their upper halves exactly, and one
+// remainder at the end gives the coefficient.
+ghost use mathlib.Core.Path.{_≡_};
+ghost use Prim.Native.Nat.{ℕ, _+_, _*_, _<_, _≤_};
+ghost use lib.ListN.{length, getD};
+ghost use lib.IntN.{pos};
+ghost use Rattle.integers.specs.Lists.{tab, upto};
+ghost use Rattle.algebra.specs.Sum.{sum};
+ghost use Rattle.ring.specs.Modulus.{centred};
+ghost use Rattle.ring.specs.Element.{Degree, R, lift, el, array};
+ghost use Rattle.ring.specs.Product.{term, folded, Residues, Extended, Room, Added};
+use crate::modulus::from_residue;
+use crate::modulus::residue;
+use std::num;
+
+// The coefficients of element p of u.
+fn load(d: usize, u: &[i32], p: usize, a: &mut [u64; 64])
+    requires { ⌜ Degree d ⌝ }
+    requires { ⌜ (p * d + d ≤ length (now u)) × (length (now a) ≡ 64) ⌝ }
+    ensures { λ r. ⌜ Residues d (el d (now (u .entry)) p) d (now (a .exit)) ⌝ }
+{
+    let at = p * d;
+    let mut i = 0;
+    while i < d {
+        a[i] = residue(u[at + i]);
+        i += 1;
+    }
+}
+
+// The coefficients of element p of v, the last one first, and then their negatives.
+fn extend(d: usize, v: &[i32], p: usize, e: &mut [u64; 128])
+    requires { ⌜ Degree d ⌝ }
+    requires { ⌜ (p * d + d ≤ length (now v)) × (length (now e) ≡ 128) ⌝ }
+    ensures { λ r. ⌜ Extended d (el d (now (v .entry)) p) d (now (e .exit)) ⌝ }
+{
+    let last = p * d + (d - 1);
+    let mut i = 0;
+    while i < d {
+        let x = residue(v[last - i]);
+        e[i] = x;
+        e[d + i] = 4294967197 - x;
+        i += 1;
+    }
+}
+
+// One column: the sum of d products, up to a multiple of q, and below 2^46. It adds the products modulo 2^64 and their upper halves
+// exactly; what the upper halves leave of the sum is the lower halves, and an upper half counts 99 since 2^32 is 99 modulo q.
+fn column(d: usize, start: usize, a: &[u64; 64], e: &[u64; 128]) -> u64
+    requires { ⌜ (d ≤ 64) × (start ≤ 64) ⌝ }
+    ensures { λ r. ⌜ r ≡ folded d (term (now (a .entry)) (now (e .entry)) start) ⌝ }
+{
+    let mut sum: u64 = 0;
+    let mut high: u64 = 0;
+    let mut i = 0;
+    while i < d {
+        let x = a[i] % 4294967296;
+        let y = e[start + i] % 4294967296;
+        let product = x * y;
+        sum = num::wrapping_add_u64(sum, product);
+        high = high + product / 4294967296;
+        i += 1;
+    }
+    let taken = (high % 4294967296) * 4294967296;
+    let low = num::wrapping_sub_u64(sum, taken);
+    low + 99 * high
+}
+
+// Adds the columns of one product to an accumulator.
+fn add_pair(d: usize, a: &[u64; 64], e: &[u64; 128], acc: &mut [u64; 64])
+    requires { ⌜ Degree d ⌝ }
+    requires { ⌜ Room (now acc) ⌝ }
+    ensures { λ r. ⌜ Added d (now (a .entry)) (now (e .entry)) (now (acc .entry)) d (now (acc .exit)) ⌝ }
+{
+    let mut k = 0;
+    while k < d {
+        let value = column(d, d - 1 - k, a, e);
+        acc[k] = acc[k] + value;
+        k += 1;
+    }
+}
+
+// The centred coefficients that an accumulator holds.
+fn finish(d: usize, acc: &[u64; 64]) -> [i32; 64]
+    requires { ⌜ Degree d ⌝ }
+    ensures { λ r. ⌜ r ≡ tab 64 (upto d (λ k. centred (pos (getD (now (acc .entry)) k 0))) (pos 0)) ⌝ }
+{
+    let mut out = [0i32; 64];
+    let mut k = 0;
+    while k < d {
+        out[k] = from_residue(acc[k]);
+        k += 1;
+    }
+    out
+}
+
+// The inner product of the n elements of u from element p on with the n elements of v from element s on.
+pub fn inner(d: usize, n: usize, u: &[i32], p: usize, v: &[i32], s: usize) -> [i32; 64]
+    requires { ⌜ Degree d ⌝ }
+    requires { ⌜ (n ≤ 4096) × ((p + n) * d ≤ length (now u)) × ((s + n) * d ≤ length (now v)) ⌝ }
+    ensures { λ r. ⌜ r ≡ array d (sum (R d) n (λ k. R d .mul (el d (now (u .entry)) (p + k)) (el d (now (v .entry)) (s + k)))) ⌝ }
+{
+    let mut acc = [0u64; 64];
+    let mut a = [0u64; 64];
+    let mut e = [0u64; 128];
+    let mut k = 0;
+    while k < n {
+        load(d, u, p + k, &mut a);
+        extend(d, v, s + k, &mut e);
+        add_pair(d, &a, &e, &mut acc);
+        k += 1;
+    }
+    finish(d, &acc)
+}
+
+// The product of two elements.
+pub fn multiply(d: usize, a: [i32; 64], b: [i32; 64]) -> [i32; 64]
+    requires { ⌜ Degree d ⌝ }
+    ensures { λ r. ⌜ r ≡ array d (R d .mul (lift d a) (lift d b)) ⌝ }
+{
+    inner(d, 1, &a, 0, &b, 0)
+}
