@@ -1,6 +1,7 @@
 pub mod Modulus
 pub mod ModulusLaws
 pub mod Centring
+pub mod ResidueSteps
 pub mod Element
 pub mod Digits
 pub mod DigitLaws
