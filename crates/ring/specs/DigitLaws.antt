@@ -1,5 +1,9 @@
--- Laws of the digits of integers, to any base from 2 on. The first section alone looks into the digit rule; all else, here and in the
--- callers, follows from its three laws.
+-- Laws of the digits of integers, to any base from 2 on. Only the three laws under 'the digit rule', and the machine's steps in
+-- DigitSteps, look into the rule; all else, here and in the callers, follows from these laws.
+--     rest-low, low-bound, low-congruent    the digit rule
+--     rests-bound, digit-bound, digit-small how long digits are
+--     recompose                             the digits' value is the number
+--     length-split, getD-split              the digits of a list
 use mathlib.Core.Path.{_≡_, refl, ap, _∙_}
 use mathlib.Core.List.{List, [], _∷_, map}
 use Prim.Native.Nat.{ℕ, zero, suc, _+_, _*_, _/_, _^_, _≤_, _<_, max}
