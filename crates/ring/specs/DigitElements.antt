@@ -1,11 +1,11 @@
 -- Digits of ring elements: recomposition in R gives the element back.
-use mathlib.Core.Path.{_≡_, refl, sym, ap, ap₂, _∙_}
+use mathlib.Core.Path.{_≡_, sym, ap, ap₂, _∙_}
 use mathlib.Core.List.{List, map}
 use Prim.Native.Nat.{ℕ, zero, suc, _+_, _*_, _^_, _≤_, _<_}
 use native.Mathlib.Omega.{arith}
 use lib.ListN.{length, getD, drop}
 use lib.Seq.{getD-drop}
-use lib.IntN.{ℤ, pos, _*ℤ_, _+ℤ_}
+use lib.IntN.{ℤ, pos, _*ℤ_}
 use Rattle.algebra.specs.Sum.{sum, sum-cong}
 use Rattle.algebra.specs.Negacyclic.{coeff}
 use Rattle.algebra.specs.Constant.{coeff-constant-mul}

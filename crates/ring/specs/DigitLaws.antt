@@ -1,17 +1,19 @@
--- Laws of the digits of integers, to any base from 2 on. The first section alone looks into the digit rule; all else, here and in the
--- callers, follows from its three laws.
-use mathlib.Core.Path.{_≡_, refl, sym, ap, _∙_}
-use mathlib.Core.Bool.{true, false}
+-- Laws of the digits of integers, to any base from 2 on. Only the three laws under 'the digit rule', and the machine's steps in
+-- DigitSteps, look into the rule; all else, here and in the callers, follows from these laws.
+--     rest-low, low-bound, low-congruent    the digit rule
+--     rests-bound, digit-bound, digit-small how long digits are
+--     recompose                             the digits' value is the number
+--     length-split, getD-split              the digits of a list
+use mathlib.Core.Path.{_≡_, refl, ap, _∙_}
 use mathlib.Core.List.{List, [], _∷_, map}
-use Prim.Native.Nat.{ℕ, zero, suc, _+_, _-_, _*_, _/_, _^_, _≤_, _<_, max}
+use Prim.Native.Nat.{ℕ, zero, suc, _+_, _*_, _/_, _^_, _≤_, _<_, max}
 use native.Mathlib.Decide.{decLe}
 use native.Mathlib.Nat.{mul-le-mul-right, mul-le-mul-left, mul-zero, pow-zero, pow-suc, pow-succ', le-step, lt-suc-self}
 use native.Mathlib.Omega.{arith}
 use lib.ListN.{length, getD, take, drop, length-map}
-use lib.IntN.{ℤ, pos, natAbs, _+ℤ_, _-ℤ_, _*ℤ_, +ℤ-idl, +ℤ-idr}
-use lib.Dec.{ltb}
+use lib.IntN.{ℤ, pos, natAbs, _+ℤ_, _*ℤ_, +ℤ-idl, +ℤ-idr}
 use borrow.Author.Tests.{lt-ltb, le-ltb}
-use Rattle.integers.specs.Bridge.{P, N, pn-min, natAbs-pn, add-pn, sub-pn, mul-pn, abs-mul, zarith}
+use Rattle.integers.specs.Bridge.{pn-min, natAbs-pn, add-pn, sub-pn, abs-mul, zarith}
 use Rattle.integers.specs.Flat.{length-flat, getD-flat, block-flat}
 use Rattle.integers.specs.Remainder.{emod, ediv, centre}
 use Rattle.integers.specs.Identities.{*ℤ-idl, ring-order}

@@ -1,6 +1,6 @@
 -- The low digit and what is left as the machine computes them: each step is in range, and together they give `low` and `rest`.
-use mathlib.Core.Path.{_≡_, refl, sym, ap, _∙_}
-use Prim.Native.Nat.{ℕ, _+_, _-_, _*_, _/_, _^_, _≤_, _<_}
+use mathlib.Core.Path.{_≡_}
+use Prim.Native.Nat.{ℕ, _+_, _/_, _≤_, _<_}
 use native.Mathlib.Nat.{mul-le-mul-left}
 use native.Mathlib.Omega.{arith}
 use lib.IntN.{ℤ, pos, natAbs, _+ℤ_, _-ℤ_, _*ℤ_}
@@ -9,7 +9,6 @@ use mir.Syntax.{w32, w64}
 use mir.Val.{SFits, toZ, ofZ}
 use mir.Facts.{toZ-ofZ, toZ-pos}
 use Rattle.integers.specs.Bridge.{P, N, pn-min, natAbs-pn, bnd, abs-bnd, add-pn, sub-pn, mul-bnd, zarith}
-use Rattle.integers.specs.Remainder.{centre}
 use Rattle.ring.specs.Digits.{Base, low, rest}
 use Rattle.ring.specs.DigitLaws.{low-bound, rest-size}
 use Rattle.ring.specs.Centring.{held, widen, wide, quotZ-fits, remainder-fits, shifted-fits, low-fits as centre-low-fits, centring}
@@ -23,6 +22,10 @@ offset b = held (toZ w64 b +ℤ half b)
 
 abbrev remainder : ℕ → ℤ → ℤ
 remainder b x = held (remZ (held (toZ w32 (ofZ w32 x))) (toZ w64 b))
+
+-- the quotient in `quotient`, where r is the low digit
+abbrev quotient : ℕ → ℤ → ℤ → ℤ
+quotient b x r = quotZ (held (held (toZ w32 (ofZ w32 x)) -ℤ held (toZ w32 (ofZ w32 r)))) (toZ w64 b)
 
 module _ {b : ℕ} (base : Base b) where
   above : 0 < b
@@ -88,7 +91,7 @@ module _ {b : ℕ} (base : Base b) where
     pub sub-low-fits : SFits w64 (held (toZ w32 (ofZ w32 x)) -ℤ held (toZ w32 (ofZ w32 r)))
     sub-low-fits = rw (wide fits, wide r-fits, is-low) (difference-fits fits)
 
-    rest-quotient-held : quotZ (held (held (toZ w32 (ofZ w32 x)) -ℤ held (toZ w32 (ofZ w32 r)))) (toZ w64 b) ≡ rest b x
+    rest-quotient-held : quotient b x r ≡ rest b x
     unfolding rest
     rest-quotient-held = rw (wide fits, wide r-fits, is-low, toZ-ofZ (difference-fits fits), base-held)
 
@@ -105,13 +108,13 @@ module _ {b : ℕ} (base : Base b) where
       mul-le-mul-left (natAbs (rest b x)) (base .least),
     )
 
-    pub rest-quotient-fits : SFits w64 (quotZ (held (held (toZ w32 (ofZ w32 x)) -ℤ held (toZ w32 (ofZ w32 r)))) (toZ w64 b))
+    pub rest-quotient-fits : SFits w64 (quotient b x r)
     rest-quotient-fits = rw rest-quotient-held (widen rest-fits)
 
-    pub rest-narrow-fits : SFits w32 (held (quotZ (held (held (toZ w32 (ofZ w32 x)) -ℤ held (toZ w32 (ofZ w32 r)))) (toZ w64 b)))
+    pub rest-narrow-fits : SFits w32 (held (quotient b x r))
     rest-narrow-fits = rw (rest-quotient-held, toZ-ofZ (widen rest-fits)) rest-fits
 
-    pub rest-held : toZ w32 (ofZ w32 (held (quotZ (held (held (toZ w32 (ofZ w32 x)) -ℤ held (toZ w32 (ofZ w32 r)))) (toZ w64 b)))) ≡ rest b x
+    pub rest-held : toZ w32 (ofZ w32 (held (quotient b x r))) ≡ rest b x
     rest-held = rw (rest-quotient-held, toZ-ofZ (widen rest-fits)) (toZ-ofZ rest-fits)
 
   -- ---- a step of Horner's rule

@@ -1,5 +1,5 @@
 -- Recomposition by Horner's rule, from the last digit down: `tail b t f k` is f k + b · f (k+1) + .. + b^(t-1-k) · f (t-1).
-use mathlib.Core.Path.{_≡_, refl, sym, ap, _∙_}
+use mathlib.Core.Path.{_≡_, sym, ap, _∙_}
 use Prim.Native.Nat.{ℕ, suc, _+_, _-_, _*_, _≤_, _<_}
 use native.Mathlib.Nat.{sub-self, sub-zero, zero-add, add-zero, mul-le-mul-right}
 use native.Mathlib.Omega.{arith}

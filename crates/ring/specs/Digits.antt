@@ -6,7 +6,7 @@
 --     split B t xs      the digits of a list of numbers, digit by digit
 --     value B t f       f 0 + B · f 1 + .. + B^(t-1) · f (t-1), of integers
 --     joined B t f      recomposition in R: f 0 + B · f 1 + .. + B^(t-1) · f (t-1)
-use mathlib.Core.Bool.{Bool, cond}
+use mathlib.Core.Bool.{cond}
 use mathlib.Core.List.{List, map}
 use Prim.Native.Nat.{ℕ, zero, suc, _^_, _≤_}
 use lib.Dec.{ltb}

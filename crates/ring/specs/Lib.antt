@@ -6,6 +6,7 @@ pub mod Range
 pub mod RangeLaws
 pub mod ModulusLaws
 pub mod Centring
+pub mod ResidueSteps
 pub mod Element
 pub mod Digits
 pub mod DigitLaws

@@ -39,9 +39,12 @@ fn peel(base: usize, width: usize, block: &mut [i32], to: usize, from: usize)
 {
     let mut i = 0;
     while i < width {
-        let x = block[from + i];
-        block[to + i] = low_digit(base, x);
-        block[from + i] = quotient(base, x);
+        let place = from + i;
+        let x = block[place];
+        let low = low_digit(base, x);
+        let left = quotient(base, x);
+        block[to + i] = low;
+        block[place] = left;
         i += 1;
     }
 }

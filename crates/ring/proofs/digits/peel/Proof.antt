@@ -2,7 +2,6 @@
 use mathlib.Core.Path.{_≡_, ap, _∙_}
 use Prim.Native.Nat.{_+_, _-_, _≤_}
 use native.Mathlib.Omega.{arith}
-use borrow.Author.Needs.{needs}
 use lib.ListN.{getD, length-set}
 use lib.IntN.{pos}
 use mir.Syntax.{w32}
@@ -22,8 +21,8 @@ abbrev μ-loop : tie.MeasureT-loop
 loop-holds : tie.Need-loop-holds Inv-loop μ-loop
 loop-holds c = (peel-start (c .args .base) (c .args .to) (c .args .from) (c .args .block .now), omega arith)
 
-add-x : tie.Need-add-x Inv-loop μ-loop
-add-x c = omega (arith, c .before .before .pre .1)
+add-place : tie.Need-add-place Inv-loop μ-loop
+add-place c = omega (arith, c .before .before .pre .1)
 
 mul-x : tie.Need-mul-x Inv-loop μ-loop
 mul-x c = omega (arith, c .before .before .pre .1)
@@ -34,26 +33,27 @@ slice-copy-out-x c = omega (arith, c .before .before .pre .1, c .before .loop .i
 low-digit-requires : tie.Need-low-digit-requires Inv-loop μ-loop
 low-digit-requires c κs = c .before .before .before .pre .0
 
-add-block : tie.Need-add-block Inv-loop μ-loop
-add-block c = omega (arith, c .before .before .before .before .pre .1)
-
-mul-block : tie.Need-mul-block Inv-loop μ-loop
-mul-block c = omega (arith, c .before .before .before .before .pre .1)
-
-slice-set-from-block : tie.Need-slice-set-from-block Inv-loop μ-loop
-slice-set-from-block c = omega (arith, c .before .before .before .before .pre .1, c .before .before .before .loop .inv .0 .same)
-
 quotient-requires : tie.Need-quotient-requires Inv-loop μ-loop
 quotient-requires c κs = c .before .before .before .before .pre .0
 
-add-t10 : tie.Need-add-t10 Inv-loop μ-loop
-add-t10 c = omega (arith, c .before .before .before .before .before .pre .1)
+add-low : tie.Need-add-low Inv-loop μ-loop
+add-low c = omega (arith, c .before .before .before .before .before .pre .1)
 
-mul-t9 : tie.Need-mul-t9 Inv-loop μ-loop
-mul-t9 c = omega (arith, c .before .before .before .before .before .pre .1)
+mul-low : tie.Need-mul-low Inv-loop μ-loop
+mul-low c = omega (arith, c .before .before .before .before .before .pre .1)
 
-slice-set-from-block-2 : tie.Need-slice-set-from-block-2 Inv-loop μ-loop
-slice-set-from-block-2 c = simp length-set (omega (arith, c .before .before .before .before .before .pre .1, c .before .before .before .before .loop .inv .0 .same))
+slice-set-from-low : tie.Need-slice-set-from-low Inv-loop μ-loop
+slice-set-from-low c =
+    let at = c .before .before .before .before in
+    omega (arith, at .before .pre .1, at .loop .inv .0 .same)
+
+mul-left : tie.Need-mul-left Inv-loop μ-loop
+mul-left c = omega (arith, c .before .before .before .before .before .pre .1)
+
+slice-set-from-left : tie.Need-slice-set-from-left Inv-loop μ-loop
+slice-set-from-left c =
+    let at = c .before .before .before .before in
+    simp length-set (omega (arith, at .before .pre .1, at .loop .inv .0 .same))
 
 add-i : tie.Need-add-i Inv-loop μ-loop
 add-i c = omega arith
@@ -65,8 +65,8 @@ loop-again : tie.Need-loop-again Inv-loop μ-loop
 loop-again c =
     let start = c .before .before .before .before .before in
     let at = c .before .before .before .before .loop in
-    let element : toZ w32 (ofZ w32 (getD (at .block) (start .args .from + at .i) (pos 0))) ≡ getD (at .block) (start .args .from + at .i) (pos 0) =
-    toZ-ofZ (record { sfits = c .before .before .x .given }) in (
+    let x = getD (at .block) (start .args .from + at .i) (pos 0) in
+    let element : toZ w32 (ofZ w32 x) ≡ x = toZ-ofZ (record { sfits = c .before .before .x .given }) in (
       peel-step (start .args .base) (start .args .to) (start .args .from) (start .args .block .now) (at .i) (start .args .width) (at .block) _ _
           (start .pre .1 .0) (start .pre .1 .1) (omega arith) (at .inv .0)
           (toZ-ofZ (record { sfits = c .before .low-digit .ok }) ∙ c .before .low-digit .ensures ∙ ap (low (start .args .base)) element)
@@ -87,17 +87,16 @@ peel-spec =
     Inv-loop
     μ-loop
     loop-holds
-    add-x
+    add-place
     mul-x
     slice-copy-out-x
     low-digit-requires
-    add-block
-    mul-block
-    slice-set-from-block
     quotient-requires
-    add-t10
-    mul-t9
-    slice-set-from-block-2
+    add-low
+    mul-low
+    slice-set-from-low
+    mul-left
+    slice-set-from-left
     add-i
     loop-less
     loop-again

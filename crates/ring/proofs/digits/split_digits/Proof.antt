@@ -1,7 +1,6 @@
 -- `ring::digits::split_digits` meets its contract. The loop's invariant: k low digits are taken from each number.
-use mathlib.Core.Path.{_≡_, sym, ap, _∙_}
-use Prim.Native.Nat.{_+_, _-_, _*_, _≤_, _<_}
-use native.Mathlib.Nat.{mul-le-mul-right}
+use mathlib.Core.Path.{sym, _∙_}
+use Prim.Native.Nat.{_-_, _<_}
 use native.Mathlib.Omega.{arith}
 use Rattle.ring.specs.DigitBlocks.{Splitting, split-start, split-step, split-end, stretch-fits, last-fits}
 use Rattle.ring.proofs.digits.split_digits.Statement.{statement}
