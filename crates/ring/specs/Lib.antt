@@ -8,3 +8,4 @@ pub mod ElementArrays
 pub mod ElementPlaces
 pub mod ElementEquality
 pub mod ElementSteps
+pub mod Recomposition
