@@ -22,3 +22,4 @@ pub mod ElementSteps
 pub mod Product
 pub mod ColumnLaws
 pub mod ProductLaws
+pub mod Recomposition

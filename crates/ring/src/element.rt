@@ -117,10 +117,12 @@ fn recomposed(d: usize, base: usize, t: usize, xs: &[i32], p: usize, stride: usi
 {
     let factor = base as i32;
     let mut e = t - 1;
-    let mut sum = loaded(d, xs, p + e * stride);
+    let top = p + e * stride;
+    let mut sum = loaded(d, xs, top);
     while 0 < e {
         e -= 1;
-        let digit = loaded(d, xs, p + e * stride);
+        let place = p + e * stride;
+        let digit = loaded(d, xs, place);
         let high = scaled(d, factor, sum);
         sum = added(d, high, digit);
     }

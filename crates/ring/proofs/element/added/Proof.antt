@@ -1,19 +1,15 @@
 -- `ring::element::added` meets its contract. The loop's invariant: the first k numbers of the sum are in place, zeros follow.
-use mathlib.Core.Path.{_≡_, refl, sym, ap, ap₂, _∙_}
-use Prim.Native.Nat.{ℕ, _-_, _≤_, _<_}
+use mathlib.Core.Path.{_≡_, sym, _∙_}
+use Prim.Native.Nat.{_-_, _≤_}
 use native.Mathlib.Omega.{arith}
-use borrow.Author.Needs.{needs}
 use lib.IntN.{pos, _+ℤ_}
-use lib.ListN.{getD, replicate}
+use lib.ListN.{getD}
 use Rattle.integers.specs.Lists.{tab, upto, fill-start, fill-step}
 use Rattle.ring.specs.Modulus.{centred}
 use Rattle.ring.specs.ElementSteps.{stored-sum}
 use Rattle.ring.specs.ElementArrays.{array-add}
 use Rattle.ring.proofs.element.added.Statement.{statement}
 use Rattle.ring.proofs.element.added.Tie as tie
-use Rattle.ring.proofs.element.added.Reads as reads
-use Rattle.ring.proofs.element.added.Lts as lts
-use Rattle.ring.proofs.modulus.add.Reads as add-reads
 
 abbrev Inv-loop : tie.InvT-loop
 Inv-loop d a b out₀ k₀ out k = (k ≤ d) × (out ≡ tab 64 (upto k (λ i. centred (getD a i (pos 0) +ℤ getD b i (pos 0))) (pos 0)))
@@ -21,47 +17,36 @@ Inv-loop d a b out₀ k₀ out k = (k ≤ d) × (out ≡ tab 64 (upto k (λ i. c
 abbrev μ-loop : tie.MeasureT-loop
 μ-loop d a b out₀ k₀ out k = d - k
 
--- src/element.rt:40:5
 loop-holds : tie.Need-loop-holds Inv-loop μ-loop
 loop-holds c = (omega arith, fill-start 64 _ (pos 0))
 
--- src/element.rt:41:17
 mul-x : tie.Need-mul-x Inv-loop μ-loop
 mul-x c = omega arith
 
--- src/element.rt:41:17
 array-copy-out-x : tie.Need-array-copy-out-x Inv-loop μ-loop
 array-copy-out-x c = omega arith
 
--- src/element.rt:42:17
 mul-y : tie.Need-mul-y Inv-loop μ-loop
 mul-y c = omega arith
 
--- src/element.rt:42:17
 array-copy-out-y : tie.Need-array-copy-out-y Inv-loop μ-loop
 array-copy-out-y c = omega arith
 
--- src/element.rt:43:18
 add-requires : tie.Need-add-requires Inv-loop μ-loop
 add-requires c κs = tt
 
--- src/element.rt:43:9
 mul-out : tie.Need-mul-out Inv-loop μ-loop
 mul-out c = omega arith
 
--- src/element.rt:43:9
 array-set-from-out : tie.Need-array-set-from-out Inv-loop μ-loop
 array-set-from-out c = omega arith
 
--- src/element.rt:44:9
 add-k : tie.Need-add-k Inv-loop μ-loop
 add-k c = omega arith
 
--- src/element.rt:40:5
 loop-less : tie.Need-loop-less Inv-loop μ-loop
 loop-less c = omega arith
 
--- src/element.rt:40:5
 loop-again : tie.Need-loop-again Inv-loop μ-loop
 loop-again c =
     let p = c .before .before .before .before in
@@ -70,7 +55,6 @@ loop-again c =
     let sum = stored-sum (c .add .result) x y (c .before .before .x .given) (c .before .y .given) (c .add .ensures) in
     (omega arith, fill-step 64 (p .loop .k) _ (pos 0) _ (p .loop .out) (p .loop .inv .1) (omega arith) sum)
 
--- src/element.rt:34:1
 returns : tie.Need-returns Inv-loop μ-loop
 returns c =
     let h = c .before .loop .inv .1 in

@@ -1,6 +1,6 @@
 -- `ring::element::conjugated` meets its contract. The loop's invariant: the first k numbers of σ(a) are in place, zeros follow.
-use mathlib.Core.Path.{_≡_, refl, sym, ap, _∙_}
-use Prim.Native.Nat.{ℕ, _+_, _-_, _*_, _≤_, _<_}
+use mathlib.Core.Path.{_≡_, sym, _∙_}
+use Prim.Native.Nat.{_-_, _≤_, _<_}
 use native.Mathlib.Omega.{arith}
 use lib.ListN.{getD}
 use lib.IntN.{pos, negsuc}
@@ -9,10 +9,6 @@ use Rattle.ring.specs.ElementSteps.{stored-number, stored-product}
 use Rattle.ring.specs.ElementArrays.{turned, turned-zero, turned-suc, array-conjugate}
 use Rattle.ring.proofs.element.conjugated.Statement.{statement}
 use Rattle.ring.proofs.element.conjugated.Tie as tie
-use Rattle.ring.proofs.element.conjugated.Reads as reads
-use Rattle.ring.proofs.element.conjugated.Lts as lts
-use Rattle.ring.proofs.modulus.add.Reads as add-reads
-use Rattle.ring.proofs.modulus.multiply.Reads as multiply-reads
 
 abbrev Inv-loop : tie.InvT-loop
 Inv-loop d a out₀ first k₀ out k = (0 < k) × (k ≤ d) × (out ≡ tab 64 (upto k (turned d a) (pos 0)))
@@ -20,19 +16,15 @@ Inv-loop d a out₀ first k₀ out k = (0 < k) × (k ≤ d) × (out ≡ tab 64 (
 abbrev μ-loop : tie.MeasureT-loop
 μ-loop d a out₀ first k₀ out k = d - k
 
--- src/element.rt:68:17
 array-copy-out-first : tie.Need-array-copy-out-first Inv-loop μ-loop
 array-copy-out-first c = omega arith
 
--- src/element.rt:69:14
 add-requires : tie.Need-add-requires Inv-loop μ-loop
 add-requires c κs = tt
 
--- src/element.rt:69:5
 array-set-from-out : tie.Need-array-set-from-out Inv-loop μ-loop
 array-set-from-out c = omega arith
 
--- src/element.rt:71:5
 loop-holds : tie.Need-loop-holds Inv-loop μ-loop
 loop-holds c =
     let s = c .before .before in
@@ -40,49 +32,39 @@ loop-holds c =
     let number = stored-number (c .add .result) x (c .before .first .given) (c .add .ensures) ∙ sym (turned-zero (s .args .d) (s .args .t2)) in
     (omega arith, omega arith, fill-step 64 0 _ (pos 0) _ _ (fill-start 64 _ (pos 0)) (omega arith) number)
 
--- src/element.rt:72:19
 sub-x : tie.Need-sub-x Inv-loop μ-loop
 sub-x c = omega arith
 
--- src/element.rt:72:17
 mul-x : tie.Need-mul-x Inv-loop μ-loop
 mul-x c = omega arith
 
--- src/element.rt:72:17
 array-copy-out-x : tie.Need-array-copy-out-x Inv-loop μ-loop
 array-copy-out-x c = omega arith
 
--- src/element.rt:73:18
 multiply-requires : tie.Need-multiply-requires Inv-loop μ-loop
 multiply-requires c κs = tt
 
--- src/element.rt:73:9
 mul-out : tie.Need-mul-out Inv-loop μ-loop
 mul-out c = omega arith
 
--- src/element.rt:73:9
 array-set-from-out-2 : tie.Need-array-set-from-out-2 Inv-loop μ-loop
 array-set-from-out-2 c = omega arith
 
--- src/element.rt:74:9
 add-k : tie.Need-add-k Inv-loop μ-loop
 add-k c = omega arith
 
--- src/element.rt:71:5
 loop-less : tie.Need-loop-less Inv-loop μ-loop
 loop-less c = omega arith
 
--- src/element.rt:71:5
 loop-again : tie.Need-loop-again Inv-loop μ-loop
 loop-again c =
     let p = c .before .before .before in
     let s = p .before .before .before in
     let x = getD (s .args .t2) (s .args .d - p .loop .k) (pos 0) in
     let number = stored-product (c .multiply .result) (negsuc 0) x (c .before .x .given) (c .multiply .ensures)
-        ∙ sym (turned-suc (s .args .d) (s .args .t2) (p .loop .k) (p .loop .inv .0)) in
+    ∙ sym (turned-suc (s .args .d) (s .args .t2) (p .loop .k) (p .loop .inv .0)) in
     (omega arith, omega arith, fill-step 64 (p .loop .k) _ (pos 0) _ (p .loop .out) (p .loop .inv .2) (omega arith) number)
 
--- src/element.rt:63:1
 returns : tie.Need-returns Inv-loop μ-loop
 returns c =
     let filled = c .before .loop .inv .2 in

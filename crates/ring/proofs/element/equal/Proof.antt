@@ -1,6 +1,6 @@
 -- `ring::element::equal` meets its contract. The loop's invariant: `all` says that the first k numbers are congruent, one by one.
-use mathlib.Core.Path.{_≡_, refl, sym, ap, ap₂, _∙_}
-use Prim.Native.Nat.{ℕ, _+_, _-_, _*_, _≤_, _<_}
+use mathlib.Core.Path.{_≡_, sym, ap, ap₂, _∙_}
+use Prim.Native.Nat.{_-_, _≤_}
 use native.Mathlib.Omega.{arith}
 use lib.ListN.{getD}
 use lib.Dec.{eqb}
@@ -12,9 +12,6 @@ use Rattle.ring.specs.Element.{every}
 use Rattle.ring.specs.ElementEquality.{every-zero, every-next, same-lift}
 use Rattle.ring.proofs.element.equal.Statement.{statement}
 use Rattle.ring.proofs.element.equal.Tie as tie
-use Rattle.ring.proofs.element.equal.Reads as reads
-use Rattle.ring.proofs.element.equal.Lts as lts
-use Rattle.ring.proofs.modulus.residue.Reads as residue-reads
 
 abbrev Inv-loop : tie.InvT-loop
 Inv-loop d a b all₀ k₀ all k = (k ≤ d) × (all ≡ every k (λ i. eqb (emod (getD a i (pos 0)) q) (emod (getD b i (pos 0)) q)))
@@ -22,43 +19,33 @@ Inv-loop d a b all₀ k₀ all k = (k ≤ d) × (all ≡ every k (λ i. eqb (emo
 abbrev μ-loop : tie.MeasureT-loop
 μ-loop d a b all₀ k₀ all k = d - k
 
--- src/element.rt:87:5
 loop-holds : tie.Need-loop-holds Inv-loop μ-loop
 loop-holds c = (omega arith, sym (every-zero _))
 
--- src/element.rt:88:17
 mul-x : tie.Need-mul-x Inv-loop μ-loop
 mul-x c = omega arith
 
--- src/element.rt:88:17
 array-copy-out-x : tie.Need-array-copy-out-x Inv-loop μ-loop
 array-copy-out-x c = omega arith
 
--- src/element.rt:89:17
 mul-y : tie.Need-mul-y Inv-loop μ-loop
 mul-y c = omega arith
 
--- src/element.rt:89:17
 array-copy-out-y : tie.Need-array-copy-out-y Inv-loop μ-loop
 array-copy-out-y c = omega arith
 
--- src/element.rt:90:22
 residue-requires : tie.Need-residue-requires Inv-loop μ-loop
 residue-requires c κs = tt
 
--- src/element.rt:90:45
 residue-requires-2 : tie.Need-residue-requires-2 Inv-loop μ-loop
 residue-requires-2 c κs = tt
 
--- src/element.rt:91:9
 add-k : tie.Need-add-k Inv-loop μ-loop
 add-k c = omega arith
 
--- src/element.rt:87:5
 loop-less : tie.Need-loop-less Inv-loop μ-loop
 loop-less c = omega arith
 
--- src/element.rt:87:5
 loop-again : tie.Need-loop-again Inv-loop μ-loop
 loop-again c =
     let p = c .before .before .before .before .before in
@@ -68,7 +55,6 @@ loop-again c =
     let second = c .residue2 .ensures ∙ ap (λ z. emod z q) (bits32-small y (c .before .before .y .given)) in
     (omega arith, every-next (p .loop .k) _ (p .loop .all) _ (p .loop .inv .1) (ap₂ eqb first second))
 
--- src/element.rt:81:1
 returns : tie.Need-returns Inv-loop μ-loop
 returns c =
     let all = c .before .loop .inv .1 in

@@ -1,6 +1,6 @@
 -- `ring::element::scaled` meets its contract. The loop's invariant: the first k numbers of the multiple are in place, zeros follow.
-use mathlib.Core.Path.{_≡_, refl, sym, ap, _∙_}
-use Prim.Native.Nat.{ℕ, _+_, _-_, _*_, _≤_, _<_}
+use mathlib.Core.Path.{_≡_, sym, ap, _∙_}
+use Prim.Native.Nat.{_-_, _*_, _≤_}
 use native.Mathlib.Omega.{arith}
 use lib.ListN.{getD}
 use lib.IntN.{pos, _*ℤ_}
@@ -13,9 +13,6 @@ use Rattle.ring.specs.ElementSteps.{bits32, stored-product}
 use Rattle.ring.specs.ElementArrays.{array-scale}
 use Rattle.ring.proofs.element.scaled.Statement.{statement}
 use Rattle.ring.proofs.element.scaled.Tie as tie
-use Rattle.ring.proofs.element.scaled.Reads as reads
-use Rattle.ring.proofs.element.scaled.Lts as lts
-use Rattle.ring.proofs.modulus.multiply.Reads as multiply-reads
 
 abbrev Inv-loop : tie.InvT-loop
 Inv-loop d c a out₀ k₀ out k = (k ≤ d) × (out ≡ tab 64 (upto k (λ i. centred (toZ w32 c *ℤ getD a i (pos 0))) (pos 0)))
@@ -23,39 +20,30 @@ Inv-loop d c a out₀ k₀ out k = (k ≤ d) × (out ≡ tab 64 (upto k (λ i. c
 abbrev μ-loop : tie.MeasureT-loop
 μ-loop d c a out₀ k₀ out k = d - k
 
--- src/element.rt:55:5
 loop-holds : tie.Need-loop-holds Inv-loop μ-loop
 loop-holds c = (omega arith, fill-start 64 _ (pos 0))
 
--- src/element.rt:56:17
 mul-x : tie.Need-mul-x Inv-loop μ-loop
 mul-x c = omega arith
 
--- src/element.rt:56:17
 array-copy-out-x : tie.Need-array-copy-out-x Inv-loop μ-loop
 array-copy-out-x c = omega arith
 
--- src/element.rt:57:18
 multiply-requires : tie.Need-multiply-requires Inv-loop μ-loop
 multiply-requires c κs = tt
 
--- src/element.rt:57:9
 mul-out : tie.Need-mul-out Inv-loop μ-loop
 mul-out c = omega arith
 
--- src/element.rt:57:9
 array-set-from-out : tie.Need-array-set-from-out Inv-loop μ-loop
 array-set-from-out c = omega arith
 
--- src/element.rt:58:9
 add-k : tie.Need-add-k Inv-loop μ-loop
 add-k c = omega arith
 
--- src/element.rt:55:5
 loop-less : tie.Need-loop-less Inv-loop μ-loop
 loop-less c = omega arith
 
--- src/element.rt:55:5
 loop-again : tie.Need-loop-again Inv-loop μ-loop
 loop-again c =
     let p = c .before .before .before in
@@ -64,15 +52,14 @@ loop-again c =
     let multiple = stored-product (c .multiply .result) z x (c .before .x .given) (c .multiply .ensures) in
     (omega arith, fill-step 64 (p .loop .k) _ (pos 0) _ (p .loop .out) (p .loop .inv .1) (omega arith) multiple)
 
--- src/element.rt:49:1
 returns : tie.Need-returns Inv-loop μ-loop
 returns c =
     let s = c .before .before in
     let filled = c .before .loop .inv .1 in
     let e : c .before .loop .k ≡ c .before .before .args .d = omega arith in
     filled ∙ rw e (
-      ap (λ z. tab 64 (upto (s .args .d) (λ i. centred (z *ℤ getD (s .args .t3) i (pos 0))) (pos 0))) (toZ-ofZ (s .fits .c))
-      ∙ sym (array-scale (s .args .d) (s .args .c) (s .args .t3))
+    ap (λ z. tab 64 (upto (s .args .d) (λ i. centred (z *ℤ getD (s .args .t3) i (pos 0))) (pos 0))) (toZ-ofZ (s .fits .c))
+    ∙ sym (array-scale (s .args .d) (s .args .c) (s .args .t3))
     )
 
 pub scaled-spec : {M : Type 1} → statement M

@@ -1,6 +1,6 @@
 -- `ring::element::stored` meets its contract. The loop's invariant: the first k numbers are written, and nothing else is changed.
-use mathlib.Core.Path.{_≡_, refl, sym, ap, _∙_}
-use Prim.Native.Nat.{ℕ, _+_, _-_, _*_, _≤_, _<_}
+use mathlib.Core.Path.{_≡_, refl, sym, _∙_}
+use Prim.Native.Nat.{_-_, _*_, _≤_}
 use native.Mathlib.Omega.{arith}
 use lib.ListN.{length, getD, length-set}
 use lib.IntN.{pos}
@@ -9,8 +9,6 @@ use Rattle.ring.specs.ElementSteps.{stored-next, take-numbers}
 use Rattle.integers.specs.Over.{over, over-nil}
 use Rattle.ring.proofs.element.stored.Statement.{statement}
 use Rattle.ring.proofs.element.stored.Tie as tie
-use Rattle.ring.proofs.element.stored.Reads as reads
-use Rattle.ring.proofs.element.stored.Lts as lts
 
 abbrev Inv-loop : tie.InvT-loop
 Inv-loop d out₀ p a start k₀ out k = (k ≤ d) × (out ≡ over out₀ (p * d) (tab k (λ i. getD a i (pos 0)))) × (length out ≡ length out₀)
@@ -18,57 +16,45 @@ Inv-loop d out₀ p a start k₀ out k = (k ≤ d) × (out ≡ over out₀ (p * 
 abbrev μ-loop : tie.MeasureT-loop
 μ-loop d out₀ p a start k₀ out k = d - k
 
--- src/element.rt:101:17
 mul-start : tie.Need-mul-start Inv-loop μ-loop
 mul-start c = omega arith
 
--- src/element.rt:103:5
 loop-holds : tie.Need-loop-holds Inv-loop μ-loop
 unfolding tab
 loop-holds c = (omega arith, sym (over-nil (c .args .out .now) (c .args .p * c .args .d)), refl)
 
--- src/element.rt:104:17
 mul-x : tie.Need-mul-x Inv-loop μ-loop
 mul-x c = omega arith
 
--- src/element.rt:104:17
 array-copy-out-x : tie.Need-array-copy-out-x Inv-loop μ-loop
 array-copy-out-x c = omega arith
 
--- src/element.rt:105:21
 add-place : tie.Need-add-place Inv-loop μ-loop
 add-place c = omega arith
 
--- src/element.rt:106:9
 mul-x-2 : tie.Need-mul-x-2 Inv-loop μ-loop
 mul-x-2 c = omega arith
 
--- src/element.rt:106:9
 slice-set-from-x : tie.Need-slice-set-from-x Inv-loop μ-loop
 slice-set-from-x c = omega arith
 
--- src/element.rt:107:9
 add-k : tie.Need-add-k Inv-loop μ-loop
 add-k c = omega arith
 
--- src/element.rt:103:5
 loop-less : tie.Need-loop-less Inv-loop μ-loop
 loop-less c = omega arith
 
--- src/element.rt:103:5
 loop-again : tie.Need-loop-again Inv-loop μ-loop
 loop-again c =
     let l = c .before .before in
     let s = l .before in
     let written = stored-next (s .args .out .now) (l .loop .out) (s .args .t2) (s .args .p * s .args .d) (l .loop .k)
-        (l .loop .inv .1) (omega arith) (c .x .given) in
+    (l .loop .inv .1) (omega arith) (c .x .given) in
     (omega arith, written, simp length-set (l .loop .inv .2))
 
--- src/element.rt:96:1
 same-length : tie.Need-same-length Inv-loop μ-loop
 same-length c = c .before .loop .inv .2
 
--- src/element.rt:96:1
 returns : tie.Need-returns Inv-loop μ-loop
 returns c =
     let s = c .before .before in

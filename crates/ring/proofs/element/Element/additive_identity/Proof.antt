@@ -3,10 +3,7 @@ use mathlib.Core.Path.{sym}
 use Rattle.ring.specs.ElementArrays.{array-zero}
 use Rattle.ring.proofs.element.Element.additive_identity.Statement.{statement}
 use Rattle.ring.proofs.element.Element.additive_identity.Tie as tie
-use Rattle.ring.proofs.element.Element.additive_identity.Reads as reads
-use Rattle.ring.proofs.element.Element.additive_identity.Lts as lts
 
--- src/element.rt:270:5
 returns : tie.Need-returns
 returns c = λ d. sym (array-zero d)
 

@@ -1,21 +1,25 @@
+-- `ring::element::Element::constant` meets its contract.
+use mathlib.Core.Path.{sym, ap, _∙_}
+use lib.IntN.{pos}
+use lib.ListN.{set, replicate}
+use Rattle.ring.specs.ElementSteps.{stored-number}
+use Rattle.ring.specs.ElementArrays.{array-number}
 use borrow.Author.Needs.{needs}
 use Rattle.ring.proofs.element.Element.constant.Statement.{statement}
 use Rattle.ring.proofs.element.Element.constant.Tie as tie
-use Rattle.ring.proofs.element.Element.constant.Reads as reads
-use Rattle.ring.proofs.element.Element.constant.Lts as lts
-use Rattle.ring.proofs.modulus.add.Reads as add-reads
 
--- src/element.rt:293:22
 add-requires : tie.Need-add-requires
 add-requires c κs = search needs
 
--- src/element.rt:293:9
 array-set-from-numbers : tie.Need-array-set-from-numbers
 array-set-from-numbers c = search needs
 
--- src/element.rt:289:5
 returns : tie.Need-returns
-returns c = ?
+returns c =
+    λ d h.
+    let x = c .before .args .c in
+    let number = stored-number (c .add .result) x (c .before .fits .c .sfits) (c .add .ensures) in
+    ap (set (replicate 64 (pos 0)) 0) number ∙ sym (array-number d h x)
 
 pub constant-spec : {M : Type 1} → statement M
 constant-spec = tie.close (tie.spec add-requires array-set-from-numbers returns)

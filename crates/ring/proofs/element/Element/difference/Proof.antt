@@ -1,22 +1,26 @@
+-- `ring::element::Element::difference` meets its contract: the opposite is added.
+use mathlib.Core.Path.{ap, _∙_}
+use Rattle.ring.specs.Element.{R, lift, array}
+use Rattle.ring.specs.ElementLaws.{lift-array}
+use Rattle.ring.specs.ElementArrays.{minus-one}
 use borrow.Author.Needs.{needs}
 use Rattle.ring.proofs.element.Element.difference.Statement.{statement}
 use Rattle.ring.proofs.element.Element.difference.Tie as tie
-use Rattle.ring.proofs.element.Element.difference.Reads as reads
-use Rattle.ring.proofs.element.Element.difference.Lts as lts
-use Rattle.ring.proofs.element.added.Reads as added-reads
-use Rattle.ring.proofs.element.scaled.Reads as scaled-reads
 
--- src/element.rt:221:13
 scaled-requires : tie.Need-scaled-requires
 scaled-requires c κs = search needs
 
--- src/element.rt:223:27
 added-requires : tie.Need-added-requires
 added-requires c κs = search needs
 
--- src/element.rt:215:5
 returns : tie.Need-returns
-returns c = ?
+returns c =
+    let s = c .before .before .before .before in
+    let d = s .args .d in
+    let a = lift d (s .args .self .coefficients) in
+    let b = lift d (s .args .other .coefficients) in
+    let minus = ap (lift d) (c .before .scaled .ensures) ∙ lift-array d _ (s .pre .small) ∙ minus-one d b in
+    c .added .ensures ∙ ap (λ u. array d (R d .add a u)) minus
 
 pub difference-spec : {M : Type 1} → statement M
 difference-spec = tie.close (tie.spec scaled-requires added-requires returns)

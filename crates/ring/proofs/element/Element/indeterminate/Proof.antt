@@ -3,10 +3,7 @@ use mathlib.Core.Path.{sym}
 use Rattle.ring.specs.ElementArrays.{array-indeterminate}
 use Rattle.ring.proofs.element.Element.indeterminate.Statement.{statement}
 use Rattle.ring.proofs.element.Element.indeterminate.Tie as tie
-use Rattle.ring.proofs.element.Element.indeterminate.Reads as reads
-use Rattle.ring.proofs.element.Element.indeterminate.Lts as lts
 
--- src/element.rt:282:5
 returns : tie.Need-returns
 returns c = λ d h. sym (array-indeterminate d h)
 

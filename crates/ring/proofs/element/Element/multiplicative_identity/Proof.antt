@@ -3,10 +3,7 @@ use mathlib.Core.Path.{sym}
 use Rattle.ring.specs.ElementArrays.{array-one}
 use Rattle.ring.proofs.element.Element.multiplicative_identity.Statement.{statement}
 use Rattle.ring.proofs.element.Element.multiplicative_identity.Tie as tie
-use Rattle.ring.proofs.element.Element.multiplicative_identity.Reads as reads
-use Rattle.ring.proofs.element.Element.multiplicative_identity.Lts as lts
 
--- src/element.rt:276:5
 returns : tie.Need-returns
 returns c = λ d h. sym (array-one d h)
 
