@@ -1,18 +1,18 @@
 -- Centring as the machine computes it, by any modulus m that is not too large: each step stays in range, and together they give
 -- `centre m x`.
-use mathlib.Core.Path.{_≡_, refl, ap, _∙_}
-use Prim.Native.Nat.{ℕ, suc, _+_, _-_, _*_, _/_, _%_, _^_, _≤_, _<_}
+use mathlib.Core.Path.{_≡_, ap, _∙_}
+use Prim.Native.Nat.{ℕ, suc, _+_, _/_, _≤_, _<_}
 use native.Mathlib.Nat.{div-le-self}
 use native.Mathlib.Omega.{arith}
-use lib.IntN.{ℤ, pos, negsuc, negℤ, natAbs, _+ℤ_, _-ℤ_, _*ℤ_, +ℤ-assoc}
+use lib.IntN.{ℤ, pos, negsuc, _+ℤ_, _-ℤ_, _*ℤ_}
 use lib.Signed.{quotZ, remZ}
 use mir.Syntax.{w32, w64}
 use mir.Val.{SFits, toZ, ofZ}
 use mir.Facts.{toZ-ofZ}
-use Rattle.integers.specs.Bridge.{P, N, pn-min, natAbs-pn, bnd, abs-bnd, mul-bnd, add-pn, neg-pn, sub-pn, zarith}
+use Rattle.integers.specs.Bridge.{P, N, natAbs-pn, bnd, abs-bnd, mul-bnd, add-pn, neg-pn, zarith}
 use Rattle.integers.specs.Remainder.{centre}
 use Rattle.integers.specs.CentreLaws.{centre-range}
-use Rattle.integers.specs.MachineDivision.{remZ-sign, remZ-lt, centre-remZ}
+use Rattle.integers.specs.MachineDivision.{remZ-lt, centre-remZ}
 
 -- a number as a 64-bit signed local holds it
 abbrev pub held : ℤ → ℤ

@@ -4,12 +4,13 @@
 --     rest B z          what is left after it
 --     digit B t e z     digit e of t
 --     split B t xs      the digits of a list of numbers, digit by digit
+--     value B t f       f 0 + B · f 1 + .. + B^(t-1) · f (t-1), of integers
 --     joined B t f      recomposition in R: f 0 + B · f 1 + .. + B^(t-1) · f (t-1)
-use mathlib.Core.Bool.{Bool, cond}
+use mathlib.Core.Bool.{cond}
 use mathlib.Core.List.{List, map}
 use Prim.Native.Nat.{ℕ, zero, suc, _^_, _≤_}
 use lib.Dec.{ltb}
-use lib.IntN.{ℤ, pos, _-ℤ_}
+use lib.IntN.{ℤ, pos, _+ℤ_, _-ℤ_, _*ℤ_}
 use lib.Signed.{quotZ}
 use Rattle.integers.specs.Flat.{flat}
 use Rattle.integers.specs.Remainder.{centre}
@@ -37,6 +38,10 @@ digit b t e z = cond (ltb (suc e) t) (low b (rests b e z)) (rests b e z)
 
 unfoldable pub split : ℕ → ℕ → List ℤ → List ℤ
 split b t xs = flat t (λ e. map (digit b t e) xs)
+
+unfoldable pub value : (b t : ℕ) → (ℕ → ℤ) → ℤ
+value b zero f = pos 0
+value b (suc t) f = value b t f +ℤ pos (b ^ t) *ℤ f t
 
 unfoldable pub joined : (d b t : ℕ) → (ℕ → R d .Carrier) → R d .Carrier
 joined d b t f = sum (R d) t (λ e. R d .mul (number d (pos (b ^ e))) (f e))

@@ -1,17 +1,15 @@
 -- Laws of numbers modulo q and of their centred numbers. Callers use these and keep q shut.
 use mathlib.Core.Path.{_≡_, refl, sym, ap, _∙_}
-use mathlib.Core.Bool.{true, false}
-use Prim.Native.Nat.{ℕ, _+_, _*_, _/_, _%_, _^_, _≤_, _<_}
+use Prim.Native.Nat.{ℕ, _/_, _%_, _≤_, _<_}
 use native.Mathlib.Nat.{mod-mod}
 use native.Mathlib.Omega.{arith}
-use lib.Dec.{T, ltb→lt}
-use lib.IntN.{ℤ, pos, negsuc, negℤ, natAbs, _+ℤ_, _-ℤ_, _*ℤ_}
-use lib.Signed.{ltZ, nonNeg}
-use mir.Syntax.{Width, w32, w64}
-use mir.Val.{SFits, Fits}
-use Rattle.integers.specs.Bridge.{P, N, pn-min, natAbs-pn, bnd, add-pn, mul-pn, zarith}
-use Rattle.integers.specs.Remainder.{emod, centre}
-use Rattle.integers.specs.RemainderLaws.{emod-pos, emod-eq, emod-unique}
+use lib.Dec.{ltb→lt}
+use lib.IntN.{ℤ, pos, negℤ, natAbs, _+ℤ_, _-ℤ_, _*ℤ_}
+use mir.Syntax.{w32}
+use mir.Val.{SFits}
+use Rattle.integers.specs.Bridge.{natAbs-pn, add-pn, mul-pn, zarith}
+use Rattle.integers.specs.Remainder.{emod}
+use Rattle.integers.specs.RemainderLaws.{emod-pos, emod-eq}
 use Rattle.integers.specs.CentreLaws.{Centred, centre-range, centre-abs, centre-shorter, centre-fixed}
 use Rattle.algebra.specs.Residue as Residue
 use Rattle.ring.specs.Modulus.{q, q-positive, Zq, red, cent, centred}
@@ -151,33 +149,3 @@ cent-unique {z} {x} h e = sym (centred-fixed h) ∙ sym (cent-red z) ∙ ap cent
 
 pub centred-unique : {z : ℤ} (a : ℤ) → natAbs z ≤ 2147483598 → red z ≡ red a → z ≡ centred a
 centred-unique {z} a h e = sym (centred-fixed h) ∙ centred-eq z a e
-
--- ---- the residue of a 32-bit number, by its sign
-
-pub residue-negative : {x : ℤ} → SFits w32 x → ltZ x (pos 0) ≡ true → natAbs (x +ℤ pos 4294967197) ≡ emod x q
-residue-negative {x} h e =
-    let y = x +ℤ pos 4294967197 in
-    emod-unique q q-above x (negsuc 0) (natAbs y)
-    (omega (zarith, bnd x, natAbs-pn y, add-pn x (pos 4294967197), pn-min y, q-value))
-    (omega (zarith, bnd x, natAbs-pn y, add-pn x (pos 4294967197), pn-min y, q-value, add-pn (negsuc 0 *ℤ pos q) (pos (natAbs y)), mul-pn (negsuc 0) (pos q)))
-
-pub residue-nonnegative : {x : ℤ} → SFits w32 x → ltZ x (pos 0) ≡ false → natAbs x ≡ emod x q
-residue-nonnegative {x} h e =
-    emod-unique q q-above x (pos 0) (natAbs x)
-    (omega (zarith, bnd x, natAbs-pn x, q-value, pn-min x))
-    (omega (zarith, bnd x, natAbs-pn x, q-value, pn-min x, add-pn (pos 0 *ℤ pos q) (pos (natAbs x)), mul-pn (pos 0) (pos q)))
-
-pub raised-fits : {x : ℤ} → SFits w32 x → SFits w64 (x +ℤ pos 4294967197)
-raised-fits {x} h = omega (zarith, bnd x, add-pn x (pos 4294967197))
-
-nonneg : (w : Width) (x : ℤ) → SFits w x → N x ≡ 0 → P x < 2 ^ 64 → T (nonNeg x) × Fits w64 (natAbs x)
-nonneg w (pos n) f h k = (tt, record { fits = k })
-nonneg w (negsuc n) f h k = let no : ⊥ = omega arith in absurd no
-
-pub raised-natural : {x : ℤ} → SFits w32 x → T (nonNeg (x +ℤ pos 4294967197)) × Fits w64 (natAbs (x +ℤ pos 4294967197))
-raised-natural {x} h =
-    let y = x +ℤ pos 4294967197 in
-    nonneg w64 y (raised-fits h) (omega (arith, bnd x, h .sfits, add-pn x (pos 4294967197), pn-min y)) (omega (arith, bnd x, h .sfits, add-pn x (pos 4294967197), pn-min y))
-
-pub natural : {x : ℤ} → SFits w32 x → ltZ x (pos 0) ≡ false → T (nonNeg x) × Fits w64 (natAbs x)
-natural {x} h e = nonneg w32 x h (omega (zarith, bnd x, pn-min x)) (omega (arith, bnd x, h .sfits, pn-min x))

@@ -1,3 +1,4 @@
 // Arithmetic in R = Z_q[X]/(X^d+1), q = 2^32 - 99: document 01, 'Ring and digits'.
+pub mod digits;
 pub mod modulus;
 pub mod product;

@@ -1,8 +1,7 @@
 -- `ring::modulus::residue` meets its contract, by the sign of x.
-use native.Mathlib.Omega.{arith}
 use mir.Facts.{toZ-ofZ}
 use Rattle.ring.specs.Centring.{widen, wide}
-use Rattle.ring.specs.ModulusLaws.{residue-negative, residue-nonnegative, raised-fits, raised-natural, natural}
+use Rattle.ring.specs.ResidueSteps.{residue-negative, residue-nonnegative, raised-fits, raised-natural, natural}
 use Rattle.ring.proofs.modulus.residue.Statement.{statement}
 use Rattle.ring.proofs.modulus.residue.Tie as tie
 

