@@ -9,3 +9,4 @@ pub mod Lists
 pub mod Over
 pub mod Flat
 pub mod Difference
+pub mod Squares

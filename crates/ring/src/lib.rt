@@ -1,8 +1,8 @@
 // Arithmetic in R = Z_q[X]/(X^d+1), q = 2^32 - 99: document 01, 'Ring and digits'.
-pub mod length;
-pub mod range;
-pub mod digits;
 pub mod constants;
+pub mod digits;
 pub mod element;
+pub mod length;
 pub mod modulus;
 pub mod product;
+pub mod range;

@@ -1,0 +1,10 @@
+-- What the tests of document 01's rows 1 and 2 leave known of d, n and r.
+use Prim.Native.Nat.{ℕ, _<_, _≤_}
+use Rattle.ring.specs.Element.{Degree}
+
+pub record Shaped (d n r : ℕ) : Type 0 where
+  pub degree : Degree d
+  pub rank-positive : 0 < n
+  pub rank-small : n ≤ 256
+  pub parts-positive : 0 < r
+  pub parts-small : r ≤ 16

@@ -1,0 +1,296 @@
+-- Document 01, 'Where a call stops': "Lowest number first; a call tests only what it takes." Each row's test by name, and for each call
+-- the list of its tests with their numbers, in the order in which they are tried. Sizes are integers here, since a sheet may hold any.
+use mathlib.Core.Bool.{Bool, true, false, cond}
+use mathlib.Core.List.{List, [], _∷_, _++_}
+use Prim.Native.Nat.{ℕ, _+_, _*_}
+use lib.Dec.{leb, eqb}
+use lib.ListN.{length, take, drop}
+use lib.IntN.{ℤ, pos, negsuc}
+use Rattle.ring.specs.Element.{every}
+use Rattle.ring.specs.Range.{coefficients, projections, challenge}
+use Rattle.fold.specs.Sizes.{functionSize, tSize, garbageSize, restSize, openingSize, nextRank, nextParts, nextCount}
+use Rattle.fold.specs.Statement.{Relation}
+use Rattle.fold.specs.Verdict.{Statement, Draws, Transcript}
+
+-- all of these
+unfoldable pub allOf : List Bool → Bool
+allOf [] = true
+allOf (t ∷ ts) = cond t (allOf ts) false
+
+-- low ≤ x ≤ high
+unfoldable pub between : ℕ → ℕ → ℤ → Bool
+between low high (pos n) = cond (leb low n) (leb n high) false
+between low high (negsuc n) = false
+
+-- one of these
+unfoldable pub anyOf : List Bool → Bool
+anyOf [] = false
+anyOf (t ∷ ts) = cond t true (anyOf ts)
+
+-- row 1: "d not listed": "Degree d is 2, 4, 8, 16, 32 or 64"
+unfoldable pub degree : ℤ → Bool
+degree (pos d) = anyOf (eqb d 2 ∷ eqb d 4 ∷ eqb d 8 ∷ eqb d 16 ∷ eqb d 32 ∷ eqb d 64 ∷ [])
+degree (negsuc d) = false
+
+-- row 2: "n not 1..256, r not 1..16, K or L not 0..32, w not 0..256, a part number outside its range"
+unfoldable pub rank : ℤ → Bool
+rank n = between 1 256 n
+
+unfoldable pub parts : ℤ → Bool
+parts r = between 1 16 r
+
+unfoldable pub constraintCount : ℤ → Bool
+constraintCount k = between 0 32 k
+
+unfoldable pub projectionCount : ℤ → Bool
+projectionCount w = between 0 256 w
+
+-- row 3: "κ, κ1 or κ2 not 1..8"
+unfoldable pub commitmentRank : ℤ → Bool
+commitmentRank κ = between 1 8 κ
+
+-- row 4: "b, b1, b2 not 2..65536; t1, t2 not 2..8"
+unfoldable pub base : ℤ → Bool
+base b = between 2 65536 b
+
+unfoldable pub digitCount : ℤ → Bool
+digitCount t = between 2 8 t
+
+-- row 5: "ν or μ below 1, 2ν+μ above 16"; tz digits of z are cut into ν chunks each
+unfoldable pub chunks : ℕ → ℤ → ℤ → Bool
+chunks tz (pos ν) (pos μ) = allOf (leb 1 ν ∷ leb 1 μ ∷ leb (tz * ν + μ) 16 ∷ [])
+chunks tz (pos ν) (negsuc μ) = false
+chunks tz (negsuc ν) μ = false
+
+-- row 6: "β² or β'² negative or above 999999999999999"
+unfoldable pub lengthBound : ℤ → Bool
+lengthBound β² = between 0 999999999999999 β²
+
+-- row 7: "a slice's length is not what the sizes give"
+unfoldable pub sized : List ℤ → ℕ → Bool
+sized xs k = eqb (length xs) k
+
+-- row 10: "challenge outside the rule", for each of the r elements of c
+unfoldable pub challenges : (d r : ℕ) → List ℤ → Bool
+challenges d r c = every r (λ i. challenge (take d (drop (i * d) c)))
+
+-- ---- the lengths that the sizes give, in numbers
+unfoldable pub wholeLength : (d n r K : ℕ) → ℕ
+wholeLength d n r K = K * ((functionSize n r + 1) * d)
+
+unfoldable pub termLength : (d n r L : ℕ) → ℕ
+termLength d n r L = L * (functionSize n r * d + 1)
+
+unfoldable pub projectionLength : (d n r w : ℕ) → ℕ
+projectionLength d n r w = w * (r * n * d)
+
+-- ---- the tests of each call
+
+-- message 1: A, B, C, the witness s; out: t digits, g digits, u1
+unfoldable pub commitTests : (d n r κ κ₁ b₁ b₂ t₁ t₂ : ℕ) (A B C s ts gs u₁ : List ℤ) → List (ℕ × Bool)
+commitTests d n r κ κ₁ b₁ b₂ t₁ t₂ A B C s ts gs u₁ =
+    (1, degree (pos d))
+    ∷ (2, allOf (rank (pos n) ∷ parts (pos r) ∷ []))
+    ∷ (3, allOf (commitmentRank (pos κ) ∷ commitmentRank (pos κ₁) ∷ []))
+    ∷ (4, allOf (base (pos b₁) ∷ base (pos b₂) ∷ digitCount (pos t₁) ∷ digitCount (pos t₂) ∷ []))
+    ∷ (
+      7,
+      allOf (
+          sized A (κ * n * d)
+          ∷ sized B (κ₁ * tSize r κ t₁ * d)
+          ∷ sized C (κ₁ * garbageSize r t₂ * d)
+          ∷ sized s (r * n * d)
+          ∷ sized ts (tSize r κ t₁ * d)
+          ∷ sized gs (garbageSize r t₂ * d)
+          ∷ sized u₁ (κ₁ * d)
+          ∷ []),
+    )
+    ∷ (8, allOf (coefficients A ∷ coefficients B ∷ coefficients C ∷ coefficients s ∷ []))
+    ∷ []
+
+-- message 2: projection rows, the witness; out: p
+unfoldable pub projectTests : (d n r w : ℕ) (rows s p : List ℤ) → List (ℕ × Bool)
+projectTests d n r w rows s p =
+    (1, degree (pos d))
+    ∷ (2, allOf (rank (pos n) ∷ parts (pos r) ∷ projectionCount (pos w) ∷ []))
+    ∷ (7, allOf (sized rows (projectionLength d n r w) ∷ sized s (r * n * d) ∷ sized p w ∷ []))
+    ∷ (8, allOf (coefficients rows ∷ coefficients s ∷ []))
+    ∷ (9, projections rows)
+    ∷ []
+
+-- message 3: constant-term constraints, projection rows, ψ, ω, the witness; out: b''
+unfoldable pub aggregateTests : (d n r L w : ℕ) (term rows ψ ω s b″ : List ℤ) → List (ℕ × Bool)
+aggregateTests d n r L w term rows ψ ω s b″ =
+    (1, degree (pos d))
+    ∷ (2, allOf (rank (pos n) ∷ parts (pos r) ∷ constraintCount (pos L) ∷ projectionCount (pos w) ∷ []))
+    ∷ (
+      7,
+      allOf (
+          sized term (termLength d n r L)
+          ∷ sized rows (projectionLength d n r w)
+          ∷ sized ψ (5 * L)
+          ∷ sized ω (5 * w)
+          ∷ sized s (r * n * d)
+          ∷ sized b″ (5 * d)
+          ∷ []),
+    )
+    ∷ (8, allOf (coefficients term ∷ coefficients rows ∷ coefficients ψ ∷ coefficients ω ∷ coefficients s ∷ []))
+    ∷ (9, projections rows)
+    ∷ []
+
+-- message 4: both kinds of constraints, projection rows, ψ, ω, α, δ, D, the witness; out: h digits, u2
+unfoldable pub garbageTests : (d n r K L w κ₂ b₁ t₁ : ℕ) (whole term rows ψ ω α δ D s hs u₂ : List ℤ) → List (ℕ × Bool)
+garbageTests d n r K L w κ₂ b₁ t₁ whole term rows ψ ω α δ D s hs u₂ =
+    (1, degree (pos d))
+    ∷ (2, allOf (rank (pos n) ∷ parts (pos r) ∷ constraintCount (pos K) ∷ constraintCount (pos L) ∷ projectionCount (pos w) ∷ []))
+    ∷ (3, commitmentRank (pos κ₂))
+    ∷ (4, allOf (base (pos b₁) ∷ digitCount (pos t₁) ∷ []))
+    ∷ (
+      7,
+      allOf (
+          sized whole (wholeLength d n r K)
+          ∷ sized term (termLength d n r L)
+          ∷ sized rows (projectionLength d n r w)
+          ∷ sized ψ (5 * L)
+          ∷ sized ω (5 * w)
+          ∷ sized α (K * d)
+          ∷ sized δ (5 * d)
+          ∷ sized D (κ₂ * garbageSize r t₁ * d)
+          ∷ sized s (r * n * d)
+          ∷ sized hs (garbageSize r t₁ * d)
+          ∷ sized u₂ (κ₂ * d)
+          ∷ []),
+    )
+    ∷ (
+      8,
+      allOf (
+          coefficients whole
+          ∷ coefficients term
+          ∷ coefficients rows
+          ∷ coefficients ψ
+          ∷ coefficients ω
+          ∷ coefficients α
+          ∷ coefficients δ
+          ∷ coefficients D
+          ∷ coefficients s
+          ∷ []),
+    )
+    ∷ (9, projections rows)
+    ∷ []
+
+-- message 5: challenges, the witness; out: the tz digits of z
+unfoldable pub amortizeTests : (d n r tz b : ℕ) (c s zs : List ℤ) → List (ℕ × Bool)
+amortizeTests d n r tz b c s zs =
+    (1, degree (pos d))
+    ∷ (2, allOf (rank (pos n) ∷ parts (pos r) ∷ []))
+    ∷ (4, base (pos b))
+    ∷ (7, allOf (sized c (r * d) ∷ sized s (r * n * d) ∷ sized zs (tz * n * d) ∷ []))
+    ∷ (8, allOf (coefficients c ∷ coefficients s ∷ []))
+    ∷ (10, challenges d r c)
+    ∷ []
+
+-- what is lent beside the messages: the statement and the draws
+module _ (𝓢 : Statement) (𝓓 : Draws) where
+  open Statement 𝓢 using (relation, w, tz, κ, κ₁, κ₂, b, b₁, b₂, t₁, t₂, target, A, B, C, D)
+  open Relation relation using (d, n, r, K, L, bound, whole, term)
+  open Draws 𝓓 using (projections as projectionRows, ψ, ω, α, δ, c)
+
+  abbrev pub sizeTests : List (ℕ × Bool)
+  sizeTests =
+      (1, degree (pos d))
+      ∷ (2, allOf (rank (pos n) ∷ parts (pos r) ∷ constraintCount (pos K) ∷ constraintCount (pos L) ∷ projectionCount (pos w) ∷ []))
+      ∷ (3, allOf (commitmentRank (pos κ) ∷ commitmentRank (pos κ₁) ∷ commitmentRank (pos κ₂) ∷ []))
+      ∷ (4, allOf (base (pos b) ∷ base (pos b₁) ∷ base (pos b₂) ∷ digitCount (pos t₁) ∷ digitCount (pos t₂) ∷ []))
+      ∷ []
+
+  abbrev pub boundTests : List (ℕ × Bool)
+  boundTests = (6, allOf (lengthBound (pos bound) ∷ lengthBound (pos target) ∷ [])) ∷ []
+
+  abbrev pub lentLengths : List Bool
+  lentLengths =
+      sized A (κ * n * d)
+      ∷ sized B (κ₁ * tSize r κ t₁ * d)
+      ∷ sized C (κ₁ * garbageSize r t₂ * d)
+      ∷ sized D (κ₂ * garbageSize r t₁ * d)
+      ∷ sized whole (wholeLength d n r K)
+      ∷ sized term (termLength d n r L)
+      ∷ sized projectionRows (projectionLength d n r w)
+      ∷ sized ψ (5 * L)
+      ∷ sized ω (5 * w)
+      ∷ sized α (K * d)
+      ∷ sized δ (5 * d)
+      ∷ sized c (r * d)
+      ∷ []
+
+  abbrev pub lentRanges : List Bool
+  lentRanges =
+      coefficients A
+      ∷ coefficients B
+      ∷ coefficients C
+      ∷ coefficients D
+      ∷ coefficients whole
+      ∷ coefficients term
+      ∷ coefficients projectionRows
+      ∷ coefficients ψ
+      ∷ coefficients ω
+      ∷ coefficients α
+      ∷ coefficients δ
+      ∷ coefficients c
+      ∷ []
+
+  abbrev pub drawTests : List (ℕ × Bool)
+  drawTests = (9, projections projectionRows) ∷ (10, challenges d r c) ∷ []
+
+  -- the statement, the draws and a witness: what the five messages are made from
+  unfoldable pub proverTests : List ℤ → List (ℕ × Bool)
+  proverTests s =
+      sizeTests
+      ++ (boundTests
+      ++ ((7, allOf (sized s (r * n * d) ∷ lentLengths))
+      ∷ (8, allOf (coefficients s ∷ lentRanges))
+      ∷ drawTests))
+
+-- the verifier and the next instance take the messages too
+module _ (𝓢 : Statement) (𝓓 : Draws) (𝓣 : Transcript) where
+  open Statement 𝓢 using (relation, w, tz, κ, κ₁, κ₂, t₁, t₂)
+  open Relation relation using (d, n, r)
+  open Transcript 𝓣 using (u₁, p, b″, u₂)
+
+  abbrev pub lengths : List Bool
+  lengths = sized u₁ (κ₁ * d) ∷ sized p w ∷ sized b″ (5 * d) ∷ sized u₂ (κ₂ * d) ∷ lentLengths 𝓢 𝓓
+
+  abbrev pub ranges : List Bool
+  ranges = coefficients u₁ ∷ coefficients p ∷ coefficients b″ ∷ coefficients u₂ ∷ lentRanges 𝓢 𝓓
+
+  -- the verifier, with the opening o
+  unfoldable pub verifyTests : List ℤ → List (ℕ × Bool)
+  verifyTests o =
+      sizeTests 𝓢 𝓓
+      ++ (boundTests 𝓢 𝓓
+      ++ ((7, allOf (sized o (openingSize tz n r κ t₁ t₂ * d) ∷ lengths))
+      ∷ (8, allOf (coefficients o ∷ ranges))
+      ∷ drawTests 𝓢 𝓓))
+
+  -- the next instance, cut into ν and μ chunks and written to out; "11: n' above 256"
+  unfoldable pub nextTests : (ν μ : ℕ) → List ℤ → List (ℕ × Bool)
+  nextTests ν μ out =
+      sizeTests 𝓢 𝓓
+      ++ ((5, chunks tz (pos ν) (pos μ))
+      ∷ (boundTests 𝓢 𝓓
+      ++ ((7, allOf (sized out (wholeLength d n′ (nextParts tz ν μ) (nextCount κ κ₁ κ₂)) ∷ lengths))
+      ∷ (8, allOf ranges)
+      ∷ (drawTests 𝓢 𝓓 ++ ((11, leb n′ 256) ∷ [])))))
+    where
+      n′ : ℕ
+      n′ = nextRank n ν (restSize r κ t₁ t₂) μ
+
+-- the question for part i (from 1) of the next witness; the opening o is looked at only for its length
+unfoldable pub partTests : (d n r κ t₁ t₂ tz ν μ i : ℕ) → List ℤ → List (ℕ × Bool)
+partTests d n r κ t₁ t₂ tz ν μ i o =
+    (1, degree (pos d))
+    ∷ (2, allOf (rank (pos n) ∷ parts (pos r) ∷ between 1 (nextParts tz ν μ) (pos i) ∷ []))
+    ∷ (3, commitmentRank (pos κ))
+    ∷ (4, allOf (digitCount (pos t₁) ∷ digitCount (pos t₂) ∷ []))
+    ∷ (5, chunks tz (pos ν) (pos μ))
+    ∷ (7, sized o (openingSize tz n r κ t₁ t₂ * d))
+    ∷ []

@@ -1,0 +1,190 @@
+-- Document 01, 'Verdict': checks 1 to 9 over the recomposed digits of an opening, and the first that fails.
+-- "Figure 3 takes z and splits it; here digits are lent and recomposed (section 5.3), with no width test."
+-- The opening is one list; x, y stand for its blocks as functions of the place, `block d o a` for the elements from place a on.
+use mathlib.Core.Bool.{Bool}
+use mathlib.Core.List.{List, [], _∷_}
+use Prim.Native.Nat.{ℕ, _+_, _*_}
+use lib.Dec.{leb, eqb}
+use lib.ListN.{getD, take, drop}
+use lib.IntN.{ℤ, pos}
+use Rattle.integers.specs.Sums.{normSq}
+use Rattle.algebra.specs.CommRing.{CommRing}
+use Rattle.algebra.specs.Sum.{sum}
+use Rattle.algebra.specs.Triangle.{pair, rows}
+use Rattle.algebra.specs.Conjugation.{ct}
+use Rattle.algebra.specs.DotProduct.{Function, inner, mixed}
+use Rattle.ring.specs.Modulus.{Zq, red}
+use Rattle.ring.specs.Element.{R, el, every, same}
+use Rattle.ring.specs.Digits.{joined}
+use Rattle.fold.specs.declared.Verdict.{Verdict}
+use Rattle.fold.specs.Answers.{firstFailed}
+use Rattle.fold.specs.Sizes.{tSize, garbageSize}
+use Rattle.fold.specs.Statement.{Relation, termConstant}
+use Rattle.fold.specs.Messages.{five, times, outer₁, outer₂, aggregate, aggregateConstant}
+
+-- ---- the opening: "Order: z low, z high; t by part, then digit, then row; g and h by i, then j, then digit."
+
+unfoldable pub block : (d : ℕ) → List ℤ → ℕ → ℕ → R d .Carrier
+block d o a y = el d o (a + y)
+
+-- the places where t, g and h start
+unfoldable pub tPlace : (tz n : ℕ) → ℕ
+tPlace tz n = tz * n
+
+unfoldable pub gPlace : (tz n r κ t₁ : ℕ) → ℕ
+gPlace tz n r κ t₁ = tPlace tz n + tSize r κ t₁
+
+unfoldable pub hPlace : (tz n r κ t₁ t₂ : ℕ) → ℕ
+hPlace tz n r κ t₁ t₂ = gPlace tz n r κ t₁ + garbageSize r t₂
+
+-- recomposed: element k of z, row k of t_i, and g_ij or h_ij
+unfoldable pub zOf : (d n tz b : ℕ) → (ℕ → R d .Carrier) → ℕ → R d .Carrier
+zOf d n tz b x k = joined d b tz (λ e. x (e * n + k))
+
+unfoldable pub tOf : (d κ b₁ t₁ : ℕ) → (ℕ → R d .Carrier) → ℕ → ℕ → R d .Carrier
+tOf d κ b₁ t₁ x i k = joined d b₁ t₁ (λ e. x ((i * t₁ + e) * κ + k))
+
+unfoldable pub garbageOf : (d r b t : ℕ) → (ℕ → R d .Carrier) → ℕ → ℕ → R d .Carrier
+garbageOf d r b t x i j = joined d b t (λ e. x (pair r i j * t + e))
+
+-- ---- the checks
+
+-- "2·|p|² ≤ w·β²"
+unfoldable pub check₁ : (w β² : ℕ) → List ℤ → Bool
+check₁ w β² p = leb (2 * normSq p) (w * β²)
+
+-- "Each b''_k has constant term Σψ b' + Σω p."
+unfoldable pub check₂ : (d n r L w : ℕ) → List ℤ → List ℤ → List ℤ → List ℤ → List ℤ → Bool
+check₂ d n r L w term ψ ω p b″ =
+    every five (λ k. eqb (ct Zq (el d b″ k) .val) (Zq .add (terms k) (projected k) .val))
+  where
+    terms : ℕ → Zq .Carrier
+    terms k = sum Zq L (λ l. Zq .mul (red (getD ψ (k * L + l) (pos 0))) (red (termConstant d n r term l)))
+
+    projected : ℕ → Zq .Carrier
+    projected k = sum Zq w (λ j. Zq .mul (red (getD ω (k * w + j) (pos 0))) (red (getD p j (pos 0))))
+
+-- "u1 equation", for t digits x and g digits y
+unfoldable pub check₃ : (d r κ κ₁ t₁ t₂ : ℕ) → List ℤ → List ℤ → List ℤ → (ℕ → R d .Carrier) → (ℕ → R d .Carrier) → Bool
+check₃ d r κ κ₁ t₁ t₂ B C u₁ x y = every κ₁ (λ k. same d (el d u₁ k) (outer₁ d r κ t₁ t₂ B C k x y))
+
+-- "u2 equation", for h digits x
+unfoldable pub check₄ : (d r κ₂ t₁ : ℕ) → List ℤ → List ℤ → (ℕ → R d .Carrier) → Bool
+check₄ d r κ₂ t₁ D u₂ x = every κ₂ (λ k. same d (el d u₂ k) (outer₂ d r t₁ D k x))
+
+-- "A z = Σ c_i t_i"
+unfoldable pub check₅ : (d n r κ : ℕ) → List ℤ → List ℤ → (ℕ → R d .Carrier) → (ℕ → ℕ → R d .Carrier) → Bool
+check₅ d n r κ A c z t = every κ (λ k. same d (times d n A k z) (sum (R d) r (λ i. R d .mul (el d c i) (t i k))))
+
+-- "<z,z> = Σ g_ii c_i² + 2Σ_{i<j} g_ij c_i c_j"
+unfoldable pub check₆ : (d n r : ℕ) → List ℤ → (ℕ → R d .Carrier) → (ℕ → ℕ → R d .Carrier) → Bool
+check₆ d n r c z g = same d (inner (R d) n z z) (mixed (R d) r g (el d c))
+
+-- "Σ<φ_i,z>c_i = Σ h_ii c_i² + 2Σ_{i<j} h_ij c_i c_j"
+unfoldable pub check₇ : (d n r : ℕ) → List ℤ → (ℕ → ℕ → R d .Carrier) → (ℕ → R d .Carrier) → (ℕ → ℕ → R d .Carrier) → Bool
+check₇ d n r c φ z h = same d (sum (R d) r (λ i. R d .mul (inner (R d) n (φ i) z) (el d c i))) (mixed (R d) r h (el d c))
+
+-- "Σ a_ij g_ij + Σ h_ii = b"
+unfoldable pub check₈ : (d r : ℕ) → (ℕ → ℕ → R d .Carrier) → R d .Carrier → (ℕ → ℕ → R d .Carrier) → (ℕ → ℕ → R d .Carrier) → Bool
+check₈ d r a b g h = same d (R d .add (rows (R d) r (λ i j. R d .mul (a i j) (g i j))) (sum (R d) r (λ i. h i i))) b
+
+-- the squared lengths of the z digits, of the t and g digits, and of the h digits
+unfoldable pub zLength : (d n tz : ℕ) → List ℤ → ℕ
+zLength d n tz o = normSq (take (tz * n * d) o)
+
+unfoldable pub tgLength : (d n r tz κ t₁ t₂ : ℕ) → List ℤ → ℕ
+tgLength d n r tz κ t₁ t₂ o = normSq (take ((tSize r κ t₁ + garbageSize r t₂) * d) (drop (tPlace tz n * d) o))
+
+unfoldable pub hLength : (d n r tz κ t₁ t₂ : ℕ) → List ℤ → ℕ
+hLength d n r tz κ t₁ t₂ o = normSq (take (garbageSize r t₁ * d) (drop (hPlace tz n r κ t₁ t₂ * d) o))
+
+-- "All digits' squared length ≤ β'² (lent)."
+unfoldable pub check₉ : (d n r tz κ t₁ t₂ target : ℕ) → List ℤ → Bool
+check₉ d n r tz κ t₁ t₂ target o = leb (zLength d n tz o + tgLength d n r tz κ t₁ t₂ o + hLength d n r tz κ t₁ t₂ o) target
+
+-- ---- the verdict
+
+-- the relation, the matrices, the digits and the target bound: "Two openings are of one statement when the sizes, bases, bounds,
+-- matrices A, B, C, D and constraints are equal." tz, the number of z digits, is 2.
+pub record Statement : Type 0 where
+  pub relation : Relation
+  pub w : ℕ
+  pub tz : ℕ
+  pub κ : ℕ
+  pub κ₁ : ℕ
+  pub κ₂ : ℕ
+  pub b : ℕ
+  pub b₁ : ℕ
+  pub b₂ : ℕ
+  pub t₁ : ℕ
+  pub t₂ : ℕ
+  pub target : ℕ
+  pub A : List ℤ
+  pub B : List ℤ
+  pub C : List ℤ
+  pub D : List ℤ
+
+-- what is lent beside the statement: projection rows, ψ, ω, α, δ, c
+pub record Draws : Type 0 where
+  pub projections : List ℤ
+  pub ψ : List ℤ
+  pub ω : List ℤ
+  pub α : List ℤ
+  pub δ : List ℤ
+  pub c : List ℤ
+
+-- the messages that precede the opening
+pub record Transcript : Type 0 where
+  pub u₁ : List ℤ
+  pub p : List ℤ
+  pub b″ : List ℤ
+  pub u₂ : List ℤ
+
+module _ (𝓢 : Statement) (𝓓 : Draws) (𝓣 : Transcript) (o : List ℤ) where
+  open Statement 𝓢 using (relation, w, tz, κ, κ₁, κ₂, b, b₁, b₂, t₁, t₂, target, A, B, C, D)
+  open Relation relation using (d, n, r, K, L, bound, whole, term)
+  open Draws 𝓓 using (projections, ψ, ω, α, δ, c)
+  open Transcript 𝓣 using (u₁, p, b″, u₂)
+
+  -- the blocks of the opening, and what they recompose to
+  abbrev pub tBlock : ℕ → R d .Carrier
+  tBlock = block d o (tPlace tz n)
+
+  abbrev pub gBlock : ℕ → R d .Carrier
+  gBlock = block d o (gPlace tz n r κ t₁)
+
+  abbrev pub hBlock : ℕ → R d .Carrier
+  hBlock = block d o (hPlace tz n r κ t₁ t₂)
+
+  abbrev pub zᵒ : ℕ → R d .Carrier
+  zᵒ = zOf d n tz b (el d o)
+
+  abbrev pub tᵒ : ℕ → ℕ → R d .Carrier
+  tᵒ = tOf d κ b₁ t₁ tBlock
+
+  abbrev pub gᵒ : ℕ → ℕ → R d .Carrier
+  gᵒ = garbageOf d r b₂ t₂ gBlock
+
+  abbrev pub hᵒ : ℕ → ℕ → R d .Carrier
+  hᵒ = garbageOf d r b₁ t₁ hBlock
+
+  abbrev pub aggregated : Function (R d)
+  aggregated = aggregate d n r K L w whole term projections ψ ω α δ
+
+  -- checks 1 to 9 in order
+  abbrev pub checks : List Bool
+  checks =
+      check₁ w bound p
+      ∷ check₂ d n r L w term ψ ω p b″
+      ∷ check₃ d r κ κ₁ t₁ t₂ B C u₁ tBlock gBlock
+      ∷ check₄ d r κ₂ t₁ D u₂ hBlock
+      ∷ check₅ d n r κ A c zᵒ tᵒ
+      ∷ check₆ d n r c zᵒ gᵒ
+      ∷ check₇ d n r c (aggregated .φ) zᵒ hᵒ
+      ∷ check₈ d r (aggregated .a) (aggregateConstant d n r K whole α δ b″) gᵒ hᵒ
+      ∷ check₉ d n r tz κ t₁ t₂ target o
+      ∷ []
+
+  -- "The first check that fails is named; none means accepted."
+  unfoldable pub verdict : Verdict
+  verdict = firstFailed 1 checks

@@ -1,0 +1,11 @@
+-- Document 01, 'Verdict': "The verifier's answer is either a refusal with its number or a judgement."
+use mathlib.Core.List.{List}
+use lib.IntN.{ℤ}
+use Rattle.fold.specs.declared.Answer.{Answer}
+use Rattle.fold.specs.declared.Answer.the-variants.{Judged}
+use Rattle.fold.specs.Answers.{firstRefusal, answered}
+use Rattle.fold.specs.Verdict.{Statement, Draws, Transcript, verdict}
+use Rattle.fold.specs.Refusals.{verifyTests}
+
+abbrev pub verification : Statement → Draws → Transcript → List ℤ → Answer
+verification 𝓢 𝓓 𝓣 o = answered (firstRefusal (verifyTests 𝓢 𝓓 𝓣 o)) (Judged (verdict 𝓢 𝓓 𝓣 o))

@@ -1,0 +1,99 @@
+// The answers of every call of the fold: document 01, 'Verdict' and 'Where a call stops'.
+ghost use mathlib.Core.Path.{_≡_};
+ghost use Rattle.fold.specs.Answers.{kindOf, numberOf};
+
+// A judgement: accepted, or failed with the first check that fails.
+pub enum Verdict {
+    Accepted,
+    Failed(u8),
+}
+
+// What a call answers: a refusal with its number, a judgement, or that everything asked for was written.
+pub enum Answer {
+    Refused(u8),
+    Judged(Verdict),
+    Written,
+}
+
+// Degree, rank and number of parts.
+pub struct Shape {
+    pub d: usize,
+    pub n: usize,
+    pub r: usize,
+}
+
+// The sizes of message 1.
+pub struct CommitSizes {
+    pub d: usize,
+    pub n: usize,
+    pub r: usize,
+    pub kappa: usize,
+    pub kappa1: usize,
+    pub b1: usize,
+    pub b2: usize,
+    pub t1: usize,
+    pub t2: usize,
+}
+
+// The sizes of message 4.
+pub struct GarbageSizes {
+    pub d: usize,
+    pub n: usize,
+    pub r: usize,
+    pub k: usize,
+    pub l: usize,
+    pub w: usize,
+    pub kappa2: usize,
+    pub b1: usize,
+    pub t1: usize,
+}
+
+// The sizes of the verifier; `bound` is β² and `target` is β'².
+pub struct Sizes {
+    pub d: usize,
+    pub n: usize,
+    pub r: usize,
+    pub k: usize,
+    pub l: usize,
+    pub w: usize,
+    pub kappa: usize,
+    pub kappa1: usize,
+    pub kappa2: usize,
+    pub b: usize,
+    pub b1: usize,
+    pub b2: usize,
+    pub t1: usize,
+    pub t2: usize,
+    pub bound: u64,
+    pub target: u64,
+}
+
+impl Answer {
+    // 0 accepted, 1 failed, 2 refused; 3 written, which is no judgement.
+    pub fn kind(self) -> u8
+        ensures { λ r. ⌜ r ≡ kindOf self ⌝ }
+    {
+        match self {
+            Answer::Refused(_) => 2,
+            Answer::Judged(verdict) => match verdict {
+                Verdict::Accepted => 0,
+                Verdict::Failed(_) => 1,
+            },
+            Answer::Written => 3,
+        }
+    }
+
+    // The number of the refusal or of the failed check; 0 where there is none.
+    pub fn number(self) -> u8
+        ensures { λ r. ⌜ r ≡ numberOf self ⌝ }
+    {
+        match self {
+            Answer::Refused(number) => number,
+            Answer::Judged(verdict) => match verdict {
+                Verdict::Accepted => 0,
+                Verdict::Failed(check) => check,
+            },
+            Answer::Written => 0,
+        }
+    }
+}

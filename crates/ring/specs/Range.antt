@@ -1,0 +1,24 @@
+-- The conditions of document 01's rows 8, 9 and 10 on the numbers of a slice.
+use mathlib.Core.Bool.{Bool, true, false, cond}
+use mathlib.Core.List.{List, [], _∷_}
+use Prim.Native.Nat.{ℕ}
+use lib.Dec.{leb}
+use lib.IntN.{ℤ, natAbs}
+use Rattle.integers.specs.Sums.{normSq}
+
+-- every number has an absolute value of at most b
+unfoldable pub allWithin : ℕ → List ℤ → Bool
+allWithin b [] = true
+allWithin b (x ∷ xs) = cond (leb (natAbs x) b) (allWithin b xs) false
+
+-- row 8: "coefficient, or other number modulo q, out of range"
+unfoldable pub coefficients : List ℤ → Bool
+coefficients xs = allWithin 2147483598 xs
+
+-- row 9: "projection entry not -1, 0, 1"
+unfoldable pub projections : List ℤ → Bool
+projections xs = allWithin 1 xs
+
+-- row 10: "A challenge c has coefficients -2 to 2 and squared length at most 71."
+unfoldable pub challenge : List ℤ → Bool
+challenge xs = cond (allWithin 2 xs) (leb (normSq xs) 71) false
