@@ -1,6 +1,6 @@
 -- Commutative rings. Every ring of this project (ℤ, Z_q, Z_q[X]/(X^d+1)) is a value of this one record.
 -- Below it: the laws that follow from the fields, for every ring.
-use mathlib.Core.Path.{_≡_, refl, sym, ap, _∙_}
+use mathlib.Core.Path.{_≡_, sym, ap, _∙_}
 use mathlib.Core.Logic.{_↔_}
 
 pub record CommRing : Type 1 where

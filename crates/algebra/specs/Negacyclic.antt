@@ -1,10 +1,10 @@
 -- The ring 𝓚[X]/(X^d + 1) over any commutative ring 𝓚, for any d. An element is the vector of its d coefficients, lowest power first.
 -- For d = 0 it is the trivial ring.
-use mathlib.Core.Path.{_≡_, refl, sym, ap, ap₂, _∙_}
+use mathlib.Core.Path.{_≡_, refl, sym, ap, _∙_}
 use Prim.Native.Nat.{ℕ, zero, suc, _-_, _≤_, _<_}
 use native.Mathlib.Omega.{arith}
 use Rattle.algebra.specs.CommRing.{CommRing, zero-add, zero-mul, mul-zero, neg-zero, mul-neg, neg-distrib}
-use Rattle.algebra.specs.CommRing.{add-mul, add-interchange, mul-left-comm}
+use Rattle.algebra.specs.CommRing.{add-interchange, mul-left-comm}
 use Rattle.algebra.specs.Vec.{Vec, nil, cons, at, at-past, at-map, at-zipWith, ext, map, zipWith, Vec-set}
 
 module _ (𝓚 : CommRing) where
@@ -12,7 +12,7 @@ module _ (𝓚 : CommRing) where
   infixl 70 _⊗_
   infix 75 ⊖_
   open CommRing 𝓚 using (Carrier as K, zero as 𝟘, one as 𝟙, add as _⊕_, mul as _⊗_, neg as ⊖_)
-  open CommRing 𝓚 using (add-assoc, add-comm, add-zero, add-neg, mul-assoc, mul-comm, mul-one, mul-add)
+  open CommRing 𝓚 using (add-assoc, add-comm, add-zero, add-neg, mul-one, mul-add)
 
   -- the coefficient of X^k
   abbrev pub coeff : {d : ℕ} → Vec K d → ℕ → K
@@ -33,6 +33,7 @@ module _ (𝓚 : CommRing) where
   unfoldable pub negate : {d : ℕ} → Vec K d → Vec K d
   negate u = map ⊖_ u
 
+  -- c · u, for a number c
   unfoldable pub scale : {d : ℕ} → K → Vec K d → Vec K d
   scale c u = map (_⊗_ c) u
 
@@ -139,16 +140,16 @@ module _ (𝓚 : CommRing) where
       entry (suc k) h = simp (coeff-scale, coeff-timesX-suc)
 
   -- a linear map that commutes with X
-  record Linear {d : ℕ} (f : Vec K d → Vec K d) : Type 0 where
-    plus-law : (v w : Vec K d) → f (plus v w) ≡ plus (f v) (f w)
-    scale-law : (c : K) (v : Vec K d) → f (scale c v) ≡ scale c (f v)
-    timesX-law : (v : Vec K d) → f (timesX v) ≡ timesX (f v)
+  pub record Linear {d : ℕ} (f : Vec K d → Vec K d) : Type 0 where
+    pub plus-law : (v w : Vec K d) → f (plus v w) ≡ plus (f v) (f w)
+    pub scale-law : (c : K) (v : Vec K d) → f (scale c v) ≡ scale c (f v)
+    pub timesX-law : (v : Vec K d) → f (timesX v) ≡ timesX (f v)
 
   Linear-zero : {d : ℕ} {f : Vec K d → Vec K d} → Linear f → f (zeros d) ≡ zeros d
   Linear-zero {d} {f} l = ap f (sym (scale-zero (zeros d))) ∙ l .scale-law 𝟘 (zeros d) ∙ scale-zero (f (zeros d))
 
   -- it commutes with every product
-  Linear-times : {n d : ℕ} {f : Vec K d → Vec K d} → Linear f → (u : Vec K n) (v : Vec K d) → f (times u v) ≡ times u (f v)
+  pub Linear-times : {n d : ℕ} {f : Vec K d → Vec K d} → Linear f → (u : Vec K n) (v : Vec K d) → f (times u v) ≡ times u (f v)
   unfolding times
   Linear-times l nil v = Linear-zero l
   Linear-times l (cons a u) v = rw (l .plus-law, l .scale-law, l .timesX-law, Linear-times l u v)
@@ -164,12 +165,18 @@ module _ (𝓚 : CommRing) where
   times-plus nil v w = sym (plus-zero _)
   times-plus (cons a u) v w = rw (times-plus u v w, scale-plus, timesX-plus) (plus-interchange _ _ _ _)
 
+  pub times-timesX : {n d : ℕ} (u : Vec K n) (v : Vec K d) → times u (timesX v) ≡ timesX (times u v)
+  times-timesX u v = sym (Linear-times timesX-linear u v)
+
+  pub times-scale : {n d : ℕ} (u : Vec K n) (c : K) (v : Vec K d) → times u (scale c v) ≡ scale c (times u v)
+  times-scale u c v = sym (Linear-times (scale-linear c) u v)
+
   times-linear : {n d : ℕ} (u : Vec K n) → Linear {d = d} (times u)
   times-linear u =
       record {
         plus-law = times-plus u;
-        scale-law = λ c v. sym (Linear-times (scale-linear c) u v);
-        timesX-law = λ v. sym (Linear-times timesX-linear u v);
+        scale-law = times-scale u;
+        timesX-law = times-timesX u;
       }
 
   times-left-comm : {m n d : ℕ} (u : Vec K m) (v : Vec K n) (w : Vec K d) → times u (times v w) ≡ times v (times u w)
@@ -180,9 +187,9 @@ module _ (𝓚 : CommRing) where
   unfolding at times
   coeff-times-one {d = d} nil l k h = coeff-zero d k
   coeff-times-one {d = d} (cons a u) l zero h =
-      let past : coeff (times u (constant d 𝟙)) (d - 1) ≡ 𝟘 =
-      coeff-times-one u (omega arith) (d - 1) (omega arith) ∙ at-past 𝟘 u (omega arith) in
-      simp (coeff-add, coeff-scale, coeff-constant, coeff-timesX-zero, past, neg-zero, mul-one, add-zero)
+      let last : coeff (times u (constant d 𝟙)) (d - 1) ≡ coeff u (d - 1) = coeff-times-one u (omega arith) (d - 1) (omega arith) in
+      let past : coeff u (d - 1) ≡ 𝟘 = at-past 𝟘 u (omega arith) in
+      simp (coeff-add, coeff-scale, coeff-constant, coeff-timesX-zero, last, past, neg-zero, mul-one, add-zero)
   coeff-times-one {d = d} (cons a u) l (suc k) h =
       let below : coeff (times u (constant d 𝟙)) k ≡ coeff u k = coeff-times-one u (omega arith) k (omega arith) in
       simp (coeff-add, coeff-scale, coeff-constant-suc, coeff-timesX-suc, below, mul-zero, zero-add)
@@ -196,6 +203,7 @@ module _ (𝓚 : CommRing) where
   pub times-assoc : {d : ℕ} (u v w : Vec K d) → times (times u v) w ≡ times u (times v w)
   times-assoc u v w = times-comm (times u v) w ∙ times-left-comm w u v ∙ ap (times u) (times-comm w v)
 
+-- the ring
 abbrev pub Negacyclic : CommRing → ℕ → CommRing
 Negacyclic 𝓚 d =
     record {

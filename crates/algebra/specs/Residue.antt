@@ -1,6 +1,6 @@
 -- The integers modulo m, for any m above 0, as a commutative ring: a residue is a number below m, and each operation is the one of ℕ
 -- followed by the remainder.
-use mathlib.Core.Path.{_≡_, refl, sym, ap, ap₂, _∙_}
+use mathlib.Core.Path.{_≡_, refl, sym, ap, _∙_}
 use mathlib.Core.HLevel.{Discrete, hedberg, isProp→PathP}
 use Prim.Native.Nat.{ℕ, _+_, _-_, _*_, _%_, _<_}
 use native.Mathlib.Decide.{ℕ-discrete}
@@ -9,7 +9,8 @@ use native.Mathlib.Omega.{arith}
 use lib.Dec.{T, T-prop, ltb, ltb→lt, lt→ltb}
 use lib.IntN.{ℤ, pos, negℤ, _+ℤ_, _-ℤ_, _*ℤ_}
 use Rattle.integers.specs.Remainder.{emod, ediv, centre}
-use Rattle.integers.specs.RemainderLaws.{mul-mod, mod-mul-left, mod-mul-right, emod-lt, emod-pos, emod-emod, emod-shift, emod-difference, emod-add, emod-neg, emod-mul}
+use Rattle.integers.specs.RemainderLaws.{mul-mod, mod-mul-left, mod-mul-right, emod-lt, emod-pos, emod-emod}
+use Rattle.integers.specs.RemainderLaws.{emod-shift, emod-difference, emod-add, emod-neg, emod-mul}
 use Rattle.integers.specs.CentreLaws.{Centred, centre-range, centre-emod, centre-eq, centre-unique}
 use Rattle.algebra.specs.CommRing.{CommRing}
 
@@ -206,4 +207,4 @@ module _ (m : ℕ) (m>0 : T (ltb 0 m)) where
   reduce-unique {r} z c e = centre-unique m above z c (eq-reduce r z e)
 
   pub centred-unique : {r : ℤ} {x : Residue m} → Centred m r → reduce r ≡ x → r ≡ centred x
-  centred-unique {r} {x} c e = reduce-unique (centred x) c (e ∙ sym (reduce-centred x)) ∙ sym (centred-reduce (centred x)) ∙ ap centred (reduce-centred x)
+  centred-unique {r} c e = reduce-unique r c refl ∙ sym (centred-reduce r) ∙ ap centred e

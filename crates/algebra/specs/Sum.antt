@@ -48,6 +48,10 @@ module _ (𝓡 : CommRing) where
   pub mul-sum : (n : ℕ) (c : Carrier) (f : ℕ → Carrier) → sum n f ⊗ c ≡ sum n (λ i. f i ⊗ c)
   mul-sum n c f = mul-comm (sum n f) c ∙ sum-mul n c f ∙ sum-cong n (λ i. c ⊗ f i) (λ i. f i ⊗ c) (λ i _. mul-comm c (f i))
 
+  -- the product of two sums
+  pub sum-mul-sum : (m n : ℕ) (f g : ℕ → Carrier) → sum m f ⊗ sum n g ≡ sum m (λ i. sum n (λ j. f i ⊗ g j))
+  sum-mul-sum m n f g = mul-sum m (sum n g) f ∙ sum-cong m _ _ (λ i _. sum-mul n (f i) g)
+
   pub sum-neg : (n : ℕ) (f : ℕ → Carrier) → ⊖ sum n f ≡ sum n (λ i. ⊖ f i)
   unfolding sum
   sum-neg zero f = neg-zero 𝓡

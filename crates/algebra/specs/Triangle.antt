@@ -2,9 +2,9 @@
 --   start w i    where block i begins, if block k has w k entries
 --   below r f    the sum of f i j over i < j < r
 --   rows r f     the sum of f i j over i ≤ j < r, row after row
---   pair r i j   the place of the pair (i, j) in the order of rows
+--   pair r i j   the place of the pair (i, j) in the order of rows, from 0 to pairs-count r - 1
 use Prim.Native.Nat.{ℕ, zero, suc, _+_, _-_, _*_, _≤_, _<_}
-use mathlib.Core.Path.{_≡_, refl, sym, ap, ap₂, _∙_}
+use mathlib.Core.Path.{_≡_, refl, sym, ap, _∙_}
 use mathlib.Core.Logic.{_⊎_, inl, inr}
 use native.Mathlib.Nat.{le-refl, eq-or-lt-of-le, sub-self, add-sub-cancel-left}
 use native.Mathlib.Omega.{arith}
@@ -39,6 +39,23 @@ start-mono w i (suc n) l = pick (start-mono w i n) (eq-or-lt-of-le l)
         let same : i ≡ n = omega arith in
         rw same (le-refl (start w n + w n))
     pick before (inr h) = omega (arith, before (omega arith))
+
+-- the first pair, one step along a row, and from the end of a row to the next one
+pub pair-zero : (r : ℕ) → pair r 0 0 ≡ 0
+unfolding pair start
+pair-zero r = refl
+
+pub pair-next : (r i j : ℕ) → i ≤ j → pair r i (suc j) ≡ suc (pair r i j)
+unfolding pair
+pair-next r i j l = omega arith
+
+pub pair-row : (r i : ℕ) → pair r i r ≡ pair r (suc i) (suc i)
+unfolding pair start
+pair-row r i = omega arith
+
+pub pair-end : (r : ℕ) → pair r r r ≡ pairs-count r
+unfolding pair pairs-count
+pair-end r = omega arith
 
 pub pair-bound : (r i j : ℕ) → i ≤ j → j < r → pair r i j < pairs-count r
 unfolding pair pairs-count
@@ -100,6 +117,21 @@ module _ (𝓡 : CommRing) where
   rows-mul r c f =
       sum-mul 𝓡 r c (λ i. sum 𝓡 (r - i) (λ k. f i (i + k)))
       ∙ sum-cong 𝓡 r _ _ (λ i _. sum-mul 𝓡 (r - i) c (λ k. f i (i + k)))
+
+  pub below-cong : (r : ℕ) (f g : ℕ → ℕ → Carrier) → ((i j : ℕ) → i < j → j < r → f i j ≡ g i j) → below r f ≡ below r g
+  unfolding below
+  below-cong r f g h = sum-cong 𝓡 r _ _ (λ j l. sum-cong 𝓡 j _ _ (λ i d. h i j d l))
+
+  pub below-add : (r : ℕ) (f g : ℕ → ℕ → Carrier) → below r (λ i j. f i j ⊕ g i j) ≡ below r f ⊕ below r g
+  unfolding below
+  below-add r f g =
+      sum-cong 𝓡 r _ _ (λ j _. sum-add 𝓡 j (λ i. f i j) (λ i. g i j))
+      ∙ sum-add 𝓡 r (λ j. sum 𝓡 j (λ i. f i j)) (λ j. sum 𝓡 j (λ i. g i j))
+
+  pub below-mul : (r : ℕ) (c : Carrier) (f : ℕ → ℕ → Carrier) → c ⊗ below r f ≡ below r (λ i j. c ⊗ f i j)
+  unfolding below
+  below-mul r c f =
+      sum-mul 𝓡 r c (λ j. sum 𝓡 j (λ i. f i j)) ∙ sum-cong 𝓡 r _ _ (λ j _. sum-mul 𝓡 j c (λ i. f i j))
 
   -- one column more
   pub rows-suc : (r : ℕ) (f : ℕ → ℕ → Carrier) → rows (suc r) f ≡ rows r f ⊕ sum 𝓡 (suc r) (λ i. f i r)

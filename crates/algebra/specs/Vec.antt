@@ -1,5 +1,5 @@
 -- Vectors of a fixed length over any type. They are read by index, with a default past the end, so that no index carries a proof.
-use mathlib.Core.Path.{_≡_, refl, ap, ap₂, _∙_}
+use mathlib.Core.Path.{_≡_, refl, ap, ap₂}
 use mathlib.Core.HLevel.{prop→set, Σ-set}
 use mathlib.Core.List.{List, [], _∷_}
 use Prim.Native.Nat.{ℕ, zero, suc, _≤_, _<_}

@@ -3,7 +3,7 @@
 --     eq-pn .. pn-lt        =, ≤ and < on ℤ as facts on the parts, and back
 --     add-pn .. mul-pn      the parts of a sum, a difference, an opposite and a product
 --     bnd, sfits-pn, pn-sfits    the parts and the range of a signed width
---     ltZ-true .. leZ-false      what the outcome of a test says
+--     ltZ-true .. leZ-false      what the outcome of a test says, and lt-ltZ .. lt-leZ back
 --     zarith                the set to hand to omega: `omega (zarith, bnd x, bnd y, add-pn x y)`
 -- The facts with arguments are listed for each term that stands in the goal, the others are rules of the set.
 use mathlib.Core.Path.{_≡_, refl, ap, subst}
@@ -16,7 +16,7 @@ use lib.IntN.{ℤ, pos, negsuc, negℤ, natAbs, subℕ, _+ℤ_, _-ℤ_, _*ℤ_}
 use lib.Signed.{mag, ltZ, leZ, _≤ℤ_, _<ℤ_}
 use mir.Syntax.{Width, w32, w64}
 use mir.Val.{SFits, hbits}
-use borrow.Author.Tests.{ltb-true, ltb-false, leb-false}
+use borrow.Author.Tests.{ltb-true, ltb-false, leb-false, lt-ltb, le-ltb, le-leb, lt-leb}
 
 -- the positive part of an integer
 abbrev pub P : ℤ → ℕ
@@ -111,6 +111,31 @@ leZ-false (pos a) (negsuc b) e = omega arith
 leZ-false (negsuc a) (pos b) e = true-false e
 leZ-false (negsuc a) (negsuc b) e = omega (arith, leb-false b a e)
 
+-- and back, for a goal that is a test
+pub lt-ltZ : (x y : ℤ) → P x + N y < P y + N x → ltZ x y ≡ true
+lt-ltZ (pos a) (pos b) h = lt-ltb a b (omega arith)
+lt-ltZ (pos a) (negsuc b) h = let no : ⊥ = omega arith in absurd no
+lt-ltZ (negsuc a) (pos b) h = refl
+lt-ltZ (negsuc a) (negsuc b) h = lt-ltb b a (omega arith)
+
+pub le-leZ : (x y : ℤ) → P x + N y ≤ P y + N x → leZ x y ≡ true
+le-leZ (pos a) (pos b) h = le-leb a b (omega arith)
+le-leZ (pos a) (negsuc b) h = let no : ⊥ = omega arith in absurd no
+le-leZ (negsuc a) (pos b) h = refl
+le-leZ (negsuc a) (negsuc b) h = le-leb b a (omega arith)
+
+pub le-ltZ : (x y : ℤ) → P y + N x ≤ P x + N y → ltZ x y ≡ false
+le-ltZ (pos a) (pos b) h = le-ltb a b (omega arith)
+le-ltZ (pos a) (negsuc b) h = refl
+le-ltZ (negsuc a) (pos b) h = let no : ⊥ = omega arith in absurd no
+le-ltZ (negsuc a) (negsuc b) h = le-ltb b a (omega arith)
+
+pub lt-leZ : (x y : ℤ) → P y + N x < P x + N y → leZ x y ≡ false
+lt-leZ (pos a) (pos b) h = lt-leb a b (omega arith)
+lt-leZ (pos a) (negsuc b) h = refl
+lt-leZ (negsuc a) (pos b) h = let no : ⊥ = omega arith in absurd no
+lt-leZ (negsuc a) (negsuc b) h = lt-leb b a (omega arith)
+
 -- ---- sums, differences, opposites, products
 
 sub-parts : (a b : ℕ) (t : Bool) → ltb a b ≡ t
@@ -118,7 +143,7 @@ sub-parts : (a b : ℕ) (t : Bool) → ltb a b ≡ t
 sub-parts a b true e = omega (arith, ltb-true a b e)
 sub-parts a b false e = omega (arith, ltb-false a b e)
 
-subℕ-pn : (a b : ℕ) → P (subℕ a b) + b ≡ N (subℕ a b) + a
+pub subℕ-pn : (a b : ℕ) → P (subℕ a b) + b ≡ N (subℕ a b) + a
 subℕ-pn a b = sub-parts a b (ltb a b) refl
 
 pub add-pn : (x y : ℤ) → P (x +ℤ y) + (N x + N y) ≡ N (x +ℤ y) + (P x + P y)
@@ -169,7 +194,24 @@ mag-pn (negsuc n) = omega arith
 pub pn-sfits : {w : Width} {x : ℤ} → max (P x - N x) (N x - (P x + 1)) < 2 ^ hbits w → SFits w x
 pn-sfits {x} h = record { sfits = rw (mag-pn x) h }
 
-pub ruleset zarith = (arith, eq-pn, pn-eq, le-pn, pn-le, lt-pn, pn-lt, pn-sfits, ltZ-true, ltZ-false, leZ-true, leZ-false)
+pub ruleset zarith = (
+  arith,
+  eq-pn,
+  pn-eq,
+  le-pn,
+  pn-le,
+  lt-pn,
+  pn-lt,
+  pn-sfits,
+  ltZ-true,
+  ltZ-false,
+  leZ-true,
+  leZ-false,
+  lt-ltZ,
+  le-leZ,
+  le-ltZ,
+  lt-leZ,
+)
 
 -- ---- examples of its use
 
@@ -190,3 +232,6 @@ branch x y z h k = omega zarith
 
 rearrange : (a b c : ℤ) → a -ℤ b ≡ c → a ≡ b +ℤ c
 rearrange a b c e = omega (zarith, sub-pn a b, add-pn b c)
+
+test : (x y z : ℤ) → x ≤ℤ y → leZ z y ≡ false → ltZ z x ≡ false
+test x y z h k = omega zarith

@@ -8,7 +8,8 @@ use native.Mathlib.Numerals.{add-one}
 use native.Mathlib.Omega.{arith}
 use lib.ListN.{length, getD, take, drop, length-append}
 use lib.Seq.{take-at, drop-at, take-add, take-all, getD-take, getD-drop}
-use Rattle.integers.specs.Sums.{total}
+use lib.IntN.{ℤ}
+use Rattle.integers.specs.Sums.{total, normSq, normSq-append}
 use Rattle.integers.specs.Over.{over, over-over}
 
 -- block i of m elements lies within the first n blocks
@@ -92,3 +93,8 @@ module _ {ℓ} {A : Type ℓ} where
   pub over-flat : (out : List A) (a k m : ℕ) (F : ℕ → List A) → ((i : ℕ) → i < k → length (F i) ≡ m) → a ≤ length out
       → over (over out a (flat k F)) (a + k * m) (F k) ≡ over out a (flat (k + 1) F)
   over-flat out a k m F e h = cc (over-over out a (flat k F) (F k) h, length-flat k m F e, flat-suc k F, add-one k)
+
+pub normSq-flat : (n : ℕ) (F : ℕ → List ℤ) → normSq (flat n F) ≡ total n (λ i. normSq (F i))
+unfolding flat total normSq
+normSq-flat zero F = refl
+normSq-flat (suc n) F = omega (arith, normSq-append (flat n F) (F n), normSq-flat n F)

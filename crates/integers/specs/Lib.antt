@@ -8,3 +8,4 @@ pub mod Sums
 pub mod Lists
 pub mod Over
 pub mod Flat
+pub mod Difference

@@ -1,13 +1,13 @@
 -- The machine's division by a positive number, `quotZ` and `remZ`, which go toward zero, against `ediv`, `emod` and `centre`.
 use mathlib.Core.Path.{_≡_, refl, sym, ap, _∙_}
-use Prim.Native.Nat.{ℕ, zero, suc, _+_, _-_, _*_, _/_, _%_, _≤_, _<_}
+use Prim.Native.Nat.{ℕ, zero, suc, _*_, _/_, _%_, _≤_, _<_}
 use native.Mathlib.Nat.{div-add-mod', mod-lt, mod-le, zero-div, mul-div-cancel}
 use native.Mathlib.Omega.{arith}
-use lib.IntN.{ℤ, pos, negsuc, negℤ, natAbs, _+ℤ_, _-ℤ_, _*ℤ_}
+use lib.IntN.{ℤ, pos, negsuc, negℤ, natAbs, _+ℤ_, _-ℤ_, _*ℤ_, +ℤ-comm}
 use lib.Signed.{quotZ, remZ}
 use Rattle.integers.specs.Bridge.{P, N, pn-min, natAbs-pn, add-pn, neg-pn, sub-pn, mul-pn, zarith}
 use Rattle.integers.specs.Remainder.{emod, ediv, centre}
-use Rattle.integers.specs.RemainderLaws.{emod-pos, emod-eq}
+use Rattle.integers.specs.RemainderLaws.{emod-eq}
 use Rattle.integers.specs.CentreLaws.{centre-quotient}
 
 pub quotZ-remZ : (m : ℕ) (x : ℤ) → x ≡ quotZ x (pos m) *ℤ pos m +ℤ remZ x (pos m)
@@ -36,8 +36,8 @@ module _ (m : ℕ) (m>0 : 0 < m) where
   remZ-lt (negsuc a) = omega (arith, natAbs-pn (negℤ (pos (suc a % m))), neg-pn (pos (suc a % m)), mod-lt (suc a) m>0)
 
   pub remZ-emod : (x : ℤ) → emod (remZ x (pos m)) m ≡ emod x m
-  remZ-emod x = sym (emod-eq m m>0 x (remZ x (pos m)) (quotZ x (pos m))
-      (omega (zarith, quotZ-remZ m x, add-pn (quotZ x (pos m) *ℤ pos m) (remZ x (pos m)), add-pn (remZ x (pos m)) (quotZ x (pos m) *ℤ pos m))))
+  remZ-emod x =
+      sym (emod-eq m m>0 x (remZ x (pos m)) (quotZ x (pos m)) (quotZ-remZ m x ∙ +ℤ-comm (quotZ x (pos m) *ℤ pos m) (remZ x (pos m))))
 
   -- of a number that is not negative
   pub remZ-nonneg : (x : ℤ) → N x ≡ 0 → remZ x (pos m) ≡ pos (emod x m)
@@ -63,21 +63,21 @@ module _ (m : ℕ) (m>0 : 0 < m) where
   pub centre-remZ : (x : ℤ) → remZ (remZ x (pos m) +ℤ pos m +ℤ pos (m / 2)) (pos m) -ℤ pos (m / 2) ≡ centre m x
   unfolding centre
   centre-remZ x =
+      let q : ℤ = quotZ x (pos m) in
       let r : ℤ = remZ x (pos m) in
       let y : ℤ = r +ℤ pos m +ℤ pos (m / 2) in
-      let n : N y ≡ 0 = omega (arith, remZ-lt x, natAbs-pn r, add-pn (r +ℤ pos m) (pos (m / 2)), add-pn r (pos m), pn-min y, pn-min (r +ℤ pos m)) in
-      let k : ℤ = pos 1 -ℤ quotZ x (pos m) in
-      let e : emod y m ≡ emod (x +ℤ pos (m / 2)) m = emod-eq m m>0 y (x +ℤ pos (m / 2)) k
-      (omega (
+      let k : ℤ = pos 1 -ℤ q in
+      let s = add-pn (r +ℤ pos m) (pos (m / 2)) in
+      let n : N y ≡ 0 = omega (arith, remZ-lt x, natAbs-pn r, add-pn r (pos m), pn-min y, pn-min (r +ℤ pos m)) in
+      let d : y ≡ x +ℤ pos (m / 2) +ℤ k *ℤ pos m = omega (
         zarith,
         quotZ-remZ m x,
-        add-pn (quotZ x (pos m) *ℤ pos m) r,
-        mul-pn (quotZ x (pos m)) (pos m),
-        add-pn (r +ℤ pos m) (pos (m / 2)),
+        add-pn (q *ℤ pos m) r,
+        mul-pn q (pos m),
         add-pn r (pos m),
         add-pn x (pos (m / 2)),
         add-pn (x +ℤ pos (m / 2)) (k *ℤ pos m),
         mul-pn k (pos m),
-        ap (λ t. t * m) (sub-pn (pos 1) (quotZ x (pos m))),
-      )) in
-      ap (λ t. t -ℤ pos (m / 2)) (remZ-nonneg y n ∙ ap pos e)
+        ap (λ t. t * m) (sub-pn (pos 1) q),
+      ) in
+      ap (λ t. t -ℤ pos (m / 2)) (remZ-nonneg y n ∙ ap pos (emod-eq m m>0 y (x +ℤ pos (m / 2)) k d))

@@ -1,7 +1,8 @@
 -- Laws of the remainder `emod` and the quotient `ediv` by a positive number m.
-use mathlib.Core.Path.{_≡_, refl, sym, ap, ap₂, _∙_}
-use Prim.Native.Nat.{ℕ, zero, suc, _+_, _-_, _*_, _/_, _%_, _≤_, _<_}
-use native.Mathlib.Nat.{div-add-mod', add-mul-mod-self-right, mul-add-mod-self-right, mul-comm, mod-lt, mod-mod, mod-eq-of-lt, eq-of-mul-eq-mul-right, add-mod-mod}
+use mathlib.Core.Path.{_≡_, refl, sym, ap, _∙_}
+use Prim.Native.Nat.{ℕ, _+_, _-_, _*_, _/_, _%_, _<_}
+use native.Mathlib.Nat.{mul-comm, mod-lt, mod-eq-of-lt, add-mod-mod, div-add-mod', add-mul-mod-self-right, mul-add-mod-self-right}
+use native.Mathlib.Nat.{eq-of-mul-eq-mul-right}
 use native.Mathlib.Omega.{arith}
 use lib.IntN.{ℤ, pos, negsuc, negℤ, _+ℤ_, _-ℤ_, _*ℤ_, *ℤ-comm}
 use Rattle.integers.specs.Bridge.{P, N, add-pn, neg-pn, sub-pn, mul-pn, zarith}
@@ -41,7 +42,13 @@ module _ (m : ℕ) (m>0 : 0 < m) where
   unfolding emod ediv
   division (pos n) = ap pos (sym (div-add-mod' n m))
   division (negsuc n) =
-      omega (zarith, add-pn (negsuc (n / m) *ℤ pos m) (pos (m - 1 - n % m)), mul-pn (negsuc (n / m)) (pos m), div-add-mod' n m, mod-lt n m>0)
+      omega (
+        zarith,
+        div-add-mod' n m,
+        mod-lt n m>0,
+        add-pn (negsuc (n / m) *ℤ pos m) (pos (m - 1 - n % m)),
+        mul-pn (negsuc (n / m)) (pos m),
+      )
 
   -- the same in the parts, as omega reads it
   pub division-pn : (z : ℤ) → P z + N (ediv z m) * m ≡ P (ediv z m) * m + (N z + emod z m)
@@ -141,3 +148,13 @@ module _ (m : ℕ) (m>0 : 0 < m) where
   pub emod-mul : (x y : ℤ) → emod (x *ℤ y) m ≡ (emod x m * emod y m) % m
   emod-mul x y = emod-mul-left x y ∙ ap (λ t. emod t m) (*ℤ-comm (pos (emod x m)) y) ∙ emod-mul-left y (pos (emod x m))
       ∙ emod-pos (emod y m * emod x m) ∙ ap (λ t. t % m) (mul-comm (emod y m) (emod x m))
+
+  -- sums and products of congruent numbers are congruent
+  pub emod-add-cong : (a b x y : ℤ) → emod a m ≡ emod x m → emod b m ≡ emod y m → emod (a +ℤ b) m ≡ emod (x +ℤ y) m
+  emod-add-cong a b x y e f = rw (emod-add a b, emod-add x y, e, f)
+
+  pub emod-mul-cong : (a b x y : ℤ) → emod a m ≡ emod x m → emod b m ≡ emod y m → emod (a *ℤ b) m ≡ emod (x *ℤ y) m
+  emod-mul-cong a b x y e f = rw (emod-mul a b, emod-mul x y, e, f)
+
+  pub emod-neg-cong : (a x : ℤ) → emod a m ≡ emod x m → emod (negℤ a) m ≡ emod (negℤ x) m
+  emod-neg-cong a x e = rw (emod-neg a, emod-neg x, e)

@@ -2,16 +2,17 @@
 --     total n f     f 0 + .. + f (n - 1), the last term added last, as a loop that counts up adds it
 --     sq x          the square of an integer, as a natural number
 --     normSq xs     the sum of the squares of a list's elements
-use mathlib.Core.Path.{_≡_, refl, ap}
+use mathlib.Core.Path.{_≡_, refl, sym, ap}
 use mathlib.Core.List.{List, [], _∷_, _++_}
 use Prim.Native.Nat.{ℕ, zero, suc, _+_, _-_, _*_, _≤_, _<_}
-use native.Mathlib.Nat.{add-zero, add-suc, add-sub-of-le, mul-le-mul, le-step, lt-suc-self}
+use native.Mathlib.Nat.{add-zero, add-suc, add-sub-of-le, mul-le-mul, le-step, lt-suc-self, zero-mul, suc-mul}
 use native.Mathlib.Numerals.{add-one}
 use native.Mathlib.Omega.{arith}
 use lib.ListN.{length, getD, take, drop, take-append-drop}
 use lib.Seq.{take-suc, take-length}
 use lib.IntN.{ℤ, pos, negsuc, natAbs, _*ℤ_}
 use Rattle.integers.specs.Bridge.{P, N, natAbs-pn}
+use Rattle.integers.specs.Lists.{tab}
 
 unfoldable pub total : ℕ → (ℕ → ℕ) → ℕ
 total zero f = 0
@@ -84,6 +85,19 @@ total-part m n f h = omega (arith, total-split m (n - m) f, ap (λ (k : ℕ). to
 pub total-term : (n : ℕ) (f : ℕ → ℕ) (i : ℕ) → i < n → f i ≤ total n f
 total-term n f i h = omega (arith, total-part (suc i) n f h, total-suc i f)
 
+-- ---- sums of sums
+
+pub total-swap : (n m : ℕ) (f : ℕ → ℕ → ℕ) → total n (λ i. total m (λ j. f i j)) ≡ total m (λ j. total n (λ i. f i j))
+unfolding total
+total-swap zero m f = sym (total-zeros m (λ j. 0) (λ j h. refl))
+total-swap (suc n) m f = omega (arith, total-swap n m f, total-sum m (λ j. total n (λ i. f i j)) (f n))
+
+-- n blocks of m terms
+pub total-blocks : (n m : ℕ) (f : ℕ → ℕ) → total (n * m) f ≡ total n (λ i. total m (λ j. f (i * m + j)))
+unfolding total
+total-blocks zero m f = rw zero-mul
+total-blocks (suc n) m f = rw suc-mul (omega (arith, total-split (n * m) m f, total-blocks n m f))
+
 -- ---- squares
 
 unfoldable pub sq : ℤ → ℕ
@@ -130,3 +144,8 @@ normSq-total xs = rw take-length at (normSq-take xs (length xs) (omega arith))
 
 pub normSq-term : (xs : List ℤ) (i : ℕ) → i < length xs → sq (getD xs i (pos 0)) ≤ normSq xs
 normSq-term xs i h = omega (arith, normSq-total xs, total-term (length xs) (λ j. sq (getD xs j (pos 0))) i h)
+
+pub normSq-tab : (n : ℕ) (f : ℕ → ℤ) → normSq (tab n f) ≡ total n (λ i. sq (f i))
+unfolding total normSq tab
+normSq-tab zero f = refl
+normSq-tab (suc n) f = omega (arith, total-first n (λ i. sq (f i)), normSq-tab n (λ i. f (suc i)))

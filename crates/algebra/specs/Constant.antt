@@ -1,0 +1,66 @@
+-- The constants of 𝓚[X]/(X^d + 1): `constant` is a homomorphism of rings from 𝓚, and a product by a constant multiplies each coefficient.
+use mathlib.Core.Path.{_≡_, refl, sym, ap, _∙_}
+use Prim.Native.Nat.{ℕ, zero, suc, _<_}
+use Rattle.algebra.specs.CommRing.{CommRing, neg-zero, mul-zero}
+use Rattle.algebra.specs.Vec.{Vec, ext}
+use Rattle.algebra.specs.Negacyclic.{Negacyclic, coeff, zeros, constant, plus, negate, scale, times}
+use Rattle.algebra.specs.Negacyclic.{coeff-zero, coeff-constant, coeff-constant-suc, coeff-add, coeff-neg, coeff-scale}
+use Rattle.algebra.specs.Negacyclic.{times-scale, times-one, times-comm}
+
+module _ (𝓚 : CommRing) where
+  infixl 65 _⊕_
+  infixl 70 _⊗_
+  infix 75 ⊖_
+  open CommRing 𝓚 using (Carrier as K, zero as 𝟘, one as 𝟙, add as _⊕_, mul as _⊗_, neg as ⊖_)
+  open CommRing 𝓚 using (add-zero, mul-one)
+
+  pub constant-zero : (d : ℕ) → constant 𝓚 d 𝟘 ≡ zeros 𝓚 d
+  constant-zero d = ext 𝟘 _ _ entry
+    where
+      entry : (k : ℕ) → k < d → coeff 𝓚 (constant 𝓚 d 𝟘) k ≡ coeff 𝓚 (zeros 𝓚 d) k
+      entry zero h = simp (coeff-constant, coeff-zero)
+      entry (suc k) h = simp (coeff-constant-suc, coeff-zero)
+
+  pub constant-one : (d : ℕ) → constant 𝓚 d 𝟙 ≡ Negacyclic 𝓚 d .one
+  constant-one d = refl
+
+  pub coeff-one : (d : ℕ) → 0 < d → coeff 𝓚 (Negacyclic 𝓚 d .one) 0 ≡ 𝟙
+  coeff-one d h = coeff-constant 𝓚 d 𝟙 h
+
+  pub coeff-one-suc : (d k : ℕ) → coeff 𝓚 (Negacyclic 𝓚 d .one) (suc k) ≡ 𝟘
+  coeff-one-suc d k = coeff-constant-suc 𝓚 d 𝟙 k
+
+  pub constant-add : (d : ℕ) (a b : K) → constant 𝓚 d (a ⊕ b) ≡ plus 𝓚 (constant 𝓚 d a) (constant 𝓚 d b)
+  constant-add d a b = ext 𝟘 _ _ entry
+    where
+      entry : (k : ℕ) → k < d → coeff 𝓚 (constant 𝓚 d (a ⊕ b)) k ≡ coeff 𝓚 (plus 𝓚 (constant 𝓚 d a) (constant 𝓚 d b)) k
+      entry zero h = simp (coeff-constant, coeff-add)
+      entry (suc k) h = simp (coeff-constant-suc, coeff-add, add-zero)
+
+  pub constant-neg : (d : ℕ) (a : K) → constant 𝓚 d (⊖ a) ≡ negate 𝓚 (constant 𝓚 d a)
+  constant-neg d a = ext 𝟘 _ _ entry
+    where
+      entry : (k : ℕ) → k < d → coeff 𝓚 (constant 𝓚 d (⊖ a)) k ≡ coeff 𝓚 (negate 𝓚 (constant 𝓚 d a)) k
+      entry zero h = simp (coeff-constant, coeff-neg)
+      entry (suc k) h = simp (coeff-constant-suc, coeff-neg, neg-zero)
+
+  scale-constant : (d : ℕ) (c a : K) → scale 𝓚 c (constant 𝓚 d a) ≡ constant 𝓚 d (c ⊗ a)
+  scale-constant d c a = ext 𝟘 _ _ entry
+    where
+      entry : (k : ℕ) → k < d → coeff 𝓚 (scale 𝓚 c (constant 𝓚 d a)) k ≡ coeff 𝓚 (constant 𝓚 d (c ⊗ a)) k
+      entry zero h = simp (coeff-constant, coeff-scale)
+      entry (suc k) h = simp (coeff-constant-suc, coeff-scale, mul-zero)
+
+  -- c · u = u · (c · 1) = c · (u · 1)
+  pub constant-times : {d : ℕ} (c : K) (u : Vec K d) → times 𝓚 (constant 𝓚 d c) u ≡ scale 𝓚 c u
+  constant-times {d} c u =
+      times-comm 𝓚 (constant 𝓚 d c) u
+      ∙ ap (times 𝓚 u) (ap (constant 𝓚 d) (sym (mul-one c)) ∙ sym (scale-constant d c 𝟙))
+      ∙ times-scale 𝓚 u c (constant 𝓚 d 𝟙)
+      ∙ ap (scale 𝓚 c) (times-one 𝓚 u)
+
+  pub constant-mul : (d : ℕ) (a b : K) → constant 𝓚 d (a ⊗ b) ≡ times 𝓚 (constant 𝓚 d a) (constant 𝓚 d b)
+  constant-mul d a b = sym (constant-times a (constant 𝓚 d b) ∙ scale-constant d a b)
+
+  pub coeff-constant-mul : {d : ℕ} (c : K) (u : Vec K d) (k : ℕ) → coeff 𝓚 (times 𝓚 (constant 𝓚 d c) u) k ≡ c ⊗ coeff 𝓚 u k
+  coeff-constant-mul c u k = ap (λ w. coeff 𝓚 w k) (constant-times c u) ∙ coeff-scale 𝓚 c u k
