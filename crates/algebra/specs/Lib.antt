@@ -12,3 +12,4 @@ pub mod Convolution
 pub mod Constant
 pub mod Conjugation
 pub mod ConjugationProduct
+pub mod DotProduct
