@@ -3,6 +3,8 @@
 --     Function, value       the coefficients a, φ of such a function, and its value at a witness
 --     plus, combination     sums and linear combinations of functions
 --     mixed r g c           Σ g_ii c_i² + 2 Σ_{i<j} g_ij c_i c_j
+--     folded r c s          the folded vector z = Σ c_i s_i
+--     garbage half n φ s    h_ij = (<φ_i, s_j> + <φ_j, s_i>) / 2, with half the ring's 1/2
 use Prim.Native.Nat.{ℕ}
 use Rattle.algebra.specs.CommRing.{CommRing}
 use Rattle.algebra.specs.Sum.{sum}
@@ -31,3 +33,9 @@ module _ (𝓡 : CommRing) where
 
   unfoldable pub mixed : ℕ → (ℕ → ℕ → C) → (ℕ → C) → C
   mixed r g c = sum 𝓡 r (λ i. g i i ⊗ (c i ⊗ c i)) ⊕ (𝟙 ⊕ 𝟙) ⊗ below 𝓡 r (λ i j. g i j ⊗ (c i ⊗ c j))
+
+  unfoldable pub folded : ℕ → (ℕ → C) → (ℕ → ℕ → C) → ℕ → C
+  folded r c s k = sum 𝓡 r (λ i. c i ⊗ s i k)
+
+  unfoldable pub garbage : C → ℕ → (ℕ → ℕ → C) → (ℕ → ℕ → C) → ℕ → ℕ → C
+  garbage half n φ s i j = half ⊗ (inner n (φ i) (s j) ⊕ inner n (φ j) (s i))
