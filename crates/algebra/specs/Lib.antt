@@ -13,3 +13,4 @@ pub mod Constant
 pub mod Conjugation
 pub mod ConjugationProduct
 pub mod DotProduct
+pub mod DotProductLaws
