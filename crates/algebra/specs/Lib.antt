@@ -14,3 +14,4 @@ pub mod Conjugation
 pub mod ConjugationProduct
 pub mod DotProduct
 pub mod DotProductLaws
+pub mod FoldLaws
