@@ -15,3 +15,4 @@ pub mod ConjugationProduct
 pub mod DotProduct
 pub mod DotProductLaws
 pub mod FoldLaws
+pub mod Tables
