@@ -12,3 +12,7 @@ pub mod Convolution
 pub mod Constant
 pub mod Conjugation
 pub mod ConjugationProduct
+pub mod DotProduct
+pub mod DotProductLaws
+pub mod FoldLaws
+pub mod Tables

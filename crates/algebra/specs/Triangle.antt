@@ -9,7 +9,7 @@ use mathlib.Core.Logic.{_⊎_, inl, inr}
 use native.Mathlib.Nat.{le-refl, eq-or-lt-of-le, sub-self, add-sub-cancel-left}
 use native.Mathlib.Omega.{arith}
 use Rattle.algebra.specs.CommRing.{CommRing, add-left-comm}
-use Rattle.algebra.specs.Sum.{sum, sum-cong, sum-add, sum-mul, sum-split}
+use Rattle.algebra.specs.Sum.{sum, sum-cong, sum-add, sum-mul, sum-swap, sum-split}
 
 -- the running sum of the widths
 unfoldable pub start : (ℕ → ℕ) → ℕ → ℕ
@@ -117,6 +117,13 @@ module _ (𝓡 : CommRing) where
   rows-mul r c f =
       sum-mul 𝓡 r c (λ i. sum 𝓡 (r - i) (λ k. f i (i + k)))
       ∙ sum-cong 𝓡 r _ _ (λ i _. sum-mul 𝓡 (r - i) c (λ k. f i (i + k)))
+
+  -- a sum of triangular sums
+  pub rows-sum : (r m : ℕ) (f : ℕ → ℕ → ℕ → Carrier) → rows r (λ i j. sum 𝓡 m (λ l. f l i j)) ≡ sum 𝓡 m (λ l. rows r (f l))
+  unfolding rows
+  rows-sum r m f =
+      sum-cong 𝓡 r _ _ (λ i _. sum-swap 𝓡 (r - i) m (λ k l. f l i (i + k)))
+      ∙ sum-swap 𝓡 r m (λ i l. sum 𝓡 (r - i) (λ k. f l i (i + k)))
 
   pub below-cong : (r : ℕ) (f g : ℕ → ℕ → Carrier) → ((i j : ℕ) → i < j → j < r → f i j ≡ g i j) → below r f ≡ below r g
   unfolding below
