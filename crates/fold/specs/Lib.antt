@@ -8,7 +8,6 @@ pub mod Verdict
 pub mod Honest
 pub mod Refusals
 pub mod Chunks
-pub mod WholeCase
 pub mod NextInstance
 pub mod RefusalLaws
 pub mod Accepted
@@ -19,3 +18,18 @@ pub mod DifferenceLaws
 pub mod RecomposedLength
 pub mod OpeningDifferences
 pub mod TwoOpenings
+pub mod Layout
+pub mod MessageLaws
+pub mod ReadingLaws
+pub mod MessageRanges
+pub mod OpeningLaws
+pub mod AggregateLaws
+pub mod HonestChecks
+pub mod HonestVerdict
+pub mod HonestRuns
+pub mod HonestFormed
+pub mod Computing
+pub mod RefusalCases
+pub mod SecondCaseNumbers
+pub mod SecondCase
+pub mod WholeCase

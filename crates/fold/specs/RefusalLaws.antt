@@ -1,22 +1,25 @@
 -- Laws of the refusals: a call is not refused exactly when each of its tests holds, and what each test says.
 --     Passes, numbered, refusal-iff     the list of tests of a call
+--     passes-join, -front, -back        lists of tests joined
 --     All, allOf-iff, Any, anyOf-iff    the tests of one row
 --     between-iff, degree-fits, ..      the tests by name
-use mathlib.Core.Path.{_≡_, refl, sym, ap, subst}
+use mathlib.Core.Path.{_≡_, refl, sym, subst}
 use mathlib.Core.Bool.{Bool, true, false, cond}
 use mathlib.Core.Logic.{_↔_, _⊎_, inl, inr}
 use mathlib.Core.List.{List, [], _∷_, _++_}
 use Prim.Native.Nat.{ℕ, zero, suc, _+_, _*_, _<_, _≤_}
 use native.Mathlib.Omega.{arith}
 use lib.Dec.{T, leb, ltb, eqb, ltb→lt}
-use lib.ListN.{length}
+use lib.ListN.{length, take, drop}
 use lib.IntN.{ℤ, pos}
 use borrow.Author.Tests.{le-leb, leb-true, eq-eqb, eqb-true}
 use Rattle.ring.specs.Element.{Degree}
+use Rattle.ring.specs.ElementEquality.{every-true, true-every}
 use Rattle.ring.specs.Digits.{Base}
+use Rattle.ring.specs.Range.{challenge}
 use Rattle.fold.specs.Answers.{firstRefusal}
 use Rattle.fold.specs.Refusals.{allOf, anyOf, between, degree, rank, parts, constraintCount, projectionCount, commitmentRank, base}
-use Rattle.fold.specs.Refusals.{digitCount, lengthBound, sized}
+use Rattle.fold.specs.Refusals.{digitCount, chunks, lengthBound, sized, challenges}
 
 false-true : {A : Type 0} → false ≡ true → A
 false-true e = absurd (subst T (sym e) tt)
@@ -68,6 +71,19 @@ refusal-passes (test ∷ tests) l e =
 pub refusal-iff : (tests : List (ℕ × Bool)) → numbered tests ≡ true → (firstRefusal tests ≡ 0) ↔ Passes tests
 refusal-iff tests l = (refusal-passes tests l, passes-refusal tests)
 
+-- the tests of two lists, one after the other
+pub passes-join : (xs ys : List (ℕ × Bool)) → Passes xs → Passes ys → Passes (xs ++ ys)
+passes-join [] ys p q = q
+passes-join (x ∷ xs) ys p q = (p .0, passes-join xs ys (p .1) q)
+
+pub passes-front : (xs ys : List (ℕ × Bool)) → Passes (xs ++ ys) → Passes xs
+passes-front [] ys p = tt
+passes-front (x ∷ xs) ys p = (p .0, passes-front xs ys (p .1))
+
+pub passes-back : (xs ys : List (ℕ × Bool)) → Passes (xs ++ ys) → Passes ys
+passes-back [] ys p = p
+passes-back (x ∷ xs) ys p = passes-back xs ys (p .1)
+
 -- ---- the tests of one row
 
 abbrev pub All : List Bool → Type 0
@@ -81,6 +97,12 @@ allOf-head t ts e = both-left t (allOf ts) e
 pub allOf-tail : (t : Bool) (ts : List Bool) → allOf (t ∷ ts) ≡ true → allOf ts ≡ true
 unfolding allOf
 allOf-tail t ts e = both-right t (allOf ts) e
+
+-- without the first k of them
+pub allOf-drop : (k : ℕ) (ts : List Bool) → allOf ts ≡ true → allOf (drop k ts) ≡ true
+allOf-drop zero ts e = e
+allOf-drop (suc k) [] e = e
+allOf-drop (suc k) (t ∷ ts) e = allOf-drop k ts (allOf-tail t ts e)
 
 pub allOf-cons : (t : Bool) (ts : List Bool) → t ≡ true → allOf ts ≡ true → allOf (t ∷ ts) ≡ true
 unfolding allOf
@@ -182,3 +204,15 @@ lengthBound-iff β² = between-iff 0 999999999999999 β²
 pub sized-iff : (xs : List ℤ) (k : ℕ) → (sized xs k ≡ true) ↔ (length xs ≡ k)
 unfolding sized
 sized-iff xs k = (eqb-true (length xs) k, eq-eqb (length xs) k)
+
+pub chunks-iff : (tz ν μ : ℕ) → (chunks tz (pos ν) (pos μ) ≡ true) ↔ ((1 ≤ ν) × ((1 ≤ μ) × (tz * ν + μ ≤ 16)))
+unfolding chunks
+chunks-iff tz ν μ = (
+  λ e. let a = allOf-all _ e in (leb-true 1 ν (a .0), (leb-true 1 μ (a .1 .0), leb-true (tz * ν + μ) 16 (a .1 .1 .0))),
+  λ h. all-allOf _ (le-leb 1 ν (h .0), (le-leb 1 μ (h .1 .0), (le-leb (tz * ν + μ) 16 (h .1 .1), tt))),
+)
+
+pub challenges-iff : (d r : ℕ) (c : List ℤ)
+    → (challenges d r c ≡ true) ↔ ((i : ℕ) → i < r → challenge (take d (drop (i * d) c)) ≡ true)
+unfolding challenges
+challenges-iff d r c = (every-true r _, true-every r _)

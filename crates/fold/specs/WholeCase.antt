@@ -1,38 +1,33 @@
--- Document 01, 'Bench values': the whole case, computed. Its witness is 1+2X.
+-- Document 01, 'Bench values' and 'Sheet': the whole case, computed. Its witness is 1+2X. Every field of WholeCase is closed, and holds by
+-- computation alone, so this file pins the definitions to numbers that stand in document 01.
 use mathlib.Core.Path.{_≡_, refl}
 use mathlib.Core.List.{List, [], _∷_}
-use Prim.Native.Nat.{ℕ}
-use lib.IntN.{ℤ, pos, negsuc}
-use Rattle.integers.specs.Sums.{total, normSq, sq}
-use Rattle.integers.specs.Lists.{tab}
-use Rattle.integers.specs.Flat.{flat}
-use Rattle.integers.specs.Remainder.{emod, centre}
-use Rattle.algebra.specs.Sum.{sum}
-use Rattle.algebra.specs.Triangle.{start, pair, pairs-count, rows, below}
-use Rattle.algebra.specs.Vec.{build, at, map, zipWith}
-use Rattle.algebra.specs.Residue.{make, add, mul, neg, reduce, centred}
-use Rattle.algebra.specs.Negacyclic.{zeros, constant, plus, negate, scale, shift, timesX}
-use Rattle.algebra.specs.Negacyclic.{times as product}
-use Rattle.algebra.specs.DotProduct.{inner, value, mixed}
-use Rattle.ring.specs.Modulus.{q, red, cent}
-use Rattle.ring.specs.Element.{every, lift, el, coeffs, number, same}
-use Rattle.ring.specs.Digits.{joined}
-use Rattle.fold.specs.Answers.{firstFailed}
-use Rattle.fold.specs.Sizes.{pairs, functionSize, tSize, garbageSize}
-use Rattle.fold.specs.Statement.{wholeAt, wholeConstant, termAt, termConstant}
-use Rattle.fold.specs.Messages.{times, outer₁, outer₂, five, aggregateConstant}
-use Rattle.fold.specs.Verdict.{block, tPlace, gPlace, hPlace, zOf, tOf, garbageOf, zLength, tgLength, hLength}
-use Rattle.fold.specs.Verdict.{check₁, check₂, check₃, check₄, check₅, check₆, check₇, check₈, check₉}
+use Prim.Native.Nat.{ℕ, zero, suc, _<_, _≤_}
+use native.Mathlib.Omega.{arith}
+use lib.IntN.{ℤ}
+use Rattle.integers.specs.Literals.{+_, -_, _zeros∷_}
+use Rattle.integers.specs.Sums.{normSq}
+use Rattle.algebra.specs.DotProduct.{value}
+use Rattle.ring.specs.Element.{R}
 use Rattle.fold.specs.declared.Verdict.{Verdict}
 use Rattle.fold.specs.declared.Verdict.the-variants.{Accepted, Failed}
+use Rattle.fold.specs.Answers.{firstRefusal}
 use Rattle.fold.specs.Sizes.{restSize, nextRank, nextParts, nextCount}
-use Rattle.fold.specs.Statement.{Relation}
+use Rattle.fold.specs.Statement.{Relation, Meets, Solves, part, function, wholeAt, wholeConstant}
+use Rattle.fold.specs.Messages.{elements, z}
 use Rattle.fold.specs.Verdict.{Statement, Draws, Transcript, verdict}
+use Rattle.fold.specs.Honest.{honestTranscript, honestOpening}
+use Rattle.fold.specs.Refusals.{verifyTests, proverTests}
+use Rattle.fold.specs.Computing.{fold-computes}
 
-abbrev case : ℕ → Statement
+abbrev pub whole : List ℤ
+whole = + 1 ∷ + 0 ∷ + 0 ∷ + 0 ∷ - 3 ∷ + 4 ∷ []
+
+-- the statement, with the target bound β'² lent
+abbrev pub case : (target : ℕ) → Statement
 case target =
     record {
-      relation = record { d = 2; n = 1; r = 1; K = 1; L = 0; bound = 5; whole = pos 1 ∷ pos 0 ∷ pos 0 ∷ pos 0 ∷ negsuc 2 ∷ pos 4 ∷ []; term = [] };
+      relation = record { d = 2; n = 1; r = 1; K = 1; L = 0; bound = 5; whole = whole; term = [] };
       w = 0;
       tz = 2;
       κ = 1;
@@ -44,33 +39,80 @@ case target =
       t₁ = 2;
       t₂ = 2;
       target = target;
-      A = pos 1 ∷ pos 0 ∷ [];
-      B = pos 1 ∷ pos 0 ∷ pos 0 ∷ pos 0 ∷ [];
-      C = pos 1 ∷ pos 0 ∷ pos 0 ∷ pos 0 ∷ [];
-      D = pos 1 ∷ pos 0 ∷ pos 1 ∷ pos 0 ∷ [];
+      A = + 1 ∷ + 0 ∷ [];
+      B = + 1 ∷ + 0 ∷ + 0 ∷ + 0 ∷ [];
+      C = + 1 ∷ + 0 ∷ + 0 ∷ + 0 ∷ [];
+      D = + 1 ∷ + 0 ∷ + 1 ∷ + 0 ∷ [];
     }
 
-abbrev zero-elements : List ℤ
-zero-elements = pos 0 ∷ pos 0 ∷ pos 0 ∷ pos 0 ∷ pos 0 ∷ pos 0 ∷ pos 0 ∷ pos 0 ∷ pos 0 ∷ pos 0 ∷ []
+abbrev pub witness : List ℤ
+witness = + 1 ∷ + 2 ∷ []
 
-abbrev draws : Draws
-draws = record { projections = []; ψ = []; ω = []; α = pos 1 ∷ pos 0 ∷ []; δ = zero-elements; c = pos 0 ∷ pos 1 ∷ [] }
+abbrev pub draws : Draws
+draws = record { projections = []; ψ = []; ω = []; α = + 1 ∷ + 0 ∷ []; δ = 10 zeros∷ []; c = + 0 ∷ + 1 ∷ [] }
 
-abbrev transcript : Transcript
-transcript = record { u₁ = pos 2 ∷ pos 2 ∷ []; p = []; b″ = zero-elements; u₂ = pos 0 ∷ pos 0 ∷ [] }
+abbrev pub transcript : Transcript
+transcript = record { u₁ = + 2 ∷ + 2 ∷ []; p = []; b″ = 10 zeros∷ []; u₂ = + 0 ∷ + 0 ∷ [] }
 
-abbrev opening : List ℤ
-opening =
-    negsuc 1 ∷ pos 1 ∷ pos 0 ∷ pos 0
-    ∷ pos 1 ∷ pos 2 ∷ pos 0 ∷ pos 0
-    ∷ pos 1 ∷ pos 0 ∷ negsuc 0 ∷ pos 1
-    ∷ pos 0 ∷ pos 0 ∷ pos 0 ∷ pos 0
+-- z low, z high, t, g, h: an element a line
+abbrev pub digits : List ℤ
+digits =
+    - 2 ∷ + 1
+    ∷ + 0 ∷ + 0
+    ∷ + 1 ∷ + 2
+    ∷ + 0 ∷ + 0
+    ∷ + 1 ∷ + 0
+    ∷ - 1 ∷ + 1
+    ∷ + 0 ∷ + 0
+    ∷ + 0 ∷ + 0
     ∷ []
 
-accepted : verdict (case 13) draws transcript opening ≡ Accepted
-unfolding verdict firstFailed check₁ check₂ check₃ check₄ check₅ check₆ check₇ check₈ check₉ zLength tgLength hLength block tPlace gPlace hPlace zOf tOf garbageOf times outer₁ outer₂ five aggregateConstant wholeAt wholeConstant termAt termConstant pairs functionSize tSize garbageSize joined every lift el coeffs number same q red cent inner value mixed zeros constant plus negate scale shift timesX product make add mul neg reduce centred build at map zipWith sum start pair pairs-count rows below emod centre tab flat normSq sq total
-accepted = refl
+-- "Its witness is 1+2X": it solves the statement
+wholly-met
+    : (k : ℕ) → k < 1 → value (R 2) 1 1 (function 2 1 1 (wholeAt 2 1 1 whole k)) (part 2 1 witness) ≡ wholeConstant 2 1 1 whole k
+unfolding fold-computes
+wholly-met zero h = refl
+wholly-met (suc k) h = absurd (omega arith)
 
-failed-nine : verdict (case 12) draws transcript opening ≡ Failed 9
-unfolding verdict firstFailed check₁ check₂ check₃ check₄ check₅ check₆ check₇ check₈ check₉ zLength tgLength hLength block tPlace gPlace hPlace zOf tOf garbageOf times outer₁ outer₂ five aggregateConstant wholeAt wholeConstant termAt termConstant pairs functionSize tSize garbageSize joined every lift el coeffs number same q red cent inner value mixed zeros constant plus negate scale shift timesX product make add mul neg reduce centred build at map zipWith sum start pair pairs-count rows below emod centre tab flat normSq sq total
-failed-nine = refl
+short : normSq witness ≤ 5
+unfolding fold-computes
+short = omega arith
+
+pub solves : Solves (case 13 .relation) witness
+solves = record { meets = record { wholly = wholly-met; in-constant-term = λ l h. absurd (omega arith) }; short = short }
+
+pub record WholeCase : Type 0 where
+  -- the honest messages and opening of the witness are those of the sheet; "z = -2+X, squared length 13"
+  pub transcript-honest : honestTranscript (case 13) draws witness ≡ transcript
+  pub opening-honest : honestOpening (case 13) draws witness ≡ digits
+  pub z-folded : elements 2 1 (z 2 1 1 (draws .c) witness) ≡ - 2 ∷ + 1 ∷ []
+  pub squared-length : normSq digits ≡ 13
+  -- "The program of verdicts prints 0 0 in its two fields", "with β'² = 12, failed 9"
+  pub accepted : verdict (case 13) draws transcript digits ≡ Accepted
+  pub failed : verdict (case 12) draws transcript digits ≡ Failed 9
+  -- "m = 6, n' = 6, r' = 3, K' = 6"
+  pub m : restSize 1 1 2 2 ≡ 6
+  pub n′ : nextRank 1 1 6 1 ≡ 6
+  pub r′ : nextParts 2 1 1 ≡ 3
+  pub K′ : nextCount 1 1 1 ≡ 6
+  -- neither the verifier nor the prover is refused
+  pub verifier-not-refused : firstRefusal (verifyTests (case 13) draws transcript digits) ≡ 0
+  pub prover-not-refused : firstRefusal (proverTests (case 13) draws witness) ≡ 0
+
+pub whole-case : WholeCase
+unfolding fold-computes
+whole-case =
+    record {
+      transcript-honest = refl;
+      opening-honest = refl;
+      z-folded = refl;
+      squared-length = refl;
+      accepted = refl;
+      failed = refl;
+      m = refl;
+      n′ = refl;
+      r′ = refl;
+      K′ = refl;
+      verifier-not-refused = refl;
+      prover-not-refused = refl;
+    }

@@ -10,3 +10,4 @@ pub mod Over
 pub mod Flat
 pub mod Difference
 pub mod Squares
+pub mod Literals

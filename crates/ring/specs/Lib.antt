@@ -23,3 +23,5 @@ pub mod Product
 pub mod ColumnLaws
 pub mod ProductLaws
 pub mod Recomposition
+pub mod Computing
+pub mod Bench

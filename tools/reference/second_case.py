@@ -1,0 +1,190 @@
+"""Writes the numbers of the second closed case, all computed here. SecondCase.antt proves that they are the definitions'.
+
+    python3 tools/reference/second_case.py > crates/fold/specs/SecondCaseNumbers.antt
+
+The file is the same every time. Sizes are small, with odd and even bases; matrices, constraints and draws have coefficients of
+every size; the witness is short and meets its constraints.
+"""
+
+import random
+
+import fold
+import ring
+import sizes
+import test_reference
+from sizes import Sizes
+
+SEED = 1
+COLUMNS = 130
+
+# 5 elements of z are cut into chunks of 2, 2, 1 and 0, 42 of the rest into 14, 14 and 14.
+SIZES = Sizes(
+    d=2, n=5, r=3, K=2, L=3, w=4, kappa=2, kappa1=3, kappa2=2, b=4, b1=255, b2=3, t1=2, t2=3, nu=4, mu=3,
+    beta_squared=sizes.LARGEST_BOUND, target_beta_squared=sizes.LARGEST_BOUND,
+)
+
+# Places of one number of the opening: in element 2 of z high, in row 2 of the low digit of t_1, in the middle digit of g_13, in the
+# high digit of h_12.
+PLACES = {"z": 13, "t": 22, "g": 58, "h": 87}
+
+# The lists that are given, as SecondCaseNumbers names them.
+GIVEN = {
+    "whole": "whole", "term": "constant_term", "A": "A", "B": "B", "C": "C", "D": "D", "witness": "witness", "projections": "rows",
+    "ψ": "psi", "ω": "omega", "α": "alpha", "δ": "delta", "c": "c",
+}
+
+# The constraints of the next instance, in order.
+NEXT = "next-5-1 next-5-2 next-6 next-7 next-8 next-3-1 next-3-2 next-3-3 next-4-1 next-4-2".split()
+
+
+# antt text
+
+HEADER = """\
+-- Written by tools/reference/second_case.py, the second implementation: a statement, a witness that meets it, draws, and the numbers
+-- that the second implementation computes from them. SecondCase proves that they are the definitions'.
+use mathlib.Core.List.{List, [], _∷_}
+use Prim.Native.Nat.{ℕ}
+use lib.ListN.{set}
+use lib.IntN.{ℤ}
+use Rattle.integers.specs.Literals.{+_, -_, _zeros∷_}
+use Rattle.fold.specs.Statement.{Relation}
+use Rattle.fold.specs.Verdict.{Statement, Draws}
+"""
+
+RECORDS = """\
+abbrev pub statement : (bound target : ℕ) → Statement
+statement bound target =
+    record {{
+      relation = record {{ d = {d}; n = {n}; r = {r}; K = {K}; L = {L}; bound = bound; whole = whole; term = term }};
+      w = {w};
+      tz = 2;
+      κ = {kappa};
+      κ₁ = {kappa1};
+      κ₂ = {kappa2};
+      b = {b};
+      b₁ = {b1};
+      b₂ = {b2};
+      t₁ = {t1};
+      t₂ = {t2};
+      target = target;
+      A = A;
+      B = B;
+      C = C;
+      D = D;
+    }}
+
+abbrev pub draws : Draws
+draws = record {{ projections = projections; ψ = ψ; ω = ω; α = α; δ = δ; c = c }}
+"""
+
+
+def number_text(number):
+    """A number with its sign."""
+    return f"{'-' if number < 0 else '+'} {abs(number)}"
+
+
+def list_text(numbers):
+    """The lines of a list: three zeros or more are one entry; a line breaks before "∷"."""
+    text = ""
+    k = 0
+    while k < len(numbers):
+        run = next((e for e in range(k, len(numbers)) if numbers[e]), len(numbers)) - k
+        text += f"{run} zeros∷ " if run > 2 else f"{number_text(numbers[k])} ∷ "
+        k += run if run > 2 else 1
+    lines = []
+    for entry in (text + "[]").split(" ∷ "):
+        if lines and len(lines[-1]) + len(entry) + 3 <= COLUMNS:
+            lines[-1] += " ∷ " + entry
+        else:
+            lines.append("∷ " + entry if lines else entry)
+    return lines
+
+
+def definition(name, type_of_it, lines, comment=None):
+    """A declaration, with a comment above it if one is given."""
+    body = " " + lines[0] if len(lines) == 1 else "".join("\n    " + line for line in lines)
+    return (f"-- {comment}\n" if comment else "") + f"abbrev pub {name} : {type_of_it}\n{name} ={body}\n"
+
+
+def list_definition(name, numbers, comment=None):
+    """The declaration of a list of numbers."""
+    return definition(name, "List ℤ", list_text(numbers), comment)
+
+
+def changed_definition(name, of, numbers, place, comment=None):
+    """The declaration of the list `of` with the number at one place greater by one."""
+    return definition(name, "List ℤ", [f"set {of} {place} ({number_text(numbers[place] + 1)})"], comment)
+
+
+# The case
+
+def changed(numbers, place):
+    """The list with the number at one place greater by one."""
+    return numbers[:place] + [numbers[place] + 1] + numbers[place + 1 :]
+
+
+def honest_case():
+    """Sizes with the least bounds that are accepted, the prover's lists, the verifier's lists."""
+    x = test_reference.random_lists(random.Random(SEED), SIZES, short_witness=True)
+    y = fold.honest(SIZES, x)
+    s = SIZES._replace(
+        beta_squared=sizes.rounded_up(2 * ring.squared_norm(y["p"]), SIZES.w), target_beta_squared=ring.squared_norm(y["opening"])
+    )
+    assert fold.meets(fold.statement(s, x), fold.parts(s, x["witness"]))
+    return s, x, y
+
+
+def check_verdicts(s, y, openings, u1, u2):
+    """The verdicts that SecondCase proves."""
+    assert fold.answer("verify", s, y) == ("accepted", 0)
+    assert fold.answer("verify", s._replace(beta_squared=s.beta_squared - 1), y) == ("failed", 1)
+    assert fold.answer("verify", s._replace(target_beta_squared=s.target_beta_squared - 1), y) == ("failed", 9)
+    largest = s._replace(target_beta_squared=sizes.LARGEST_BOUND)
+    for change, number in (
+        ({"second_b": changed(y["second_b"], 0)}, 2),
+        ({"opening": openings["t"]}, 3),
+        ({"opening": openings["g"]}, 3),
+        ({"opening": openings["h"]}, 4),
+        ({"opening": openings["z"]}, 5),
+        ({"opening": openings["g"], "u1": u1}, 6),
+        ({"opening": openings["h"], "u2": u2}, 7),
+        ({"second_b": changed(y["second_b"], 1)}, 8),
+    ):
+        assert fold.answer("verify", largest, y | change) == ("failed", number)
+
+
+def main():
+    s, x, y = honest_case()
+    openings = {block: changed(y["opening"], place) for block, place in PLACES.items()}
+    g_opening, h_opening = (fold.read_opening(s, {"opening": openings[block]}) for block in "gh")
+    u1 = fold.flat(fold.first_outer_commitment(s, x, g_opening.t_digits, g_opening.g_digits))
+    u2 = fold.flat(fold.second_outer_commitment(s, x, h_opening.h_digits))
+    check_verdicts(s, y, openings, u1, u2)
+
+    kind, next_whole = fold.answer("next_instance", s, y)
+    assert kind == "written" and fold.solves(fold.next_statement(s, y), fold.next_witness(s, y))
+    constraints = fold.cut(next_whole, sizes.whole_constraint_length(s.d, sizes.next_rank(s), sizes.next_multiplicity(s)))
+
+    texts = [HEADER]
+    texts += [list_definition(name, x[GIVEN[name]]) for name in GIVEN]
+    texts += [RECORDS.format(**s._asdict())]
+    texts += ["-- the honest messages and opening\n" + list_definition("u₁", y["u1"])]
+    texts += [list_definition("p", y["p"]), list_definition("b″", y["second_b"]), list_definition("u₂", y["u2"])]
+    texts += [list_definition("opening", y["opening"])]
+    texts += [definition("least-bound", "ℕ", [str(s.beta_squared)], "the least bounds with which it is accepted")]
+    texts += [definition("squared-length", "ℕ", [str(s.target_beta_squared)])]
+    texts += ["-- one number greater by one: in b'' a constant term or another coefficient; in the opening one of z, t, g or h"]
+    texts[-1] += "\n" + changed_definition("b″-changed-0", "b″", y["second_b"], 0)
+    texts += [changed_definition("b″-changed-1", "b″", y["second_b"], 1)]
+    texts += [changed_definition(f"{block}-changed", "opening", y["opening"], place) for block, place in PLACES.items()]
+    texts += [list_definition("u₁-of-g-changed", u1, "the commitments to the changed g and h")]
+    texts += [list_definition("u₂-of-h-changed", u2)]
+    texts += [f"-- the next instance for ν = {s.nu}, μ = {s.mu}, and the padded opening"]
+    texts[-1] += "\n" + list_definition(NEXT[0], constraints[0])
+    texts += [list_definition(*each) for each in zip(NEXT[1:], constraints[1:], strict=True)]
+    texts += [list_definition("next-witness", fold.flat(fold.flat(fold.next_witness(s, y))))]
+    print("\n".join(texts), end="")
+
+
+if __name__ == "__main__":
+    main()
