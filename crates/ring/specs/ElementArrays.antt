@@ -7,24 +7,24 @@ use mathlib.Core.Path.{_≡_, refl, sym, ap, ap₂, _∙_}
 use mathlib.Core.Logic.{_≢_}
 use mathlib.Core.Bool.{Bool, true, false}
 use mathlib.Core.List.{List}
-use Prim.Native.Nat.{ℕ, zero, suc, _+_, _-_, _*_, _<_, _≤_}
+use Prim.Native.Nat.{ℕ, zero, suc, _+_, _-_, _*_, _<_}
 use native.Mathlib.Omega.{arith}
 use lib.Dec.{ltb}
 use lib.ListN.{getD, set, replicate}
-use lib.IntN.{ℤ, pos, negsuc, natAbs, negℤ, _+ℤ_, _*ℤ_}
+use lib.IntN.{ℤ, pos, negsuc, negℤ, _+ℤ_, _*ℤ_}
 use borrow.Author.Tests.{ltb-true, ltb-false}
 use Rattle.integers.specs.Lists.{tab, tab-cong, tab-const, set-tab, upto, upto-below, upto-above}
 use Rattle.integers.specs.Identities.{neg-*ℤ, *ℤ-idl}
-use Rattle.algebra.specs.Negacyclic.{coeff, coeff-zero, coeff-constant, coeff-constant-suc, coeff-add, coeff-neg, constant}
+use Rattle.algebra.specs.Negacyclic.{coeff, coeff-zero, coeff-constant, coeff-constant-suc, coeff-add, constant}
 use Rattle.algebra.specs.Negacyclic.{coeff-timesX-zero, coeff-timesX-suc}
 use Rattle.algebra.specs.Constant.{coeff-constant-mul}
-use Rattle.algebra.specs.CommRing.{neg-zero, neg-mul, one-mul}
+use Rattle.algebra.specs.CommRing.{neg-zero}
 use Rattle.algebra.specs.Conjugation.{conjugate, coeff-conjugate-zero, coeff-conjugate}
 use Rattle.algebra.specs.Convolution.{indeterminate}
 use Rattle.ring.specs.Modulus.{Zq, red, cent, centred}
-use Rattle.ring.specs.ModulusLaws.{red-zero, red-one, red-add, red-mul, red-neg, cent-red, centred-fixed, two-halves}
-use Rattle.ring.specs.Element.{R, lift, el, coeffs, array, number}
-use Rattle.ring.specs.ElementLaws.{element-ext, coeff-lift, coeff-past}
+use Rattle.ring.specs.ModulusLaws.{red-zero, red-one, red-add, red-mul, red-neg, cent-red, centred-fixed}
+use Rattle.ring.specs.Element.{R, lift, el, array, number}
+use Rattle.ring.specs.ElementLaws.{coeff-lift, coeff-past}
 use Rattle.ring.specs.ElementPlaces.{coeff-el}
 
 cent-zero : cent (Zq .zero) ≡ pos 0
@@ -95,7 +95,8 @@ module _ (d : ℕ) where
           ap cent (coeff-conjugate-zero Zq (lift d xs) l ∙ coeff-lift d xs 0 l) ∙ cent-red (getD xs 0 (pos 0)) ∙ sym (turned-zero d xs)
       entry (suc k) l =
           let z : ℤ = getD xs (d - suc k) (pos 0) in
-          ap cent (coeff-conjugate Zq (lift d xs) (suc k) (omega arith) l ∙ ap (Zq .neg) (coeff-lift d xs (d - suc k) (omega arith)) ∙ red-minus z)
+          let lifted = coeff-lift d xs (d - suc k) (omega arith) in
+          ap cent (coeff-conjugate Zq (lift d xs) (suc k) (omega arith) l ∙ ap (Zq .neg) lifted ∙ red-minus z)
           ∙ cent-red (negsuc 0 *ℤ z)
           ∙ sym (turned-suc d xs (suc k) (omega arith))
 
@@ -144,21 +145,3 @@ module _ (d : ℕ) where
           inside : (t : Bool) → ltb (suc (suc k)) d ≡ t → coeff Zq (indeterminate Zq d) (suc (suc k)) ≡ Zq .zero
           inside true e = coeff-timesX-suc Zq _ (suc k) (ltb-true (suc (suc k)) d e) ∙ coeff-constant-suc Zq d (Zq .one) k
           inside false e = coeff-past d _ (suc (suc k)) (ltb-false (suc (suc k)) d e)
-
-  -- ---- multiples
-
-  pub minus-one : (u : R d .Carrier) → R d .mul (number d (negsuc 0)) u ≡ R d .neg u
-  unfolding number
-  minus-one u = element-ext d _ _ (λ k l.
-      coeff-constant-mul Zq (red (negsuc 0)) u k
-      ∙ ap (λ x. Zq .mul x (coeff Zq u k)) (red-neg (pos 1) ∙ ap (Zq .neg) red-one)
-      ∙ neg-mul Zq (Zq .one) (coeff Zq u k)
-      ∙ ap (Zq .neg) (one-mul Zq (coeff Zq u k))
-      ∙ sym (coeff-neg Zq u k))
-
-  pub half-half : (u : R d .Carrier) → R d .add (R d .mul (number d (pos 2147483599)) u) (R d .mul (number d (pos 2147483599)) u) ≡ u
-  unfolding number
-  half-half u = element-ext d _ _ (λ k l.
-      coeff-add Zq _ _ k
-      ∙ ap (λ x. Zq .add x x) (coeff-constant-mul Zq (red (pos 2147483599)) u k)
-      ∙ two-halves (coeff Zq u k))

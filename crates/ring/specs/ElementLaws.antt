@@ -1,22 +1,19 @@
 -- Laws of ring elements and of the numbers that hold them.
 --     coeff-lift, element-ext       an element by its coefficients
 --     lift-coeffs, coeffs-lift      numbers to an element and back
---     array-fill                    the form in which a loop that fills sixty-four numbers makes an element
---     array-add .. array-conjugate  that form for each operation
-use mathlib.Core.Path.{_≡_, refl, sym, ap, ap₂, _∙_}
+--     coeffs-small, array-small     every number is a coefficient
+-- ElementArrays: the numbers of each operation's result. ElementPlaces: elements of a list. ElementEquality: the test `same`.
+use mathlib.Core.Path.{_≡_, sym, ap, _∙_}
 use mathlib.Core.List.{List}
-use Prim.Native.Nat.{ℕ, zero, suc, _+_, _-_, _*_, _<_, _≤_}
+use Prim.Native.Nat.{ℕ, _-_, _<_, _≤_}
 use native.Mathlib.Omega.{arith}
 use lib.ListN.{length, getD, take}
-use lib.IntN.{ℤ, pos, negsuc, natAbs, negℤ, _+ℤ_, _*ℤ_}
-use Rattle.integers.specs.Lists.{tab, length-tab, getD-tab, tab-cong, tab-unique, take-tab, upto, upto-below, upto-above}
-use Rattle.algebra.specs.Vec.{Vec, at-build, at-past, ext}
-use Rattle.algebra.specs.Negacyclic.{coeff, coeff-zero, coeff-constant, coeff-constant-suc, coeff-add, coeff-neg, constant}
-use Rattle.algebra.specs.Constant.{coeff-constant-mul}
-use Rattle.algebra.specs.Conjugation.{conjugate, coeff-conjugate-zero, coeff-conjugate}
-use Rattle.algebra.specs.Convolution.{indeterminate}
+use lib.IntN.{ℤ, pos, natAbs}
+use Rattle.integers.specs.Lists.{length-tab, getD-tab, tab-unique, take-tab}
+use Rattle.algebra.specs.Vec.{at-build, at-past, ext}
+use Rattle.algebra.specs.Negacyclic.{coeff, constant}
 use Rattle.ring.specs.Modulus.{Zq, red, cent, centred}
-use Rattle.ring.specs.ModulusLaws.{red-zero, red-add, red-mul, red-neg, red-cent, cent-red, cent-bound, centred-fixed}
+use Rattle.ring.specs.ModulusLaws.{red-cent, cent-red, cent-bound, centred-fixed}
 use Rattle.ring.specs.Element.{R, lift, coeffs, array, number}
 
 module _ (d : ℕ) where
@@ -76,3 +73,14 @@ module _ (d : ℕ) where
   unfolding coeffs
   coeffs-lift xs e small = sym (tab-unique xs d _ (pos 0) e
       (λ k l. sym (ap cent (coeff-lift xs k l) ∙ cent-red (getD xs k (pos 0)) ∙ centred-fixed (small k l))))
+
+  -- elements with the same numbers are equal
+  pub coeffs-injective : (u v : R d .Carrier) → coeffs d u ≡ coeffs d v → u ≡ v
+  coeffs-injective u v e = sym (lift-coeffs u) ∙ ap (lift d) e ∙ lift-coeffs v
+
+  pub array-injective : (u v : R d .Carrier) → d ≤ 64 → array d u ≡ array d v → u ≡ v
+  array-injective u v h e = sym (lift-array u h) ∙ ap (lift d) e ∙ lift-array v h
+
+  -- the constant term of an element by value
+  pub constant-term-array : (u : R d .Carrier) → centred (getD (array d u) 0 (pos 0)) ≡ cent (coeff Zq u 0)
+  constant-term-array u = ap centred (getD-array u 0 (omega arith)) ∙ centred-fixed (cent-bound (coeff Zq u 0))

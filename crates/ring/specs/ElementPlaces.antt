@@ -1,14 +1,14 @@
 -- Elements laid out one after the other in a list, d numbers to each: element p stands at place p * d.
 --     coeff-el, el-zero, el-drop, el-take   elements of a list and of its parts
---     el-over, el-over-other                an element stored at a place
---     el-overs, el-overs-other              several elements stored from a place on
+--     el-over, el-over-coeffs, -other       an element stored at a place
+--     el-overs, el-overs-before, -after     several elements stored from a place on
 --     el-flat, el-flat-coeffs       elements of a list that is given element by element
 use mathlib.Core.Path.{_≡_, refl, sym, ap, _∙_}
 use mathlib.Core.Bool.{Bool, true, false}
 use mathlib.Core.Logic.{_≢_}
 use mathlib.Core.List.{List}
 use Prim.Native.Nat.{ℕ, _+_, _*_, _<_, _≤_}
-use native.Mathlib.Nat.{zero-mul, zero-add, add-mul, add-assoc, mul-le-mul-right}
+use native.Mathlib.Nat.{zero-mul, add-mul, add-assoc, mul-le-mul-right}
 use native.Mathlib.Omega.{arith}
 use lib.ListN.{length, getD, take, drop}
 use lib.Dec.{ltb}
@@ -32,7 +32,8 @@ module _ (d : ℕ) where
   coeff-el xs p k h = coeff-lift d (drop (p * d) xs) k h ∙ ap red (getD-drop (p * d) xs k (pos 0))
 
   -- lists that agree at an element's numbers
-  pub el-cong : (xs ys : List ℤ) (p r : ℕ) → ((k : ℕ) → k < d → getD xs (p * d + k) (pos 0) ≡ getD ys (r * d + k) (pos 0)) → el d xs p ≡ el d ys r
+  pub el-cong : (xs ys : List ℤ) (p r : ℕ) → ((k : ℕ) → k < d → getD xs (p * d + k) (pos 0) ≡ getD ys (r * d + k) (pos 0))
+      → el d xs p ≡ el d ys r
   unfolding el
   el-cong xs ys p r h =
       lift-cong d _ _ (λ k l. getD-drop (p * d) xs k (pos 0) ∙ h k l ∙ sym (getD-drop (r * d) ys k (pos 0)))
@@ -84,6 +85,9 @@ module _ (d : ℕ) where
   pub el-over : (out l : List ℤ) (p : ℕ) → p * d ≤ length out → length l ≡ d → el d (over out (p * d) l) p ≡ lift d l
   el-over out l p h e =
       el-lift (over out (p * d) l) l p (λ k q. getD-over out (p * d) l k (pos 0) h (omega arith))
+
+  pub el-over-coeffs : (out : List ℤ) (p : ℕ) (u : R d .Carrier) → p * d ≤ length out → el d (over out (p * d) (coeffs d u)) p ≡ u
+  el-over-coeffs out p u h = el-over out (coeffs d u) p h (length-coeffs d u) ∙ lift-coeffs d u
 
   pub el-over-other : (out l : List ℤ) (p r : ℕ) → p * d ≤ length out → length l ≡ d → r ≢ p → el d (over out (p * d) l) r ≡ el d out r
   el-over-other out l p r h e ne = side (ltb r p) refl

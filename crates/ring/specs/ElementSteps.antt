@@ -3,12 +3,12 @@
 use mathlib.Core.Path.{_≡_, ap, _∙_}
 use mathlib.Core.List.{List}
 use Prim.Native.Nat.{ℕ, _+_, _<_, _≤_}
-use lib.IntN.{ℤ, pos, negsuc, _+ℤ_, _*ℤ_}
+use lib.IntN.{ℤ, pos, _+ℤ_, _*ℤ_}
 use lib.ListN.{length, getD, set, take}
 use lib.Seq.{length-take-le, getD-take}
 use lib.Signed.{mag}
 use mir.Syntax.{w32}
-use mir.Val.{SFits, toZ, ofZ}
+use mir.Val.{toZ, ofZ}
 use mir.Facts.{toZ-ofZ}
 use Rattle.integers.specs.Bridge.{add-pn, zarith}
 use Rattle.integers.specs.Lists.{tab, tab-unique}
@@ -42,5 +42,6 @@ take-numbers xs n h = tab-unique (take n xs) n _ (pos 0) (length-take-le n xs h)
 
 -- one more number of a list written at a place of another
 pub stored-next : (before out xs : List ℤ) (a k : ℕ) → out ≡ over before a (tab k (λ i. getD xs i (pos 0))) → a + k < length before
-    → mag (getD xs k (pos 0)) < 2147483648 → set out (a + k) (bits32 (getD xs k (pos 0))) ≡ over before a (tab (k + 1) (λ i. getD xs i (pos 0)))
+    → mag (getD xs k (pos 0)) < 2147483648
+    → set out (a + k) (bits32 (getD xs k (pos 0))) ≡ over before a (tab (k + 1) (λ i. getD xs i (pos 0)))
 stored-next before out xs a k e h small = rw e (over-tab before a k _ _ h (bits32-small (getD xs k (pos 0)) small))

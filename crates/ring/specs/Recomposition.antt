@@ -1,36 +1,20 @@
 -- Laws of recomposition from digits, `joined`, and Horner's rule from the top digit down, as a loop runs it: when digits t - 1 down to e
 -- are taken in, the sum is `joined d b (t - e) (λ i. f (e + i))`.
-use mathlib.Core.Path.{_≡_, refl, sym, ap, ap₂, _∙_}
+use mathlib.Core.Path.{_≡_, sym, ap, ap₂, _∙_}
 use mathlib.Core.List.{List}
-use Prim.Native.Nat.{ℕ, zero, suc, _+_, _-_, _*_, _^_, _<_, _≤_}
+use Prim.Native.Nat.{ℕ, suc, _+_, _-_, _*_, _^_, _<_, _≤_}
 use native.Mathlib.Nat.{pow-zero, pow-succ', zero-add as nat-zero-add, mul-le-mul-left, mul-le-mul-right}
 use native.Mathlib.Omega.{arith}
 use lib.IntN.{ℤ, pos, _*ℤ_}
 use Rattle.algebra.specs.CommRing.{one-mul, zero-add}
 use Rattle.algebra.specs.Sum.{sum, sum-cong, sum-first, sum-mul}
-use Rattle.algebra.specs.Negacyclic.{constant}
-use Rattle.algebra.specs.Constant.{constant-mul}
-use Rattle.ring.specs.Modulus.{Zq, red}
-use Rattle.ring.specs.ModulusLaws.{red-one, red-mul}
 use Rattle.ring.specs.Element.{R, lift, array, number}
 use Rattle.ring.specs.ElementLaws.{lift-array}
+use Rattle.ring.specs.Numbers.{number-one, number-mul}
 use Rattle.ring.specs.Digits.{joined}
-
--- ---- numbers as elements
-
-pub number-one : (d : ℕ) → number d (pos 1) ≡ R d .one
-unfolding number
-number-one d = ap (λ x. constant Zq d x) red-one
-
-pub number-mul : (d : ℕ) (a b : ℤ) → number d (a *ℤ b) ≡ R d .mul (number d a) (number d b)
-unfolding number
-number-mul d a b = ap (λ x. constant Zq d x) (red-mul a b) ∙ constant-mul Zq d (red a) (red b)
+use Rattle.ring.specs.DigitElements.{joined-cong}
 
 module _ (d b : ℕ) where
-  pub joined-cong : (n : ℕ) (f g : ℕ → R d .Carrier) → ((e : ℕ) → e < n → f e ≡ g e) → joined d b n f ≡ joined d b n g
-  unfolding joined
-  joined-cong n f g h = sum-cong (R d) n _ _ (λ e l. ap (R d .mul (number d (pos (b ^ e)))) (h e l))
-
   lowest : (u : R d .Carrier) → R d .mul (number d (pos (b ^ 0))) u ≡ u
   lowest u = ap (λ c. R d .mul c u) (ap (λ n. number d (pos n)) (pow-zero b) ∙ number-one d) ∙ one-mul (R d) u
 
@@ -40,12 +24,15 @@ module _ (d b : ℕ) where
   unfolding joined
   joined-first n f =
       sum-first (R d) n (λ e. R d .mul (number d (pos (b ^ e))) (f e))
-      ∙ ap₂ (R d .add) (lowest (f 0)) (sum-cong (R d) n _ _ (λ e _. high e) ∙ sym (sum-mul (R d) n (number d (pos b)) (λ e. R d .mul (number d (pos (b ^ e))) (f (suc e)))))
+      ∙ ap₂ (R d .add) (lowest (f 0)) (sum-cong (R d) n _ _ (λ e _. high e) ∙ sym (sum-mul (R d) n (number d (pos b)) term))
     where
+      term : ℕ → R d .Carrier
+      term e = R d .mul (number d (pos (b ^ e))) (f (suc e))
+
       power : (e : ℕ) → pos (b ^ suc e) ≡ pos b *ℤ pos (b ^ e)
       power e = ap pos (pow-succ' b e)
 
-      high : (e : ℕ) → R d .mul (number d (pos (b ^ suc e))) (f (suc e)) ≡ R d .mul (number d (pos b)) (R d .mul (number d (pos (b ^ e))) (f (suc e)))
+      high : (e : ℕ) → R d .mul (number d (pos (b ^ suc e))) (f (suc e)) ≡ R d .mul (number d (pos b)) (term e)
       high e =
           ap (λ c. R d .mul c (f (suc e))) (ap (number d) (power e) ∙ number-mul d (pos b) (pos (b ^ e)))
           ∙ R d .mul-assoc (number d (pos b)) (number d (pos (b ^ e))) (f (suc e))
@@ -63,7 +50,8 @@ module _ (d b : ℕ) where
       rw one (joined-one (λ i. f (t - 1 + i)) ∙ ap f top)
 
   pub horner-step : (t e : ℕ) (f : ℕ → R d .Carrier) → 0 < e → e < t
-      → joined d b (t - (e - 1)) (λ i. f (e - 1 + i)) ≡ R d .add (R d .mul (number d (pos b)) (joined d b (t - e) (λ i. f (e + i)))) (f (e - 1))
+      → joined d b (t - (e - 1)) (λ i. f (e - 1 + i))
+      ≡ R d .add (R d .mul (number d (pos b)) (joined d b (t - e) (λ i. f (e + i)))) (f (e - 1))
   horner-step t e f h l =
       let n : t - (e - 1) ≡ suc (t - e) = omega arith in
       let low : e - 1 + 0 ≡ e - 1 = omega arith in
@@ -71,11 +59,11 @@ module _ (d b : ℕ) where
       rw n (
       joined-first (t - e) (λ i. f (e - 1 + i))
       ∙ R d .add-comm (f (e - 1 + 0)) _
-      ∙ ap₂ (R d .add) (ap (R d .mul (number d (pos b))) (joined-cong (t - e) _ _ (λ i _. ap f (high i)))) (ap f low)
+      ∙ ap₂ (R d .add) (ap (R d .mul (number d (pos b))) (joined-cong d b (t - e) _ _ (λ i _. ap f (high i)))) (ap f low)
       )
 
   pub horner-end : (t : ℕ) (f : ℕ → R d .Carrier) → joined d b (t - 0) (λ i. f (0 + i)) ≡ joined d b t f
-  horner-end t f = let n : t - 0 ≡ t = omega arith in rw n (joined-cong t _ _ (λ i _. ap f (nat-zero-add i)))
+  horner-end t f = let n : t - 0 ≡ t = omega arith in rw n (joined-cong d b t _ _ (λ i _. ap f (nat-zero-add i)))
 
   -- one turn of the loop, on the numbers
   pub horner-turn : (t e : ℕ) (f : ℕ → R d .Carrier) (sum high digit next : List ℤ) → d ≤ 64 → 0 < e → e < t

@@ -1,6 +1,8 @@
 // Ring elements by value: sixty-four numbers, lowest power first, those past d zero.
+use crate::coefficients;
 use crate::constants;
 use crate::modulus;
+use crate::product;
 ghost use mathlib.Core.Path.{_≡_};
 ghost use Prim.Native.Nat.{ℕ, _+_, _-_, _*_, _<_, _≤_};
 ghost use lib.ListN.{length, getD, take};
@@ -14,119 +16,6 @@ ghost use Rattle.ring.specs.Digits.{Base, joined};
 
 pub struct Element {
     pub coefficients: [i32; 64],
-}
-
-fn loaded(d: usize, xs: &[i32], p: usize) -> [i32; 64]
-    requires { ⌜ Degree d ⌝ }
-    requires { ⌜ p * d + d ≤ length (now xs) ⌝ }
-    ensures { λ r. ⌜ r ≡ array d (el d (now (xs .entry)) p) ⌝ }
-{
-    let start = p * d;
-    let mut out = [0i32; 64];
-    let mut k = 0;
-    while k < d {
-        let place = start + k;
-        let x = xs[place];
-        out[k] = modulus::add(x, 0);
-        k += 1;
-    }
-    out
-}
-
-fn added(d: usize, a: [i32; 64], b: [i32; 64]) -> [i32; 64]
-    requires { ⌜ Degree d ⌝ }
-    ensures { λ r. ⌜ r ≡ array d (R d .add (lift d a) (lift d b)) ⌝ }
-{
-    let mut out = [0i32; 64];
-    let mut k = 0;
-    while k < d {
-        let x = a[k];
-        let y = b[k];
-        out[k] = modulus::add(x, y);
-        k += 1;
-    }
-    out
-}
-
-fn scaled(d: usize, c: i32, a: [i32; 64]) -> [i32; 64]
-    requires { ⌜ Degree d ⌝ }
-    ensures { λ r. ⌜ r ≡ array d (R d .mul (number d c) (lift d a)) ⌝ }
-{
-    let mut out = [0i32; 64];
-    let mut k = 0;
-    while k < d {
-        let x = a[k];
-        out[k] = modulus::multiply(c, x);
-        k += 1;
-    }
-    out
-}
-
-fn conjugated(d: usize, a: [i32; 64]) -> [i32; 64]
-    requires { ⌜ Degree d ⌝ }
-    ensures { λ r. ⌜ r ≡ array d (conjugate Zq (lift d a)) ⌝ }
-{
-    let mut out = [0i32; 64];
-    let first = a[0];
-    out[0] = modulus::add(first, 0);
-    let mut k = 1;
-    while k < d {
-        let x = a[d - k];
-        out[k] = modulus::multiply(-1, x);
-        k += 1;
-    }
-    out
-}
-
-fn equal(d: usize, a: [i32; 64], b: [i32; 64]) -> bool
-    requires { ⌜ Degree d ⌝ }
-    ensures { λ r. ⌜ r ≡ same d (lift d a) (lift d b) ⌝ }
-{
-    let mut all = true;
-    let mut k = 0;
-    while k < d {
-        let x = a[k];
-        let y = b[k];
-        all = all & (modulus::residue(x) == modulus::residue(y));
-        k += 1;
-    }
-    all
-}
-
-fn stored(d: usize, a: [i32; 64], out: &mut [i32], p: usize)
-    requires { ⌜ Degree d ⌝ }
-    requires { ⌜ p * d + d ≤ length (now out) ⌝ }
-    ensures { λ _. ⌜ now (out .exit) ≡ over (now (out .entry)) (p * d) (take d a) ⌝ }
-{
-    let start = p * d;
-    let mut k = 0;
-    while k < d {
-        let x = a[k];
-        let place = start + k;
-        out[place] = x;
-        k += 1;
-    }
-}
-
-fn recomposed(d: usize, base: usize, t: usize, xs: &[i32], p: usize, stride: usize) -> [i32; 64]
-    requires { ⌜ Degree d ⌝ }
-    requires { ⌜ Base base ⌝ }
-    requires { ⌜ 0 < t ⌝ }
-    requires { ⌜ (p + (t - 1) * stride) * d + d ≤ length (now xs) ⌝ }
-    ensures { λ r. ⌜ r ≡ array d (joined d base t (λ e. el d (now (xs .entry)) (p + e * stride))) ⌝ }
-{
-    let factor = base as i32;
-    let mut e = t - 1;
-    let top = p + e * stride;
-    let mut sum = loaded(d, xs, top);
-    while 0 < e {
-        e -= 1;
-        let place = p + e * stride;
-        let digit = loaded(d, xs, place);
-        let high = scaled(d, factor, sum);
-        sum = added(d, high, digit);
-    }
-    sum
 }
 
 impl Element {
@@ -179,7 +68,7 @@ impl Element {
         ensures { λ r. ⌜ r .coefficients ≡ array d (el d (now (xs .entry)) p) ⌝ }
     {
         Element {
-            coefficients: loaded(d, xs, p),
+            coefficients: coefficients::loaded(d, xs, p),
         }
     }
 
@@ -190,7 +79,7 @@ impl Element {
         let a = self.coefficients;
         let b = other.coefficients;
         Element {
-            coefficients: added(d, a, b),
+            coefficients: coefficients::added(d, a, b),
         }
     }
 
@@ -200,7 +89,7 @@ impl Element {
     {
         let a = self.coefficients;
         Element {
-            coefficients: scaled(d, c, a),
+            coefficients: coefficients::scaled(d, c, a),
         }
     }
 
@@ -210,7 +99,7 @@ impl Element {
     {
         let a = self.coefficients;
         Element {
-            coefficients: scaled(d, -1, a),
+            coefficients: coefficients::scaled(d, -1, a),
         }
     }
 
@@ -220,9 +109,9 @@ impl Element {
     {
         let a = self.coefficients;
         let b = other.coefficients;
-        let minus = scaled(d, -1, b);
+        let minus = coefficients::scaled(d, -1, b);
         Element {
-            coefficients: added(d, a, minus),
+            coefficients: coefficients::added(d, a, minus),
         }
     }
 
@@ -233,7 +122,18 @@ impl Element {
     {
         let a = self.coefficients;
         Element {
-            coefficients: scaled(d, modulus::HALF, a),
+            coefficients: coefficients::scaled(d, modulus::HALF, a),
+        }
+    }
+
+    pub fn product(self, d: usize, other: Element) -> Element
+        requires { ⌜ Degree d ⌝ }
+        ensures { λ r. ⌜ r .coefficients ≡ array d (R d .mul (lift d (self .coefficients)) (lift d (other .coefficients))) ⌝ }
+    {
+        let a = self.coefficients;
+        let b = other.coefficients;
+        Element {
+            coefficients: product::multiply(d, a, b),
         }
     }
 
@@ -243,7 +143,7 @@ impl Element {
     {
         let a = self.coefficients;
         Element {
-            coefficients: conjugated(d, a),
+            coefficients: coefficients::conjugated(d, a),
         }
     }
 
@@ -261,7 +161,7 @@ impl Element {
     {
         let a = self.coefficients;
         let b = other.coefficients;
-        equal(d, a, b)
+        coefficients::equal(d, a, b)
     }
 
     // Writes the element's d numbers as element p of a list.
@@ -271,10 +171,10 @@ impl Element {
         ensures { λ _. ⌜ now (out .exit) ≡ over (now (out .entry)) (p * d) (take d (self .coefficients)) ⌝ }
     {
         let a = self.coefficients;
-        stored(d, a, out, p)
+        coefficients::stored(d, a, out, p)
     }
 
-    // The element with t digits to a base, digit e of which is element p + e * stride of xs: Horner's rule from the top digit down.
+    // The element with t digits to a base, digit e of which is element p + e * stride of xs.
     pub fn recompose(
         d: usize,
         base: usize,
@@ -290,7 +190,7 @@ impl Element {
         ensures { λ r. ⌜ r .coefficients ≡ array d (joined d base t (λ e. el d (now (xs .entry)) (p + e * stride))) ⌝ }
     {
         Element {
-            coefficients: recomposed(d, base, t, xs, p, stride),
+            coefficients: coefficients::recomposed(d, base, t, xs, p, stride),
         }
     }
 }

@@ -2,7 +2,7 @@
 use mathlib.Core.Path.{ap, _∙_}
 use Rattle.ring.specs.Element.{R, lift, array}
 use Rattle.ring.specs.ElementLaws.{lift-array}
-use Rattle.ring.specs.ElementArrays.{minus-one}
+use Rattle.ring.specs.Numbers.{minus-one}
 use borrow.Author.Needs.{needs}
 use Rattle.ring.proofs.element.Element.difference.Statement.{statement}
 use Rattle.ring.proofs.element.Element.difference.Tie as tie

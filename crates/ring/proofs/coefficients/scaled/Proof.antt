@@ -1,4 +1,4 @@
--- `ring::element::scaled` meets its contract. The loop's invariant: the first k numbers of the multiple are in place, zeros follow.
+-- `ring::coefficients::scaled` meets its contract. The loop's invariant: the first k numbers of the multiple are in place, zeros follow.
 use mathlib.Core.Path.{_≡_, sym, ap, _∙_}
 use Prim.Native.Nat.{_-_, _*_, _≤_}
 use native.Mathlib.Omega.{arith}
@@ -11,8 +11,8 @@ use Rattle.integers.specs.Lists.{tab, upto, fill-start, fill-step}
 use Rattle.ring.specs.Modulus.{centred}
 use Rattle.ring.specs.ElementSteps.{bits32, stored-product}
 use Rattle.ring.specs.ElementArrays.{array-scale}
-use Rattle.ring.proofs.element.scaled.Statement.{statement}
-use Rattle.ring.proofs.element.scaled.Tie as tie
+use Rattle.ring.proofs.coefficients.scaled.Statement.{statement}
+use Rattle.ring.proofs.coefficients.scaled.Tie as tie
 
 abbrev Inv-loop : tie.InvT-loop
 Inv-loop d c a out₀ k₀ out k = (k ≤ d) × (out ≡ tab 64 (upto k (λ i. centred (toZ w32 c *ℤ getD a i (pos 0))) (pos 0)))

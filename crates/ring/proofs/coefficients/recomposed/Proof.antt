@@ -1,4 +1,4 @@
--- `ring::element::recomposed` meets its contract. The loop's invariant: `sum` is recomposed from the digits from e up.
+-- `ring::coefficients::recomposed` meets its contract. The loop's invariant: `sum` is recomposed from the digits from e up.
 use mathlib.Core.Path.{_≡_, refl, sym, ap, _∙_}
 use Prim.Native.Nat.{ℕ, _+_, _-_, _*_, _<_}
 use native.Mathlib.Omega.{arith}
@@ -9,11 +9,12 @@ use Rattle.integers.specs.Bridge.{zarith}
 use Rattle.ring.specs.Element.{R, el, array}
 use Rattle.ring.specs.Digits.{joined}
 use Rattle.ring.specs.Recomposition.{horner-start, horner-turn, horner-end, digit-fits, index-below}
-use Rattle.ring.proofs.element.recomposed.Statement.{statement}
-use Rattle.ring.proofs.element.recomposed.Tie as tie
+use Rattle.ring.proofs.coefficients.recomposed.Statement.{statement}
+use Rattle.ring.proofs.coefficients.recomposed.Tie as tie
 
 abbrev Inv-loop : tie.InvT-loop
-Inv-loop d base t xs p stride factor e₀ top sum₀ e sum = (e < t) × (sum ≡ array d (joined d base (t - e) (λ i. el d xs (p + (e + i) * stride)))) × (factor ≡ base)
+Inv-loop d base t xs p stride factor e₀ top sum₀ e sum =
+    (e < t) × (sum ≡ array d (joined d base (t - e) (λ i. el d xs (p + (e + i) * stride)))) × (factor ≡ base)
 
 abbrev μ-loop : tie.MeasureT-loop
 μ-loop d base t xs p stride factor e₀ top sum₀ e sum = e
@@ -39,9 +40,10 @@ loaded-requires c κs = (c .pre .0, c .pre .1 .1 .1)
 
 loop-holds : tie.Need-loop-holds Inv-loop μ-loop
 loop-holds c =
-    let a = c .before .args in (
+    let a = c .before .args in
+    let digits : ℕ → R (a .d) .Carrier = λ i. el (a .d) (a .xs .now) (a .p + i * a .stride) in (
       omega arith,
-      c .loaded .ensures ∙ ap (array (a .d)) (sym (horner-start (a .d) (a .base) (a .t) (λ i. el (a .d) (a .xs .now) (a .p + i * a .stride)) (omega arith))),
+      c .loaded .ensures ∙ ap (array (a .d)) (sym (horner-start (a .d) (a .base) (a .t) digits (omega arith))),
       refl,
     )
 
@@ -86,11 +88,11 @@ loop-again c =
     let a = s .args in
     let digits : ℕ → R (a .d) .Carrier = λ i. el (a .d) (a .xs .now) (a .p + i * a .stride) in
     let base = ap (toZ w32) (l .loop .inv .2) ∙ toZ-pos w32 {n = a .base} (omega (arith, s .pre .1 .0 .most)) in
-    let high = rw base at (c .before .scaled .ensures) in (
+    let digit = c .before .before .loaded2 in
+    let high = c .before .scaled in (
       omega arith,
-      horner-turn (a .d) (a .base) (a .t) (l .loop .e) digits (l .loop .sum) (c .before .scaled .result) (c .before .before .loaded2 .result)
-          (c .added .result) (s .pre .0 .small) (omega arith) (omega arith) (l .loop .inv .1) (c .before .before .loaded2 .ensures)
-          high (c .added .ensures),
+      horner-turn (a .d) (a .base) (a .t) (l .loop .e) digits (l .loop .sum) (high .result) (digit .result) (c .added .result)
+          (s .pre .0 .small) (omega arith) (omega arith) (l .loop .inv .1) (digit .ensures) (rw base at (high .ensures)) (c .added .ensures),
       l .loop .inv .2,
     )
 

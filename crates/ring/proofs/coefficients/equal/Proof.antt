@@ -1,4 +1,4 @@
--- `ring::element::equal` meets its contract. The loop's invariant: `all` says that the first k numbers are congruent, one by one.
+-- `ring::coefficients::equal` meets its contract. The loop's invariant: `all` says that the first k numbers are congruent, one by one.
 use mathlib.Core.Path.{_≡_, sym, ap, ap₂, _∙_}
 use Prim.Native.Nat.{_-_, _≤_}
 use native.Mathlib.Omega.{arith}
@@ -10,8 +10,8 @@ use Rattle.ring.specs.Modulus.{q}
 use Rattle.ring.specs.ElementSteps.{bits32-small}
 use Rattle.ring.specs.Element.{every}
 use Rattle.ring.specs.ElementEquality.{every-zero, every-next, same-lift}
-use Rattle.ring.proofs.element.equal.Statement.{statement}
-use Rattle.ring.proofs.element.equal.Tie as tie
+use Rattle.ring.proofs.coefficients.equal.Statement.{statement}
+use Rattle.ring.proofs.coefficients.equal.Tie as tie
 
 abbrev Inv-loop : tie.InvT-loop
 Inv-loop d a b all₀ k₀ all k = (k ≤ d) × (all ≡ every k (λ i. eqb (emod (getD a i (pos 0)) q) (emod (getD b i (pos 0)) q)))

@@ -1,4 +1,4 @@
--- `ring::element::added` meets its contract. The loop's invariant: the first k numbers of the sum are in place, zeros follow.
+-- `ring::coefficients::added` meets its contract. The loop's invariant: the first k numbers of the sum are in place, zeros follow.
 use mathlib.Core.Path.{_≡_, sym, _∙_}
 use Prim.Native.Nat.{_-_, _≤_}
 use native.Mathlib.Omega.{arith}
@@ -8,8 +8,8 @@ use Rattle.integers.specs.Lists.{tab, upto, fill-start, fill-step}
 use Rattle.ring.specs.Modulus.{centred}
 use Rattle.ring.specs.ElementSteps.{stored-sum}
 use Rattle.ring.specs.ElementArrays.{array-add}
-use Rattle.ring.proofs.element.added.Statement.{statement}
-use Rattle.ring.proofs.element.added.Tie as tie
+use Rattle.ring.proofs.coefficients.added.Statement.{statement}
+use Rattle.ring.proofs.coefficients.added.Tie as tie
 
 abbrev Inv-loop : tie.InvT-loop
 Inv-loop d a b out₀ k₀ out k = (k ≤ d) × (out ≡ tab 64 (upto k (λ i. centred (getD a i (pos 0) +ℤ getD b i (pos 0))) (pos 0)))

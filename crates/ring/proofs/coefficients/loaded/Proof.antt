@@ -1,4 +1,4 @@
--- `ring::element::loaded` meets its contract. The loop's invariant: the first k numbers of the element are in place, zeros follow.
+-- `ring::coefficients::loaded` meets its contract. The loop's invariant: the first k numbers of the element are in place, zeros follow.
 use mathlib.Core.Path.{_≡_, sym, _∙_}
 use Prim.Native.Nat.{_+_, _-_, _*_, _≤_}
 use native.Mathlib.Omega.{arith}
@@ -8,8 +8,8 @@ use Rattle.integers.specs.Lists.{tab, upto, fill-start, fill-step}
 use Rattle.ring.specs.Modulus.{centred}
 use Rattle.ring.specs.ElementSteps.{stored-number}
 use Rattle.ring.specs.ElementArrays.{array-el}
-use Rattle.ring.proofs.element.loaded.Statement.{statement}
-use Rattle.ring.proofs.element.loaded.Tie as tie
+use Rattle.ring.proofs.coefficients.loaded.Statement.{statement}
+use Rattle.ring.proofs.coefficients.loaded.Tie as tie
 
 abbrev Inv-loop : tie.InvT-loop
 Inv-loop d xs p start out₀ k₀ out k = (k ≤ d) × (out ≡ tab 64 (upto k (λ i. centred (getD xs (p * d + i) (pos 0))) (pos 0)))

@@ -1,4 +1,4 @@
--- `ring::element::stored` meets its contract. The loop's invariant: the first k numbers are written, and nothing else is changed.
+-- `ring::coefficients::stored` meets its contract. The loop's invariant: the first k numbers are written, and nothing else is changed.
 use mathlib.Core.Path.{_≡_, refl, sym, _∙_}
 use Prim.Native.Nat.{_-_, _*_, _≤_}
 use native.Mathlib.Omega.{arith}
@@ -7,8 +7,8 @@ use lib.IntN.{pos}
 use Rattle.integers.specs.Lists.{tab}
 use Rattle.ring.specs.ElementSteps.{stored-next, take-numbers}
 use Rattle.integers.specs.Over.{over, over-nil}
-use Rattle.ring.proofs.element.stored.Statement.{statement}
-use Rattle.ring.proofs.element.stored.Tie as tie
+use Rattle.ring.proofs.coefficients.stored.Statement.{statement}
+use Rattle.ring.proofs.coefficients.stored.Tie as tie
 
 abbrev Inv-loop : tie.InvT-loop
 Inv-loop d out₀ p a start k₀ out k = (k ≤ d) × (out ≡ over out₀ (p * d) (tab k (λ i. getD a i (pos 0)))) × (length out ≡ length out₀)

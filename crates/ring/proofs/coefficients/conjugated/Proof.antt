@@ -1,4 +1,4 @@
--- `ring::element::conjugated` meets its contract. The loop's invariant: the first k numbers of σ(a) are in place, zeros follow.
+-- `ring::coefficients::conjugated` meets its contract. The loop's invariant: the first k numbers of σ(a) are in place, zeros follow.
 use mathlib.Core.Path.{_≡_, sym, _∙_}
 use Prim.Native.Nat.{_-_, _≤_, _<_}
 use native.Mathlib.Omega.{arith}
@@ -7,8 +7,8 @@ use lib.IntN.{pos, negsuc}
 use Rattle.integers.specs.Lists.{tab, upto, fill-start, fill-step}
 use Rattle.ring.specs.ElementSteps.{stored-number, stored-product}
 use Rattle.ring.specs.ElementArrays.{turned, turned-zero, turned-suc, array-conjugate}
-use Rattle.ring.proofs.element.conjugated.Statement.{statement}
-use Rattle.ring.proofs.element.conjugated.Tie as tie
+use Rattle.ring.proofs.coefficients.conjugated.Statement.{statement}
+use Rattle.ring.proofs.coefficients.conjugated.Tie as tie
 
 abbrev Inv-loop : tie.InvT-loop
 Inv-loop d a out₀ first k₀ out k = (0 < k) × (k ≤ d) × (out ≡ tab 64 (upto k (turned d a) (pos 0)))
@@ -29,7 +29,8 @@ loop-holds : tie.Need-loop-holds Inv-loop μ-loop
 loop-holds c =
     let s = c .before .before in
     let x = getD (s .args .t2) 0 (pos 0) in
-    let number = stored-number (c .add .result) x (c .before .first .given) (c .add .ensures) ∙ sym (turned-zero (s .args .d) (s .args .t2)) in
+    let first = stored-number (c .add .result) x (c .before .first .given) (c .add .ensures) in
+    let number = first ∙ sym (turned-zero (s .args .d) (s .args .t2)) in
     (omega arith, omega arith, fill-step 64 0 _ (pos 0) _ _ (fill-start 64 _ (pos 0)) (omega arith) number)
 
 sub-x : tie.Need-sub-x Inv-loop μ-loop
