@@ -1,10 +1,11 @@
 -- Document 01, 'Next instance': the opening cut into chunks, document 01's stretches. "z low and z high are cut into ν stretches each of n/ν
 -- elements, the rest into μ stretches of m/μ elements, both rounded up; the last stretches may be short or empty."
+use mathlib.Core.Path.{_≡_}
 use mathlib.Core.Bool.{cond}
 use mathlib.Core.List.{List, _++_}
-use Prim.Native.Nat.{ℕ, _+_, _*_, _-_, _%_, min}
+use Prim.Native.Nat.{ℕ, _+_, _*_, _-_, _%_, _≤_, _<_, min}
 use lib.Dec.{ltb}
-use lib.ListN.{take, drop, replicate}
+use lib.ListN.{getD, take, drop, replicate}
 use lib.IntN.{ℤ, pos}
 use Rattle.integers.specs.Flat.{flat}
 use Rattle.algebra.specs.Triangle.{start}
@@ -18,12 +19,25 @@ chunk whole count i = min (ceiling whole count) (whole - i * ceiling whole count
 unfoldable pub width : (tz n ν m μ : ℕ) → ℕ → ℕ
 width tz n ν m μ s = cond (ltb s (tz * ν)) (chunk n ν (s % ν)) (chunk m μ (s - tz * ν))
 
--- "every stretch is padded with zeros at its end to n'"
-unfoldable pub padded : (d tz n ν m μ : ℕ) → List ℤ → List ℤ
-padded d tz n ν m μ o =
-    flat (nextParts tz ν μ)
-    (λ s. take (width tz n ν m μ s * d) (drop (start (width tz n ν m μ) s * d) o) ++ replicate ((nextRank n ν m μ - width tz n ν m μ s) * d) (pos 0))
+-- chunk s of a list that is cut into chunks of w 0, w 1, .. elements: "that stretch of the caller's own slice"
+unfoldable pub cut : (d : ℕ) → (ℕ → ℕ) → List ℤ → ℕ → List ℤ
+cut d w o s = take (w s * d) (drop (start w s * d) o)
 
--- "with the padding cut off": the opening that a next witness holds
+-- "every stretch is padded with zeros at its end to n'"
+unfoldable pub cutPadded : (d n′ : ℕ) → (ℕ → ℕ) → List ℤ → ℕ → List ℤ
+cutPadded d n′ w o s = cut d w o s ++ replicate ((n′ - w s) * d) (pos 0)
+
+unfoldable pub padded : (d tz n ν m μ : ℕ) → List ℤ → List ℤ
+padded d tz n ν m μ o = flat (nextParts tz ν μ) (cutPadded d (nextRank n ν m μ) (width tz n ν m μ) o)
+
+-- "with the padding cut off": part i of a next witness, and the opening that the parts hold
+unfoldable pub trimmed : (d n′ : ℕ) → (ℕ → ℕ) → List ℤ → ℕ → List ℤ
+trimmed d n′ w s i = take (w i * d) (drop (i * n′ * d) s)
+
 unfoldable pub unpadded : (d tz n ν m μ : ℕ) → List ℤ → List ℤ
-unpadded d tz n ν m μ s = flat (nextParts tz ν μ) (λ i. take (width tz n ν m μ i * d) (drop (i * nextRank n ν m μ * d) s))
+unpadded d tz n ν m μ s = flat (nextParts tz ν μ) (trimmed d (nextRank n ν m μ) (width tz n ν m μ) s)
+
+-- "A solution of the next instance whose padding is zero": number x of element k of part i is zero past the end of chunk i
+pub record ZeroPadding (d tz n ν m μ : ℕ) (s : List ℤ) : Type 0 where
+  pub zero-past : (i k x : ℕ) → i < nextParts tz ν μ → width tz n ν m μ i ≤ k → k < nextRank n ν m μ → x < d
+      → getD s ((i * nextRank n ν m μ + k) * d + x) (pos 0) ≡ pos 0

@@ -11,7 +11,7 @@ use Rattle.fold.specs.Refusals.{allOf, anyOf, between, degree, rank, par
 use Rattle.fold.specs.Refusals.{base, digitCount, chunks, lengthBound, sized, challenges, wholeLength, termLength, projectionLength}
 use Rattle.fold.specs.Refusals.{commitTests, projectTests, aggregateTests, garbageTests, amortizeTests}
 use Rattle.fold.specs.Refusals.{proverTests, verifyTests, nextTests, partTests}
-use Rattle.fold.specs.Chunks.{chunk, width, padded, unpadded}
+use Rattle.fold.specs.Chunks.{chunk, width, cut, cutPadded, padded, trimmed, unpadded}
 use Rattle.fold.specs.NextInstance.{zTable, tTable, garbageTable, product, squares, constraint, φ′, laidOut, nextWhole}
 
 unfoldable pub sizes-compute : Unit {0}
@@ -47,7 +47,7 @@ unfolding lengths-compute commitTests projectTests aggregateTests garbageTests a
 refusals-compute = tt
 
 unfoldable pub next-instance-computes : Unit {0}
-unfolding chunk width padded unpadded zTable tTable garbageTable product squares constraint φ′ laidOut nextWhole
+unfolding chunk width cut cutPadded padded trimmed unpadded zTable tTable garbageTable product squares constraint φ′ laidOut nextWhole
 next-instance-computes = tt
 
 unfoldable pub fold-computes : Unit {0}

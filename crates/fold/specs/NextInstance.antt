@@ -25,18 +25,12 @@ pub record Constraint (d : ℕ) : Type 0 where
   pub table : List (R d .Carrier)
   pub constant : R d .Carrier
 
-module _ (𝓢 : Statement) (𝓓 : Draws) (𝓣 : Transcript) (ν μ : ℕ) where
-  open Statement 𝓢 using (relation, w, tz, κ, κ₁, κ₂, b, b₁, b₂, t₁, t₂, target, A, B, C, D)
-  open Relation relation using (d, n, r, K, L, whole, term)
-  open Draws 𝓓 using (projections, ψ, ω, α, δ, c)
-  open Transcript 𝓣 using (u₁, b″, u₂)
-  open CommRing (R d) using (Carrier as Rd, zero as 𝟘, mul as _⊗_, neg as ⊖_)
+-- ---- what constraints are made of
+
+module _ (d : ℕ) where
+  open CommRing (R d) using (Carrier as Rd, zero as 𝟘, mul as _⊗_)
 
   infixl 70 _⊗_
-  infix 75 ⊖_
-  abbrev pub aggregated : Function (R d)
-  aggregated = aggregate d n r K L w whole term projections ψ ω α δ
-
   abbrev pub power : ℕ → ℕ → Rd
   power base e = number d (pos (base ^ e))
 
@@ -47,55 +41,93 @@ module _ (𝓢 : Statement) (𝓓 : Draws) (𝓣 : Transcript) (ν μ : ℕ) whe
   no-a s s′ = 𝟘
 
   -- the blocks of a table: z by digit; t by part, digit, row; g and h by i, j, digit
-  unfoldable pub zTable : (ℕ → Rd) → List Rd
-  zTable f = flat tz (λ e. tab n (λ k. power b e ⊗ f k))
+  unfoldable pub zTable : (n tz b : ℕ) → (ℕ → Rd) → List Rd
+  zTable n tz b f = flat tz (λ e. tab n (λ k. power b e ⊗ f k))
 
-  unfoldable pub tTable : (ℕ → ℕ → ℕ → Rd) → List Rd
-  tTable f = flat r (λ i. flat t₁ (λ e. tab κ (λ k. f i e k)))
+  unfoldable pub tTable : (r κ t₁ : ℕ) → (ℕ → ℕ → ℕ → Rd) → List Rd
+  tTable r κ t₁ f = flat r (λ i. flat t₁ (λ e. tab κ (λ k. f i e k)))
 
-  unfoldable pub garbageTable : (base t : ℕ) → (ℕ → ℕ → Rd) → List Rd
-  garbageTable base t f = flat r (λ i. flat (r - i) (λ k. tab t (λ e. f i (i + k) ⊗ power base e)))
-
-  abbrev pub noZ : List Rd
-  noZ = zeros (tz * n)
-
-  abbrev pub noT : List Rd
-  noT = zeros (tSize r κ t₁)
-
-  abbrev pub noG : List Rd
-  noG = zeros (garbageSize r t₂)
-
-  abbrev pub noH : List Rd
-  noH = zeros (garbageSize r t₁)
+  unfoldable pub garbageTable : (r base t : ℕ) → (ℕ → ℕ → Rd) → List Rd
+  garbageTable r base t f = flat r (λ i. flat (r - i) (λ k. tab t (λ e. f i (i + k) ⊗ power base e)))
 
   -- c_i c_j, doubled for i < j
-  unfoldable pub product : ℕ → ℕ → Rd
-  product i j = number d (cond (eqb i j) (pos 1) (pos 2)) ⊗ (el d c i ⊗ el d c j)
+  unfoldable pub product : (ℕ → Rd) → ℕ → ℕ → Rd
+  product c i j = number d (cond (eqb i j) (pos 1) (pos 2)) ⊗ (c i ⊗ c j)
+
+  -- a of check 6: chunk i of digit e with chunk i of digit e′ has b^(e+e′), doubled for e < e′;
+  -- "an empty stretch has the same a in check 6 as a full one"
+  unfoldable pub squares : (tz ν b : ℕ) → ℕ → ℕ → Rd
+  squares tz ν b s s′ =
+      cond (ltb s (tz * ν)) (cond (ltb s′ (tz * ν)) (cond (eqb (s % ν) (s′ % ν)) (number d (cond (eqb s s′) (pos 1) (pos 2)) ⊗ power b (s / ν + s′ / ν)) 𝟘) 𝟘) 𝟘
+
+  -- φ of part s, of w s elements: the table over its chunk; "φ on padding is zero"
+  unfoldable pub φ′ : (ℕ → ℕ) → List Rd → ℕ → ℕ → Rd
+  φ′ w table s k = cond (ltb k (w s)) (getD table (start w s + k) 𝟘) 𝟘
+
+  -- "Each is laid out as on the sheet: a, φ, b.", for r parts of rank n
+  unfoldable pub laidOut : (n r : ℕ) → (ℕ → ℕ) → Constraint d → List ℤ
+  laidOut n r w x =
+      flat r (λ s. elements d (r - s) (λ k. x .a s (s + k)))
+      ++ (flat r (λ s. elements d n (φ′ w (x .table) s))
+      ++ coeffs d (x .constant))
+
+-- ---- the constraints
+
+module _ (𝓢 : Statement) (𝓓 : Draws) (𝓣 : Transcript) (ν μ : ℕ) where
+  open Statement 𝓢 using (relation, w, tz, κ, κ₁, κ₂, b, b₁, b₂, t₁, t₂, target, A, B, C, D)
+  open Relation relation using (d, n, r, K, L, whole, term)
+  open Draws 𝓓 using (projections, ψ, ω, α, δ, c)
+  open Transcript 𝓣 using (u₁, b″, u₂)
+  open CommRing (R d) using (Carrier as Rd, zero as 𝟘, one as 𝟙, mul as _⊗_, neg as ⊖_)
+
+  infixl 70 _⊗_
+  infix 75 ⊖_
+  abbrev pub aggregated : Function (R d)
+  aggregated = aggregate d n r K L w whole term projections ψ ω α δ
+
+  -- a table is a block for each of z, t, g, h; these are the empty ones
+  abbrev pub noZ : List Rd
+  noZ = zeros d (tz * n)
+
+  abbrev pub noT : List Rd
+  noT = zeros d (tSize r κ t₁)
+
+  abbrev pub noG : List Rd
+  noG = zeros d (garbageSize r t₂)
+
+  abbrev pub noH : List Rd
+  noH = zeros d (garbageSize r t₁)
 
   -- check 5, row k: A z - Σ c_i t_i
   abbrev pub check5 : ℕ → Constraint d
   check5 k =
       record {
-        a = no-a;
-        table = zTable (λ y. el d A (k * n + y)) ++ (tTable (λ i e k′. cond (eqb k′ k) (⊖ (el d c i ⊗ power b₁ e)) 𝟘) ++ (noG ++ noH));
+        a = no-a d;
+        table =
+            zTable d n tz b (λ y. el d A (k * n + y))
+            ++ (tTable d r κ t₁ (λ i e k′. cond (eqb k′ k) (⊖ (el d c i ⊗ power d b₁ e)) 𝟘)
+            ++ (noG ++ noH));
         constant = 𝟘;
       }
 
-  -- check 6: <z,z> - Σ g_ii c_i² - 2Σ g_ij c_i c_j; "an empty stretch has the same a in check 6 as a full one":
-  -- chunk i of digit e with chunk i of digit e′ has b^(e+e′), doubled for e < e′
-  unfoldable pub squares : ℕ → ℕ → Rd
-  squares s s′ =
-      cond (ltb s (tz * ν)) (cond (ltb s′ (tz * ν)) (cond (eqb (s % ν) (s′ % ν)) (number d (cond (eqb s s′) (pos 1) (pos 2)) ⊗ power b (s / ν + s′ / ν)) 𝟘) 𝟘) 𝟘
-
+  -- check 6: <z,z> - Σ g_ii c_i² - 2Σ g_ij c_i c_j
   abbrev pub check6 : Constraint d
-  check6 = record { a = squares; table = noZ ++ (noT ++ (garbageTable b₂ t₂ (λ i j. ⊖ product i j) ++ noH)); constant = 𝟘 }
+  check6 =
+      record {
+        a = squares d tz ν b;
+        table = noZ ++ (noT ++ (garbageTable d r b₂ t₂ (λ i j. ⊖ product d (el d c) i j) ++ noH));
+        constant = 𝟘;
+      }
 
   -- check 7: Σ <φ_i,z> c_i - Σ h_ii c_i² - 2Σ h_ij c_i c_j
   abbrev pub check7 : Constraint d
   check7 =
       record {
-        a = no-a;
-        table = zTable (λ k. sum (R d) r (λ i. aggregated .φ i k ⊗ el d c i)) ++ (noT ++ (noG ++ garbageTable b₁ t₁ (λ i j. ⊖ product i j)));
+        a = no-a d;
+        table =
+            zTable d n tz b (λ k. sum (R d) r (λ i. aggregated .φ i k ⊗ el d c i))
+            ++ (noT
+            ++ (noG ++ garbageTable d r b₁ t₁ (λ i j. ⊖ product d (el d c) i j)));
         constant = 𝟘;
       }
 
@@ -103,31 +135,38 @@ module _ (𝓢 : Statement) (𝓓 : Draws) (𝓣 : Transcript) (ν μ : ℕ) whe
   abbrev pub check8 : Constraint d
   check8 =
       record {
-        a = no-a;
-        table = noZ ++ (noT ++ (garbageTable b₂ t₂ (aggregated .a) ++ garbageTable b₁ t₁ (λ i j. cond (eqb i j) (R d .one) 𝟘)));
+        a = no-a d;
+        table =
+            noZ
+            ++ (noT
+            ++ (garbageTable d r b₂ t₂ (aggregated .a) ++ garbageTable d r b₁ t₁ (λ i j. cond (eqb i j) 𝟙 𝟘)));
         constant = aggregateConstant d n r K whole α δ b″;
       }
 
-  -- check 3, row k: B·t + C·g - u1, and check 4, row k: D·h - u2
+  -- check 3, row k: B·t + C·g - u1
   abbrev pub check3 : ℕ → Constraint d
   check3 k =
       record {
-        a = no-a;
-        table = noZ ++ (tab (tSize r κ t₁) (λ y. el d B (k * tSize r κ t₁ + y)) ++ (tab (garbageSize r t₂) (λ y. el d C (k * garbageSize r t₂ + y)) ++ noH));
+        a = no-a d;
+        table =
+            noZ
+            ++ (tab (tSize r κ t₁) (λ y. el d B (k * tSize r κ t₁ + y))
+            ++ (tab (garbageSize r t₂) (λ y. el d C (k * garbageSize r t₂ + y)) ++ noH));
         constant = el d u₁ k;
       }
 
+  -- check 4, row k: D·h - u2
   abbrev pub check4 : ℕ → Constraint d
   check4 k =
       record {
-        a = no-a;
+        a = no-a d;
         table = noZ ++ (noT ++ (noG ++ tab (garbageSize r t₁) (λ y. el d D (k * garbageSize r t₁ + y))));
         constant = el d u₂ k;
       }
 
   -- "Constraints, all of the whole kind: checks 5 (κ), 6, 7, 8, 3 (κ1), 4 (κ2)"
   unfoldable pub constraint : ℕ → Constraint d
-  constraint x = getD (tab κ check5 ++ (check6 ∷ check7 ∷ check8 ∷ tab κ₁ check3 ++ tab κ₂ check4)) x check6
+  constraint x = getD (tab κ check5 ++ (check6 ∷ check7 ∷ check8 ∷ (tab κ₁ check3 ++ tab κ₂ check4))) x check6
 
   -- ---- the instance
 
@@ -140,19 +179,8 @@ module _ (𝓢 : Statement) (𝓓 : Draws) (𝓣 : Transcript) (ν μ : ℕ) whe
   abbrev pub r′ : ℕ
   r′ = nextParts tz ν μ
 
-  -- φ of part s: the table over its chunk; "φ on padding is zero"
-  unfoldable pub φ′ : List Rd → ℕ → ℕ → Rd
-  φ′ table s k = cond (ltb k (width tz n ν m μ s)) (getD table (start (width tz n ν m μ) s + k) 𝟘) 𝟘
-
-  -- "Each is laid out as on the sheet: a, φ, b."
-  unfoldable pub laidOut : Constraint d → List ℤ
-  laidOut x =
-      flat r′ (λ s. elements d (r′ - s) (λ k. x .a s (s + k)))
-      ++ (flat r′ (λ s. elements d n′ (φ′ (x .table) s))
-      ++ coeffs d (x .constant))
-
   unfoldable pub nextWhole : List ℤ
-  nextWhole = flat (nextCount κ κ₁ κ₂) (λ x. laidOut (constraint x))
+  nextWhole = flat (nextCount κ κ₁ κ₂) (λ x. laidOut d n′ r′ (width tz n ν m μ) (constraint x))
 
   -- "K' = κ+κ1+κ2+3, L' = 0, bound β'²"
   abbrev pub nextRelation : Relation

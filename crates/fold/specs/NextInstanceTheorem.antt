@@ -1,0 +1,88 @@
+-- Demand 2: "When the checks on projection and constant terms pass and the next instance is not too large, an opening is accepted exactly
+-- if, padded, it solves the next instance." Document 01: "A solution of the next instance whose padding is zero is, with the padding cut
+-- off, an accepted opening."
+use mathlib.Core.Path.{_≡_, refl, sym, ap, subst, _∙_}
+use mathlib.Core.Logic.{_↔_}
+use mathlib.Core.Bool.{true}
+use mathlib.Core.List.{List, [], _∷_}
+use Prim.Native.Nat.{ℕ, _*_, _<_}
+use native.Mathlib.Nat.{mul-assoc}
+use lib.ListN.{length}
+use lib.IntN.{ℤ}
+use Rattle.ring.specs.Range.{coefficients}
+use Rattle.fold.specs.declared.Verdict.the-variants.{Accepted}
+use Rattle.fold.specs.declared.Answer.the-variants.{Judged}
+use Rattle.fold.specs.Answers.{firstRefusal, answered}
+use Rattle.fold.specs.Sizes.{openingSize}
+use Rattle.fold.specs.Statement.{Relation, Solves}
+use Rattle.fold.specs.Verdict.{Statement, Draws, Transcript, check₁, check₂, verdict}
+use Rattle.fold.specs.Accepted.{accepts, accepted}
+use Rattle.fold.specs.Refusals.{verifyTests, nextTests}
+use Rattle.fold.specs.RefusalLaws.{Passes, refusal-passes, passes-refusal, allOf-cons, allOf-tail, sized-iff, chunks-iff}
+use Rattle.fold.specs.Verification.{verification}
+use Rattle.fold.specs.VerificationLaws.{opening-unrefused}
+use Rattle.fold.specs.Chunks.{padded, unpadded, ZeroPadding}
+use Rattle.fold.specs.PaddingLaws.{length-unpadded, padded-unpadded, coefficients-unpadded}
+use Rattle.fold.specs.NextInstance.{m, n′, r′, nextRelation}
+use Rattle.fold.specs.NextSolves.{solved, accepts-of}
+
+-- the next instance is not refused (so n' is at most 256), and checks 1 and 2 pass
+module _ (𝓢 : Statement) (𝓓 : Draws) (𝓣 : Transcript) (ν μ : ℕ) (out : List ℤ) (unrefused : firstRefusal (nextTests 𝓢 𝓓 𝓣 ν μ out) ≡ 0)
+    (one : check₁ (𝓢 .w) (𝓢 .relation .bound) (𝓣 .p) ≡ true)
+    (two : check₂ (𝓢 .relation .d) (𝓢 .relation .n) (𝓢 .relation .r) (𝓢 .relation .L) (𝓢 .w) (𝓢 .relation .term) (𝓓 .ψ) (𝓓 .ω) (𝓣 .p) (𝓣 .b″)
+    ≡ true) where
+  open Statement 𝓢 using (relation, tz, κ, t₁, t₂)
+  open Relation relation using (d, n, r)
+
+  tests : Passes (nextTests 𝓢 𝓓 𝓣 ν μ out)
+  unfolding nextTests
+  tests = refusal-passes (nextTests 𝓢 𝓓 𝓣 ν μ out) refl unrefused
+
+  some-ν : 0 < ν
+  unfolding nextTests
+  some-ν = chunks-iff tz ν μ .0 (tests .1 .1 .1 .1 .0) .0
+
+  some-μ : 0 < μ
+  unfolding nextTests
+  some-μ = chunks-iff tz ν μ .0 (tests .1 .1 .1 .1 .0) .1 .0
+
+  pub next-instance : (o : List ℤ) → firstRefusal (verifyTests 𝓢 𝓓 𝓣 o) ≡ 0
+      → (verdict 𝓢 𝓓 𝓣 o ≡ Accepted) ↔ Solves (nextRelation 𝓢 𝓓 𝓣 ν μ) (padded d tz n ν (m 𝓢 𝓓 𝓣 ν μ) μ o)
+  next-instance o e =
+      let size = opening-unrefused 𝓢 𝓓 𝓣 o e .0 in (
+        λ v. solved 𝓢 𝓓 𝓣 ν μ o some-ν some-μ size (accepts 𝓢 𝓓 𝓣 o v),
+        λ h. accepted 𝓢 𝓓 𝓣 o (accepts-of 𝓢 𝓓 𝓣 ν μ o some-ν some-μ size one two h),
+      )
+
+  -- a next witness s of r' parts of n' elements, with zeros past the end of each chunk
+  module _ (s : List ℤ) (sized : length s ≡ r′ 𝓢 𝓓 𝓣 ν μ * n′ 𝓢 𝓓 𝓣 ν μ * d) (zeros : ZeroPadding d tz n ν (m 𝓢 𝓓 𝓣 ν μ) μ s) where
+    abbrev pub cut-off : List ℤ
+    cut-off = unpadded d tz n ν (m 𝓢 𝓓 𝓣 ν μ) μ s
+
+    length-s : length s ≡ r′ 𝓢 𝓓 𝓣 ν μ * (n′ 𝓢 𝓓 𝓣 ν μ * d)
+    length-s = sized ∙ mul-assoc (r′ 𝓢 𝓓 𝓣 ν μ) (n′ 𝓢 𝓓 𝓣 ν μ) d
+
+    length-opening : length cut-off ≡ openingSize tz n r κ t₁ t₂ * d
+    unfolding openingSize
+    length-opening = length-unpadded d tz n ν (m 𝓢 𝓓 𝓣 ν μ) μ some-ν some-μ s length-s zeros
+
+    pub next-solution : Solves (nextRelation 𝓢 𝓓 𝓣 ν μ) s → verdict 𝓢 𝓓 𝓣 cut-off ≡ Accepted
+    next-solution h =
+        let back = padded-unpadded d tz n ν (m 𝓢 𝓓 𝓣 ν μ) μ some-ν some-μ s length-s zeros in
+        accepted 𝓢 𝓓 𝓣 cut-off
+        (accepts-of 𝓢 𝓓 𝓣 ν μ cut-off some-ν some-μ length-opening one two (subst (Solves (nextRelation 𝓢 𝓓 𝓣 ν μ)) (sym back) h))
+
+    -- where its numbers are in range the verifier does not refuse it
+    pub solution-unrefused : coefficients s ≡ true → firstRefusal (verifyTests 𝓢 𝓓 𝓣 cut-off) ≡ 0
+    unfolding nextTests verifyTests
+    solution-unrefused range =
+        let from₅ = tests .1 .1 .1 .1 in
+        let from₈ = from₅ .1 .1 .1 in
+        let row₇ = allOf-cons _ _ (sized-iff cut-off _ .1 length-opening) (allOf-tail _ _ (from₅ .1 .1 .0)) in
+        let row₈ = allOf-cons _ _ (coefficients-unpadded d tz n ν (m 𝓢 𝓓 𝓣 ν μ) μ s range) (from₈ .0) in
+        passes-refusal (verifyTests 𝓢 𝓓 𝓣 cut-off)
+        (tests .0, (tests .1 .0, (tests .1 .1 .0, (tests .1 .1 .1 .0, (from₅ .1 .0, (row₇, (row₈, (from₈ .1 .0, (from₈ .1 .1 .0, tt)))))))))
+
+    pub solution-accepted : coefficients s ≡ true → Solves (nextRelation 𝓢 𝓓 𝓣 ν μ) s → verification 𝓢 𝓓 𝓣 cut-off ≡ Judged Accepted
+    unfolding answered
+    solution-accepted range h = rw (solution-unrefused range) (ap Judged (next-solution h))
