@@ -5,12 +5,12 @@
 --     width-z, width-rest, width-bound
 use mathlib.Core.Path.{_≡_, refl, sym, ap, ap₂, _∙_}
 use mathlib.Core.Bool.{Bool, true, false, cond}
-use Prim.Native.Nat.{ℕ, zero, suc, _+_, _-_, _*_, _/_, _%_, _≤_, _<_, min, max}
-use native.Mathlib.Nat.{add-zero, add-suc, add-assoc, add-mul, suc-mul, zero-mul, mod-lt, mod-eq-of-lt, div-add-mod', mul-add-mod-self-right, le-step, lt-suc-self}
-use native.Mathlib.Nat.{mul-le-mul-right, add-sub-cancel-left}
+use Prim.Native.Nat.{ℕ, zero, suc, _+_, _-_, _*_, _%_, _≤_, _<_, min, max}
+use native.Mathlib.Nat.{add-zero, add-suc, add-mul, suc-mul, zero-mul, le-step, lt-suc-self}
+use native.Mathlib.Nat.{mod-lt, mod-eq-of-lt, div-add-mod', mul-add-mod-self-right, mul-le-mul-right, add-sub-cancel-left}
 use native.Mathlib.Omega.{arith}
 use lib.Dec.{ltb}
-use borrow.Author.Tests.{ltb-true, ltb-false, lt-ltb, le-ltb}
+use borrow.Author.Tests.{lt-ltb, le-ltb}
 use Rattle.algebra.specs.Triangle.{start}
 use Rattle.fold.specs.Sizes.{ceiling, nextRank, nextParts}
 use Rattle.fold.specs.Chunks.{chunk, width}
@@ -19,7 +19,7 @@ use Rattle.fold.specs.Chunks.{chunk, width}
 
 pub start-append : (w : ℕ → ℕ) (a k : ℕ) → start w (a + k) ≡ start w a + start (λ i. w (a + i)) k
 unfolding start
-start-append w a zero = rw add-zero (omega arith)
+start-append w a zero = rw (add-zero a) (omega arith)
 start-append w a (suc k) = rw add-suc (omega (arith, start-append w a k))
 
 pub start-cong : (w w′ : ℕ → ℕ) (k : ℕ) → ((i : ℕ) → i < k → w i ≡ w′ i) → start w k ≡ start w′ k

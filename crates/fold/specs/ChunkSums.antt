@@ -2,20 +2,19 @@
 --     chunk-products     a table of coefficients that is cut in the same way: the parts' inner products add up to Σ table_p x_p
 --     chunk-inner        the inner product of two parts of one width
 --     grid-squares       check 6: the inner products of the parts of z's digits add up to <z, z>
-use mathlib.Core.Path.{_≡_, refl, sym, ap, ap₂, _∙_}
+use mathlib.Core.Path.{_≡_, sym, ap, ap₂, _∙_}
 use mathlib.Core.Logic.{_≢_}
-use mathlib.Core.Bool.{Bool, true, false, cond}
+use mathlib.Core.Bool.{Bool, cond}
 use mathlib.Core.List.{List}
-use Prim.Native.Nat.{ℕ, zero, suc, _+_, _-_, _*_, _≤_, _<_}
-use native.Mathlib.Nat.{add-sub-of-le, add-assoc, mul-le-mul-right}
+use Prim.Native.Nat.{ℕ, zero, _+_, _-_, _*_, _≤_, _<_}
+use native.Mathlib.Nat.{add-sub-of-le}
 use native.Mathlib.Omega.{arith}
 use lib.Dec.{ltb}
 use lib.ListN.{length, getD}
 use borrow.Author.Tests.{lt-ltb}
-use Rattle.integers.specs.Flat.{block-fits}
 use Rattle.algebra.specs.CommRing.{CommRing, mul-zero}
 use Rattle.algebra.specs.Sum.{sum, sum-cong, sum-vanish, sum-mul, sum-split, sum-swap, sum-single, sum-blocks}
-use Rattle.algebra.specs.Triangle.{start, sum-start, rows, below, below-cong, rows-below, rows-square}
+use Rattle.algebra.specs.Triangle.{start, sum-start, rows, below-cong, rows-below, rows-square}
 use Rattle.algebra.specs.Tables.{dot, dot-sum}
 use Rattle.algebra.specs.DotProduct.{inner, folded}
 use Rattle.algebra.specs.DotProductLaws.{inner-comm}

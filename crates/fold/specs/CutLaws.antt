@@ -8,7 +8,8 @@ use mathlib.Core.List.{List, _++_}
 use Prim.Native.Nat.{ℕ, zero, suc, _+_, _-_, _*_, _≤_, _<_}
 use native.Mathlib.Nat.{add-mul, mul-le-mul-right, zero-mul, mul-assoc}
 use native.Mathlib.Omega.{arith}
-use lib.ListN.{length, getD, take, drop, replicate, length-append, length-take, length-drop, length-replicate, getD-replicate, List·getD-append}
+use lib.ListN.{length, getD, take, drop, replicate}
+use lib.ListN.{length-append, length-take, length-drop, length-replicate, getD-replicate, List·getD-append}
 use lib.Seq.{take-at, take-add, take-all, take-take, getD-take, getD-drop, getD-append-add}
 use lib.IntN.{ℤ, pos}
 use Rattle.integers.specs.Sums.{total-cong, sq, normSq, normSq-append}
@@ -69,7 +70,8 @@ module _ (d r n′ : ℕ) (w : ℕ → ℕ) (fits : (s : ℕ) → w s ≤ n′) 
   unfolding cutPadded cut
   part-within s k h l = el-cong d _ o (s * n′ + k) (start w s + k) number
     where
-      number : (x : ℕ) → x < d → getD (flat r (cutPadded d n′ w o)) ((s * n′ + k) * d + x) (pos 0) ≡ getD o ((start w s + k) * d + x) (pos 0)
+      number : (x : ℕ) → x < d
+          → getD (flat r (cutPadded d n′ w o)) ((s * n′ + k) * d + x) (pos 0) ≡ getD o ((start w s + k) * d + x) (pos 0)
       number x b =
           let inside : k * d + x < w s * d = block-fits (w s) d k x l b in
           let place : start w s * d + (k * d + x) ≡ (start w s + k) * d + x = omega arith in

@@ -1,34 +1,29 @@
 -- Constraints laid out one after the other, read back: the function and the constant of each are those that were laid out.
 use mathlib.Core.Path.{_≡_, refl, sym, ap, ap₂, _∙_}
-use mathlib.Core.Bool.{Bool, true, false, cond}
-use mathlib.Core.List.{List, [], _∷_, _++_, append-assoc}
-use Prim.Native.Nat.{ℕ, zero, suc, _+_, _-_, _*_, _/_, _%_, _^_, _≤_, _<_}
-use native.Mathlib.Nat.{add-zero, add-assoc, mul-assoc, zero-mul}
+use mathlib.Core.List.{List, _++_, append-assoc}
+use Prim.Native.Nat.{ℕ, suc, _+_, _-_, _*_, _≤_, _<_}
+use native.Mathlib.Nat.{add-zero, mul-assoc}
 use native.Mathlib.Omega.{arith}
-use lib.Dec.{ltb, eqb}
 use lib.ListN.{length, getD, drop, length-append}
 use lib.Seq.{drop-at}
 use lib.IntN.{ℤ, pos}
 use Rattle.integers.specs.Flat.{flat, flat-at, length-flat, getD-flat, block-fits}
-use Rattle.algebra.specs.CommRing.{CommRing}
-use Rattle.algebra.specs.Sum.{sum}
-use Rattle.algebra.specs.Triangle.{start, pair, pairs-count, rows, pair-bound}
-use Rattle.algebra.specs.Tables.{dot}
-use Rattle.algebra.specs.DotProduct.{Function, inner, value}
+use Rattle.algebra.specs.Triangle.{pair, pair-bound}
+use Rattle.algebra.specs.DotProduct.{value}
 use Rattle.algebra.specs.DotProductLaws.{value-cong}
-use Rattle.ring.specs.Modulus.{Zq, red}
-use Rattle.ring.specs.Element.{R, el, coeffs, number, lift}
+use Rattle.ring.specs.Element.{R, el, coeffs, number}
 use Rattle.ring.specs.ElementLaws.{lift-coeffs, length-coeffs}
 use Rattle.ring.specs.ElementPlaces.{el-cong, el-zero, el-flat-coeffs}
 use Rattle.fold.specs.Sizes.{pairs, functionSize}
-use Rattle.fold.specs.Statement.{part, function, wholeAt, wholeConstant}
+use Rattle.fold.specs.Statement.{function, wholeAt, wholeConstant}
 use Rattle.fold.specs.Messages.{elements}
 use Rattle.fold.specs.Layout.{length-triangle, getD-triangle, el-append, el-after}
 use Rattle.fold.specs.NextInstance.{Constraint, φ′, laidOut}
 
 module _ (d : ℕ) where
   -- the numbers of u stand at place p
-  el-holds : (xs : List ℤ) (p : ℕ) (u : R d .Carrier) → ((x : ℕ) → x < d → getD xs (p * d + x) (pos 0) ≡ getD (coeffs d u) x (pos 0)) → el d xs p ≡ u
+  el-holds : (xs : List ℤ) (p : ℕ) (u : R d .Carrier)
+      → ((x : ℕ) → x < d → getD xs (p * d + x) (pos 0) ≡ getD (coeffs d u) x (pos 0)) → el d xs p ≡ u
   el-holds xs p u h =
       el-cong d xs (coeffs d u) p 0 (λ x l. h x l ∙ ap (λ y. getD (coeffs d u) y (pos 0)) (sym (zero-place x)))
       ∙ el-zero d (coeffs d u)
@@ -123,6 +118,9 @@ module _ (d n r : ℕ) (w : ℕ → ℕ) (x : Constraint d) where
 module _ (d n r : ℕ) (w : ℕ → ℕ) (count : ℕ) (F : ℕ → Constraint d) where
   all : List ℤ
   all = flat count (λ x. laidOut d n r w (F x))
+
+  pub length-written : length (flat count (λ x. laidOut d n r w (F x))) ≡ count * ((functionSize n r + 1) * d)
+  length-written = length-flat count ((functionSize n r + 1) * d) _ (λ x _. length-laidOut d n r w (F x))
 
   module _ (x : ℕ) (h : x < count) where
     rest : List ℤ

@@ -10,6 +10,7 @@ pub mod Verification
 pub mod Differences
 pub mod Chunks
 pub mod NextInstance
+pub mod NextCall
 -- What calls know and how loops form the functions
 pub mod Facts
 pub mod Entries
@@ -51,3 +52,4 @@ pub mod TableLaws
 pub mod TableSums
 pub mod TrimLaws
 pub mod VerificationLaws
+pub mod NextCallLaws

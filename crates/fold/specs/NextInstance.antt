@@ -13,7 +13,7 @@ use Rattle.algebra.specs.Sum.{sum}
 use Rattle.algebra.specs.Triangle.{start}
 use Rattle.algebra.specs.DotProduct.{Function}
 use Rattle.ring.specs.Element.{R, el, coeffs, number}
-use Rattle.fold.specs.Chunks.{width}
+use Rattle.fold.specs.Chunks.{width, padded}
 use Rattle.fold.specs.Sizes.{tSize, garbageSize, restSize, nextRank, nextParts, nextCount}
 use Rattle.fold.specs.Statement.{Relation}
 use Rattle.fold.specs.Messages.{elements, aggregate, aggregateConstant}
@@ -58,7 +58,10 @@ module _ (d : ℕ) where
   -- "an empty stretch has the same a in check 6 as a full one"
   unfoldable pub squares : (tz ν b : ℕ) → ℕ → ℕ → Rd
   squares tz ν b s s′ =
-      cond (ltb s (tz * ν)) (cond (ltb s′ (tz * ν)) (cond (eqb (s % ν) (s′ % ν)) (number d (cond (eqb s s′) (pos 1) (pos 2)) ⊗ power b (s / ν + s′ / ν)) 𝟘) 𝟘) 𝟘
+      cond (ltb s (tz * ν)) (cond (ltb s′ (tz * ν)) (cond (eqb (s % ν) (s′ % ν)) entry 𝟘) 𝟘) 𝟘
+    where
+      entry : Rd
+      entry = number d (cond (eqb s s′) (pos 1) (pos 2)) ⊗ power b (s / ν + s′ / ν)
 
   -- φ of part s, of w s elements: the table over its chunk; "φ on padding is zero"
   unfoldable pub φ′ : (ℕ → ℕ) → List Rd → ℕ → ℕ → Rd
@@ -178,6 +181,10 @@ module _ (𝓢 : Statement) (𝓓 : Draws) (𝓣 : Transcript) (ν μ : ℕ) whe
 
   abbrev pub r′ : ℕ
   r′ = nextParts tz ν μ
+
+  -- the next witness is the padded opening
+  abbrev pub nextWitness : List ℤ → List ℤ
+  nextWitness o = padded d tz n ν m μ o
 
   unfoldable pub nextWhole : List ℤ
   nextWhole = flat (nextCount κ κ₁ κ₂) (λ x. laidOut d n′ r′ (width tz n ν m μ) (constraint x))

@@ -1,10 +1,10 @@
 -- Demand 2: "When the checks on projection and constant terms pass and the next instance is not too large, an opening is accepted exactly
 -- if, padded, it solves the next instance." Document 01: "A solution of the next instance whose padding is zero is, with the padding cut
--- off, an accepted opening."
+-- off, an accepted opening." For any number tz of z digits.
 use mathlib.Core.Path.{_≡_, refl, sym, ap, subst, _∙_}
 use mathlib.Core.Logic.{_↔_}
 use mathlib.Core.Bool.{true}
-use mathlib.Core.List.{List, [], _∷_}
+use mathlib.Core.List.{List}
 use Prim.Native.Nat.{ℕ, _*_, _<_}
 use native.Mathlib.Nat.{mul-assoc}
 use lib.ListN.{length}
@@ -15,22 +15,20 @@ use Rattle.fold.specs.declared.Answer.the-variants.{Judged}
 use Rattle.fold.specs.Answers.{firstRefusal, answered}
 use Rattle.fold.specs.Sizes.{openingSize}
 use Rattle.fold.specs.Statement.{Relation, Solves}
-use Rattle.fold.specs.Verdict.{Statement, Draws, Transcript, check₁, check₂, verdict}
+use Rattle.fold.specs.Verdict.{Statement, Draws, Transcript, verdict}
 use Rattle.fold.specs.Accepted.{accepts, accepted}
 use Rattle.fold.specs.Refusals.{verifyTests, nextTests}
 use Rattle.fold.specs.RefusalLaws.{Passes, refusal-passes, passes-refusal, allOf-cons, allOf-tail, sized-iff, chunks-iff}
 use Rattle.fold.specs.Verification.{verification}
 use Rattle.fold.specs.VerificationLaws.{opening-unrefused}
-use Rattle.fold.specs.Chunks.{padded, unpadded, ZeroPadding}
+use Rattle.fold.specs.Chunks.{unpadded, ZeroPadding}
 use Rattle.fold.specs.PaddingLaws.{length-unpadded, padded-unpadded, coefficients-unpadded}
-use Rattle.fold.specs.NextInstance.{m, n′, r′, nextRelation}
-use Rattle.fold.specs.NextSolves.{solved, accepts-of}
+use Rattle.fold.specs.NextInstance.{m, n′, r′, nextWitness, nextRelation}
+use Rattle.fold.specs.NextSolves.{FirstChecks, solved, accepts-of}
 
--- the next instance is not refused (so n' is at most 256), and checks 1 and 2 pass
+-- the next instance is not refused, so that n' is at most 256, and checks 1 and 2 pass
 module _ (𝓢 : Statement) (𝓓 : Draws) (𝓣 : Transcript) (ν μ : ℕ) (out : List ℤ) (unrefused : firstRefusal (nextTests 𝓢 𝓓 𝓣 ν μ out) ≡ 0)
-    (one : check₁ (𝓢 .w) (𝓢 .relation .bound) (𝓣 .p) ≡ true)
-    (two : check₂ (𝓢 .relation .d) (𝓢 .relation .n) (𝓢 .relation .r) (𝓢 .relation .L) (𝓢 .w) (𝓢 .relation .term) (𝓓 .ψ) (𝓓 .ω) (𝓣 .p) (𝓣 .b″)
-    ≡ true) where
+    (pass : FirstChecks 𝓢 𝓓 𝓣) where
   open Statement 𝓢 using (relation, tz, κ, t₁, t₂)
   open Relation relation using (d, n, r)
 
@@ -46,43 +44,45 @@ module _ (𝓢 : Statement) (𝓓 : Draws) (𝓣 : Transcript) (ν μ : ℕ) (ou
   unfolding nextTests
   some-μ = chunks-iff tz ν μ .0 (tests .1 .1 .1 .1 .0) .1 .0
 
+  -- "an opening is accepted exactly if, padded, it solves the next instance"
   pub next-instance : (o : List ℤ) → firstRefusal (verifyTests 𝓢 𝓓 𝓣 o) ≡ 0
-      → (verdict 𝓢 𝓓 𝓣 o ≡ Accepted) ↔ Solves (nextRelation 𝓢 𝓓 𝓣 ν μ) (padded d tz n ν (m 𝓢 𝓓 𝓣 ν μ) μ o)
+      → (verdict 𝓢 𝓓 𝓣 o ≡ Accepted) ↔ Solves (nextRelation 𝓢 𝓓 𝓣 ν μ) (nextWitness 𝓢 𝓓 𝓣 ν μ o)
   next-instance o e =
       let size = opening-unrefused 𝓢 𝓓 𝓣 o e .0 in (
         λ v. solved 𝓢 𝓓 𝓣 ν μ o some-ν some-μ size (accepts 𝓢 𝓓 𝓣 o v),
-        λ h. accepted 𝓢 𝓓 𝓣 o (accepts-of 𝓢 𝓓 𝓣 ν μ o some-ν some-μ size one two h),
+        λ h. accepted 𝓢 𝓓 𝓣 o (accepts-of 𝓢 𝓓 𝓣 ν μ o some-ν some-μ size pass h),
       )
 
-  -- a next witness s of r' parts of n' elements, with zeros past the end of each chunk
+  -- a list of r' parts of n' elements, with zeros past the end of each chunk
   module _ (s : List ℤ) (sized : length s ≡ r′ 𝓢 𝓓 𝓣 ν μ * n′ 𝓢 𝓓 𝓣 ν μ * d) (zeros : ZeroPadding d tz n ν (m 𝓢 𝓓 𝓣 ν μ) μ s) where
-    abbrev pub cut-off : List ℤ
-    cut-off = unpadded d tz n ν (m 𝓢 𝓓 𝓣 ν μ) μ s
+    abbrev pub cutOff : List ℤ
+    cutOff = unpadded d tz n ν (m 𝓢 𝓓 𝓣 ν μ) μ s
 
     length-s : length s ≡ r′ 𝓢 𝓓 𝓣 ν μ * (n′ 𝓢 𝓓 𝓣 ν μ * d)
     length-s = sized ∙ mul-assoc (r′ 𝓢 𝓓 𝓣 ν μ) (n′ 𝓢 𝓓 𝓣 ν μ) d
 
-    length-opening : length cut-off ≡ openingSize tz n r κ t₁ t₂ * d
+    length-cutOff : length cutOff ≡ openingSize tz n r κ t₁ t₂ * d
     unfolding openingSize
-    length-opening = length-unpadded d tz n ν (m 𝓢 𝓓 𝓣 ν μ) μ some-ν some-μ s length-s zeros
+    length-cutOff = length-unpadded d tz n ν (m 𝓢 𝓓 𝓣 ν μ) μ some-ν some-μ s length-s zeros
 
-    pub next-solution : Solves (nextRelation 𝓢 𝓓 𝓣 ν μ) s → verdict 𝓢 𝓓 𝓣 cut-off ≡ Accepted
+    -- "A solution of the next instance whose padding is zero is, with the padding cut off, an accepted opening"
+    pub next-solution : Solves (nextRelation 𝓢 𝓓 𝓣 ν μ) s → verdict 𝓢 𝓓 𝓣 cutOff ≡ Accepted
     next-solution h =
         let back = padded-unpadded d tz n ν (m 𝓢 𝓓 𝓣 ν μ) μ some-ν some-μ s length-s zeros in
-        accepted 𝓢 𝓓 𝓣 cut-off
-        (accepts-of 𝓢 𝓓 𝓣 ν μ cut-off some-ν some-μ length-opening one two (subst (Solves (nextRelation 𝓢 𝓓 𝓣 ν μ)) (sym back) h))
+        accepted 𝓢 𝓓 𝓣 cutOff
+        (accepts-of 𝓢 𝓓 𝓣 ν μ cutOff some-ν some-μ length-cutOff pass (subst (Solves (nextRelation 𝓢 𝓓 𝓣 ν μ)) (sym back) h))
 
-    -- where its numbers are in range the verifier does not refuse it
-    pub solution-unrefused : coefficients s ≡ true → firstRefusal (verifyTests 𝓢 𝓓 𝓣 cut-off) ≡ 0
+    -- and, where its numbers are in range, the verifier does not refuse it
+    solution-unrefused : coefficients s ≡ true → firstRefusal (verifyTests 𝓢 𝓓 𝓣 cutOff) ≡ 0
     unfolding nextTests verifyTests
     solution-unrefused range =
         let from₅ = tests .1 .1 .1 .1 in
         let from₈ = from₅ .1 .1 .1 in
-        let row₇ = allOf-cons _ _ (sized-iff cut-off _ .1 length-opening) (allOf-tail _ _ (from₅ .1 .1 .0)) in
+        let row₇ = allOf-cons _ _ (sized-iff cutOff _ .1 length-cutOff) (allOf-tail _ _ (from₅ .1 .1 .0)) in
         let row₈ = allOf-cons _ _ (coefficients-unpadded d tz n ν (m 𝓢 𝓓 𝓣 ν μ) μ s range) (from₈ .0) in
-        passes-refusal (verifyTests 𝓢 𝓓 𝓣 cut-off)
+        passes-refusal (verifyTests 𝓢 𝓓 𝓣 cutOff)
         (tests .0, (tests .1 .0, (tests .1 .1 .0, (tests .1 .1 .1 .0, (from₅ .1 .0, (row₇, (row₈, (from₈ .1 .0, (from₈ .1 .1 .0, tt)))))))))
 
-    pub solution-accepted : coefficients s ≡ true → Solves (nextRelation 𝓢 𝓓 𝓣 ν μ) s → verification 𝓢 𝓓 𝓣 cut-off ≡ Judged Accepted
+    pub solution-accepted : coefficients s ≡ true → Solves (nextRelation 𝓢 𝓓 𝓣 ν μ) s → verification 𝓢 𝓓 𝓣 cutOff ≡ Judged Accepted
     unfolding answered
     solution-accepted range h = rw (solution-unrefused range) (ap Judged (next-solution h))

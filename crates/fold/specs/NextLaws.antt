@@ -1,21 +1,18 @@
--- What the next instance's constraints say at a padded opening: "Checks 5 to 8 are written as left side minus right side, 3 and 4 as the sum
--- over the digits minus u1 or u2." The right side of 8, u1 and u2 are the constraints' constants.
+-- What the next instance's constraints say at a padded opening: "Checks 5 to 8 are written as left side minus right side, 3 and 4 as the
+-- sum over the digits minus u1 or u2." The right side of 8, u1 and u2 are the constraints' constants.
 --     value-five .. value-four     the value of each constraint's function at the padded opening
 use mathlib.Core.Path.{_≡_, sym, ap, ap₂, _∙_}
-use mathlib.Core.Bool.{cond}
 use mathlib.Core.List.{List, _++_}
 use Prim.Native.Nat.{ℕ, _+_, _*_, _≤_, _<_}
 use native.Mathlib.Nat.{add-assoc}
 use native.Mathlib.Omega.{arith}
-use lib.Dec.{eqb}
-use lib.ListN.{length, length-append, length-replicate}
+use lib.ListN.{length, length-append}
 use lib.IntN.{ℤ}
-use Rattle.integers.specs.Lists.{length-tab}
 use Rattle.algebra.specs.CommRing.{CommRing, sub, zero-add}
 use Rattle.algebra.specs.Sum.{sum}
 use Rattle.algebra.specs.Triangle.{start, rows}
-use Rattle.algebra.specs.Tables.{dot, dot-tab, dot-zeros, dot-cong}
-use Rattle.algebra.specs.DotProduct.{Function, inner, value, mixed}
+use Rattle.algebra.specs.Tables.{dot, dot-cong}
+use Rattle.algebra.specs.DotProduct.{inner, value, mixed}
 use Rattle.algebra.specs.Solver.{_:+_, _:-_, :neg, num, solve1, solve2}
 use Rattle.ring.specs.Element.{R, el}
 use Rattle.ring.specs.Digits.{joined}
@@ -28,11 +25,11 @@ use Rattle.fold.specs.Chunks.{width, padded}
 use Rattle.fold.specs.ChunkLaws.{width-bound, widths-cover}
 use Rattle.fold.specs.PaddingLaws.{part-padded, part-padding}
 use Rattle.fold.specs.ChunkSums.{chunk-products}
-use Rattle.fold.specs.TableSums.{dot-two, rows-zero, rows-diagonal, inner-aggregate}
+use Rattle.fold.specs.TableSums.{dot-two, rows-zero, inner-aggregate}
 use Rattle.fold.specs.SelfProduct.{self-product}
-use Rattle.fold.specs.NextInstance.{Constraint, power, no-a, squares, φ′, check3, check4, check5, check6, check7, check8}
-use Rattle.fold.specs.TableLaws.{squares-once, squares-twice, length-zTable, length-tTable, length-garbageTable}
-use Rattle.fold.specs.TableLaws.{dot-zTable, dot-garbageTable, dot-mixed, dot-row}
+use Rattle.fold.specs.NextInstance.{Constraint, power, zeros, no-a, squares, φ′, check3, check4, check5, check6, check7, check8}
+use Rattle.fold.specs.TableLaws.{Summed, squares-once, squares-twice, zTable-sums, garbageTable-sums, mixed-sums}
+use Rattle.fold.specs.TableLaws.{row-sums, diagonal-sums, tab-sums, empty-sums}
 
 -- ---- what is left where blocks are empty
 
@@ -110,121 +107,108 @@ module _ (𝓢 : Statement) (𝓓 : Draws) (𝓣 : Transcript) (ν μ : ℕ) (o 
         (chunk-products (R d) parts rank widths (width-bound tz n ν rest μ) (el d o) stretch within past table
         (e ∙ sym (widths-cover tz n ν rest μ some-ν some-μ)))
 
-    -- a table by its four blocks
-    module _ (zs ts gs hs : List Rd)
-        (z-long : length zs ≡ tz * n) (t-long : length ts ≡ tSize r κ t₁) (g-long : length gs ≡ garbageSize r t₂) (h-long : length hs ≡ garbageSize r t₁) where
+    -- a table by its four blocks, whose sums over those of the opening are u, v, y and z
+    module _ {u v y z : Rd} {zs ts gs hs : List Rd}
+        (zs-sums : Summed d (tz * n) (el d o) u zs) (ts-sums : Summed d (tSize r κ t₁) (tBlock 𝓢 𝓓 𝓣 o) v ts)
+        (gs-sums : Summed d (garbageSize r t₂) (gBlock 𝓢 𝓓 𝓣 o) y gs) (hs-sums : Summed d (garbageSize r t₁) (hBlock 𝓢 𝓓 𝓣 o) z hs) where
       length-blocks : length (zs ++ (ts ++ (gs ++ hs))) ≡ tz * n + rest
       unfolding restSize
       length-blocks =
           length-append zs (ts ++ (gs ++ hs))
-          ∙ ap₂ _+_ z-long (length-append ts (gs ++ hs) ∙ ap₂ _+_ t-long (length-append gs hs ∙ ap₂ _+_ g-long h-long))
+          ∙ ap₂ _+_ (zs-sums .long)
+          (length-append ts (gs ++ hs) ∙ ap₂ _+_ (ts-sums .long) (length-append gs hs ∙ ap₂ _+_ (gs-sums .long) (hs-sums .long)))
 
-      dot-blocks : dot (R d) (zs ++ (ts ++ (gs ++ hs))) (el d o)
-          ≡ dot (R d) zs (el d o) ⊕ (dot (R d) ts (tBlock 𝓢 𝓓 𝓣 o) ⊕ (dot (R d) gs (gBlock 𝓢 𝓓 𝓣 o) ⊕ dot (R d) hs (hBlock 𝓢 𝓓 𝓣 o)))
+      -- t starts after z, g after t, h after g
+      dot-blocks : dot (R d) (zs ++ (ts ++ (gs ++ hs))) (el d o) ≡ u ⊕ (v ⊕ (y ⊕ z))
       unfolding block tPlace gPlace hPlace
       dot-blocks =
-          dot-two (R d) zs (ts ++ (gs ++ hs)) (tz * n) (el d o) z-long
-          ∙ ap (λ x. dot (R d) zs (el d o) ⊕ x) (
-          dot-two (R d) ts (gs ++ hs) (tSize r κ t₁) (λ p. el d o (tz * n + p)) t-long
-          ∙ ap (λ x. dot (R d) ts (λ p. el d o (tz * n + p)) ⊕ x) (
-          dot-two (R d) gs hs (garbageSize r t₂) (λ p. el d o (tz * n + (tSize r κ t₁ + p))) g-long
+          dot-two (R d) zs (ts ++ (gs ++ hs)) (tz * n) (el d o) (zs-sums .long)
+          ∙ ap₂ _⊕_ (zs-sums .sums) (
+          dot-two (R d) ts (gs ++ hs) (tSize r κ t₁) (λ p. el d o (tz * n + p)) (ts-sums .long)
+          ∙ ap₂ _⊕_ (ts-sums .sums) (
+          dot-two (R d) gs hs (garbageSize r t₂) (λ p. el d o (tz * n + (tSize r κ t₁ + p))) (gs-sums .long)
           ∙ ap₂ _⊕_
-          (dot-cong (R d) gs _ _ (λ p _. ap (el d o) (sym (add-assoc (tz * n) (tSize r κ t₁) p))))
-          (dot-cong (R d) hs _ _ (λ p _. ap (el d o) (place p)))))
+          (dot-cong (R d) gs _ _ (λ p _. ap (el d o) (sym (add-assoc (tz * n) (tSize r κ t₁) p))) ∙ gs-sums .sums)
+          (dot-cong (R d) hs _ _ (λ p _. ap (el d o) (place p)) ∙ hs-sums .sums)))
         where
           place : (p : ℕ) → tz * n + (tSize r κ t₁ + (garbageSize r t₂ + p)) ≡ tz * n + tSize r κ t₁ + garbageSize r t₂ + p
           place p = omega arith
 
-      value-blocks : (a : ℕ → ℕ → Rd) → valueOf a (zs ++ (ts ++ (gs ++ hs)))
-          ≡ rows (R d) parts (λ i j. a i j ⊗ inner (R d) rank (stretch i) (stretch j))
-          ⊕ (dot (R d) zs (el d o) ⊕ (dot (R d) ts (tBlock 𝓢 𝓓 𝓣 o) ⊕ (dot (R d) gs (gBlock 𝓢 𝓓 𝓣 o) ⊕ dot (R d) hs (hBlock 𝓢 𝓓 𝓣 o))))
-      value-blocks a =
-          value-table a (zs ++ (ts ++ (gs ++ hs))) length-blocks
-          ∙ ap (λ x. rows (R d) parts (λ i j. a i j ⊗ inner (R d) rank (stretch i) (stretch j)) ⊕ x) dot-blocks
+      value-blocks : (a : ℕ → ℕ → Rd) {x : Rd}
+          → rows (R d) parts (λ i j. a i j ⊗ inner (R d) rank (stretch i) (stretch j)) ≡ x
+          → valueOf a (zs ++ (ts ++ (gs ++ hs))) ≡ x ⊕ (u ⊕ (v ⊕ (y ⊕ z)))
+      value-blocks a e = value-table a (zs ++ (ts ++ (gs ++ hs))) length-blocks ∙ ap₂ _⊕_ e dot-blocks
 
-      -- no a
-      value-linear : (x y z w : Rd) → dot (R d) zs (el d o) ≡ x → dot (R d) ts (tBlock 𝓢 𝓓 𝓣 o) ≡ y
-          → dot (R d) gs (gBlock 𝓢 𝓓 𝓣 o) ≡ z → dot (R d) hs (hBlock 𝓢 𝓓 𝓣 o) ≡ w
-          → valueOf (no-a d) (zs ++ (ts ++ (gs ++ hs))) ≡ x ⊕ (y ⊕ (z ⊕ w))
-      value-linear x y z w e f g h =
-          value-blocks (no-a d)
-          ∙ ap₂ _⊕_ (rows-zero (R d) parts (λ i j. inner (R d) rank (stretch i) (stretch j)))
-          (ap₂ _⊕_ e (ap₂ _⊕_ f (ap₂ _⊕_ g h)))
-          ∙ zero-add (R d) (x ⊕ (y ⊕ (z ⊕ w)))
+      value-linear : valueOf (no-a d) (zs ++ (ts ++ (gs ++ hs))) ≡ u ⊕ (v ⊕ (y ⊕ z))
+      value-linear =
+          value-blocks (no-a d) (rows-zero (R d) parts (λ i j. inner (R d) rank (stretch i) (stretch j)))
+          ∙ zero-add (R d) (u ⊕ (v ⊕ (y ⊕ z)))
+
+    no-z : Summed d (tz * n) (el d o) 𝟘 (zeros d (tz * n))
+    no-z = empty-sums d (tz * n) (el d o)
+
+    no-t : Summed d (tSize r κ t₁) (tBlock 𝓢 𝓓 𝓣 o) 𝟘 (zeros d (tSize r κ t₁))
+    no-t = empty-sums d (tSize r κ t₁) (tBlock 𝓢 𝓓 𝓣 o)
+
+    no-g : Summed d (garbageSize r t₂) (gBlock 𝓢 𝓓 𝓣 o) 𝟘 (zeros d (garbageSize r t₂))
+    no-g = empty-sums d (garbageSize r t₂) (gBlock 𝓢 𝓓 𝓣 o)
+
+    no-h : Summed d (garbageSize r t₁) (hBlock 𝓢 𝓓 𝓣 o) 𝟘 (zeros d (garbageSize r t₁))
+    no-h = empty-sums d (garbageSize r t₁) (hBlock 𝓢 𝓓 𝓣 o)
 
     -- ---- the checks
 
-    abbrev five : ℕ → Constraint d
-    five = check5 𝓢 𝓓 𝓣 ν μ
-
-    abbrev six : Constraint d
-    six = check6 𝓢 𝓓 𝓣 ν μ
-
-    abbrev seven : Constraint d
-    seven = check7 𝓢 𝓓 𝓣 ν μ
-
-    abbrev eight : Constraint d
-    eight = check8 𝓢 𝓓 𝓣 ν μ
-
-    abbrev three : ℕ → Constraint d
-    three = check3 𝓢 𝓓 𝓣 ν μ
-
-    abbrev four : ℕ → Constraint d
-    four = check4 𝓢 𝓓 𝓣 ν μ
+    -- the value of a constraint's function
+    abbrev valued : Constraint d → Rd
+    valued x = valueOf (x .a) (x .table)
 
     -- A z - Σ c_i t_i
     pub value-five : (k : ℕ) → k < κ
-        → valueOf (five k .a) (five k .table)
+        → valued (check5 𝓢 𝓓 𝓣 ν μ k)
         ≡ sub (R d) (times d n A k (zᵒ 𝓢 𝓓 𝓣 o)) (sum (R d) r (λ i. el d c i ⊗ tᵒ 𝓢 𝓓 𝓣 o i k))
     unfolding times
     value-five k l =
-        value-linear _ _ _ _ (length-zTable d n tz b _) (length-tTable d r κ t₁ _) (length-replicate (garbageSize r t₂) 𝟘) (length-replicate (garbageSize r t₁) 𝟘) _ _ _ _
-        (dot-zTable d n tz b (λ y. el d A (k * n + y)) (el d o)) (dot-row d r κ b₁ t₁ k (el d c) (tBlock 𝓢 𝓓 𝓣 o) l) (dot-zeros (R d) (garbageSize r t₂) _) (dot-zeros (R d) (garbageSize r t₁) _)
+        value-linear
+        (zTable-sums d n tz b (λ y. el d A (k * n + y)) (el d o)) (row-sums d r κ b₁ t₁ k (el d c) (tBlock 𝓢 𝓓 𝓣 o) l) no-g no-h
         ∙ in-five (R d) _ _
 
     -- <z,z> - Σ g_ii c_i² - 2Σ g_ij c_i c_j
-    pub value-six : valueOf (six .a) (six .table)
+    pub value-six : valued (check6 𝓢 𝓓 𝓣 ν μ)
         ≡ sub (R d) (inner (R d) n (zᵒ 𝓢 𝓓 𝓣 o) (zᵒ 𝓢 𝓓 𝓣 o)) (mixed (R d) r (gᵒ 𝓢 𝓓 𝓣 o) (el d c))
     unfolding zOf joined
     value-six =
-        value-blocks _ _ _ _ (length-replicate (tz * n) 𝟘) (length-replicate (tSize r κ t₁) 𝟘) (length-garbageTable d r b₂ t₂ _) (length-replicate (garbageSize r t₁) 𝟘) (squares d tz ν b)
-        ∙ ap₂ _⊕_
+        value-blocks no-z no-t (mixed-sums d r b₂ t₂ (el d c) (gBlock 𝓢 𝓓 𝓣 o)) no-h (squares d tz ν b)
         (self-product (R d) tz n ν rest μ some-ν (power d b) (el d o) stretch within past (squares d tz ν b)
         (squares-once d tz ν b) (squares-twice d tz ν b))
-        (ap₂ _⊕_ (dot-zeros (R d) (tz * n) _) (ap₂ _⊕_ (dot-zeros (R d) (tSize r κ t₁) _) (ap₂ _⊕_ (dot-mixed d r b₂ t₂ (el d c) (gBlock 𝓢 𝓓 𝓣 o)) (dot-zeros (R d) (garbageSize r t₁) _))))
         ∙ in-six (R d) _ _
 
     -- Σ <φ_i,z> c_i - Σ h_ii c_i² - 2Σ h_ij c_i c_j
-    pub value-seven : valueOf (seven .a) (seven .table)
-        ≡ sub (R d) (sum (R d) r (λ i. inner (R d) n (aggregated 𝓢 𝓓 𝓣 o .φ i) (zᵒ 𝓢 𝓓 𝓣 o) ⊗ el d c i)) (mixed (R d) r (hᵒ 𝓢 𝓓 𝓣 o) (el d c))
+    pub value-seven : valued (check7 𝓢 𝓓 𝓣 ν μ)
+        ≡ sub (R d)
+        (sum (R d) r (λ i. inner (R d) n (aggregated 𝓢 𝓓 𝓣 o .φ i) (zᵒ 𝓢 𝓓 𝓣 o) ⊗ el d c i))
+        (mixed (R d) r (hᵒ 𝓢 𝓓 𝓣 o) (el d c))
     value-seven =
-        value-linear _ _ _ _ (length-zTable d n tz b _) (length-replicate (tSize r κ t₁) 𝟘) (length-replicate (garbageSize r t₂) 𝟘) (length-garbageTable d r b₁ t₁ _) _ _ _ _
-        (dot-zTable d n tz b _ (el d o) ∙ inner-aggregate (R d) r n (aggregated 𝓢 𝓓 𝓣 o .φ) (el d c) (zᵒ 𝓢 𝓓 𝓣 o))
-        (dot-zeros (R d) (tSize r κ t₁) _) (dot-zeros (R d) (garbageSize r t₂) _) (dot-mixed d r b₁ t₁ (el d c) (hBlock 𝓢 𝓓 𝓣 o))
+        value-linear (zTable-sums d n tz b _ (el d o)) no-t no-g (mixed-sums d r b₁ t₁ (el d c) (hBlock 𝓢 𝓓 𝓣 o))
         ∙ in-seven (R d) _ _
+        ∙ ap (λ x. sub (R d) x (mixed (R d) r (hᵒ 𝓢 𝓓 𝓣 o) (el d c)))
+        (inner-aggregate (R d) r n (aggregated 𝓢 𝓓 𝓣 o .φ) (el d c) (zᵒ 𝓢 𝓓 𝓣 o))
 
     -- Σ a_ij g_ij + Σ h_ii
-    pub value-eight : valueOf (eight .a) (eight .table)
+    pub value-eight : valued (check8 𝓢 𝓓 𝓣 ν μ)
         ≡ rows (R d) r (λ i j. aggregated 𝓢 𝓓 𝓣 o .a i j ⊗ gᵒ 𝓢 𝓓 𝓣 o i j) ⊕ sum (R d) r (λ i. hᵒ 𝓢 𝓓 𝓣 o i i)
     value-eight =
-        value-linear _ _ _ _ (length-replicate (tz * n) 𝟘) (length-replicate (tSize r κ t₁) 𝟘) (length-garbageTable d r b₂ t₂ _) (length-garbageTable d r b₁ t₁ _) _ _ _ _
-        (dot-zeros (R d) (tz * n) _) (dot-zeros (R d) (tSize r κ t₁) _) (dot-garbageTable d r b₂ t₂ (aggregated 𝓢 𝓓 𝓣 o .a) (gBlock 𝓢 𝓓 𝓣 o))
-        (dot-garbageTable d r b₁ t₁ (λ i j. cond (eqb i j) (R d .one) 𝟘) (hBlock 𝓢 𝓓 𝓣 o) ∙ rows-diagonal (R d) r (hᵒ 𝓢 𝓓 𝓣 o))
+        value-linear no-z no-t (garbageTable-sums d r b₂ t₂ (aggregated 𝓢 𝓓 𝓣 o .a) (gBlock 𝓢 𝓓 𝓣 o))
+        (diagonal-sums d r b₁ t₁ (hBlock 𝓢 𝓓 𝓣 o))
         ∙ in-eight (R d) _ _
 
     -- B·t + C·g
-    pub value-three : (k : ℕ) → valueOf (three k .a) (three k .table) ≡ outer₁ d r κ t₁ t₂ B C k (tBlock 𝓢 𝓓 𝓣 o) (gBlock 𝓢 𝓓 𝓣 o)
+    pub value-three : (k : ℕ) → valued (check3 𝓢 𝓓 𝓣 ν μ k) ≡ outer₁ d r κ t₁ t₂ B C k (tBlock 𝓢 𝓓 𝓣 o) (gBlock 𝓢 𝓓 𝓣 o)
     unfolding outer₁ times
     value-three k =
-        value-linear _ _ _ _ (length-replicate (tz * n) 𝟘) (length-tab (tSize r κ t₁) _) (length-tab (garbageSize r t₂) _) (length-replicate (garbageSize r t₁) 𝟘) _ _ _ _
-        (dot-zeros (R d) (tz * n) _) (dot-tab (R d) (tSize r κ t₁) _ (tBlock 𝓢 𝓓 𝓣 o)) (dot-tab (R d) (garbageSize r t₂) _ (gBlock 𝓢 𝓓 𝓣 o))
-        (dot-zeros (R d) (garbageSize r t₁) _)
+        value-linear no-z (tab-sums d (tSize r κ t₁) _ (tBlock 𝓢 𝓓 𝓣 o)) (tab-sums d (garbageSize r t₂) _ (gBlock 𝓢 𝓓 𝓣 o)) no-h
         ∙ in-three (R d) _ _
 
     -- D·h
-    pub value-four : (k : ℕ) → valueOf (four k .a) (four k .table) ≡ outer₂ d r t₁ D k (hBlock 𝓢 𝓓 𝓣 o)
+    pub value-four : (k : ℕ) → valued (check4 𝓢 𝓓 𝓣 ν μ k) ≡ outer₂ d r t₁ D k (hBlock 𝓢 𝓓 𝓣 o)
     unfolding outer₂ times
-    value-four k =
-        value-linear _ _ _ _ (length-replicate (tz * n) 𝟘) (length-replicate (tSize r κ t₁) 𝟘) (length-replicate (garbageSize r t₂) 𝟘) (length-tab (garbageSize r t₁) _) _ _ _ _
-        (dot-zeros (R d) (tz * n) _) (dot-zeros (R d) (tSize r κ t₁) _) (dot-zeros (R d) (garbageSize r t₂) _) (dot-tab (R d) (garbageSize r t₁) _ (hBlock 𝓢 𝓓 𝓣 o))
-        ∙ in-four (R d) _
+    value-four k = value-linear no-z no-t no-g (tab-sums d (garbageSize r t₁) _ (hBlock 𝓢 𝓓 𝓣 o)) ∙ in-four (R d) _

@@ -1,24 +1,24 @@
 -- A padded opening solves the next instance exactly when checks 3 to 9 hold, for any opening of the right length and ν, μ above 0.
---     solved       from checks 3 to 9, with 1 and 2, to the next instance
---     accepts-of   and back
-use mathlib.Core.Path.{_≡_, refl, sym, ap, ap₂, _∙_}
+--     FirstChecks     checks 1 and 2 pass
+--     solved          from checks 3 to 9 to the next instance
+--     accepts-of      and back, with checks 1 and 2
+use mathlib.Core.Path.{_≡_, sym, ap, _∙_}
 use mathlib.Core.Bool.{true}
-use mathlib.Core.List.{List, [], _++_}
-use Prim.Native.Nat.{ℕ, _+_, _*_, _≤_, _<_}
-use native.Mathlib.Nat.{add-mul}
+use mathlib.Core.List.{List}
+use Prim.Native.Nat.{ℕ, _+_, _*_, _<_}
 use native.Mathlib.Omega.{arith}
-use lib.ListN.{length, getD, take, drop, length-drop, take-append-drop}
+use lib.ListN.{length, take, drop, length-drop, take-append-drop}
 use lib.Seq.{drop-drop, take-all}
-use lib.IntN.{ℤ, pos}
+use lib.IntN.{ℤ}
 use borrow.Author.Tests.{leb-true, eqb-true}
 use Rattle.integers.specs.Sums.{normSq, normSq-append}
-use Rattle.algebra.specs.CommRing.{CommRing, sub-zero-iff}
+use Rattle.algebra.specs.CommRing.{sub-zero-iff}
 use Rattle.algebra.specs.Residue.{residue-eq}
 use Rattle.algebra.specs.DotProduct.{value}
 use Rattle.ring.specs.Element.{R}
 use Rattle.ring.specs.ElementEquality.{every-true}
 use Rattle.fold.specs.Sizes.{tSize, garbageSize, restSize, openingSize, nextRank, nextParts, nextCount}
-use Rattle.fold.specs.Statement.{Relation, Meets, Solves, part, function, wholeAt, wholeConstant}
+use Rattle.fold.specs.Statement.{Relation, Solves, part, function, wholeAt, wholeConstant}
 use Rattle.fold.specs.Messages.{five}
 use Rattle.fold.specs.Verdict.{Statement, Draws, Transcript, check₁, check₂, tPlace, gPlace, hPlace, zLength, tgLength, hLength}
 use Rattle.fold.specs.Accepted.{Accepts}
@@ -28,6 +28,17 @@ use Rattle.fold.specs.NextInstance.{Constraint, constraint, nextWhole, n
 use Rattle.fold.specs.LaidOut.{value-written, constant-written}
 use Rattle.fold.specs.NextLaws.{valueOf, value-five, value-six, value-seven, value-eight, value-three, value-four}
 use Rattle.fold.specs.NextOrder.{Each, each, each-of}
+
+-- "the checks on projection and constant terms pass"
+module _ (𝓢 : Statement) (𝓓 : Draws) (𝓣 : Transcript) where
+  open Statement 𝓢 using (relation, w)
+  open Relation relation using (d, n, r, L, bound, term)
+  open Draws 𝓓 using (ψ, ω)
+  open Transcript 𝓣 using (p, b″)
+
+  pub record FirstChecks : Type 0 where
+    pub projection : check₁ w bound p ≡ true
+    pub constant-terms : check₂ d n r L w term ψ ω p b″ ≡ true
 
 -- the squared norm of a list, from two places where it is cut
 normSq-cut : (xs : List ℤ) (a k : ℕ) → normSq xs ≡ normSq (take a xs) + (normSq (take k (drop a xs)) + normSq (drop (a + k) xs))
@@ -39,8 +50,8 @@ normSq-cut xs a k =
 
 module _ (𝓢 : Statement) (𝓓 : Draws) (𝓣 : Transcript) (ν μ : ℕ) (o : List ℤ) (some-ν : 0 < ν) (some-μ : 0 < μ)
     (sized : length o ≡ openingSize (𝓢 .tz) (𝓢 .relation .n) (𝓢 .relation .r) (𝓢 .κ) (𝓢 .t₁) (𝓢 .t₂) * 𝓢 .relation .d) where
-  open Statement 𝓢 using (relation, w, tz, κ, κ₁, κ₂, t₁, t₂, target)
-  open Relation relation using (d, n, r, L, bound, term)
+  open Statement 𝓢 using (relation, tz, κ, κ₁, κ₂, t₁, t₂, target)
+  open Relation relation using (d, n, r)
 
   abbrev m : ℕ
   m = restSize r κ t₁ t₂
@@ -113,20 +124,18 @@ module _ (𝓢 : Statement) (𝓓 : Draws) (𝓣 : Transcript) (ν μ : ℕ) (o 
         short = omega (arith, length-of-opening, h .short);
       }
 
-  -- with checks 1 and 2
-  module _ (one : check₁ w bound (𝓣 .p) ≡ true) (two : check₂ d n r L w term (𝓓 .ψ) (𝓓 .ω) (𝓣 .p) (𝓣 .b″) ≡ true) where
-    pub accepts-of : Solves (nextRelation 𝓢 𝓓 𝓣 ν μ) (padded d tz n ν m μ o) → Accepts 𝓢 𝓓 𝓣 o
-    unfolding check₁ check₂ Holds
-    accepts-of h =
-        let hold = each-of 𝓢 𝓓 𝓣 ν μ Holds (λ x l. holds x l (h .meets .wholly x l)) in
-        record {
-          projected = leb-true _ _ one;
-          constant-term = λ k l. residue-eq (eqb-true _ _ (every-true five _ two k l));
-          first-outer = λ k l. sym (value-three 𝓢 𝓓 𝓣 ν μ o some-ν some-μ sized k) ∙ hold .three k l;
-          second-outer = λ k l. sym (value-four 𝓢 𝓓 𝓣 ν μ o some-ν some-μ sized k) ∙ hold .four k l;
-          amortized = λ k l. sub-zero-iff (R d) _ _ .0 (sym (value-five 𝓢 𝓓 𝓣 ν μ o some-ν some-μ sized k l) ∙ hold .five k l);
-          self-product = sub-zero-iff (R d) _ _ .0 (sym (value-six 𝓢 𝓓 𝓣 ν μ o some-ν some-μ sized) ∙ hold .six);
-          linear-part = sub-zero-iff (R d) _ _ .0 (sym (value-seven 𝓢 𝓓 𝓣 ν μ o some-ν some-μ sized) ∙ hold .seven);
-          relation-holds = sym (value-eight 𝓢 𝓓 𝓣 ν μ o some-ν some-μ sized) ∙ hold .eight;
-          short = omega (arith, length-of-opening, h .short);
-        }
+  pub accepts-of : FirstChecks 𝓢 𝓓 𝓣 → Solves (nextRelation 𝓢 𝓓 𝓣 ν μ) (padded d tz n ν m μ o) → Accepts 𝓢 𝓓 𝓣 o
+  unfolding check₁ check₂ Holds
+  accepts-of pass h =
+      let hold = each-of 𝓢 𝓓 𝓣 ν μ Holds (λ x l. holds x l (h .meets .wholly x l)) in
+      record {
+        projected = leb-true _ _ (pass .projection);
+        constant-term = λ k l. residue-eq (eqb-true _ _ (every-true five _ (pass .constant-terms) k l));
+        first-outer = λ k l. sym (value-three 𝓢 𝓓 𝓣 ν μ o some-ν some-μ sized k) ∙ hold .three k l;
+        second-outer = λ k l. sym (value-four 𝓢 𝓓 𝓣 ν μ o some-ν some-μ sized k) ∙ hold .four k l;
+        amortized = λ k l. sub-zero-iff (R d) _ _ .0 (sym (value-five 𝓢 𝓓 𝓣 ν μ o some-ν some-μ sized k l) ∙ hold .five k l);
+        self-product = sub-zero-iff (R d) _ _ .0 (sym (value-six 𝓢 𝓓 𝓣 ν μ o some-ν some-μ sized) ∙ hold .six);
+        linear-part = sub-zero-iff (R d) _ _ .0 (sym (value-seven 𝓢 𝓓 𝓣 ν μ o some-ν some-μ sized) ∙ hold .seven);
+        relation-holds = sym (value-eight 𝓢 𝓓 𝓣 ν μ o some-ν some-μ sized) ∙ hold .eight;
+        short = omega (arith, length-of-opening, h .short);
+      }

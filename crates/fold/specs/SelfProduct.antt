@@ -3,8 +3,8 @@
 use mathlib.Core.Path.{_≡_, refl, sym, ap, ap₂, _∙_}
 use mathlib.Core.Logic.{_≢_}
 use mathlib.Core.Bool.{Bool, true, false, cond}
-use Prim.Native.Nat.{ℕ, zero, suc, _+_, _-_, _*_, _/_, _%_, _≤_, _<_}
-use native.Mathlib.Nat.{add-zero as nat-add-zero, add-assoc as nat-add-assoc, mul-le-mul-right, mod-eq-of-lt, mul-add-mod-self-right, mul-add-div-right, div-eq-of-lt}
+use Prim.Native.Nat.{ℕ, zero, _+_, _*_, _/_, _%_, _≤_, _<_}
+use native.Mathlib.Nat.{add-zero as nat-add-zero, mod-eq-of-lt, mul-add-mod-self-right, mul-add-div-right, div-eq-of-lt}
 use native.Mathlib.Omega.{arith}
 use lib.Dec.{ltb, eqb}
 use borrow.Author.Tests.{lt-ltb, le-ltb, eq-eqb, ne-eqb, eqb-true, eqb-false}
@@ -125,7 +125,8 @@ module _ (𝓡 : CommRing) (tz n ν m μ : ℕ) (some-ν : 0 < ν) (β x : ℕ �
       sum-cong 𝓡 ν _ _ (λ i l.
       chunk-inner 𝓡 (nextParts tz ν μ) (nextRank n ν m μ) (width tz n ν m μ) (width-bound tz n ν m μ) x parts within past
       (e * ν + i) (e′ * ν + i) (chunk n ν i)
-      (omega (arith, block-fits tz ν e i h l)) (omega (arith, block-fits tz ν e′ i h′ l)) (width-z tz n ν m μ e i h l) (width-z tz n ν m μ e′ i h′ l)
+      (omega (arith, block-fits tz ν e i h l)) (omega (arith, block-fits tz ν e′ i h′ l))
+      (width-z tz n ν m μ e i h l) (width-z tz n ν m μ e′ i h′ l)
       ∙ sum-cong 𝓡 (chunk n ν i) _ _ (λ k _. ap₂ (λ p p′. x p ⊗ x p′) (place e i k h l) (place e′ i k h′ l)))
       ∙ sym (sum-start 𝓡 (chunk n ν) ν (λ p. x (e * n + p) ⊗ x (e′ * n + p)))
       ∙ ap (λ k. sum 𝓡 k (λ p. x (e * n + p) ⊗ x (e′ * n + p))) (chunks-cover n ν some-ν)

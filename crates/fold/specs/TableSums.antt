@@ -2,11 +2,10 @@
 --     dot-digits, dot-parts, dot-triangle     the blocks of z, of t, and of g or h
 --     rows-mixed .. inner-aggregate           their sums in the words of checks 5 to 8
 use mathlib.Core.Path.{_≡_, refl, sym, ap, ap₂, _∙_}
-use mathlib.Core.Logic.{_≢_}
-use mathlib.Core.Bool.{Bool, true, false, cond}
+use mathlib.Core.Bool.{Bool, cond}
 use mathlib.Core.List.{List, _++_}
-use Prim.Native.Nat.{ℕ, zero, suc, _+_, _-_, _*_, _≤_, _<_}
-use native.Mathlib.Nat.{add-assoc, add-sub-cancel-left}
+use Prim.Native.Nat.{ℕ, zero, _+_, _-_, _*_, _<_}
+use native.Mathlib.Nat.{add-sub-cancel-left}
 use native.Mathlib.Omega.{arith}
 use lib.Dec.{eqb}
 use lib.ListN.{length}
@@ -20,7 +19,7 @@ use Rattle.algebra.specs.Tables.{dot, dot-append, dot-tab, dot-flat, dot-flat-s
 use Rattle.algebra.specs.DotProduct.{inner, folded, mixed}
 use Rattle.algebra.specs.DotProductLaws.{inner-cong, inner-scale-left, inner-sum-left}
 use Rattle.algebra.specs.FoldLaws.{folded-linear}
-use Rattle.algebra.specs.Solver.{_:*_, solve2, solve3}
+use Rattle.algebra.specs.Solver.{_:*_, solve3}
 use Rattle.fold.specs.ChunkLaws.{start-scale}
 
 -- ---- lengths
@@ -114,7 +113,10 @@ module _ (𝓡 : CommRing) where
       ∙ ap ⊖_ (
       rows-below 𝓡 r _
       ∙ ap₂ _⊕_
-      (sum-cong 𝓡 r _ _ (λ i _. ap (λ y. y ⊗ (c i ⊗ c i) ⊗ g i i) (one i) ∙ ap (λ y. y ⊗ g i i) (one-mul 𝓡 (c i ⊗ c i)) ∙ mul-comm (c i ⊗ c i) (g i i)))
+      (sum-cong 𝓡 r _ _ (λ i _.
+      ap (λ y. y ⊗ (c i ⊗ c i) ⊗ g i i) (one i)
+      ∙ ap (λ y. y ⊗ g i i) (one-mul 𝓡 (c i ⊗ c i))
+      ∙ mul-comm (c i ⊗ c i) (g i i)))
       (below-cong 𝓡 r _ _ (λ i j d _.
       ap (λ y. y ⊗ (c i ⊗ c j) ⊗ g i j) (two i j d)
       ∙ solve3 𝓡 (λ x y z. x :* y :* z) (λ x y z. x :* (z :* y)) tt (𝟙 ⊕ 𝟙) (c i ⊗ c j) (g i j))
@@ -144,7 +146,8 @@ module _ (𝓡 : CommRing) where
       ∙ ap ⊖_ (sym (sum-mul 𝓡 t (c i) (λ e. β e ⊗ x ((i * t + e) * κ + k)))))
       ∙ sym (sum-neg 𝓡 r (λ i. c i ⊗ sum 𝓡 t (λ e. β e ⊗ x ((i * t + e) * κ + k))))
     where
-      row : (i e : ℕ) → sum 𝓡 κ (λ k′. cond (eqb k′ k) (⊖ (c i ⊗ β e)) 𝟘 ⊗ x ((i * t + e) * κ + k′)) ≡ ⊖ (c i ⊗ (β e ⊗ x ((i * t + e) * κ + k)))
+      row : (i e : ℕ)
+          → sum 𝓡 κ (λ k′. cond (eqb k′ k) (⊖ (c i ⊗ β e)) 𝟘 ⊗ x ((i * t + e) * κ + k′)) ≡ ⊖ (c i ⊗ (β e ⊗ x ((i * t + e) * κ + k)))
       row i e =
           let y = x ((i * t + e) * κ + k) in
           sum-single 𝓡 κ k (λ k′. cond (eqb k′ k) (⊖ (c i ⊗ β e)) 𝟘 ⊗ x ((i * t + e) * κ + k′)) l
