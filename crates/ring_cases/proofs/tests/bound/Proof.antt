@@ -1,0 +1,27 @@
+-- `ring_cases::tests::bound` is safe. Assumes nothing.
+use mathlib.Core.Path.{_≡_}
+use mathlib.Core.Bool.{false}
+use lib.Dec.{T}
+use lib.IntN.{ℤ, pos}
+use lib.Signed.{nonNeg, ltZ, yes-nonNeg}
+use mir.Facts.{toZ-ofZ, fits-natAbs}
+use Rattle.integers.specs.Bridge.{zarith}
+use Rattle.ring_cases.proofs.tests.bound.Statement.{statement}
+use Rattle.ring_cases.proofs.tests.bound.Tie as tie
+
+returns : tie.Need-returns
+returns c = tt
+
+itself-nonNeg : (x : ℤ) → ltZ x (pos 0) ≡ false → T (nonNeg x)
+itself-nonNeg x t = yes-nonNeg {z = x} (omega zarith)
+
+cast-result : tie.Need-cast-result
+cast-result c =
+    let f = c .before .fits .x in
+    rw (toZ-ofZ f) (itself-nonNeg (c .before .args .x) (rw (toZ-ofZ f) at (c .if1 .left)), fits-natAbs tt f)
+
+returns-2 : tie.Need-returns-2
+returns-2 c = tt
+
+pub bound-spec : {M : Type 1} → statement M
+bound-spec = tie.close (tie.spec returns cast-result returns-2)
