@@ -1,5 +1,5 @@
 -- Columns of products: the bounds that the kernel's numbers keep, and that a folded column is congruent to its sum modulo q.
-use mathlib.Core.Path.{_≡_, refl, sym, ap, ap₂, _∙_}
+use mathlib.Core.Path.{_≡_, refl, sym, ap, _∙_}
 use mathlib.Core.List.{List}
 use Prim.Native.Nat.{ℕ, zero, suc, _+_, _-_, _*_, _/_, _%_, _^_, _≤_, _<_}
 use native.Mathlib.Nat.{mul-le-mul, mod-add-mod, add-mul-mod-self-right}
@@ -11,7 +11,7 @@ use Rattle.integers.specs.Sums.{total, total-add-one, total-bound}
 use Rattle.algebra.specs.Sum.{sum}
 use Rattle.algebra.specs.Residue.{make, make-eq, make-add}
 use Rattle.ring.specs.Modulus.{q, q-positive, Zq}
-use Rattle.ring.specs.Product.{term, highs, folded, column, most}
+use Rattle.ring.specs.Product.{term, highs, folded, most}
 
 -- ---- one term
 
@@ -88,7 +88,8 @@ module _ {d : ℕ} {f : ℕ → ℕ} {i wrapped high : ℕ} (now : Running d f i
         small = now .small;
       }
 
-  pub running-end : {low : ℕ} → d ≤ i → low < 2 ^ 64 → (low + high % 4294967296 * 4294967296) % 2 ^ 64 ≡ wrapped → low + 99 * high ≡ folded d f
+  pub running-end : {low : ℕ} → d ≤ i → low < 2 ^ 64 → (low + high % 4294967296 * 4294967296) % 2 ^ 64 ≡ wrapped
+      → low + 99 * high ≡ folded d f
   unfolding folded
   running-end {low} h fits e =
       let same : i ≡ d = omega (arith, now .within) in
@@ -111,7 +112,8 @@ module _ {d : ℕ} {f : ℕ → ℕ} {i wrapped high : ℕ} (now : Running d f i
 pub folded-mod : (n : ℕ) (f : ℕ → ℕ) → make q q-positive (folded n f) ≡ make q q-positive (total n f)
 unfolding folded q
 folded-mod n f =
-    let whole : total n f ≡ (total n f - 4294967296 * highs n f) + 99 * highs n f + highs n f * 4294967197 = omega (arith, highs-least n f) in
+    let whole : total n f ≡ (total n f - 4294967296 * highs n f) + 99 * highs n f + highs n f * 4294967197 =
+    omega (arith, highs-least n f) in
     make-eq q q-positive _ _ (sym (ap (λ t. t % 4294967197) whole ∙ add-mul-mod-self-right _ (highs n f) 4294967197))
 
 pub make-total : (n : ℕ) (f : ℕ → ℕ) → make q q-positive (total n f) ≡ sum Zq n (λ i. make q q-positive (f i))

@@ -18,6 +18,7 @@ pub mod Recomposition
 pub mod DigitElements
 pub mod Product
 pub mod ColumnLaws
+pub mod ProductArrays
 pub mod ProductLaws
 pub mod Words
 pub mod Length

@@ -25,7 +25,7 @@ folded n f = (total n f - 4294967296 * highs n f) + 99 * highs n f
 
 -- column k of the product of two arrays
 unfoldable pub column : ℕ → List ℕ → List ℕ → ℕ → ℕ
-column d a e k = folded d (term a e (d - 1 - k))
+column d a e k = folded d (term a e (d - k))
 
 -- the largest value of a column
 unfoldable pub most : ℕ
@@ -36,22 +36,27 @@ pub record Residues (d : ℕ) (u : R d .Carrier) (n : ℕ) (a : List ℕ) : Type
   pub size : length a ≡ 64
   pub entry : (i : ℕ) → i < n → getD a i 0 ≡ coeff Zq u i .val
 
--- the last n coefficients of an element, reversed, and their negatives d places further
+-- the last n coefficients of an element, reversed, from place 1 on, and their negatives d places further
 pub record Extended (d : ℕ) (u : R d .Carrier) (n : ℕ) (e : List ℕ) : Type 0 where
-  pub size : length e ≡ 128
-  pub front : (i : ℕ) → i < n → getD e i 0 ≡ coeff Zq u (d - 1 - i) .val
-  pub back : (i : ℕ) → i < n → getD e (d + i) 0 ≡ q - coeff Zq u (d - 1 - i) .val
+  pub size : length e ≡ 129
+  pub front : (i : ℕ) → i < n → getD e (i + 1) 0 ≡ coeff Zq u (d - 1 - i) .val
+  pub back : (i : ℕ) → i < n → getD e (d + i + 1) 0 ≡ q - coeff Zq u (d - 1 - i) .val
+
+-- two columns, which start at two places of an array
+pub record TwoColumns (d : ℕ) (a e : List ℕ) (start other x y : ℕ) : Type 0 where
+  pub first : x ≡ folded d (term a e start)
+  pub second : y ≡ folded d (term a e other)
 
 -- an accumulator with room for one more column at each place
 pub record Room (acc : List ℕ) : Type 0 where
   pub size : length acc ≡ 64
   pub small : (k : ℕ) → k < 64 → getD acc k 0 ≤ 4096 * most
 
--- the first n columns of a product added to an accumulator
-pub record Added (d : ℕ) (a e old : List ℕ) (n : ℕ) (new : List ℕ) : Type 0 where
+-- the columns of a product added to an accumulator; past column d - 1 its places stay small
+pub record Added (d : ℕ) (a e old new : List ℕ) : Type 0 where
   pub size : length new ≡ 64
-  pub below : (k : ℕ) → k < n → getD new k 0 ≡ getD old k 0 + column d a e k
-  pub above : (k : ℕ) → n ≤ k → getD new k 0 ≡ getD old k 0
+  pub value : (k : ℕ) → k < d → getD new k 0 ≡ getD old k 0 + column d a e k
+  pub small : (k : ℕ) → k < 64 → getD new k 0 ≤ getD old k 0 + most
 
 -- an accumulator after n products: it holds an element, up to multiples of q
 pub record Holds (d : ℕ) (u : R d .Carrier) (n : ℕ) (acc : List ℕ) : Type 0 where

@@ -9,7 +9,7 @@ ghost use Rattle.integers.specs.Lists.{tab, upto};
 ghost use Rattle.algebra.specs.Sum.{sum};
 ghost use Rattle.ring.specs.Modulus.{centred};
 ghost use Rattle.ring.specs.Element.{Degree, R, lift, el, array};
-ghost use Rattle.ring.specs.Product.{term, folded, Residues, Extended, Room, Added};
+ghost use Rattle.ring.specs.Product.{Residues, Extended, TwoColumns, Room, Added};
 use crate::modulus::from_residue;
 use crate::modulus::residue;
 use std::num;
@@ -28,54 +28,74 @@ fn load(d: usize, u: &[i32], p: usize, a: &mut [u64; 64])
     }
 }
 
-// The coefficients of element p of v, the last one first, and then their negatives.
-fn extend(d: usize, v: &[i32], p: usize, e: &mut [u64; 128])
+// The coefficients of element p of v from place 1 on, the last one first, and then their negatives.
+fn extend(d: usize, v: &[i32], p: usize, e: &mut [u64; 129])
     requires { ⌜ Degree d ⌝ }
-    requires { ⌜ (p * d + d ≤ length (now v)) × (length (now e) ≡ 128) ⌝ }
+    requires { ⌜ (p * d + d ≤ length (now v)) × (length (now e) ≡ 129) ⌝ }
     ensures { λ r. ⌜ Extended d (el d (now (v .entry)) p) d (now (e .exit)) ⌝ }
 {
     let last = p * d + (d - 1);
     let mut i = 0;
     while i < d {
         let x = residue(v[last - i]);
-        e[i] = x;
-        e[d + i] = 4294967197 - x;
+        e[i + 1] = x;
+        e[d + i + 1] = 4294967197 - x;
         i += 1;
     }
 }
 
-// One column: the sum of d products, up to a multiple of q, and below 2^46. It adds the products modulo 2^64 and their upper halves
-// exactly; what the upper halves leave of the sum is the lower halves, and an upper half counts 99 since 2^32 is 99 modulo q.
-fn column(d: usize, start: usize, a: &[u64; 64], e: &[u64; 128]) -> u64
-    requires { ⌜ (d ≤ 64) × (start ≤ 64) ⌝ }
-    ensures { λ r. ⌜ r ≡ folded d (term (now (a .entry)) (now (e .entry)) start) ⌝ }
+// Two columns.
+struct ColumnPair {
+    first: u64,
+    second: u64,
+}
+
+// Two columns, which start at two places of e: each is the sum of d products, up to a multiple of q, and below 2^46. Products are added
+// modulo 2^64 and their upper halves exactly; what the upper halves leave of the sum is the lower halves, and an upper half counts 99
+// since 2^32 is 99 modulo q.
+fn columns(d: usize, start: usize, other: usize, a: &[u64; 64], e: &[u64; 129]) -> ColumnPair
+    requires { ⌜ (d ≤ 64) × (start ≤ 64) × (other ≤ 64) ⌝ }
+    ensures { λ r. ⌜ TwoColumns d (now (a .entry)) (now (e .entry)) start other (r .first) (r .second) ⌝ }
 {
     let mut sum: u64 = 0;
     let mut high: u64 = 0;
+    let mut sum2: u64 = 0;
+    let mut high2: u64 = 0;
     let mut i = 0;
     while i < d {
         let x = a[i] % 4294967296;
         let y = e[start + i] % 4294967296;
+        let z = e[other + i] % 4294967296;
         let product = x * y;
+        let product2 = x * z;
         sum = num::wrapping_add_u64(sum, product);
+        sum2 = num::wrapping_add_u64(sum2, product2);
         high = high + product / 4294967296;
+        high2 = high2 + product2 / 4294967296;
         i += 1;
     }
-    let taken = (high % 4294967296) * 4294967296;
-    let low = num::wrapping_sub_u64(sum, taken);
-    low + 99 * high
+    let low = num::wrapping_sub_u64(sum, (high % 4294967296) * 4294967296);
+    let low2 = num::wrapping_sub_u64(sum2, (high2 % 4294967296) * 4294967296);
+    let first = low + 99 * high;
+    let second = low2 + 99 * high2;
+    ColumnPair { first, second }
 }
 
-// Adds the columns of one product to an accumulator.
-fn add_pair(d: usize, a: &[u64; 64], e: &[u64; 128], acc: &mut [u64; 64])
+// Adds the columns of one product to an accumulator: column k and column half + k together. For odd d there is one column too many,
+// past those that count.
+fn add_pair(d: usize, a: &[u64; 64], e: &[u64; 129], acc: &mut [u64; 64])
     requires { ⌜ Degree d ⌝ }
     requires { ⌜ Room (now acc) ⌝ }
-    ensures { λ r. ⌜ Added d (now (a .entry)) (now (e .entry)) (now (acc .entry)) d (now (acc .exit)) ⌝ }
+    ensures { λ r. ⌜ Added d (now (a .entry)) (now (e .entry)) (now (acc .entry)) (now (acc .exit)) ⌝ }
 {
+    let half = (d + 1) / 2;
     let mut k = 0;
-    while k < d {
-        let value = column(d, d - 1 - k, a, e);
-        acc[k] = acc[k] + value;
+    while k < half {
+        let found = columns(d, d - k, d - k - half, a, e);
+        let first = found.first;
+        let second = found.second;
+        acc[k] = acc[k] + first;
+        acc[half + k] = acc[half + k] + second;
         k += 1;
     }
 }
@@ -102,7 +122,7 @@ pub fn inner(d: usize, n: usize, u: &[i32], p: usize, v: &[i32], s: usize) -> [i
 {
     let mut acc = [0u64; 64];
     let mut a = [0u64; 64];
-    let mut e = [0u64; 128];
+    let mut e = [0u64; 129];
     let mut k = 0;
     while k < n {
         load(d, u, p + k, &mut a);

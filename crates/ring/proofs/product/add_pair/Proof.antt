@@ -1,29 +1,33 @@
--- `ring::product::add_pair` meets its contract. The loop has added the first k columns.
-use mathlib.Core.Path.{_≡_}
-use Prim.Native.Nat.{_-_, _≤_}
+-- `ring::product::add_pair` meets its contract. The loop has added the first k columns of each half.
+use Prim.Native.Nat.{_-_}
 use native.Mathlib.Omega.{arith}
-use Rattle.ring.specs.Product.{column, Added}
-use Rattle.ring.specs.ProductLaws.{added-start, added-step, added-fits}
+use Rattle.ring.specs.ProductArrays.{Adding, adding-start, adding-step, adding-end, first-fits, second-fits}
 use Rattle.ring.proofs.product.add_pair.Statement.{statement}
 use Rattle.ring.proofs.product.add_pair.Tie as tie
 
 abbrev Inv-loop : tie.InvT-loop
-Inv-loop d a e acc₀ k₀ acc k = (k ≤ d) × Added d a e acc₀ k acc
+Inv-loop d a e acc₀ half k₀ acc k = Adding d a e acc₀ half k acc
 
 abbrev μ-loop : tie.MeasureT-loop
-μ-loop d a e acc₀ k₀ acc k = d - k
+μ-loop d a e acc₀ half k₀ acc k = half - k
+
+add-half : tie.Need-add-half Inv-loop μ-loop
+add-half c = omega arith
 
 loop-holds : tie.Need-loop-holds Inv-loop μ-loop
-loop-holds c = (omega arith, added-start _ _ _ _ (c .pre .1 .size))
+loop-holds c = adding-start _ _ _ _ _ (c .pre .1 .size)
 
-sub-column : tie.Need-sub-column Inv-loop μ-loop
-sub-column c = omega arith
+sub-columns : tie.Need-sub-columns Inv-loop μ-loop
+sub-columns c = omega arith
 
-sub-column-2 : tie.Need-sub-column-2 Inv-loop μ-loop
-sub-column-2 c = omega arith
+sub-columns-2 : tie.Need-sub-columns-2 Inv-loop μ-loop
+sub-columns-2 c = omega arith
 
-column-requires : tie.Need-column-requires Inv-loop μ-loop
-column-requires c κs = (omega arith, omega arith)
+sub-columns-3 : tie.Need-sub-columns-3 Inv-loop μ-loop
+sub-columns-3 c = omega arith
+
+columns-requires : tie.Need-columns-requires Inv-loop μ-loop
+columns-requires c κs = (omega arith, omega arith, omega arith)
 
 mul-acc : tie.Need-mul-acc Inv-loop μ-loop
 mul-acc c = omega arith
@@ -32,14 +36,41 @@ element-copy-out-acc : tie.Need-element-copy-out-acc Inv-loop μ-loop
 element-copy-out-acc c = omega arith
 
 add-acc : tie.Need-add-acc Inv-loop μ-loop
-unfolding column
-add-acc c = added-fits (c .before .before .before .loop .inv .1) (omega arith) (c .before .column .ensures) (c .before .before .before .before .pre .0 .small) (c .before .before .before .before .pre .1)
+add-acc c =
+    let t = c .before .before in
+    let args = t .before .before .pre in
+    first-fits (t .before .loop .inv) (t .loop-test .taken) (omega arith) (c .before .columns .ensures) (args .0 .small) (args .1)
 
 mul-acc-2 : tie.Need-mul-acc-2 Inv-loop μ-loop
 mul-acc-2 c = omega arith
 
 element-write-acc : tie.Need-element-write-acc Inv-loop μ-loop
 element-write-acc c = omega arith
+
+add-acc-2 : tie.Need-add-acc-2 Inv-loop μ-loop
+add-acc-2 c = omega arith
+
+mul-acc-3 : tie.Need-mul-acc-3 Inv-loop μ-loop
+mul-acc-3 c = omega arith
+
+element-copy-out-acc-2 : tie.Need-element-copy-out-acc-2 Inv-loop μ-loop
+element-copy-out-acc-2 c = omega arith
+
+add-acc-3 : tie.Need-add-acc-3 Inv-loop μ-loop
+add-acc-3 c =
+    let t = c .before .before .before in
+    let args = t .before .before .pre in
+    second-fits (t .before .loop .inv) (t .loop-test .taken) (omega arith) (c .before .before .columns .ensures)
+    (args .0 .small) (args .1) _
+
+add-acc-4 : tie.Need-add-acc-4 Inv-loop μ-loop
+add-acc-4 c = omega arith
+
+mul-acc-4 : tie.Need-mul-acc-4 Inv-loop μ-loop
+mul-acc-4 c = omega arith
+
+element-write-acc-2 : tie.Need-element-write-acc-2 Inv-loop μ-loop
+element-write-acc-2 c = omega arith
 
 add-k : tie.Need-add-k Inv-loop μ-loop
 add-k c = omega arith
@@ -48,13 +79,12 @@ loop-less : tie.Need-loop-less Inv-loop μ-loop
 loop-less c = omega arith
 
 loop-again : tie.Need-loop-again Inv-loop μ-loop
-unfolding column
-loop-again c = (omega arith, added-step (c .before .before .before .loop .inv .1) (omega arith) (c .before .column .ensures))
+loop-again c =
+    let t = c .before .before .before in
+    adding-step (t .before .loop .inv) (t .loop-test .taken) (omega arith) (c .before .before .columns .ensures)
 
 returns : tie.Need-returns Inv-loop μ-loop
-returns c =
-    let all : c .before .loop .k ≡ c .before .before .args .d = omega arith in
-    rw all at (c .before .loop .inv .1)
+returns c = adding-end (c .before .loop .inv) (c .loop-test .left) (omega arith) (c .before .before .pre .0 .small)
 
 pub add-pair-spec : {M : Type 1} → statement M
 add-pair-spec =
@@ -62,15 +92,24 @@ add-pair-spec =
     (tie.spec
     Inv-loop
     μ-loop
+    add-half
     loop-holds
-    sub-column
-    sub-column-2
-    column-requires
+    sub-columns
+    sub-columns-2
+    sub-columns-3
+    columns-requires
     mul-acc
     element-copy-out-acc
     add-acc
     mul-acc-2
     element-write-acc
+    add-acc-2
+    mul-acc-3
+    element-copy-out-acc-2
+    add-acc-3
+    add-acc-4
+    mul-acc-4
+    element-write-acc-2
     add-k
     loop-less
     loop-again

@@ -1,10 +1,10 @@
--- `ring::product::extend` meets its contract. The loop has filled the first i places and their negatives.
+-- `ring::product::extend` meets its contract. The loop has filled i places from place 1 on and their negatives.
 use mathlib.Core.Path.{_≡_, refl}
 use Prim.Native.Nat.{_-_, _≤_}
 use native.Mathlib.Omega.{arith}
 use Rattle.ring.specs.Element.{el}
 use Rattle.ring.specs.Product.{Extended}
-use Rattle.ring.specs.ProductLaws.{residue-el, residue-small, extended-start, extended-step}
+use Rattle.ring.specs.ProductArrays.{residue-el, residue-small, extended-start, extended-step}
 use Rattle.ring.proofs.product.extend.Statement.{statement}
 use Rattle.ring.proofs.product.extend.Tie as tie
 
@@ -38,6 +38,9 @@ shared-slice-copy-out-residue c = omega arith
 residue-requires : tie.Need-residue-requires Inv-loop μ-loop
 residue-requires c κs = tt
 
+add-e : tie.Need-add-e Inv-loop μ-loop
+add-e c = omega arith
+
 mul-e : tie.Need-mul-e Inv-loop μ-loop
 mul-e c = omega arith
 
@@ -47,8 +50,11 @@ element-write-e c = omega arith
 sub-e : tie.Need-sub-e Inv-loop μ-loop
 sub-e c = omega (arith, residue-small _ (c .residue .ensures))
 
-add-e : tie.Need-add-e Inv-loop μ-loop
-add-e c = omega arith
+add-e-2 : tie.Need-add-e-2 Inv-loop μ-loop
+add-e-2 c = omega arith
+
+add-e-3 : tie.Need-add-e-3 Inv-loop μ-loop
+add-e-3 c = omega arith
 
 mul-e-2 : tie.Need-mul-e-2 Inv-loop μ-loop
 mul-e-2 c = omega arith
@@ -63,11 +69,14 @@ loop-less : tie.Need-loop-less Inv-loop μ-loop
 loop-less c = omega arith
 
 loop-again : tie.Need-loop-again Inv-loop μ-loop
-loop-again c = (
-  omega arith,
-  extended-step (c .before .before .before .before .pre .0) (c .before .before .loop-test .taken) (c .before .before .before .loop .inv .1)
-      (residue-el _ (c .before .before .before .before .args .v .now) (c .before .before .before .before .args .p) _ (record { sfits = c .before .residue-arg .given }) (omega arith) (omega arith) (c .residue .ensures)) refl,
-)
+loop-again c =
+    let t = c .before .before in
+    let start = t .before .before in (
+      omega arith,
+      extended-step (start .pre .0) (t .loop-test .taken) (t .before .loop .inv .1)
+          (residue-el _ (start .args .v .now) (start .args .p) _ (record { sfits = c .before .residue-arg .given })
+          (omega arith) (omega arith) (c .residue .ensures)) refl,
+    )
 
 returns : tie.Need-returns Inv-loop μ-loop
 returns c =
@@ -88,10 +97,12 @@ extend-spec =
     mul-residue
     shared-slice-copy-out-residue
     residue-requires
+    add-e
     mul-e
     element-write-e
     sub-e
-    add-e
+    add-e-2
+    add-e-3
     mul-e-2
     element-write-e-2
     add-i

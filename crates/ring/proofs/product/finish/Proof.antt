@@ -41,8 +41,11 @@ loop-less : tie.Need-loop-less Inv-loop μ-loop
 loop-less c = omega arith
 
 loop-again : tie.Need-loop-again Inv-loop μ-loop
-loop-again c =
-    (omega arith, fill-step 64 _ _ (pos 0) _ _ (c .before .before .before .loop .inv .1) (omega arith) (toZ-ofZ (record { sfits = c .from-residue .ok }) ∙ c .from-residue .ensures))
+loop-again c = (
+  omega arith,
+  fill-step 64 _ _ (pos 0) _ _ (c .before .before .before .loop .inv .1) (omega arith)
+      (toZ-ofZ (record { sfits = c .from-residue .ok }) ∙ c .from-residue .ensures),
+)
 
 returns : tie.Need-returns Inv-loop μ-loop
 returns c =

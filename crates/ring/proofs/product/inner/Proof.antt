@@ -1,6 +1,6 @@
 -- `ring::product::inner` meets its contract. The accumulator holds the sum of the products of the first k pairs.
-use mathlib.Core.Path.{_≡_, refl, _∙_}
-use Prim.Native.Nat.{_-_, _≤_}
+use mathlib.Core.Path.{refl, _∙_}
+use Prim.Native.Nat.{_-_}
 use native.Mathlib.Omega.{arith}
 use Rattle.ring.specs.ProductLaws.{pair, Summed, summed-start, summed-step, summed-end, holds-room, element-within, index-within}
 use Rattle.ring.proofs.product.inner.Statement.{statement}
@@ -16,29 +16,39 @@ loop-holds : tie.Need-loop-holds Inv-loop μ-loop
 loop-holds c = summed-start _ _ _ (c .pre .0)
 
 add-load : tie.Need-add-load Inv-loop μ-loop
-add-load c = omega (arith, index-within (c .before .before .args .p) (c .before .before .pre .0) (c .loop-test .taken) (c .before .before .pre .1 .1))
+add-load c =
+    let start = c .before .before in
+    omega (arith, index-within (start .args .p) (start .pre .0) (c .loop-test .taken) (start .pre .1 .1))
 
 load-requires : tie.Need-load-requires Inv-loop μ-loop
-load-requires c κs = (
-  c .before .before .before .pre .0,
-  (element-within (c .before .before .before .args .p) (c .before .before .before .pre .0) (c .before .loop-test .taken) (c .before .before .before .pre .1 .1), c .before .before .loop .inv .left),
-)
+load-requires c κs =
+    let start = c .before .before .before in (
+      start .pre .0,
+      (
+        element-within (start .args .p) (start .pre .0) (c .before .loop-test .taken) (start .pre .1 .1),
+        c .before .before .loop .inv .left,
+      ),
+    )
 
 add-extend : tie.Need-add-extend Inv-loop μ-loop
-add-extend c = omega (arith, index-within (c .before .before .before .before .args .s) (c .before .before .before .before .pre .0) (c .before .before .loop-test .taken) (c .before .before .before .before .pre .1 .2))
+add-extend c =
+    let start = c .before .before .before .before in
+    omega (arith, index-within (start .args .s) (start .pre .0) (c .before .before .loop-test .taken) (start .pre .1 .2))
 
 extend-requires : tie.Need-extend-requires Inv-loop μ-loop
-extend-requires c κs = (
-  c .before .before .before .before .before .pre .0,
-  (
-    element-within (c .before .before .before .before .before .args .s) (c .before .before .before .before .before .pre .0) (c .before .before .before .loop-test .taken) (c .before .before .before .before .before .pre .1 .2),
-    c .before .before .before .before .loop .inv .right,
-  ),
-)
+extend-requires c κs =
+    let start = c .before .before .before .before .before in (
+      start .pre .0,
+      (
+        element-within (start .args .s) (start .pre .0) (c .before .before .before .loop-test .taken) (start .pre .1 .2),
+        c .before .before .before .before .loop .inv .right,
+      ),
+    )
 
 add-pair-requires : tie.Need-add-pair-requires Inv-loop μ-loop
 add-pair-requires c κs =
-    (c .before .before .before .before .before .before .before .before .before .pre .0, holds-room (c .before .before .before .before .before .before .before .before .loop .inv .held) (omega (arith, c .before .before .before .before .before .before .before .before .loop .inv .within, c .before .before .before .before .before .before .before .before .before .pre .1 .0)))
+    let l = c .before .before .before .before .before .before .before .before in
+    (l .before .pre .0, holds-room (l .loop .inv .held) (omega (arith, l .loop .inv .within, l .before .pre .1 .0)))
 
 add-k : tie.Need-add-k Inv-loop μ-loop
 add-k c = omega arith
@@ -48,14 +58,16 @@ loop-less c = omega arith
 
 loop-again : tie.Need-loop-again Inv-loop μ-loop
 loop-again c =
-    summed-step (c .before .before .before .before .before .before .before .before .before .loop .inv) (c .before .before .before .before .before .before .before .before .before .before .pre .0) (c .before .before .before .before .before .before .before .before .loop-test .taken) refl (c .before .before .before .before .before .before .load .ensures) (c .before .before .before .before .extend .ensures)
+    let t = c .before .before .before .before .before .before .before .before in
+    let extended = c .before .before .before .before in
+    summed-step (t .before .loop .inv) (t .loop-test .taken) refl (extended .before .before .load .ensures) (extended .extend .ensures)
     (c .add-pair .ensures)
 
 finish-requires : tie.Need-finish-requires Inv-loop μ-loop
 finish-requires c κs = c .before .before .before .pre .0
 
 returns : tie.Need-returns Inv-loop μ-loop
-returns c = c .finish .ensures ∙ summed-end (c .before .before .before .loop .inv) (c .before .before .before .before .pre .0) (c .before .before .loop-test .left)
+returns c = c .finish .ensures ∙ summed-end (c .before .before .before .loop .inv) (c .before .before .loop-test .left)
 
 pub inner-spec : {M : Type 1} → statement M
 inner-spec =

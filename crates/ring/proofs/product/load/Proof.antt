@@ -4,7 +4,7 @@ use Prim.Native.Nat.{_-_, _≤_}
 use native.Mathlib.Omega.{arith}
 use Rattle.ring.specs.Element.{el}
 use Rattle.ring.specs.Product.{Residues}
-use Rattle.ring.specs.ProductLaws.{residue-el, residues-start, residues-step}
+use Rattle.ring.specs.ProductArrays.{residue-el, residues-start, residues-step}
 use Rattle.ring.proofs.product.load.Statement.{statement}
 use Rattle.ring.proofs.product.load.Tie as tie
 
@@ -45,11 +45,14 @@ loop-less : tie.Need-loop-less Inv-loop μ-loop
 loop-less c = omega arith
 
 loop-again : tie.Need-loop-again Inv-loop μ-loop
-loop-again c = (
-  omega arith,
-  residues-step (c .before .before .before .before .pre .0) (c .before .before .loop-test .taken) (c .before .before .before .loop .inv .1)
-      (residue-el _ (c .before .before .before .before .args .u .now) (c .before .before .before .before .args .p) _ (record { sfits = c .before .residue-arg .given }) (c .before .before .loop-test .taken) refl (c .residue .ensures)),
-)
+loop-again c =
+    let t = c .before .before in
+    let start = t .before .before in (
+      omega arith,
+      residues-step (start .pre .0) (t .loop-test .taken) (t .before .loop .inv .1)
+          (residue-el _ (start .args .u .now) (start .args .p) _ (record { sfits = c .before .residue-arg .given })
+          (t .loop-test .taken) refl (c .residue .ensures)),
+    )
 
 returns : tie.Need-returns Inv-loop μ-loop
 returns c =
