@@ -53,3 +53,8 @@ pub mod TableSums
 pub mod TrimLaws
 pub mod VerificationLaws
 pub mod NextCallLaws
+pub mod Arguments
+pub mod CallFacts
+pub mod CallLimits
+pub mod EntryLaws
+pub mod WriterLaws

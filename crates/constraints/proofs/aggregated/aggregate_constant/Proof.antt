@@ -1,0 +1,29 @@
+-- `constraints::aggregated::aggregate_constant` meets its contract.
+use native.Mathlib.Omega.{arith}
+use Rattle.constraints.specs.Aggregated.{constant-end}
+use borrow.Author.Needs.{needs}
+use Rattle.constraints.proofs.aggregated.aggregate_constant.Statement.{statement}
+use Rattle.constraints.proofs.aggregated.aggregate_constant.Tie as tie
+
+function-size-requires : tie.Need-function-size-requires
+function-size-requires c κs = c .pre .0 .shaped
+
+whole-entry-requires : tie.Need-whole-entry-requires
+whole-entry-requires c κs = (c .before .pre .0, omega (arith, c .function-size .ensures))
+
+inner-requires : tie.Need-inner-requires
+inner-requires c κs = search needs
+
+sum-requires : tie.Need-sum-requires
+sum-requires c κs = c .before .before .before .pre .0 .shaped .degree
+
+returns : tie.Need-returns
+returns c =
+    let s = c .before .before .before .before in
+    let wholes = rw (c .before .before .before .function-size .ensures) at (c .before .before .whole-entry .ensures) in
+    constant-end _ _ _ _ _ _ _ _ (s .pre .0 .shaped .degree) wholes (c .before .inner .ensures) (c .sum .ensures)
+
+pub aggregate-constant-spec : {M : Type 1} → statement M
+aggregate-constant-spec =
+    tie.close
+    (tie.spec function-size-requires whole-entry-requires inner-requires sum-requires returns)

@@ -1,0 +1,6 @@
+pub mod Facts
+pub mod SizeLaws
+pub mod Running
+pub mod Terms
+pub mod Projected
+pub mod Aggregated

@@ -1,0 +1,173 @@
+// The aggregated function, by place: document 01, message 4.
+ghost use mathlib.Core.Path.{_≡_};
+ghost use Prim.Native.Nat.{_*_, _<_, _≤_};
+ghost use lib.ListN.{length};
+ghost use Rattle.algebra.specs.Sum.{sum};
+ghost use Rattle.ring.specs.Element.{Degree, R, lift, array};
+ghost use Rattle.fold.specs.Sizes.{pairs, functionSize};
+ghost use Rattle.fold.specs.Messages.{five, aggregateConstant};
+ghost use Rattle.fold.specs.Entries.{wholeEntry, aggregateA, aggregateΦ};
+ghost use Rattle.constraints.specs.Facts.{TermFacts, SecondFacts, WholeFacts, AggregateFacts};
+ghost use Rattle.constraints.specs.Aggregated.{weightedA, weightedΦ};
+use crate::second::second_a;
+use crate::second::second_phi;
+use crate::sizes;
+use fold::Shape;
+use ring::element::Element;
+use ring::product;
+
+// How many second functions there are.
+pub const COUNT: usize = 5;
+
+fn multiplied(d: usize, a: Element, b: Element) -> Element
+    requires { ⌜ Degree d ⌝ }
+    ensures { λ r. ⌜ r .coefficients ≡ array d (R d .mul (lift d (a .coefficients)) (lift d (b .coefficients))) ⌝ }
+{
+    let x = a.coefficients;
+    let y = b.coefficients;
+    let coefficients = product::multiply(d, x, y);
+    Element { coefficients }
+}
+
+// Σ_k α_k f_k at place e; place functionSize is the constants.
+pub fn whole_entry(shape: Shape, kc: usize, whole: &[i32], alpha: &[i32], e: usize) -> Element
+    requires { ⌜ WholeFacts (shape .d) (shape .n) (shape .r) kc (now whole) (now alpha) ⌝ }
+    requires { ⌜ e ≤ functionSize (shape .n) (shape .r) ⌝ }
+    ensures { λ r. ⌜ r .coefficients ≡ array (shape .d) (wholeEntry (shape .d) (shape .n) (shape .r) kc (now (whole .entry)) (now (alpha .entry)) e) ⌝ }
+{
+    let d = shape.d;
+    let size = sizes::function_size(shape);
+    let step = (size + 1) * d;
+    let mut sum = Element::additive_identity();
+    let mut at = 0;
+    let mut k = 0;
+    while k < kc {
+        let rest = &whole[at..];
+        let entry = Element::from_slice(d, rest, e);
+        let weight = Element::from_slice(d, alpha, k);
+        let weighted = multiplied(d, weight, entry);
+        sum = sum.sum(d, weighted);
+        at += step;
+        k += 1;
+    }
+    sum
+}
+
+// Σ_k δ_k f''_k at pair place e.
+fn weighted_a(shape: Shape, l: usize, term: &[i32], psi: &[i32], delta: &[i32], e: usize) -> Element
+    requires { ⌜ TermFacts (shape .d) (shape .n) (shape .r) l (now term) (now psi) ⌝ }
+    requires { ⌜ (length (now delta) ≡ 5 * shape .d) × (e < pairs (shape .r)) ⌝ }
+    ensures { λ r. ⌜ r .coefficients ≡ array (shape .d) (sum (R (shape .d)) five (weightedA (shape .d) (shape .n) (shape .r) l (now (term .entry)) (now (psi .entry)) (now (delta .entry)) e)) ⌝ }
+{
+    let d = shape.d;
+    let mut sum = Element::additive_identity();
+    let mut k = 0;
+    while k < COUNT {
+        let entry = second_a(shape, l, term, psi, k, e);
+        let weight = Element::from_slice(d, delta, k);
+        let weighted = multiplied(d, weight, entry);
+        sum = sum.sum(d, weighted);
+        k += 1;
+    }
+    sum
+}
+
+// Σ_k δ_k φ''_k at element e of the witness.
+fn weighted_phi(
+    shape: Shape,
+    l: usize,
+    w: usize,
+    term: &[i32],
+    rows: &[i32],
+    psi: &[i32],
+    omega: &[i32],
+    delta: &[i32],
+    e: usize,
+) -> Element
+    requires { ⌜ SecondFacts (shape .d) (shape .n) (shape .r) l w (now term) (now rows) (now psi) (now omega) ⌝ }
+    requires { ⌜ (length (now delta) ≡ 5 * shape .d) × (e < shape .r * shape .n) ⌝ }
+    ensures { λ r. ⌜ r .coefficients ≡ array (shape .d) (sum (R (shape .d)) five (weightedΦ (shape .d) (shape .n) (shape .r) l w (now (term .entry)) (now (rows .entry)) (now (psi .entry)) (now (omega .entry)) (now (delta .entry)) e)) ⌝ }
+{
+    let d = shape.d;
+    let mut sum = Element::additive_identity();
+    let mut k = 0;
+    while k < COUNT {
+        let entry = second_phi(shape, l, w, term, rows, psi, omega, k, e);
+        let weight = Element::from_slice(d, delta, k);
+        let weighted = multiplied(d, weight, entry);
+        sum = sum.sum(d, weighted);
+        k += 1;
+    }
+    sum
+}
+
+// The aggregate's a at pair place e.
+pub fn aggregate_a(
+    shape: Shape,
+    kc: usize,
+    l: usize,
+    whole: &[i32],
+    term: &[i32],
+    psi: &[i32],
+    alpha: &[i32],
+    delta: &[i32],
+    e: usize,
+) -> Element
+    requires { ⌜ WholeFacts (shape .d) (shape .n) (shape .r) kc (now whole) (now alpha) ⌝ }
+    requires { ⌜ TermFacts (shape .d) (shape .n) (shape .r) l (now term) (now psi) ⌝ }
+    requires { ⌜ (length (now delta) ≡ 5 * shape .d) × (e < pairs (shape .r)) ⌝ }
+    ensures { λ r. ⌜ r .coefficients ≡ array (shape .d) (aggregateA (shape .d) (shape .n) (shape .r) kc l (now (whole .entry)) (now (term .entry)) (now (psi .entry)) (now (alpha .entry)) (now (delta .entry)) e) ⌝ }
+{
+    let d = shape.d;
+    let wholes = whole_entry(shape, kc, whole, alpha, e);
+    let seconds = weighted_a(shape, l, term, psi, delta, e);
+    wholes.sum(d, seconds)
+}
+
+// The aggregate's φ at element e of the witness.
+pub fn aggregate_phi(
+    shape: Shape,
+    kc: usize,
+    l: usize,
+    w: usize,
+    whole: &[i32],
+    term: &[i32],
+    rows: &[i32],
+    psi: &[i32],
+    omega: &[i32],
+    alpha: &[i32],
+    delta: &[i32],
+    e: usize,
+) -> Element
+    requires { ⌜ AggregateFacts (shape .d) (shape .n) (shape .r) kc l w (now whole) (now term) (now rows) (now psi) (now omega) (now alpha) (now delta) ⌝ }
+    requires { ⌜ e < shape .r * shape .n ⌝ }
+    ensures { λ r. ⌜ r .coefficients ≡ array (shape .d) (aggregateΦ (shape .d) (shape .n) (shape .r) kc l w (now (whole .entry)) (now (term .entry)) (now (rows .entry)) (now (psi .entry)) (now (omega .entry)) (now (alpha .entry)) (now (delta .entry)) e) ⌝ }
+{
+    let d = shape.d;
+    let pairs = sizes::pair_count(shape.r);
+    let place = pairs + e;
+    let wholes = whole_entry(shape, kc, whole, alpha, place);
+    let seconds = weighted_phi(shape, l, w, term, rows, psi, omega, delta, e);
+    wholes.sum(d, seconds)
+}
+
+// The aggregate's b.
+pub fn aggregate_constant(
+    shape: Shape,
+    kc: usize,
+    whole: &[i32],
+    alpha: &[i32],
+    delta: &[i32],
+    b2: &[i32],
+) -> Element
+    requires { ⌜ WholeFacts (shape .d) (shape .n) (shape .r) kc (now whole) (now alpha) ⌝ }
+    requires { ⌜ (length (now delta) ≡ 5 * shape .d) × (length (now b2) ≡ 5 * shape .d) ⌝ }
+    ensures { λ r. ⌜ r .coefficients ≡ array (shape .d) (aggregateConstant (shape .d) (shape .n) (shape .r) kc (now (whole .entry)) (now (alpha .entry)) (now (delta .entry)) (now (b2 .entry))) ⌝ }
+{
+    let d = shape.d;
+    let place = sizes::function_size(shape);
+    let wholes = whole_entry(shape, kc, whole, alpha, place);
+    let coefficients = product::inner(d, COUNT, delta, 0, b2, 0);
+    let seconds = Element { coefficients };
+    wholes.sum(d, seconds)
+}

@@ -1,0 +1,5 @@
+// The entries of the second and of the aggregated functions, formed as they are used: document 01, 'Messages, in order', 3 and 4.
+pub mod aggregated;
+pub mod projected;
+pub mod second;
+mod sizes;

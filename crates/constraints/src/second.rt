@@ -1,0 +1,70 @@
+// The five second functions f''_k, by place: document 01, message 3.
+ghost use mathlib.Core.Path.{_≡_};
+ghost use Prim.Native.Nat.{_*_, _<_};
+ghost use Rattle.ring.specs.Element.{array};
+ghost use Rattle.fold.specs.Sizes.{pairs, functionSize};
+ghost use Rattle.fold.specs.Entries.{termEntry, secondA, secondΦ};
+ghost use Rattle.constraints.specs.Facts.{TermFacts, SecondFacts};
+use crate::projected::projection_entry;
+use crate::sizes;
+use fold::Shape;
+use ring::element::Element;
+
+// Σ_l ψ_kl f'_l at place e.
+pub fn term_entry(shape: Shape, l: usize, term: &[i32], psi: &[i32], k: usize, e: usize) -> Element
+    requires { ⌜ TermFacts (shape .d) (shape .n) (shape .r) l (now term) (now psi) ⌝ }
+    requires { ⌜ (k < 5) × (e < functionSize (shape .n) (shape .r)) ⌝ }
+    ensures { λ r. ⌜ r .coefficients ≡ array (shape .d) (termEntry (shape .d) (shape .n) (shape .r) l (now (term .entry)) (now (psi .entry)) k e) ⌝ }
+{
+    let d = shape.d;
+    let size = sizes::function_size(shape);
+    let step = size * d + 1;
+    let first = k * l;
+    let mut sum = Element::additive_identity();
+    let mut at = 0;
+    let mut j = 0;
+    while j < l {
+        let weight = psi[first + j];
+        let rest = &term[at..];
+        let entry = Element::from_slice(d, rest, e);
+        let weighted = entry.scale(d, weight);
+        sum = sum.sum(d, weighted);
+        at += step;
+        j += 1;
+    }
+    sum
+}
+
+// The a of f''_k at pair place e.
+pub fn second_a(shape: Shape, l: usize, term: &[i32], psi: &[i32], k: usize, e: usize) -> Element
+    requires { ⌜ TermFacts (shape .d) (shape .n) (shape .r) l (now term) (now psi) ⌝ }
+    requires { ⌜ (k < 5) × (e < pairs (shape .r)) ⌝ }
+    ensures { λ r. ⌜ r .coefficients ≡ array (shape .d) (secondA (shape .d) (shape .n) (shape .r) l (now (term .entry)) (now (psi .entry)) k e) ⌝ }
+{
+    term_entry(shape, l, term, psi, k, e)
+}
+
+// The φ of f''_k at element e of the witness.
+pub fn second_phi(
+    shape: Shape,
+    l: usize,
+    w: usize,
+    term: &[i32],
+    rows: &[i32],
+    psi: &[i32],
+    omega: &[i32],
+    k: usize,
+    e: usize,
+) -> Element
+    requires { ⌜ SecondFacts (shape .d) (shape .n) (shape .r) l w (now term) (now rows) (now psi) (now omega) ⌝ }
+    requires { ⌜ (k < 5) × (e < shape .r * shape .n) ⌝ }
+    ensures { λ r. ⌜ r .coefficients ≡ array (shape .d) (secondΦ (shape .d) (shape .n) (shape .r) l w (now (term .entry)) (now (rows .entry)) (now (psi .entry)) (now (omega .entry)) k e) ⌝ }
+{
+    let d = shape.d;
+    let pairs = sizes::pair_count(shape.r);
+    let place = pairs + e;
+    let own = term_entry(shape, l, term, psi, k, place);
+    let projected = projection_entry(shape, w, rows, omega, k, e);
+    let conjugated = projected.conjugate(d);
+    own.sum(d, conjugated)
+}

@@ -1,0 +1,87 @@
+-- The arguments of the calls as the definitions take them: sizes stand in a struct, each slice is the list of its numbers, and z has two
+-- digits ("z = Σ c_i s_i in two digits to base b"). Below, the number with which each call refuses, 0 where it does not.
+use mathlib.Core.List.{List}
+use Prim.Native.Nat.{ℕ}
+use lib.IntN.{ℤ}
+use Rattle.fold.specs.declared.Shape.{Shape}
+use Rattle.fold.specs.declared.CommitSizes.{CommitSizes}
+use Rattle.fold.specs.declared.GarbageSizes.{GarbageSizes}
+use Rattle.fold.specs.declared.Sizes.{Sizes}
+use Rattle.fold.specs.Answers.{firstRefusal}
+use Rattle.fold.specs.Verdict.{Statement, Draws, Transcript}
+use Rattle.fold.specs.CallLimits.{CommitLimits, GarbageLimits, VerifyLimits}
+use Rattle.fold.specs.Refusals.{commitTests, projectTests, aggregateTests, garbageTests, amortizeTests, verifyTests}
+
+abbrev pub statementOf : Sizes → (A B C D whole term : List ℤ) → Statement
+statementOf sizes A B C D whole term =
+    record {
+      relation =
+          record {
+            d = sizes .d;
+            n = sizes .n;
+            r = sizes .r;
+            K = sizes .k;
+            L = sizes .l;
+            bound = sizes .bound;
+            whole = whole;
+            term = term;
+          };
+      w = sizes .w;
+      tz = 2;
+      κ = sizes .kappa;
+      κ₁ = sizes .kappa1;
+      κ₂ = sizes .kappa2;
+      b = sizes .b;
+      b₁ = sizes .b1;
+      b₂ = sizes .b2;
+      t₁ = sizes .t1;
+      t₂ = sizes .t2;
+      target = sizes .target;
+      A = A;
+      B = B;
+      C = C;
+      D = D;
+    }
+
+abbrev pub drawsOf : (rows ψ ω α δ c : List ℤ) → Draws
+drawsOf rows ψ ω α δ c = record { projections = rows; ψ = ψ; ω = ω; α = α; δ = δ; c = c }
+
+abbrev pub transcriptOf : (u₁ p b″ u₂ : List ℤ) → Transcript
+transcriptOf u₁ p b″ u₂ = record { u₁ = u₁; p = p; b″ = b″; u₂ = u₂ }
+
+-- ---- the number of each call's refusal
+
+abbrev pub commitRefusal : CommitSizes → (A B C s ts gs u₁ : List ℤ) → ℕ
+commitRefusal m A B C s ts gs u₁ =
+    firstRefusal
+    (commitTests (m .d) (m .n) (m .r) (m .kappa) (m .kappa1) (m .b1) (m .b2) (m .t1) (m .t2) A B C s ts gs u₁)
+
+abbrev pub projectRefusal : Shape → (w : ℕ) (rows s p : List ℤ) → ℕ
+projectRefusal m w rows s p = firstRefusal (projectTests (m .d) (m .n) (m .r) w rows s p)
+
+abbrev pub aggregateRefusal : Shape → (L w : ℕ) (term rows ψ ω s b″ : List ℤ) → ℕ
+aggregateRefusal m L w term rows ψ ω s b″ = firstRefusal (aggregateTests (m .d) (m .n) (m .r) L w term rows ψ ω s b″)
+
+abbrev pub garbageRefusal : GarbageSizes → (whole term rows ψ ω α δ D s hs u₂ : List ℤ) → ℕ
+garbageRefusal m whole term rows ψ ω α δ D s hs u₂ =
+    firstRefusal
+    (garbageTests (m .d) (m .n) (m .r) (m .k) (m .l) (m .w) (m .kappa2) (m .b1) (m .t1) whole term rows ψ ω α δ D s hs u₂)
+
+abbrev pub amortizeRefusal : Shape → (b : ℕ) (c s zs : List ℤ) → ℕ
+amortizeRefusal m b c s zs = firstRefusal (amortizeTests (m .d) (m .n) (m .r) 2 b c s zs)
+
+abbrev pub verifyRefusal : Statement → Draws → Transcript → List ℤ → ℕ
+verifyRefusal 𝓢 𝓓 𝓣 o = firstRefusal (verifyTests 𝓢 𝓓 𝓣 o)
+
+-- ---- the limits of sizes that stand in a struct
+
+abbrev pub CommitSized : CommitSizes → Type 0
+CommitSized m = CommitLimits (m .d) (m .n) (m .r) (m .kappa) (m .kappa1) (m .b1) (m .b2) (m .t1) (m .t2)
+
+abbrev pub GarbageSized : GarbageSizes → Type 0
+GarbageSized m = GarbageLimits (m .d) (m .n) (m .r) (m .k) (m .l) (m .w) (m .kappa2) (m .b1) (m .t1)
+
+abbrev pub VerifySized : Sizes → Type 0
+VerifySized m =
+    VerifyLimits (m .d) (m .n) (m .r) (m .k) (m .l) (m .w) (m .kappa) (m .kappa1) (m .kappa2) (m .b) (m .b1) (m .b2) (m .t1) (m .t2)
+    (m .bound) (m .target)

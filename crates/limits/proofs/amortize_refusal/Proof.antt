@@ -1,0 +1,76 @@
+-- `limits::amortize_refusal` meets its contract: the sizes, then row 7, then the rows after it. Assumes nothing.
+use mathlib.Core.Path.{refl}
+use Rattle.fold.specs.Refusals.{amortizeTests}
+use Rattle.fold.specs.RefusalLaws.{sized-iff}
+use Rattle.limits.specs.Stages.{amortizeBounds}
+use Rattle.limits.specs.RowLaws.{end, _&_}
+use Rattle.limits.specs.StageLaws.{stopped, unfit, fit, fitting, single, row, none}
+use Rattle.limits.specs.StageLimits.{amortize-sized}
+use Rattle.limits.proofs.amortize_refusal.Statement.{statement}
+use Rattle.limits.proofs.amortize_refusal.Tie as tie
+
+amortize-bounds-requires : tie.Need-amortize-bounds-requires
+amortize-bounds-requires c κs = tt
+
+returns : tie.Need-returns
+unfolding amortizeTests
+returns c =
+    let a = c .before .before .args in
+    let m = a .shape in
+    stopped (amortizeBounds (m .d) (m .n) (m .r) (a .b)) _ (c .before .amortize-bounds .ensures) (c .if1 .taken)
+
+amortize-lengths-requires : tie.Need-amortize-lengths-requires
+amortize-lengths-requires c κs =
+    let a = c .before .before .args in
+    let m = a .shape in
+    amortize-sized (m .d) (m .n) (m .r) (a .b) (c .before .amortize-bounds .ensures) (c .if1 .left)
+
+returns-2 : tie.Need-returns-2
+unfolding amortizeTests
+returns-2 c =
+    let a = c .before .before .before .before .args in
+    let m = a .shape in
+    let fits = (c .before .amortize-lengths .ensures) in
+    unfit (amortizeBounds (m .d) (m .n) (m .r) (a .b)) 7 _ _ refl (c .before .before .before .amortize-bounds .ensures) (c .before .before .if1 .left) fits (c .if2 .taken)
+
+are-coefficients-requires : tie.Need-are-coefficients-requires
+are-coefficients-requires c κs = tt
+
+are-coefficients-requires-2 : tie.Need-are-coefficients-requires-2
+are-coefficients-requires-2 c κs = tt
+
+challenges-requires : tie.Need-challenges-requires
+challenges-requires c κs =
+    let fits = fitting _ (c .before .before .before .amortize-lengths .ensures) (c .before .before .if2 .left) in
+    sized-iff _ _ .0 (fits .0)
+
+first-requires : tie.Need-first-requires
+first-requires c κs = tt
+
+first-requires-2 : tie.Need-first-requires-2
+first-requires-2 c κs = tt
+
+returns-3 : tie.Need-returns-3
+unfolding amortizeTests
+returns-3 c =
+    let a = c .before .before .before .before .before .before .before .before .before .args in
+    let m = a .shape in
+    let fits = (c .before .before .before .before .before .before .amortize-lengths .ensures) in
+    fit (amortizeBounds (m .d) (m .n) (m .r) (a .b)) 7 _ _ refl (c .before .before .before .before .before .before .before .before .amortize-bounds .ensures) (c .before .before .before .before .before .before .before .if1 .left) fits (c .before .before .before .before .before .if2 .left)
+    (row 8 _ ((c .before .before .before .before .are-coefficients .ensures) & (c .before .before .before .are-coefficients2 .ensures) & end) (c .first2 .ensures)
+    (single 10 _ (c .before .before .challenges .ensures) (c .before .first .ensures) none))
+
+pub amortize-refusal-spec : {M : Type 1} → statement M
+amortize-refusal-spec =
+    tie.close
+    (tie.spec
+    amortize-bounds-requires
+    returns
+    amortize-lengths-requires
+    returns-2
+    are-coefficients-requires
+    are-coefficients-requires-2
+    challenges-requires
+    first-requires
+    first-requires-2
+    returns-3)

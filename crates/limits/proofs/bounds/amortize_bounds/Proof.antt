@@ -1,0 +1,53 @@
+-- `limits::bounds::amortize_bounds` meets its contract: rows 1, 2 and 4 in order. Assumes nothing.
+use borrow.Author.Needs.{needs}
+use Rattle.limits.specs.RowLaws.{end, _&_}
+use Rattle.limits.specs.StageLaws.{single, row, none}
+use Rattle.limits.proofs.bounds.amortize_bounds.Statement.{statement}
+use Rattle.limits.proofs.bounds.amortize_bounds.Tie as tie
+
+degree-requires : tie.Need-degree-requires
+degree-requires c κs = search needs
+
+rank-requires : tie.Need-rank-requires
+rank-requires c κs = search needs
+
+parts-requires : tie.Need-parts-requires
+parts-requires c κs = search needs
+
+base-requires : tie.Need-base-requires
+base-requires c κs = search needs
+
+first-requires : tie.Need-first-requires
+first-requires c κs = search needs
+
+first-requires-2 : tie.Need-first-requires-2
+first-requires-2 c κs = search needs
+
+first-requires-3 : tie.Need-first-requires-3
+first-requires-3 c κs = search needs
+
+returns : tie.Need-returns
+returns c =
+    let c1 = c .before in
+    let c2 = c1 .before in
+    let c3 = c2 .before in
+    let c4 = c3 .before in
+    let c5 = c4 .before in
+    let c6 = c5 .before in
+    single 1 _ (c6 .degree .ensures) (c .first3 .ensures)
+    (row 2 _ (c5 .rank .ensures & c4 .parts .ensures & end) (c1 .first2 .ensures)
+    (single 4 _ (c3 .base .ensures) (c2 .first .ensures)
+    none))
+
+pub amortize-bounds-spec : {M : Type 1} → statement M
+amortize-bounds-spec =
+    tie.close
+    (tie.spec
+    degree-requires
+    rank-requires
+    parts-requires
+    base-requires
+    first-requires
+    first-requires-2
+    first-requires-3
+    returns)

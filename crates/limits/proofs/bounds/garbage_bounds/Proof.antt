@@ -1,0 +1,84 @@
+-- `limits::bounds::garbage_bounds` meets its contract: rows 1 to 4 in order. Assumes nothing.
+use borrow.Author.Needs.{needs}
+use Rattle.limits.specs.RowLaws.{end, _&_}
+use Rattle.limits.specs.StageLaws.{single, row, none}
+use Rattle.limits.proofs.bounds.garbage_bounds.Statement.{statement}
+use Rattle.limits.proofs.bounds.garbage_bounds.Tie as tie
+
+degree-requires : tie.Need-degree-requires
+degree-requires c κs = search needs
+
+rank-requires : tie.Need-rank-requires
+rank-requires c κs = search needs
+
+parts-requires : tie.Need-parts-requires
+parts-requires c κs = search needs
+
+constraint-count-requires : tie.Need-constraint-count-requires
+constraint-count-requires c κs = search needs
+
+constraint-count-requires-2 : tie.Need-constraint-count-requires-2
+constraint-count-requires-2 c κs = search needs
+
+projection-count-requires : tie.Need-projection-count-requires
+projection-count-requires c κs = search needs
+
+commitment-rank-requires : tie.Need-commitment-rank-requires
+commitment-rank-requires c κs = search needs
+
+base-requires : tie.Need-base-requires
+base-requires c κs = search needs
+
+digit-count-requires : tie.Need-digit-count-requires
+digit-count-requires c κs = search needs
+
+first-requires : tie.Need-first-requires
+first-requires c κs = search needs
+
+first-requires-2 : tie.Need-first-requires-2
+first-requires-2 c κs = search needs
+
+first-requires-3 : tie.Need-first-requires-3
+first-requires-3 c κs = search needs
+
+first-requires-4 : tie.Need-first-requires-4
+first-requires-4 c κs = search needs
+
+returns : tie.Need-returns
+returns c =
+    let c1 = c .before in
+    let c2 = c1 .before in
+    let c3 = c2 .before in
+    let c4 = c3 .before in
+    let c5 = c4 .before in
+    let c6 = c5 .before in
+    let c7 = c6 .before in
+    let c8 = c7 .before in
+    let c9 = c8 .before in
+    let c10 = c9 .before in
+    let c11 = c10 .before in
+    let c12 = c11 .before in
+    single 1 _ (c12 .degree .ensures) (c .first4 .ensures)
+    (row 2 _ (c11 .rank .ensures & c10 .parts .ensures & c9 .constraint-count .ensures & c8 .constraint-count2 .ensures & c7 .projection-count .ensures & end) (c1 .first3 .ensures)
+    (single 3 _ (c6 .commitment-rank .ensures) (c2 .first2 .ensures)
+    (row 4 _ (c5 .base .ensures & c4 .digit-count .ensures & end) (c3 .first .ensures)
+    none)))
+
+pub garbage-bounds-spec : {M : Type 1} → statement M
+garbage-bounds-spec =
+    tie.close
+    (tie.spec
+    degree-requires
+    rank-requires
+    parts-requires
+    constraint-count-requires
+    constraint-count-requires-2
+    projection-count-requires
+    commitment-rank-requires
+    base-requires
+    digit-count-requires
+    first-requires
+    first-requires-2
+    first-requires-3
+    first-requires-4
+    returns)

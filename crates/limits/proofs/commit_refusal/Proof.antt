@@ -1,0 +1,72 @@
+-- `limits::commit_refusal` meets its contract: the sizes, then row 7, then the rows after it. Assumes nothing.
+use mathlib.Core.Path.{refl}
+use Rattle.fold.specs.Refusals.{commitTests}
+use Rattle.limits.specs.Stages.{commitBounds}
+use Rattle.limits.specs.RowLaws.{end, _&_}
+use Rattle.limits.specs.StageLaws.{stopped, unfit, fit, row, none}
+use Rattle.limits.specs.StageLimits.{commit-sized}
+use Rattle.limits.proofs.commit_refusal.Statement.{statement}
+use Rattle.limits.proofs.commit_refusal.Tie as tie
+
+commit-bounds-requires : tie.Need-commit-bounds-requires
+commit-bounds-requires c κs = tt
+
+returns : tie.Need-returns
+unfolding commitTests
+returns c =
+    let a = c .before .before .args in
+    let m = a .sizes in
+    stopped (commitBounds m) _ (c .before .commit-bounds .ensures) (c .if1 .taken)
+
+commit-lengths-requires : tie.Need-commit-lengths-requires
+commit-lengths-requires c κs =
+    let a = c .before .before .args in
+    let m = a .sizes in
+    commit-sized m (c .before .commit-bounds .ensures) (c .if1 .left)
+
+returns-2 : tie.Need-returns-2
+unfolding commitTests
+returns-2 c =
+    let a = c .before .before .before .before .args in
+    let m = a .sizes in
+    let fits = c .before .commit-lengths .ensures in
+    unfit (commitBounds m) 7 _ _ refl (c .before .before .before .commit-bounds .ensures) (c .before .before .if1 .left) fits (c .if2 .taken)
+
+are-coefficients-requires : tie.Need-are-coefficients-requires
+are-coefficients-requires c κs = tt
+
+are-coefficients-requires-2 : tie.Need-are-coefficients-requires-2
+are-coefficients-requires-2 c κs = tt
+
+are-coefficients-requires-3 : tie.Need-are-coefficients-requires-3
+are-coefficients-requires-3 c κs = tt
+
+are-coefficients-requires-4 : tie.Need-are-coefficients-requires-4
+are-coefficients-requires-4 c κs = tt
+
+first-requires : tie.Need-first-requires
+first-requires c κs = tt
+
+returns-3 : tie.Need-returns-3
+unfolding commitTests
+returns-3 c =
+    let a = c .before .before .before .before .before .before .before .before .before .args in
+    let m = a .sizes in
+    let fits = c .before .before .before .before .before .before .commit-lengths .ensures in
+    fit (commitBounds m) 7 _ _ refl (c .before .before .before .before .before .before .before .before .commit-bounds .ensures) (c .before .before .before .before .before .before .before .if1 .left) fits (c .before .before .before .before .before .if2 .left)
+    (row 8 _ ((c .before .before .before .before .are-coefficients .ensures) & (c .before .before .before .are-coefficients2 .ensures) & (c .before .before .are-coefficients3 .ensures) & (c .before .are-coefficients4 .ensures) & end) (c .first .ensures) none)
+
+pub commit-refusal-spec : {M : Type 1} → statement M
+commit-refusal-spec =
+    tie.close
+    (tie.spec
+    commit-bounds-requires
+    returns
+    commit-lengths-requires
+    returns-2
+    are-coefficients-requires
+    are-coefficients-requires-2
+    are-coefficients-requires-3
+    are-coefficients-requires-4
+    first-requires
+    returns-3)

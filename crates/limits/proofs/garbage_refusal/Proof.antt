@@ -1,0 +1,84 @@
+-- `limits::garbage_refusal` meets its contract: the sizes, then row 7, then the rows after it. Assumes nothing.
+use mathlib.Core.Path.{refl}
+use Rattle.fold.specs.Refusals.{garbageTests}
+use Rattle.limits.specs.Stages.{garbageBounds}
+use Rattle.limits.specs.RowLaws.{end, _&_, joined-row}
+use Rattle.limits.specs.StageLaws.{stopped, unfit, fit, single, none, append-rows}
+use Rattle.limits.specs.StageLimits.{garbage-constraints, garbage-sized}
+use Rattle.limits.proofs.garbage_refusal.Statement.{statement}
+use Rattle.limits.proofs.garbage_refusal.Tie as tie
+
+garbage-bounds-requires : tie.Need-garbage-bounds-requires
+garbage-bounds-requires c κs = tt
+
+returns : tie.Need-returns
+unfolding garbageTests
+returns c =
+    let a = c .before .before .args in
+    let m = a .sizes in
+    stopped (garbageBounds m) _ (c .before .garbage-bounds .ensures) (c .if1 .taken)
+
+constraint-lengths-requires : tie.Need-constraint-lengths-requires
+constraint-lengths-requires c κs =
+    let a = c .before .before .args in
+    let m = a .sizes in
+    garbage-constraints m (garbage-sized m (c .before .garbage-bounds .ensures) (c .if1 .left))
+
+garbage-lengths-requires : tie.Need-garbage-lengths-requires
+garbage-lengths-requires c κs =
+    let a = c .before .before .before .args in
+    let m = a .sizes in
+    garbage-sized m (c .before .before .garbage-bounds .ensures) (c .before .if1 .left)
+
+returns-2 : tie.Need-returns-2
+unfolding garbageTests
+returns-2 c =
+    let a = c .before .before .before .before .before .args in
+    let m = a .sizes in
+    let fits = append-rows _ _ (c .before .before .constraint-lengths .ensures) (c .before .garbage-lengths .ensures) in
+    unfit (garbageBounds m) 7 _ _ refl (c .before .before .before .before .garbage-bounds .ensures) (c .before .before .before .if1 .left) fits (c .if2 .taken)
+
+are-coefficients-requires : tie.Need-are-coefficients-requires
+are-coefficients-requires c κs = tt
+
+are-coefficients-requires-2 : tie.Need-are-coefficients-requires-2
+are-coefficients-requires-2 c κs = tt
+
+constraint-ranges-requires : tie.Need-constraint-ranges-requires
+constraint-ranges-requires c κs = tt
+
+are-projection-entries-requires : tie.Need-are-projection-entries-requires
+are-projection-entries-requires c κs = tt
+
+first-requires : tie.Need-first-requires
+first-requires c κs = tt
+
+first-requires-2 : tie.Need-first-requires-2
+first-requires-2 c κs = tt
+
+returns-3 : tie.Need-returns-3
+unfolding garbageTests
+returns-3 c =
+    let a = c .before .before .before .before .before .before .before .before .before .before .before .args in
+    let m = a .sizes in
+    let fits = append-rows _ _ (c .before .before .before .before .before .before .before .before .constraint-lengths .ensures) (c .before .before .before .before .before .before .before .garbage-lengths .ensures) in
+    fit (garbageBounds m) 7 _ _ refl (c .before .before .before .before .before .before .before .before .before .before .garbage-bounds .ensures) (c .before .before .before .before .before .before .before .before .before .if1 .left) fits (c .before .before .before .before .before .before .if2 .left)
+    (single 8 _ (append-rows _ _ (c .before .before .before .constraint-ranges .ensures) (joined-row ((c .before .before .before .before .before .are-coefficients .ensures) & (c .before .before .before .before .are-coefficients2 .ensures) & end))) (c .first2 .ensures)
+    (single 9 _ (c .before .before .are-projection-entries .ensures) (c .before .first .ensures) none))
+
+pub garbage-refusal-spec : {M : Type 1} → statement M
+garbage-refusal-spec =
+    tie.close
+    (tie.spec
+    garbage-bounds-requires
+    returns
+    constraint-lengths-requires
+    garbage-lengths-requires
+    returns-2
+    are-coefficients-requires
+    are-coefficients-requires-2
+    constraint-ranges-requires
+    are-projection-entries-requires
+    first-requires
+    first-requires-2
+    returns-3)

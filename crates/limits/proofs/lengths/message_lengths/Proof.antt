@@ -1,0 +1,51 @@
+-- `limits::lengths::message_lengths` meets its contract: the opening and each message. Assumes nothing.
+use mathlib.Core.Path.{refl}
+use borrow.Author.Needs.{needs}
+use native.Mathlib.Omega.{arith}
+use Rattle.limits.specs.SizeLaws.{opening-within}
+use Rattle.limits.specs.RowLaws.{end, _&_}
+use Rattle.limits.specs.StageLaws.{joined-tests}
+use Rattle.limits.proofs.lengths.message_lengths.Statement.{statement}
+use Rattle.limits.proofs.lengths.message_lengths.Tie as tie
+
+opening-size-requires : tie.Need-opening-size-requires
+opening-size-requires c κs = search needs
+
+list-fits-requires : tie.Need-list-fits-requires
+list-fits-requires c κs =
+    let l = c .before .pre in
+    (opening-within _ _ _ _ _ (c .opening-size .ensures) (l .shaped .rank-small) (l .shaped .parts-small) (l .κ-small) (l .t₁-most) (l .t₂-most), omega arith)
+
+list-fits-requires-2 : tie.Need-list-fits-requires-2
+list-fits-requires-2 c κs = search needs
+
+sized-requires : tie.Need-sized-requires
+sized-requires c κs = search needs
+
+five-fit-requires : tie.Need-five-fit-requires
+five-fit-requires c κs = search needs
+
+list-fits-requires-3 : tie.Need-list-fits-requires-3
+list-fits-requires-3 c κs = search needs
+
+returns : tie.Need-returns
+returns c =
+    let c1 = c .before in
+    let c2 = c1 .before in
+    let c3 = c2 .before in
+    let c4 = c3 .before in
+    let c5 = c4 .before in
+    let e0 = rw (c5 .opening-size .ensures) at (c4 .list-fits .ensures) in
+    joined-tests (e0 & c3 .list-fits2 .ensures & c2 .sized .ensures & c1 .five-fit .ensures & c .list-fits3 .ensures & end) refl
+
+pub message-lengths-spec : {M : Type 1} → statement M
+message-lengths-spec =
+    tie.close
+    (tie.spec
+    opening-size-requires
+    list-fits-requires
+    list-fits-requires-2
+    sized-requires
+    five-fit-requires
+    list-fits-requires-3
+    returns)

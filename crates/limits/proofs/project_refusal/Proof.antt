@@ -1,0 +1,73 @@
+-- `limits::project_refusal` meets its contract: the sizes, then row 7, then the rows after it. Assumes nothing.
+use mathlib.Core.Path.{refl}
+use Rattle.fold.specs.Refusals.{projectTests}
+use Rattle.limits.specs.Stages.{projectBounds}
+use Rattle.limits.specs.RowLaws.{end, _&_}
+use Rattle.limits.specs.StageLaws.{stopped, unfit, fit, single, row, none}
+use Rattle.limits.specs.StageLimits.{project-sized}
+use Rattle.limits.proofs.project_refusal.Statement.{statement}
+use Rattle.limits.proofs.project_refusal.Tie as tie
+
+project-bounds-requires : tie.Need-project-bounds-requires
+project-bounds-requires c κs = tt
+
+returns : tie.Need-returns
+unfolding projectTests
+returns c =
+    let a = c .before .before .args in
+    let m = a .shape in
+    stopped (projectBounds (m .d) (m .n) (m .r) (a .w)) _ (c .before .project-bounds .ensures) (c .if1 .taken)
+
+project-lengths-requires : tie.Need-project-lengths-requires
+project-lengths-requires c κs =
+    let a = c .before .before .args in
+    let m = a .shape in
+    project-sized (m .d) (m .n) (m .r) (a .w) (c .before .project-bounds .ensures) (c .if1 .left)
+
+returns-2 : tie.Need-returns-2
+unfolding projectTests
+returns-2 c =
+    let a = c .before .before .before .before .args in
+    let m = a .shape in
+    let fits = c .before .project-lengths .ensures in
+    unfit (projectBounds (m .d) (m .n) (m .r) (a .w)) 7 _ _ refl (c .before .before .before .project-bounds .ensures) (c .before .before .if1 .left) fits (c .if2 .taken)
+
+are-coefficients-requires : tie.Need-are-coefficients-requires
+are-coefficients-requires c κs = tt
+
+are-coefficients-requires-2 : tie.Need-are-coefficients-requires-2
+are-coefficients-requires-2 c κs = tt
+
+are-projection-entries-requires : tie.Need-are-projection-entries-requires
+are-projection-entries-requires c κs = tt
+
+first-requires : tie.Need-first-requires
+first-requires c κs = tt
+
+first-requires-2 : tie.Need-first-requires-2
+first-requires-2 c κs = tt
+
+returns-3 : tie.Need-returns-3
+unfolding projectTests
+returns-3 c =
+    let a = c .before .before .before .before .before .before .before .before .before .args in
+    let m = a .shape in
+    let fits = c .before .before .before .before .before .before .project-lengths .ensures in
+    fit (projectBounds (m .d) (m .n) (m .r) (a .w)) 7 _ _ refl (c .before .before .before .before .before .before .before .before .project-bounds .ensures) (c .before .before .before .before .before .before .before .if1 .left) fits (c .before .before .before .before .before .if2 .left)
+    (row 8 _ ((c .before .before .before .before .are-coefficients .ensures) & (c .before .before .before .are-coefficients2 .ensures) & end) (c .first2 .ensures)
+    (single 9 _ (c .before .before .are-projection-entries .ensures) (c .before .first .ensures) none))
+
+pub project-refusal-spec : {M : Type 1} → statement M
+project-refusal-spec =
+    tie.close
+    (tie.spec
+    project-bounds-requires
+    returns
+    project-lengths-requires
+    returns-2
+    are-coefficients-requires
+    are-coefficients-requires-2
+    are-projection-entries-requires
+    first-requires
+    first-requires-2
+    returns-3)

@@ -1,0 +1,72 @@
+-- `limits::rows::challenges` meets its contract. The loop's invariant: `all` says that the first i elements keep the rule. Assumes nothing.
+use Prim.Native.Nat.{_-_}
+use native.Mathlib.Omega.{arith}
+use Rattle.ring.specs.ElementPlaces.{block-before}
+use Rattle.limits.specs.RowLaws.{Kept, kept-start, kept-step, kept-end}
+use Rattle.limits.proofs.rows.challenges.Statement.{statement}
+use Rattle.limits.proofs.rows.challenges.Tie as tie
+
+abbrev Inv-loop : tie.InvT-loop
+Inv-loop d r c all₀ i₀ all i = Kept d r c all i
+
+abbrev μ-loop : tie.MeasureT-loop
+μ-loop d r c all₀ i₀ all i = r - i
+
+loop-holds : tie.Need-loop-holds Inv-loop μ-loop
+loop-holds c = kept-start _ _ _
+
+mul-at : tie.Need-mul-at Inv-loop μ-loop
+mul-at c = omega (arith, block-before (c .before .before .args .d) _ _ (c .loop-test .taken))
+
+add-end : tie.Need-add-end Inv-loop μ-loop
+add-end c = omega (arith, block-before (c .before .before .args .d) _ _ (c .loop-test .taken))
+
+mul-is-challenge : tie.Need-mul-is-challenge Inv-loop μ-loop
+mul-is-challenge c = omega (arith, block-before (c .before .before .args .d) _ _ (c .loop-test .taken))
+
+sub-is-challenge : tie.Need-sub-is-challenge Inv-loop μ-loop
+sub-is-challenge c = omega arith
+
+part-is-challenge-start : tie.Need-part-is-challenge-start Inv-loop μ-loop
+part-is-challenge-start c = omega arith
+
+part-is-challenge-end : tie.Need-part-is-challenge-end Inv-loop μ-loop
+part-is-challenge-end c = omega (arith, block-before (c .before .before .args .d) _ _ (c .loop-test .taken))
+
+is-challenge-requires : tie.Need-is-challenge-requires Inv-loop μ-loop
+is-challenge-requires c κs = tt
+
+add-i : tie.Need-add-i Inv-loop μ-loop
+add-i c = omega arith
+
+loop-less : tie.Need-loop-less Inv-loop μ-loop
+loop-less c = omega arith
+
+loop-again : tie.Need-loop-again Inv-loop μ-loop
+loop-again c =
+    kept-step _ _ _ (c .before .before .before .loop .all) _ _
+    (c .before .before .before .loop .inv)
+    (c .before .before .loop-test .taken)
+    (c .is-challenge .ensures)
+
+returns : tie.Need-returns Inv-loop μ-loop
+returns c = kept-end _ _ _ _ _ (c .before .loop .inv) (c .loop-test .left)
+
+pub challenges-spec : {M : Type 1} → statement M
+challenges-spec =
+    tie.close
+    (tie.spec
+    Inv-loop
+    μ-loop
+    loop-holds
+    mul-at
+    add-end
+    mul-is-challenge
+    sub-is-challenge
+    part-is-challenge-start
+    part-is-challenge-end
+    is-challenge-requires
+    add-i
+    loop-less
+    loop-again
+    returns)

@@ -1,0 +1,12 @@
+-- `limits::rows::parts` meets its contract: the test of the table, as comparisons. Assumes nothing.
+use Rattle.fold.specs.Refusals.{parts}
+use Rattle.limits.specs.RowLaws.{between-tests}
+use Rattle.limits.proofs.rows.parts.Statement.{statement}
+use Rattle.limits.proofs.rows.parts.Tie as tie
+
+returns : tie.Need-returns
+unfolding parts
+returns c = between-tests 1 16 _
+
+pub parts-spec : {M : Type 1} → statement M
+parts-spec = tie.close (tie.spec returns)

@@ -1,0 +1,12 @@
+-- `limits::rows::rank` meets its contract: the test of the table, as comparisons. Assumes nothing.
+use Rattle.fold.specs.Refusals.{rank}
+use Rattle.limits.specs.RowLaws.{between-tests}
+use Rattle.limits.proofs.rows.rank.Statement.{statement}
+use Rattle.limits.proofs.rows.rank.Tie as tie
+
+returns : tie.Need-returns
+unfolding rank
+returns c = between-tests 1 256 _
+
+pub rank-spec : {M : Type 1} → statement M
+rank-spec = tie.close (tie.spec returns)

@@ -1,0 +1,5 @@
+pub mod RowLaws
+pub mod SizeLaws
+pub mod Stages
+pub mod StageLaws
+pub mod StageLimits

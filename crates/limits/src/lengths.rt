@@ -1,0 +1,237 @@
+// Row 7 of document 01's table for each call: the lengths that its sizes give. The sizes have passed rows 1 to 4.
+ghost use mathlib.Core.Path.{_≡_};
+ghost use Prim.Native.Nat.{_*_, _≤_};
+ghost use Rattle.fold.specs.Refusals.{allOf};
+ghost use Rattle.fold.specs.Refusals as table;
+ghost use Rattle.fold.specs.CallLimits.{ProjectLimits, AggregateLimits, AmortizeLimits};
+ghost use Rattle.fold.specs.Arguments.{CommitSized, GarbageSized, VerifySized};
+ghost use Rattle.limits.specs.Stages.{ConstraintLimits};
+ghost use Rattle.limits.specs.Stages as spec;
+use crate::rows::sized;
+use crate::sizes::flat_length;
+use crate::sizes::garbage_size;
+use crate::sizes::list_length;
+use crate::sizes::opening_size;
+use crate::sizes::projection_length;
+use crate::sizes::t_size;
+use crate::sizes::term_length;
+use crate::sizes::whole_length;
+use fold::CommitSizes;
+use fold::GarbageSizes;
+use fold::Shape;
+use fold::Sizes;
+
+// Rows of elements.
+pub fn matrix_fits(xs: &[i32], rows: usize, columns: usize, d: usize) -> bool
+    requires { ⌜ (rows ≤ 256) × (columns ≤ 8192) × (d ≤ 64) ⌝ }
+    ensures { λ x. ⌜ x ≡ table.sized (now (xs .entry)) (rows * columns * d) ⌝ }
+{
+    let length = flat_length(rows, columns, d);
+    sized(xs, length)
+}
+
+// A list of elements.
+pub fn list_fits(xs: &[i32], elements: usize, d: usize) -> bool
+    requires { ⌜ (elements ≤ 8192) × (d ≤ 64) ⌝ }
+    ensures { λ x. ⌜ x ≡ table.sized (now (xs .entry)) (elements * d) ⌝ }
+{
+    let length = list_length(elements, d);
+    sized(xs, length)
+}
+
+// Five numbers for each of `count` functions.
+pub fn five_fit(xs: &[i32], count: usize) -> bool
+    requires { ⌜ count ≤ 256 ⌝ }
+    ensures { λ x. ⌜ x ≡ table.sized (now (xs .entry)) (5 * count) ⌝ }
+{
+    let length = 5 * count;
+    sized(xs, length)
+}
+
+pub fn whole_fits(d: usize, n: usize, r: usize, k: usize, whole: &[i32]) -> bool
+    requires { ⌜ (d ≤ 64) × (n ≤ 256) × (r ≤ 16) × (k ≤ 32) ⌝ }
+    ensures { λ x. ⌜ x ≡ table.sized (now (whole .entry)) (table.wholeLength d n r k) ⌝ }
+{
+    let length = whole_length(d, n, r, k);
+    sized(whole, length)
+}
+
+pub fn term_fits(d: usize, n: usize, r: usize, l: usize, term: &[i32]) -> bool
+    requires { ⌜ (d ≤ 64) × (n ≤ 256) × (r ≤ 16) × (l ≤ 32) ⌝ }
+    ensures { λ x. ⌜ x ≡ table.sized (now (term .entry)) (table.termLength d n r l) ⌝ }
+{
+    let length = term_length(d, n, r, l);
+    sized(term, length)
+}
+
+pub fn rows_fit(d: usize, n: usize, r: usize, w: usize, rows: &[i32]) -> bool
+    requires { ⌜ (d ≤ 64) × (n ≤ 256) × (r ≤ 16) × (w ≤ 256) ⌝ }
+    ensures { λ x. ⌜ x ≡ table.sized (now (rows .entry)) (table.projectionLength d n r w) ⌝ }
+{
+    let length = projection_length(d, n, r, w);
+    sized(rows, length)
+}
+
+pub fn commit_lengths(
+    sizes: CommitSizes,
+    a: &[i32],
+    b: &[i32],
+    c: &[i32],
+    witness: &[i32],
+    t: &[i32],
+    g: &[i32],
+    u1: &[i32],
+) -> bool
+    requires { ⌜ CommitSized sizes ⌝ }
+    ensures { λ x.
+        ⌜ x ≡ allOf (spec.commitLengths sizes (now (a .entry)) (now (b .entry)) (now (c .entry)) (now (witness .entry))
+        (now (t .entry)) (now (g .entry)) (now (u1 .entry))) ⌝ }
+{
+    let t_elements = t_size(sizes.r, sizes.kappa, sizes.t1);
+    let g_elements = garbage_size(sizes.r, sizes.t2);
+    matrix_fits(a, sizes.kappa, sizes.n, sizes.d)
+        & matrix_fits(b, sizes.kappa1, t_elements, sizes.d)
+        & matrix_fits(c, sizes.kappa1, g_elements, sizes.d)
+        & matrix_fits(witness, sizes.r, sizes.n, sizes.d)
+        & list_fits(t, t_elements, sizes.d)
+        & list_fits(g, g_elements, sizes.d)
+        & list_fits(u1, sizes.kappa1, sizes.d)
+}
+
+pub fn project_lengths(shape: Shape, w: usize, rows: &[i32], witness: &[i32], p: &[i32]) -> bool
+    requires { ⌜ ProjectLimits (shape .d) (shape .n) (shape .r) w ⌝ }
+    ensures { λ x.
+        ⌜ x ≡ allOf (spec.projectLengths (shape .d) (shape .n) (shape .r) w (now (rows .entry)) (now (witness .entry))
+        (now (p .entry))) ⌝ }
+{
+    rows_fit(shape.d, shape.n, shape.r, w, rows)
+        & matrix_fits(witness, shape.r, shape.n, shape.d)
+        & sized(p, w)
+}
+
+pub fn aggregate_lengths(
+    shape: Shape,
+    l: usize,
+    w: usize,
+    term: &[i32],
+    rows: &[i32],
+    psi: &[i32],
+    omega: &[i32],
+    witness: &[i32],
+    b2: &[i32],
+) -> bool
+    requires { ⌜ AggregateLimits (shape .d) (shape .n) (shape .r) l w ⌝ }
+    ensures { λ x.
+        ⌜ x ≡ allOf (spec.aggregateLengths (shape .d) (shape .n) (shape .r) l w (now (term .entry)) (now (rows .entry))
+        (now (psi .entry)) (now (omega .entry)) (now (witness .entry)) (now (b2 .entry))) ⌝ }
+{
+    term_fits(shape.d, shape.n, shape.r, l, term)
+        & rows_fit(shape.d, shape.n, shape.r, w, rows)
+        & five_fit(psi, l)
+        & five_fit(omega, w)
+        & matrix_fits(witness, shape.r, shape.n, shape.d)
+        & five_fit(b2, shape.d)
+}
+
+// Both kinds of constraints and what is lent to aggregate them.
+pub fn constraint_lengths(
+    shape: Shape,
+    k: usize,
+    l: usize,
+    w: usize,
+    whole: &[i32],
+    term: &[i32],
+    rows: &[i32],
+    psi: &[i32],
+    omega: &[i32],
+    alpha: &[i32],
+    delta: &[i32],
+) -> bool
+    requires { ⌜ ConstraintLimits (shape .d) (shape .n) (shape .r) k l w ⌝ }
+    ensures { λ x.
+        ⌜ x ≡ allOf (spec.constraintLengths (shape .d) (shape .n) (shape .r) k l w (now (whole .entry))
+        (now (term .entry)) (now (rows .entry)) (now (psi .entry)) (now (omega .entry)) (now (alpha .entry))
+        (now (delta .entry))) ⌝ }
+{
+    whole_fits(shape.d, shape.n, shape.r, k, whole)
+        & term_fits(shape.d, shape.n, shape.r, l, term)
+        & rows_fit(shape.d, shape.n, shape.r, w, rows)
+        & five_fit(psi, l)
+        & five_fit(omega, w)
+        & list_fits(alpha, k, shape.d)
+        & five_fit(delta, shape.d)
+}
+
+// The other lists of message 4.
+pub fn garbage_lengths(
+    sizes: GarbageSizes,
+    d_matrix: &[i32],
+    witness: &[i32],
+    h: &[i32],
+    u2: &[i32],
+) -> bool
+    requires { ⌜ GarbageSized sizes ⌝ }
+    ensures { λ x.
+        ⌜ x ≡ allOf (spec.garbageLengths sizes (now («d_matrix» .entry)) (now (witness .entry)) (now (h .entry))
+        (now (u2 .entry))) ⌝ }
+{
+    let elements = garbage_size(sizes.r, sizes.t1);
+    matrix_fits(d_matrix, sizes.kappa2, elements, sizes.d)
+        & matrix_fits(witness, sizes.r, sizes.n, sizes.d)
+        & list_fits(h, elements, sizes.d)
+        & list_fits(u2, sizes.kappa2, sizes.d)
+}
+
+pub fn amortize_lengths(shape: Shape, b: usize, c: &[i32], witness: &[i32], z: &[i32]) -> bool
+    requires { ⌜ AmortizeLimits (shape .d) (shape .n) (shape .r) b ⌝ }
+    ensures { λ x.
+        ⌜ x ≡ allOf (spec.amortizeLengths (shape .d) (shape .n) (shape .r) (now (c .entry)) (now (witness .entry))
+        (now (z .entry))) ⌝ }
+{
+    list_fits(c, shape.r, shape.d)
+        & matrix_fits(witness, shape.r, shape.n, shape.d)
+        & matrix_fits(z, 2, shape.n, shape.d)
+}
+
+// The opening and the messages before it.
+pub fn message_lengths(
+    sizes: Sizes,
+    opening: &[i32],
+    u1: &[i32],
+    p: &[i32],
+    b2: &[i32],
+    u2: &[i32],
+) -> bool
+    requires { ⌜ VerifySized sizes ⌝ }
+    ensures { λ x.
+        ⌜ x ≡ allOf (spec.messageLengths sizes (now (opening .entry)) (now (u1 .entry)) (now (p .entry))
+        (now (b2 .entry)) (now (u2 .entry))) ⌝ }
+{
+    let elements = opening_size(sizes.n, sizes.r, sizes.kappa, sizes.t1, sizes.t2);
+    list_fits(opening, elements, sizes.d)
+        & list_fits(u1, sizes.kappa1, sizes.d)
+        & sized(p, sizes.w)
+        & five_fit(b2, sizes.d)
+        & list_fits(u2, sizes.kappa2, sizes.d)
+}
+
+pub fn matrix_lengths(
+    sizes: Sizes,
+    a: &[i32],
+    b: &[i32],
+    c_matrix: &[i32],
+    d_matrix: &[i32],
+) -> bool
+    requires { ⌜ VerifySized sizes ⌝ }
+    ensures { λ x.
+        ⌜ x ≡ allOf (spec.matrixLengths sizes (now (a .entry)) (now (b .entry)) (now («c_matrix» .entry))
+        (now («d_matrix» .entry))) ⌝ }
+{
+    let t_elements = t_size(sizes.r, sizes.kappa, sizes.t1);
+    let g_elements = garbage_size(sizes.r, sizes.t2);
+    let h_elements = garbage_size(sizes.r, sizes.t1);
+    matrix_fits(a, sizes.kappa, sizes.n, sizes.d)
+        & matrix_fits(b, sizes.kappa1, t_elements, sizes.d)
+        & matrix_fits(c_matrix, sizes.kappa1, g_elements, sizes.d)
+        & matrix_fits(d_matrix, sizes.kappa2, h_elements, sizes.d)
+}

@@ -1,0 +1,248 @@
+// The number with which each call refuses, 0 where it does not: document 01, 'Where a call stops'. Sizes are tested before lengths, which
+// are products of them, and lengths before what the lists hold.
+pub mod bounds;
+pub mod lengths;
+pub mod ranges;
+pub mod rows;
+pub mod sizes;
+
+ghost use mathlib.Core.Path.{_≡_};
+ghost use Rattle.fold.specs.Arguments.{commitRefusal, projectRefusal, aggregateRefusal, garbageRefusal, amortizeRefusal, verifyRefusal};
+ghost use Rattle.fold.specs.Arguments.{statementOf, drawsOf, transcriptOf};
+use bounds::aggregate_bounds;
+use bounds::amortize_bounds;
+use bounds::commit_bounds;
+use bounds::garbage_bounds;
+use bounds::project_bounds;
+use bounds::verify_bounds;
+use fold::CommitSizes;
+use fold::GarbageSizes;
+use fold::Shape;
+use fold::Sizes;
+use lengths::aggregate_lengths;
+use lengths::amortize_lengths;
+use lengths::commit_lengths;
+use lengths::constraint_lengths;
+use lengths::garbage_lengths;
+use lengths::list_fits;
+use lengths::matrix_lengths;
+use lengths::message_lengths;
+use lengths::project_lengths;
+use ranges::constraint_ranges;
+use ranges::message_ranges;
+use ring::range::are_coefficients;
+use ring::range::are_projection_entries;
+use rows::challenges;
+use rows::first;
+
+// Message 1: A, B, C and the witness; t, g and u1 are looked at only for their lengths.
+pub fn commit_refusal(
+    sizes: CommitSizes,
+    a: &[i32],
+    b: &[i32],
+    c: &[i32],
+    witness: &[i32],
+    t: &[i32],
+    g: &[i32],
+    u1: &[i32],
+) -> u8
+    ensures { λ x.
+        ⌜ x ≡ commitRefusal sizes (now (a .entry)) (now (b .entry)) (now (c .entry)) (now (witness .entry))
+        (now (t .entry)) (now (g .entry)) (now (u1 .entry)) ⌝ }
+{
+    let size = commit_bounds(sizes);
+    if size != 0 {
+        return size;
+    }
+    let fits = commit_lengths(sizes, a, b, c, witness, t, g, u1);
+    if !fits {
+        return 7;
+    }
+    let ranges = are_coefficients(a)
+        & are_coefficients(b)
+        & are_coefficients(c)
+        & are_coefficients(witness);
+    first(ranges, 8, 0)
+}
+
+// Message 2: projection rows and the witness; p for its length.
+pub fn project_refusal(shape: Shape, w: usize, rows: &[i32], witness: &[i32], p: &[i32]) -> u8
+    ensures { λ x. ⌜ x ≡ projectRefusal shape w (now (rows .entry)) (now (witness .entry)) (now (p .entry)) ⌝ }
+{
+    let size = project_bounds(shape, w);
+    if size != 0 {
+        return size;
+    }
+    let fits = project_lengths(shape, w, rows, witness, p);
+    if !fits {
+        return 7;
+    }
+    let ranges = are_coefficients(rows) & are_coefficients(witness);
+    let entries = are_projection_entries(rows);
+    first(ranges, 8, first(entries, 9, 0))
+}
+
+// Message 3: constant-term constraints, projection rows, ψ, ω and the witness; b'' for its length.
+pub fn aggregate_refusal(
+    shape: Shape,
+    l: usize,
+    w: usize,
+    term: &[i32],
+    rows: &[i32],
+    psi: &[i32],
+    omega: &[i32],
+    witness: &[i32],
+    b2: &[i32],
+) -> u8
+    ensures { λ x.
+        ⌜ x ≡ aggregateRefusal shape l w (now (term .entry)) (now (rows .entry)) (now (psi .entry)) (now (omega .entry))
+        (now (witness .entry)) (now (b2 .entry)) ⌝ }
+{
+    let size = aggregate_bounds(shape, l, w);
+    if size != 0 {
+        return size;
+    }
+    let fits = aggregate_lengths(shape, l, w, term, rows, psi, omega, witness, b2);
+    if !fits {
+        return 7;
+    }
+    let ranges = are_coefficients(term)
+        & are_coefficients(rows)
+        & are_coefficients(psi)
+        & are_coefficients(omega)
+        & are_coefficients(witness);
+    let entries = are_projection_entries(rows);
+    first(ranges, 8, first(entries, 9, 0))
+}
+
+// Message 4: both kinds of constraints, projection rows, ψ, ω, α, δ, D and the witness; h and u2 for their lengths.
+pub fn garbage_refusal(
+    sizes: GarbageSizes,
+    whole: &[i32],
+    term: &[i32],
+    rows: &[i32],
+    psi: &[i32],
+    omega: &[i32],
+    alpha: &[i32],
+    delta: &[i32],
+    d_matrix: &[i32],
+    witness: &[i32],
+    h: &[i32],
+    u2: &[i32],
+) -> u8
+    ensures { λ x.
+        ⌜ x ≡ garbageRefusal sizes (now (whole .entry)) (now (term .entry)) (now (rows .entry)) (now (psi .entry))
+        (now (omega .entry)) (now (alpha .entry)) (now (delta .entry)) (now («d_matrix» .entry))
+        (now (witness .entry)) (now (h .entry)) (now (u2 .entry)) ⌝ }
+{
+    let size = garbage_bounds(sizes);
+    if size != 0 {
+        return size;
+    }
+    let shape = Shape {
+        d: sizes.d,
+        n: sizes.n,
+        r: sizes.r,
+    };
+    let fits = constraint_lengths(
+        shape,
+        sizes.k,
+        sizes.l,
+        sizes.w,
+        whole,
+        term,
+        rows,
+        psi,
+        omega,
+        alpha,
+        delta,
+    )
+        & garbage_lengths(sizes, d_matrix, witness, h, u2);
+    if !fits {
+        return 7;
+    }
+    let lent = are_coefficients(d_matrix) & are_coefficients(witness);
+    let ranges = constraint_ranges(whole, term, rows, psi, omega, alpha, delta) & lent;
+    let entries = are_projection_entries(rows);
+    first(ranges, 8, first(entries, 9, 0))
+}
+
+// Message 5: challenges and the witness; the digits of z for their length.
+pub fn amortize_refusal(shape: Shape, b: usize, c: &[i32], witness: &[i32], z: &[i32]) -> u8
+    ensures { λ x. ⌜ x ≡ amortizeRefusal shape b (now (c .entry)) (now (witness .entry)) (now (z .entry)) ⌝ }
+{
+    let size = amortize_bounds(shape, b);
+    if size != 0 {
+        return size;
+    }
+    let fits = amortize_lengths(shape, b, c, witness, z);
+    if !fits {
+        return 7;
+    }
+    let ranges = are_coefficients(c) & are_coefficients(witness);
+    let rule = challenges(shape.d, shape.r, c);
+    first(ranges, 8, first(rule, 10, 0))
+}
+
+// The verifier: the statement, the draws, the messages and the opening.
+pub fn verify_refusal(
+    sizes: Sizes,
+    a: &[i32],
+    b: &[i32],
+    c_matrix: &[i32],
+    d_matrix: &[i32],
+    whole: &[i32],
+    term: &[i32],
+    u1: &[i32],
+    rows: &[i32],
+    p: &[i32],
+    psi: &[i32],
+    omega: &[i32],
+    b2: &[i32],
+    alpha: &[i32],
+    delta: &[i32],
+    u2: &[i32],
+    c: &[i32],
+    opening: &[i32],
+) -> u8
+    ensures { λ x.
+        ⌜ x ≡ verifyRefusal (statementOf sizes (now (a .entry)) (now (b .entry)) (now («c_matrix» .entry))
+        (now («d_matrix» .entry)) (now (whole .entry)) (now (term .entry))) (drawsOf (now (rows .entry))
+        (now (psi .entry)) (now (omega .entry)) (now (alpha .entry)) (now (delta .entry)) (now (c .entry)))
+        (transcriptOf (now (u1 .entry)) (now (p .entry)) (now (b2 .entry)) (now (u2 .entry))) (now (opening .entry)) ⌝ }
+{
+    let size = verify_bounds(sizes);
+    if size != 0 {
+        return size;
+    }
+    let shape = Shape {
+        d: sizes.d,
+        n: sizes.n,
+        r: sizes.r,
+    };
+    let fits = message_lengths(sizes, opening, u1, p, b2, u2)
+        & matrix_lengths(sizes, a, b, c_matrix, d_matrix)
+        & constraint_lengths(
+            shape,
+            sizes.k,
+            sizes.l,
+            sizes.w,
+            whole,
+            term,
+            rows,
+            psi,
+            omega,
+            alpha,
+            delta,
+        )
+        & list_fits(c, sizes.r, sizes.d);
+    if !fits {
+        return 7;
+    }
+    let ranges = message_ranges(opening, u1, p, b2, u2, a, b, c_matrix, d_matrix)
+        & constraint_ranges(whole, term, rows, psi, omega, alpha, delta)
+        & are_coefficients(c);
+    let entries = are_projection_entries(rows);
+    let rule = challenges(sizes.d, sizes.r, c);
+    first(ranges, 8, first(entries, 9, first(rule, 10, 0)))
+}

@@ -1,0 +1,55 @@
+// Row 8 of document 01's table for the lists that two calls share.
+ghost use mathlib.Core.Path.{_≡_};
+ghost use Rattle.fold.specs.Refusals.{allOf};
+ghost use Rattle.limits.specs.Stages as spec;
+use ring::range::are_coefficients;
+
+// Both kinds of constraints and what is lent to aggregate them.
+pub fn constraint_ranges(
+    whole: &[i32],
+    term: &[i32],
+    rows: &[i32],
+    psi: &[i32],
+    omega: &[i32],
+    alpha: &[i32],
+    delta: &[i32],
+) -> bool
+    ensures { λ x.
+        ⌜ x ≡ allOf (spec.constraintRanges (now (whole .entry)) (now (term .entry)) (now (rows .entry))
+        (now (psi .entry)) (now (omega .entry)) (now (alpha .entry)) (now (delta .entry))) ⌝ }
+{
+    are_coefficients(whole)
+        & are_coefficients(term)
+        & are_coefficients(rows)
+        & are_coefficients(psi)
+        & are_coefficients(omega)
+        & are_coefficients(alpha)
+        & are_coefficients(delta)
+}
+
+// The opening, the messages before it and the matrices.
+pub fn message_ranges(
+    opening: &[i32],
+    u1: &[i32],
+    p: &[i32],
+    b2: &[i32],
+    u2: &[i32],
+    a: &[i32],
+    b: &[i32],
+    c_matrix: &[i32],
+    d_matrix: &[i32],
+) -> bool
+    ensures { λ x.
+        ⌜ x ≡ allOf (spec.messageRanges (now (opening .entry)) (now (u1 .entry)) (now (p .entry)) (now (b2 .entry))
+        (now (u2 .entry)) (now (a .entry)) (now (b .entry)) (now («c_matrix» .entry)) (now («d_matrix» .entry))) ⌝ }
+{
+    are_coefficients(opening)
+        & are_coefficients(u1)
+        & are_coefficients(p)
+        & are_coefficients(b2)
+        & are_coefficients(u2)
+        & are_coefficients(a)
+        & are_coefficients(b)
+        & are_coefficients(c_matrix)
+        & are_coefficients(d_matrix)
+}

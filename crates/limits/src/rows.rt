@@ -1,0 +1,98 @@
+// The tests of the rows of document 01's table, one by one.
+ghost use mathlib.Core.Path.{_≡_};
+ghost use mathlib.Core.Bool.{cond};
+ghost use Prim.Native.Nat.{_*_, _<_, _≤_};
+ghost use lib.ListN.{length};
+ghost use lib.IntN.{pos};
+ghost use Rattle.fold.specs.Refusals as spec;
+use ring::range;
+
+// Row 1.
+pub fn degree(d: usize) -> bool
+    ensures { λ r. ⌜ r ≡ spec.degree (pos d) ⌝ }
+{
+    (d == 2) | (d == 4) | (d == 8) | (d == 16) | (d == 32) | (d == 64)
+}
+
+// Row 2: n, r, K or L, w.
+pub fn rank(n: usize) -> bool
+    ensures { λ r. ⌜ r ≡ spec.rank (pos n) ⌝ }
+{
+    (1 <= n) & (n <= 256)
+}
+
+pub fn parts(r: usize) -> bool
+    ensures { λ x. ⌜ x ≡ spec.parts (pos r) ⌝ }
+{
+    (1 <= r) & (r <= 16)
+}
+
+pub fn constraint_count(k: usize) -> bool
+    ensures { λ r. ⌜ r ≡ spec.constraintCount (pos k) ⌝ }
+{
+    k <= 32
+}
+
+pub fn projection_count(w: usize) -> bool
+    ensures { λ r. ⌜ r ≡ spec.projectionCount (pos w) ⌝ }
+{
+    w <= 256
+}
+
+// Row 3: κ, κ1, κ2.
+pub fn commitment_rank(kappa: usize) -> bool
+    ensures { λ r. ⌜ r ≡ spec.commitmentRank (pos kappa) ⌝ }
+{
+    (1 <= kappa) & (kappa <= 8)
+}
+
+// Row 4: a base, a number of digits.
+pub fn base(b: usize) -> bool
+    ensures { λ r. ⌜ r ≡ spec.base (pos b) ⌝ }
+{
+    (2 <= b) & (b <= 65536)
+}
+
+pub fn digit_count(t: usize) -> bool
+    ensures { λ r. ⌜ r ≡ spec.digitCount (pos t) ⌝ }
+{
+    (2 <= t) & (t <= 8)
+}
+
+// Row 6: β² or β'².
+pub fn length_bound(x: u64) -> bool
+    ensures { λ r. ⌜ r ≡ spec.lengthBound (pos x) ⌝ }
+{
+    x <= 999999999999999
+}
+
+// Row 7: the length of a slice.
+pub fn sized(xs: &[i32], k: usize) -> bool
+    ensures { λ r. ⌜ r ≡ spec.sized (now (xs .entry)) k ⌝ }
+{
+    xs.len() == k
+}
+
+// Row 10, for each of the r elements of c.
+pub fn challenges(d: usize, r: usize, c: &[i32]) -> bool
+    requires { ⌜ length (now c) ≡ r * d ⌝ }
+    ensures { λ x. ⌜ x ≡ spec.challenges d r (now (c .entry)) ⌝ }
+{
+    let mut all = true;
+    let mut i = 0;
+    while i < r {
+        let at = i * d;
+        let end = at + d;
+        let one = range::is_challenge(&c[at..end]);
+        all = all & one;
+        i += 1;
+    }
+    all
+}
+
+// The number of a row whose test fails, or else what the later rows say.
+pub fn first(passes: bool, number: u8, later: u8) -> u8
+    ensures { λ r. ⌜ r ≡ cond passes later number ⌝ }
+{
+    if passes { later } else { number }
+}

@@ -1,0 +1,91 @@
+// The lengths that the sizes give, in elements and in numbers. Within the limits of rows 1 to 4 no product wraps.
+ghost use mathlib.Core.Path.{_≡_};
+ghost use Prim.Native.Nat.{_*_, _≤_};
+ghost use Rattle.fold.specs.Sizes as spec;
+ghost use Rattle.fold.specs.Refusals as table;
+
+// The number of pairs i ≤ j of r parts.
+pub fn pairs(r: usize) -> usize
+    requires { ⌜ r ≤ 16 ⌝ }
+    ensures { λ x. ⌜ x ≡ spec.pairs r ⌝ }
+{
+    r * (r + 1) / 2
+}
+
+// Elements of the a and φ of a constraint.
+pub fn function_size(n: usize, r: usize) -> usize
+    requires { ⌜ (n ≤ 256) × (r ≤ 16) ⌝ }
+    ensures { λ x. ⌜ x ≡ spec.functionSize n r ⌝ }
+{
+    pairs(r) + r * n
+}
+
+// Elements of the t digits.
+pub fn t_size(r: usize, kappa: usize, t1: usize) -> usize
+    requires { ⌜ (r ≤ 16) × (kappa ≤ 8) × (t1 ≤ 8) ⌝ }
+    ensures { λ x. ⌜ x ≡ spec.tSize r kappa t1 ⌝ }
+{
+    r * (t1 * kappa)
+}
+
+// Elements of the g or h digits.
+pub fn garbage_size(r: usize, t: usize) -> usize
+    requires { ⌜ (r ≤ 16) × (t ≤ 8) ⌝ }
+    ensures { λ x. ⌜ x ≡ spec.garbageSize r t ⌝ }
+{
+    pairs(r) * t
+}
+
+// Elements of an opening whose z has two digits.
+pub fn opening_size(n: usize, r: usize, kappa: usize, t1: usize, t2: usize) -> usize
+    requires { ⌜ (n ≤ 256) × (r ≤ 16) × (kappa ≤ 8) × (t1 ≤ 8) × (t2 ≤ 8) ⌝ }
+    ensures { λ x. ⌜ x ≡ spec.openingSize 2 n r kappa t1 t2 ⌝ }
+{
+    let t = t_size(r, kappa, t1);
+    let g = garbage_size(r, t2);
+    let h = garbage_size(r, t1);
+    2 * n + (t + (g + h))
+}
+
+// Numbers of `rows` rows of `columns` elements.
+pub fn flat_length(rows: usize, columns: usize, d: usize) -> usize
+    requires { ⌜ (rows ≤ 256) × (columns ≤ 8192) × (d ≤ 64) ⌝ }
+    ensures { λ x. ⌜ x ≡ rows * columns * d ⌝ }
+{
+    rows * columns * d
+}
+
+// Numbers of a list of elements.
+pub fn list_length(elements: usize, d: usize) -> usize
+    requires { ⌜ (elements ≤ 8192) × (d ≤ 64) ⌝ }
+    ensures { λ x. ⌜ x ≡ elements * d ⌝ }
+{
+    elements * d
+}
+
+// Numbers of k whole constraints.
+pub fn whole_length(d: usize, n: usize, r: usize, k: usize) -> usize
+    requires { ⌜ (d ≤ 64) × (n ≤ 256) × (r ≤ 16) × (k ≤ 32) ⌝ }
+    ensures { λ x. ⌜ x ≡ table.wholeLength d n r k ⌝ }
+{
+    let function = function_size(n, r);
+    k * ((function + 1) * d)
+}
+
+// Numbers of l constant-term constraints.
+pub fn term_length(d: usize, n: usize, r: usize, l: usize) -> usize
+    requires { ⌜ (d ≤ 64) × (n ≤ 256) × (r ≤ 16) × (l ≤ 32) ⌝ }
+    ensures { λ x. ⌜ x ≡ table.termLength d n r l ⌝ }
+{
+    let function = function_size(n, r);
+    l * (function * d + 1)
+}
+
+// Numbers of w projection rows.
+pub fn projection_length(d: usize, n: usize, r: usize, w: usize) -> usize
+    requires { ⌜ (d ≤ 64) × (n ≤ 256) × (r ≤ 16) × (w ≤ 256) ⌝ }
+    ensures { λ x. ⌜ x ≡ table.projectionLength d n r w ⌝ }
+{
+    let row = flat_length(r, n, d);
+    w * row
+}
