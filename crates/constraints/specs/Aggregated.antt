@@ -1,7 +1,7 @@
 -- The terms of the aggregate, and how the parts of an entry join to the entry of Entries.antt.
 --     weightedA, weightedΦ     δ_k f''_k at a place
 --     ..-end                   what a function returns, from what its calls return
-use mathlib.Core.Path.{_≡_, refl, sym, ap, ap₂, _∙_}
+use mathlib.Core.Path.{_≡_, refl, ap, ap₂, _∙_}
 use mathlib.Core.List.{List}
 use Prim.Native.Nat.{ℕ, _+_, _*_, _≤_, _<_}
 use native.Mathlib.Nat.{zero-add, mul-le-mul-right}

@@ -18,7 +18,7 @@ use borrow.Author.Tests.{ltb-true, ltb-false}
 use mir.Syntax.{w32, w64}
 use mir.Val.{SFits, toZ, ofZ}
 use mir.Facts.{toZ-ofZ}
-use Rattle.integers.specs.Bridge.{zarith, natAbs-pn, pn-min, add-pn, abs-bnd, mul-bnd}
+use Rattle.integers.specs.Bridge.{P, N, zarith, natAbs-pn, pn-min, add-pn, abs-bnd, mul-bnd}
 use Rattle.integers.specs.Flat.{block-fits}
 use Rattle.integers.specs.Lists.{tab, upto}
 use Rattle.algebra.specs.Sum.{sum, sum-one-more}
@@ -84,7 +84,11 @@ module _ {c : ℤ} {rows : List ℤ} {at : ℕ} {old : List ℤ} {m : ℕ} {new 
       value =
           toZ-ofZ {w = w64} {z = v} (record { sfits = fits })
           ∙ is
-          ∙ rw (toZ-ofZ {w = w64} {z = getD new m (pos 0)} (record { sfits = given }), word (getD rows (at + m) (pos 0)) read, sofar .above m (omega arith)) refl
+          ∙ rw (
+            toZ-ofZ {w = w64} {z = getD new m (pos 0)} (record { sfits = given }),
+            word (getD rows (at + m) (pos 0)) read,
+            sofar .above m (omega arith),
+          ) refl
 
       at-place : (y : ℕ) → y < m + 1 → (m ≤ y) ⊎ (y < m)
           → getD (set new m (toZ w64 (ofZ w64 v))) y (pos 0) ≡ getD old y (pos 0) +ℤ (c *ℤ getD rows (at + y) (pos 0))
@@ -131,9 +135,10 @@ module _ {d : ℕ} {u : R d .Carrier} {j : ℕ} {old new : List ℤ} {c : ℤ} {
       small y l (inr h) =
           let a = getD old y (pos 0) in
           let x = getD rows (p * d + y) (pos 0) in
-          let one : natAbs x ≤ 1 = allWithin-at 1 rows tested (p * d + y) in
+          let one : P x + N x ≤ 1 = rw (natAbs-pn x) at (allWithin-at 1 rows tested (p * d + y)) in
+          let product : P (c *ℤ x) + N (c *ℤ x) ≤ 2147483648 * 1 = mul-bnd c x (abs-bnd fits) one in
           rw (added .below y h, natAbs-pn (a +ℤ (c *ℤ x)))
-          (omega (zarith, held .small y l, natAbs-pn a, add-pn a (c *ℤ x), pn-min (a +ℤ (c *ℤ x)), natAbs-pn x, mul-bnd c x {a = 2147483648} {b = 1} (abs-bnd fits) (omega (arith, natAbs-pn x, one))))
+          (omega (zarith, held .small y l, natAbs-pn a, add-pn a (c *ℤ x), pn-min (a +ℤ (c *ℤ x)), product))
 
 pub held-start : (d : ℕ) → Degree d → Held d (R d .zero) 0 (replicate 64 (pos 0))
 held-start d degree =
@@ -162,7 +167,8 @@ pub projecting-start : (d : ℕ) (F : ℕ → R d .Carrier) (w m e : ℕ) → De
 unfolding sum
 projecting-start d F w m e degree = record { within = omega arith; place = omega arith; held = held-start d degree }
 
-module _ {d : ℕ} (rows ω : List ℤ) (first : ℕ) {w m e at j : ℕ} {acc : List ℤ} (running : Projecting d (rowTerm d rows ω m first e) w m e at j acc) where
+module _ {d : ℕ} (rows ω : List ℤ) (first : ℕ) {w m e at j : ℕ} {acc : List ℤ}
+    (running : Projecting d (rowTerm d rows ω m first e) w m e at j acc) where
   pub projecting-step : {new : List ℤ} → j < w → mag (getD ω (first + j) (pos 0)) < 2 ^ 31 → projections rows ≡ true
       → Added (toZ w32 (ofZ w32 (getD ω (first + j) (pos 0)))) rows at acc d new
       → Projecting d (rowTerm d rows ω m first e) w m e (at + m * d) (j + 1) new
@@ -172,10 +178,12 @@ module _ {d : ℕ} (rows ω : List ℤ) (first : ℕ) {w m e at j : ℕ} {acc : 
         within = omega arith;
         place = omega (arith, running .place);
         held = rw (sum-one-more (R d) j (rowTerm d rows ω m first e))
-            (held-step (j * m + e) (running .held) (record { sfits = read }) tested (rw (word (getD ω (first + j) (pos 0)) read, running .place) at added));
+            (held-step (j * m + e) (running .held) (record { sfits = read }) tested
+            (rw (word (getD ω (first + j) (pos 0)) read, running .place) at added));
       }
 
-  pub projecting-end : w ≤ j → tab 64 (upto d (λ k. centred (getD acc k (pos 0))) (pos 0)) ≡ array d (sum (R d) w (rowTerm d rows ω m first e))
+  pub projecting-end : w ≤ j
+      → tab 64 (upto d (λ k. centred (getD acc k (pos 0))) (pos 0)) ≡ array d (sum (R d) w (rowTerm d rows ω m first e))
   projecting-end h =
       let all : j ≡ w = omega (arith, running .within) in
       held-end (running .held) ∙ ap (λ t. array d (sum (R d) t (rowTerm d rows ω m first e))) all

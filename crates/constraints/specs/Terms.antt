@@ -1,10 +1,10 @@
 -- The terms that the loops over constraints add, with the constraints `step` numbers apart, and the places that they read.
 --     termTerm, term-step, term-end        Σ_l ψ_kl f'_l at place e
 --     wholeTerm, whole-step, whole-end     Σ_k α_k f_k at place e
-use mathlib.Core.Path.{_≡_, refl, sym, ap, _∙_}
+use mathlib.Core.Path.{_≡_, refl, _∙_}
 use mathlib.Core.List.{List}
 use Prim.Native.Nat.{ℕ, _+_, _-_, _*_, _^_, _≤_, _<_}
-use native.Mathlib.Nat.{mul-le-mul, mul-le-mul-right, le-refl}
+use native.Mathlib.Nat.{mul-le-mul, mul-le-mul-right}
 use native.Mathlib.Omega.{arith}
 use lib.ListN.{length, getD, take, drop, length-drop}
 use lib.Seq.{take-all}
@@ -17,14 +17,13 @@ use Rattle.algebra.specs.Sum.{sum}
 use Rattle.ring.specs.Element.{R, Degree, lift, el, array, number}
 use Rattle.ring.specs.ElementLaws.{lift-array}
 use Rattle.ring.specs.Words.{word}
-use Rattle.fold.specs.Facts.{Shaped}
 use Rattle.fold.specs.Sizes.{functionSize}
 use Rattle.fold.specs.Statement.{termAt, wholeAt}
 use Rattle.fold.specs.Refusals.{termLength, wholeLength}
 use Rattle.fold.specs.Entries.{termEntry, wholeEntry}
 use Rattle.constraints.specs.Facts.{TermFacts, WholeFacts}
 use Rattle.constraints.specs.SizeLaws.{function-small, numbers-small}
-use Rattle.constraints.specs.Running.{Summing, summing-step, summing-end}
+use Rattle.constraints.specs.Running.{Summing, summing-step}
 
 -- ---- the part of a list from a place on
 
@@ -42,7 +41,8 @@ product-small h k = mul-le-mul h k
 unfoldable pub termTerm : (d : ℕ) (term ψ : List ℤ) (step first e : ℕ) → ℕ → R d .Carrier
 termTerm d term ψ step first e i = R d .mul (number d (getD ψ (first + i) (pos 0))) (el d (drop (i * step) term) e)
 
-module _ {d : ℕ} (term ψ : List ℤ) (step first e : ℕ) {L j : ℕ} {acc : List ℤ} (running : Summing d (termTerm d term ψ step first e) L j acc) where
+module _ {d : ℕ} (term ψ : List ℤ) (step first e : ℕ) {L j : ℕ} {acc : List ℤ}
+    (running : Summing d (termTerm d term ψ step first e) L j acc) where
   -- one turn of the loop
   pub term-step : {at : ℕ} {entry weighted next : List ℤ} → Degree d → j < L → at ≡ j * step
       → mag (getD ψ (first + j) (pos 0)) < 2 ^ 31
@@ -53,7 +53,14 @@ module _ {d : ℕ} (term ψ : List ℤ) (step first e : ℕ) {L j : ℕ} {acc : 
   unfolding termTerm
   term-step {at} {entry} {weighted} {next} degree h place small is scaled added =
       summing-step running (degree .small) h
-      (scaled ∙ rw (word (getD ψ (first + j) (pos 0)) small, is, lift-array d (el d (take (length term - at) (drop at term)) e) (degree .small), rest-all term at, place) refl)
+      (scaled
+      ∙ rw (
+        word (getD ψ (first + j) (pos 0)) small,
+        is,
+        lift-array d (el d (take (length term - at) (drop at term)) e) (degree .small),
+        rest-all term at,
+        place,
+      ) refl)
       added
 
 pub term-end : (d n r L : ℕ) (term ψ : List ℤ) (k e : ℕ) {size : ℕ} {acc : List ℤ} → size ≡ functionSize n r
@@ -85,7 +92,8 @@ module _ {d n r L : ℕ} {term ψ : List ℤ} (facts : TermFacts d n r L term ψ
   pub term-start : {j at : ℕ} → j < L → at ≡ j * (size * d + 1) → at ≤ length term
   term-start {j} {at} h place = omega (arith, term-room h, place)
 
-pub ψ-place : {d n r L : ℕ} {term ψ : List ℤ} → TermFacts d n r L term ψ → {k j : ℕ} → k < 5 → j < L → (k * L + j < length ψ) × (k * L + j < 160)
+pub ψ-place : {d n r L : ℕ} {term ψ : List ℤ} → TermFacts d n r L term ψ → {k j : ℕ}
+    → k < 5 → j < L → (k * L + j < length ψ) × (k * L + j < 160)
 ψ-place {L} facts {k} {j} h l = (rw (facts .ψ-length) (block-fits 5 L k j h l), omega (arith, block-fits 5 L k j h l, facts .term-count))
 
 -- ---- the whole constraints
@@ -103,7 +111,15 @@ module _ {d : ℕ} (whole α : List ℤ) (step e : ℕ) {K k : ℕ} {acc : List 
   unfolding wholeTerm
   whole-step {at} degree h place is by product added =
       summing-step running (degree .small) h
-      (product ∙ rw (is, by, lift-array d (el d α k) (degree .small), lift-array d (el d (take (length whole - at) (drop at whole)) e) (degree .small), rest-all whole at, place) refl)
+      (product
+      ∙ rw (
+        is,
+        by,
+        lift-array d (el d α k) (degree .small),
+        lift-array d (el d (take (length whole - at) (drop at whole)) e) (degree .small),
+        rest-all whole at,
+        place,
+      ) refl)
       added
 
 pub whole-end : (d n r K : ℕ) (whole α : List ℤ) (e : ℕ) {size : ℕ} {acc : List ℤ} → size ≡ functionSize n r

@@ -33,7 +33,8 @@ fn multiplied(d: usize, a: Element, b: Element) -> Element
 pub fn whole_entry(shape: Shape, kc: usize, whole: &[i32], alpha: &[i32], e: usize) -> Element
     requires { ⌜ WholeFacts (shape .d) (shape .n) (shape .r) kc (now whole) (now alpha) ⌝ }
     requires { ⌜ e ≤ functionSize (shape .n) (shape .r) ⌝ }
-    ensures { λ r. ⌜ r .coefficients ≡ array (shape .d) (wholeEntry (shape .d) (shape .n) (shape .r) kc (now (whole .entry)) (now (alpha .entry)) e) ⌝ }
+    ensures { λ r. ⌜ r .coefficients ≡ array (shape .d) (wholeEntry (shape .d) (shape .n) (shape .r) kc (now (whole .entry))
+        (now (alpha .entry)) e) ⌝ }
 {
     let d = shape.d;
     let size = sizes::function_size(shape);
@@ -57,7 +58,8 @@ pub fn whole_entry(shape: Shape, kc: usize, whole: &[i32], alpha: &[i32], e: usi
 fn weighted_a(shape: Shape, l: usize, term: &[i32], psi: &[i32], delta: &[i32], e: usize) -> Element
     requires { ⌜ TermFacts (shape .d) (shape .n) (shape .r) l (now term) (now psi) ⌝ }
     requires { ⌜ (length (now delta) ≡ 5 * shape .d) × (e < pairs (shape .r)) ⌝ }
-    ensures { λ r. ⌜ r .coefficients ≡ array (shape .d) (sum (R (shape .d)) five (weightedA (shape .d) (shape .n) (shape .r) l (now (term .entry)) (now (psi .entry)) (now (delta .entry)) e)) ⌝ }
+    ensures { λ r. ⌜ r .coefficients ≡ array (shape .d) (sum (R (shape .d)) five (weightedA (shape .d) (shape .n) (shape .r) l
+        (now (term .entry)) (now (psi .entry)) (now (delta .entry)) e)) ⌝ }
 {
     let d = shape.d;
     let mut sum = Element::additive_identity();
@@ -86,7 +88,8 @@ fn weighted_phi(
 ) -> Element
     requires { ⌜ SecondFacts (shape .d) (shape .n) (shape .r) l w (now term) (now rows) (now psi) (now omega) ⌝ }
     requires { ⌜ (length (now delta) ≡ 5 * shape .d) × (e < shape .r * shape .n) ⌝ }
-    ensures { λ r. ⌜ r .coefficients ≡ array (shape .d) (sum (R (shape .d)) five (weightedΦ (shape .d) (shape .n) (shape .r) l w (now (term .entry)) (now (rows .entry)) (now (psi .entry)) (now (omega .entry)) (now (delta .entry)) e)) ⌝ }
+    ensures { λ r. ⌜ r .coefficients ≡ array (shape .d) (sum (R (shape .d)) five (weightedΦ (shape .d) (shape .n) (shape .r) l w
+        (now (term .entry)) (now (rows .entry)) (now (psi .entry)) (now (omega .entry)) (now (delta .entry)) e)) ⌝ }
 {
     let d = shape.d;
     let mut sum = Element::additive_identity();
@@ -116,7 +119,8 @@ pub fn aggregate_a(
     requires { ⌜ WholeFacts (shape .d) (shape .n) (shape .r) kc (now whole) (now alpha) ⌝ }
     requires { ⌜ TermFacts (shape .d) (shape .n) (shape .r) l (now term) (now psi) ⌝ }
     requires { ⌜ (length (now delta) ≡ 5 * shape .d) × (e < pairs (shape .r)) ⌝ }
-    ensures { λ r. ⌜ r .coefficients ≡ array (shape .d) (aggregateA (shape .d) (shape .n) (shape .r) kc l (now (whole .entry)) (now (term .entry)) (now (psi .entry)) (now (alpha .entry)) (now (delta .entry)) e) ⌝ }
+    ensures { λ r. ⌜ r .coefficients ≡ array (shape .d) (aggregateA (shape .d) (shape .n) (shape .r) kc l (now (whole .entry))
+        (now (term .entry)) (now (psi .entry)) (now (alpha .entry)) (now (delta .entry)) e) ⌝ }
 {
     let d = shape.d;
     let wholes = whole_entry(shape, kc, whole, alpha, e);
@@ -139,9 +143,12 @@ pub fn aggregate_phi(
     delta: &[i32],
     e: usize,
 ) -> Element
-    requires { ⌜ AggregateFacts (shape .d) (shape .n) (shape .r) kc l w (now whole) (now term) (now rows) (now psi) (now omega) (now alpha) (now delta) ⌝ }
+    requires { ⌜ AggregateFacts (shape .d) (shape .n) (shape .r) kc l w (now whole) (now term) (now rows) (now psi) (now omega)
+        (now alpha) (now delta) ⌝ }
     requires { ⌜ e < shape .r * shape .n ⌝ }
-    ensures { λ r. ⌜ r .coefficients ≡ array (shape .d) (aggregateΦ (shape .d) (shape .n) (shape .r) kc l w (now (whole .entry)) (now (term .entry)) (now (rows .entry)) (now (psi .entry)) (now (omega .entry)) (now (alpha .entry)) (now (delta .entry)) e) ⌝ }
+    ensures { λ r. ⌜ r .coefficients ≡ array (shape .d) (aggregateΦ (shape .d) (shape .n) (shape .r) kc l w (now (whole .entry))
+        (now (term .entry)) (now (rows .entry)) (now (psi .entry)) (now (omega .entry)) (now (alpha .entry))
+        (now (delta .entry)) e) ⌝ }
 {
     let d = shape.d;
     let pairs = sizes::pair_count(shape.r);
@@ -162,7 +169,8 @@ pub fn aggregate_constant(
 ) -> Element
     requires { ⌜ WholeFacts (shape .d) (shape .n) (shape .r) kc (now whole) (now alpha) ⌝ }
     requires { ⌜ (length (now delta) ≡ 5 * shape .d) × (length (now b2) ≡ 5 * shape .d) ⌝ }
-    ensures { λ r. ⌜ r .coefficients ≡ array (shape .d) (aggregateConstant (shape .d) (shape .n) (shape .r) kc (now (whole .entry)) (now (alpha .entry)) (now (delta .entry)) (now (b2 .entry))) ⌝ }
+    ensures { λ r. ⌜ r .coefficients ≡ array (shape .d) (aggregateConstant (shape .d) (shape .n) (shape .r) kc (now (whole .entry))
+        (now (alpha .entry)) (now (delta .entry)) (now (b2 .entry))) ⌝ }
 {
     let d = shape.d;
     let place = sizes::function_size(shape);

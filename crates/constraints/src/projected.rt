@@ -67,7 +67,8 @@ pub fn projection_entry(
 ) -> Element
     requires { ⌜ ProjectionFacts (shape .d) (shape .n) (shape .r) w (now rows) (now omega) ⌝ }
     requires { ⌜ (k < 5) × (e < shape .r * shape .n) ⌝ }
-    ensures { λ r. ⌜ r .coefficients ≡ array (shape .d) (projectionEntry (shape .d) (shape .n) (shape .r) w (now (rows .entry)) (now (omega .entry)) k e) ⌝ }
+    ensures { λ r. ⌜ r .coefficients ≡ array (shape .d) (projectionEntry (shape .d) (shape .n) (shape .r) w (now (rows .entry))
+        (now (omega .entry)) k e) ⌝ }
 {
     let d = shape.d;
     let parts = shape.r;

@@ -14,7 +14,8 @@ use ring::element::Element;
 pub fn term_entry(shape: Shape, l: usize, term: &[i32], psi: &[i32], k: usize, e: usize) -> Element
     requires { ⌜ TermFacts (shape .d) (shape .n) (shape .r) l (now term) (now psi) ⌝ }
     requires { ⌜ (k < 5) × (e < functionSize (shape .n) (shape .r)) ⌝ }
-    ensures { λ r. ⌜ r .coefficients ≡ array (shape .d) (termEntry (shape .d) (shape .n) (shape .r) l (now (term .entry)) (now (psi .entry)) k e) ⌝ }
+    ensures { λ r. ⌜ r .coefficients ≡ array (shape .d) (termEntry (shape .d) (shape .n) (shape .r) l (now (term .entry))
+        (now (psi .entry)) k e) ⌝ }
 {
     let d = shape.d;
     let size = sizes::function_size(shape);
@@ -39,7 +40,8 @@ pub fn term_entry(shape: Shape, l: usize, term: &[i32], psi: &[i32], k: usize, e
 pub fn second_a(shape: Shape, l: usize, term: &[i32], psi: &[i32], k: usize, e: usize) -> Element
     requires { ⌜ TermFacts (shape .d) (shape .n) (shape .r) l (now term) (now psi) ⌝ }
     requires { ⌜ (k < 5) × (e < pairs (shape .r)) ⌝ }
-    ensures { λ r. ⌜ r .coefficients ≡ array (shape .d) (secondA (shape .d) (shape .n) (shape .r) l (now (term .entry)) (now (psi .entry)) k e) ⌝ }
+    ensures { λ r. ⌜ r .coefficients ≡ array (shape .d) (secondA (shape .d) (shape .n) (shape .r) l (now (term .entry))
+        (now (psi .entry)) k e) ⌝ }
 {
     term_entry(shape, l, term, psi, k, e)
 }
@@ -58,7 +60,8 @@ pub fn second_phi(
 ) -> Element
     requires { ⌜ SecondFacts (shape .d) (shape .n) (shape .r) l w (now term) (now rows) (now psi) (now omega) ⌝ }
     requires { ⌜ (k < 5) × (e < shape .r * shape .n) ⌝ }
-    ensures { λ r. ⌜ r .coefficients ≡ array (shape .d) (secondΦ (shape .d) (shape .n) (shape .r) l w (now (term .entry)) (now (rows .entry)) (now (psi .entry)) (now (omega .entry)) k e) ⌝ }
+    ensures { λ r. ⌜ r .coefficients ≡ array (shape .d) (secondΦ (shape .d) (shape .n) (shape .r) l w (now (term .entry))
+        (now (rows .entry)) (now (psi .entry)) (now (omega .entry)) k e) ⌝ }
 {
     let d = shape.d;
     let pairs = sizes::pair_count(shape.r);

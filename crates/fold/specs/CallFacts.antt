@@ -271,7 +271,8 @@ module _ (𝓢 : Statement) (𝓓 : Draws) (𝓣 : Transcript) (o : List ℤ) wh
       let ranges = allOf-all _ (passed .1 .1 .1 .1 .1 .1 .0) in
       record {
         limits =
-            verify-limits d n r K L w κ κ₁ κ₂ b b₁ b₂ t₁ t₂ bound target (passed .0) (passed .1 .0) (passed .1 .1 .0) (passed .1 .1 .1 .0) (passed .1 .1 .1 .1 .0);
+            verify-limits d n r K L w κ κ₁ κ₂ b b₁ b₂ t₁ t₂ bound target
+            (passed .0) (passed .1 .0) (passed .1 .1 .0) (passed .1 .1 .1 .0) (passed .1 .1 .1 .1 .0);
         o-length = sized-iff o _ .0 (lengths .0);
         u₁-length = sized-iff u₁ _ .0 (lengths .1 .0);
         p-length = sized-iff p _ .0 (lengths .1 .1 .0);

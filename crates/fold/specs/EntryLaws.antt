@@ -3,7 +3,7 @@
 --     aggregate-a, aggregate-φ      the aggregate by place
 --     value-places                  a value as one sum over the pairs and one over the witness
 --     el-inners                     the list of the <s_i,s_j>, by place
-use mathlib.Core.Path.{_≡_, refl, sym, ap, ap₂, _∙_}
+use mathlib.Core.Path.{_≡_, sym, ap, ap₂, _∙_}
 use mathlib.Core.List.{List}
 use Prim.Native.Nat.{ℕ, zero, suc, _+_, _-_, _*_, _≤_, _<_}
 use native.Mathlib.Omega.{arith}
@@ -24,7 +24,7 @@ use Rattle.ring.specs.Element.{R, el, coeffs, number}
 use Rattle.ring.specs.ElementLaws.{length-coeffs, lift-coeffs}
 use Rattle.ring.specs.ElementPlaces.{el-cong, el-zero}
 use Rattle.fold.specs.Sizes.{pairs}
-use Rattle.fold.specs.Statement.{part, termAt, wholeAt}
+use Rattle.fold.specs.Statement.{part}
 use Rattle.fold.specs.Messages.{five, elements, g, second, aggregate}
 use Rattle.fold.specs.Entries.{termEntry, projectionEntry, secondA, secondΦ, wholeEntry, aggregateA, aggregateΦ}
 use Rattle.fold.specs.Layout.{getD-triangle}
@@ -128,13 +128,15 @@ module _ (d n r : ℕ) where
       first y = omega arith
 
       entry : (y : ℕ) → y < d
-          → getD (flat r (λ i. flat (r - i) (λ k. coeffs d (x i (i + k))))) (pair r i j * d + y) (pos 0) ≡ getD (coeffs d (x i j)) (0 * d + y) (pos 0)
+          → getD (flat r (λ i. flat (r - i) (λ k. coeffs d (x i (i + k))))) (pair r i j * d + y) (pos 0)
+          ≡ getD (coeffs d (x i j)) (0 * d + y) (pos 0)
       entry y b =
           getD-triangle r d (λ i j. coeffs d (x i j)) (λ i j _ _. length-coeffs d (x i j)) i j y (pos 0) h l b
           ∙ ap (λ p. getD (coeffs d (x i j)) p (pos 0)) (first y)
 
   -- the list of the <s_i,s_j>, as value-places asks for it
-  pub el-inners : (s : List ℤ) (i j : ℕ) → i ≤ j → j < r → el d (flat r (λ i. elements d (r - i) (λ k. g d n s i (i + k)))) (pair r i j) ≡ g d n s i j
+  pub el-inners : (s : List ℤ) (i j : ℕ) → i ≤ j → j < r
+      → el d (flat r (λ i. elements d (r - i) (λ k. g d n s i (i + k)))) (pair r i j) ≡ g d n s i j
   el-inners s i j h l = el-triangle (g d n s) i j h l
 
   -- the value of f''_k, which message 3 holds

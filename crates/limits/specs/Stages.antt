@@ -36,7 +36,16 @@ aggregateBounds d n r L w =
 abbrev pub garbageBounds : GarbageSizes → List (ℕ × Bool)
 garbageBounds m =
     (1, degree (pos (m .d)))
-    ∷ (2, allOf (rank (pos (m .n)) ∷ parts (pos (m .r)) ∷ constraintCount (pos (m .k)) ∷ constraintCount (pos (m .l)) ∷ projectionCount (pos (m .w)) ∷ []))
+    ∷ (
+      2,
+      allOf (
+          rank (pos (m .n))
+          ∷ parts (pos (m .r))
+          ∷ constraintCount (pos (m .k))
+          ∷ constraintCount (pos (m .l))
+          ∷ projectionCount (pos (m .w))
+          ∷ []),
+    )
     ∷ (3, commitmentRank (pos (m .kappa2)))
     ∷ (4, allOf (base (pos (m .b1)) ∷ digitCount (pos (m .t1)) ∷ []))
     ∷ []
@@ -48,7 +57,16 @@ amortizeBounds d n r b =
 abbrev pub verifyBounds : Sizes → List (ℕ × Bool)
 verifyBounds m =
     (1, degree (pos (m .d)))
-    ∷ (2, allOf (rank (pos (m .n)) ∷ parts (pos (m .r)) ∷ constraintCount (pos (m .k)) ∷ constraintCount (pos (m .l)) ∷ projectionCount (pos (m .w)) ∷ []))
+    ∷ (
+      2,
+      allOf (
+          rank (pos (m .n))
+          ∷ parts (pos (m .r))
+          ∷ constraintCount (pos (m .k))
+          ∷ constraintCount (pos (m .l))
+          ∷ projectionCount (pos (m .w))
+          ∷ []),
+    )
     ∷ (3, allOf (commitmentRank (pos (m .kappa)) ∷ commitmentRank (pos (m .kappa1)) ∷ commitmentRank (pos (m .kappa2)) ∷ []))
     ∷ (4, allOf (base (pos (m .b)) ∷ base (pos (m .b1)) ∷ base (pos (m .b2)) ∷ digitCount (pos (m .t1)) ∷ digitCount (pos (m .t2)) ∷ []))
     ∷ (6, allOf (lengthBound (pos (m .bound)) ∷ lengthBound (pos (m .target)) ∷ []))

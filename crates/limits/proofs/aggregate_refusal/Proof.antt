@@ -27,10 +27,15 @@ aggregate-lengths-requires c κs =
 returns-2 : tie.Need-returns-2
 unfolding aggregateTests
 returns-2 c =
-    let a = c .before .before .before .before .args in
+    let c1 = c .before in
+    let c2 = c1 .before in
+    let c3 = c2 .before in
+    let c4 = c3 .before in
+    let a = c4 .args in
     let m = a .shape in
-    let fits = c .before .aggregate-lengths .ensures in
-    unfit (aggregateBounds (m .d) (m .n) (m .r) (a .l) (a .w)) 7 _ _ refl (c .before .before .before .aggregate-bounds .ensures) (c .before .before .if1 .left) fits (c .if2 .taken)
+    let fits = c1 .aggregate-lengths .ensures in
+    let bounds = aggregateBounds (m .d) (m .n) (m .r) (a .l) (a .w) in
+    unfit bounds 7 _ _ refl (c3 .aggregate-bounds .ensures) (c2 .if1 .left) fits (c .if2 .taken)
 
 are-coefficients-requires : tie.Need-are-coefficients-requires
 are-coefficients-requires c κs = tt
@@ -59,12 +64,27 @@ first-requires-2 c κs = tt
 returns-3 : tie.Need-returns-3
 unfolding aggregateTests
 returns-3 c =
-    let a = c .before .before .before .before .before .before .before .before .before .before .before .before .args in
+    let c1 = c .before in
+    let c2 = c1 .before in
+    let c3 = c2 .before in
+    let c4 = c3 .before in
+    let c5 = c4 .before in
+    let c6 = c5 .before in
+    let c7 = c6 .before in
+    let c8 = c7 .before in
+    let c9 = c8 .before in
+    let c10 = c9 .before in
+    let c11 = c10 .before in
+    let c12 = c11 .before in
+    let a = c12 .args in
     let m = a .shape in
-    let fits = c .before .before .before .before .before .before .before .before .before .aggregate-lengths .ensures in
-    fit (aggregateBounds (m .d) (m .n) (m .r) (a .l) (a .w)) 7 _ _ refl (c .before .before .before .before .before .before .before .before .before .before .before .aggregate-bounds .ensures) (c .before .before .before .before .before .before .before .before .before .before .if1 .left) fits (c .before .before .before .before .before .before .before .before .if2 .left)
-    (row 8 _ ((c .before .before .before .before .before .before .before .are-coefficients .ensures) & (c .before .before .before .before .before .before .are-coefficients2 .ensures) & (c .before .before .before .before .before .are-coefficients3 .ensures) & (c .before .before .before .before .are-coefficients4 .ensures) & (c .before .before .before .are-coefficients5 .ensures) & end) (c .first2 .ensures)
-    (single 9 _ (c .before .before .are-projection-entries .ensures) (c .before .first .ensures) none))
+    let fits = c9 .aggregate-lengths .ensures in
+    let bounds = aggregateBounds (m .d) (m .n) (m .r) (a .l) (a .w) in
+    fit bounds 7 _ _ refl (c11 .aggregate-bounds .ensures) (c10 .if1 .left) fits (c8 .if2 .left)
+    (row 8 _
+    (c7 .are-coefficients .ensures & c6 .are-coefficients2 .ensures & c5 .are-coefficients3 .ensures
+    & c4 .are-coefficients4 .ensures & c3 .are-coefficients5 .ensures & end) (c .first2 .ensures)
+    (single 9 _ (c2 .are-projection-entries .ensures) (c1 .first .ensures) none))
 
 pub aggregate-refusal-spec : {M : Type 1} → statement M
 aggregate-refusal-spec =

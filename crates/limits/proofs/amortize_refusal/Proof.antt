@@ -28,10 +28,14 @@ amortize-lengths-requires c κs =
 returns-2 : tie.Need-returns-2
 unfolding amortizeTests
 returns-2 c =
-    let a = c .before .before .before .before .args in
+    let c1 = c .before in
+    let c2 = c1 .before in
+    let c3 = c2 .before in
+    let c4 = c3 .before in
+    let a = c4 .args in
     let m = a .shape in
-    let fits = (c .before .amortize-lengths .ensures) in
-    unfit (amortizeBounds (m .d) (m .n) (m .r) (a .b)) 7 _ _ refl (c .before .before .before .amortize-bounds .ensures) (c .before .before .if1 .left) fits (c .if2 .taken)
+    let fits = (c1 .amortize-lengths .ensures) in
+    unfit (amortizeBounds (m .d) (m .n) (m .r) (a .b)) 7 _ _ refl (c3 .amortize-bounds .ensures) (c2 .if1 .left) fits (c .if2 .taken)
 
 are-coefficients-requires : tie.Need-are-coefficients-requires
 are-coefficients-requires c κs = tt
@@ -53,12 +57,21 @@ first-requires-2 c κs = tt
 returns-3 : tie.Need-returns-3
 unfolding amortizeTests
 returns-3 c =
-    let a = c .before .before .before .before .before .before .before .before .before .args in
+    let c1 = c .before in
+    let c2 = c1 .before in
+    let c3 = c2 .before in
+    let c4 = c3 .before in
+    let c5 = c4 .before in
+    let c6 = c5 .before in
+    let c7 = c6 .before in
+    let c8 = c7 .before in
+    let c9 = c8 .before in
+    let a = c9 .args in
     let m = a .shape in
-    let fits = (c .before .before .before .before .before .before .amortize-lengths .ensures) in
-    fit (amortizeBounds (m .d) (m .n) (m .r) (a .b)) 7 _ _ refl (c .before .before .before .before .before .before .before .before .amortize-bounds .ensures) (c .before .before .before .before .before .before .before .if1 .left) fits (c .before .before .before .before .before .if2 .left)
-    (row 8 _ ((c .before .before .before .before .are-coefficients .ensures) & (c .before .before .before .are-coefficients2 .ensures) & end) (c .first2 .ensures)
-    (single 10 _ (c .before .before .challenges .ensures) (c .before .first .ensures) none))
+    let fits = (c6 .amortize-lengths .ensures) in
+    fit (amortizeBounds (m .d) (m .n) (m .r) (a .b)) 7 _ _ refl (c8 .amortize-bounds .ensures) (c7 .if1 .left) fits (c5 .if2 .left)
+    (row 8 _ (c4 .are-coefficients .ensures & c3 .are-coefficients2 .ensures & end) (c .first2 .ensures)
+    (single 10 _ (c2 .challenges .ensures) (c1 .first .ensures) none))
 
 pub amortize-refusal-spec : {M : Type 1} → statement M
 amortize-refusal-spec =

@@ -27,10 +27,14 @@ commit-lengths-requires c κs =
 returns-2 : tie.Need-returns-2
 unfolding commitTests
 returns-2 c =
-    let a = c .before .before .before .before .args in
+    let c1 = c .before in
+    let c2 = c1 .before in
+    let c3 = c2 .before in
+    let c4 = c3 .before in
+    let a = c4 .args in
     let m = a .sizes in
-    let fits = c .before .commit-lengths .ensures in
-    unfit (commitBounds m) 7 _ _ refl (c .before .before .before .commit-bounds .ensures) (c .before .before .if1 .left) fits (c .if2 .taken)
+    let fits = c1 .commit-lengths .ensures in
+    unfit (commitBounds m) 7 _ _ refl (c3 .commit-bounds .ensures) (c2 .if1 .left) fits (c .if2 .taken)
 
 are-coefficients-requires : tie.Need-are-coefficients-requires
 are-coefficients-requires c κs = tt
@@ -50,11 +54,22 @@ first-requires c κs = tt
 returns-3 : tie.Need-returns-3
 unfolding commitTests
 returns-3 c =
-    let a = c .before .before .before .before .before .before .before .before .before .args in
+    let c1 = c .before in
+    let c2 = c1 .before in
+    let c3 = c2 .before in
+    let c4 = c3 .before in
+    let c5 = c4 .before in
+    let c6 = c5 .before in
+    let c7 = c6 .before in
+    let c8 = c7 .before in
+    let c9 = c8 .before in
+    let a = c9 .args in
     let m = a .sizes in
-    let fits = c .before .before .before .before .before .before .commit-lengths .ensures in
-    fit (commitBounds m) 7 _ _ refl (c .before .before .before .before .before .before .before .before .commit-bounds .ensures) (c .before .before .before .before .before .before .before .if1 .left) fits (c .before .before .before .before .before .if2 .left)
-    (row 8 _ ((c .before .before .before .before .are-coefficients .ensures) & (c .before .before .before .are-coefficients2 .ensures) & (c .before .before .are-coefficients3 .ensures) & (c .before .are-coefficients4 .ensures) & end) (c .first .ensures) none)
+    let fits = c6 .commit-lengths .ensures in
+    fit (commitBounds m) 7 _ _ refl (c8 .commit-bounds .ensures) (c7 .if1 .left) fits (c5 .if2 .left)
+    (row 8 _
+    (c4 .are-coefficients .ensures & c3 .are-coefficients2 .ensures & c2 .are-coefficients3 .ensures
+    & c1 .are-coefficients4 .ensures & end) (c .first .ensures) none)
 
 pub commit-refusal-spec : {M : Type 1} → statement M
 commit-refusal-spec =

@@ -33,10 +33,15 @@ garbage-lengths-requires c κs =
 returns-2 : tie.Need-returns-2
 unfolding garbageTests
 returns-2 c =
-    let a = c .before .before .before .before .before .args in
+    let c1 = c .before in
+    let c2 = c1 .before in
+    let c3 = c2 .before in
+    let c4 = c3 .before in
+    let c5 = c4 .before in
+    let a = c5 .args in
     let m = a .sizes in
-    let fits = append-rows _ _ (c .before .before .constraint-lengths .ensures) (c .before .garbage-lengths .ensures) in
-    unfit (garbageBounds m) 7 _ _ refl (c .before .before .before .before .garbage-bounds .ensures) (c .before .before .before .if1 .left) fits (c .if2 .taken)
+    let fits = append-rows _ _ (c2 .constraint-lengths .ensures) (c1 .garbage-lengths .ensures) in
+    unfit (garbageBounds m) 7 _ _ refl (c4 .garbage-bounds .ensures) (c3 .if1 .left) fits (c .if2 .taken)
 
 are-coefficients-requires : tie.Need-are-coefficients-requires
 are-coefficients-requires c κs = tt
@@ -59,12 +64,25 @@ first-requires-2 c κs = tt
 returns-3 : tie.Need-returns-3
 unfolding garbageTests
 returns-3 c =
-    let a = c .before .before .before .before .before .before .before .before .before .before .before .args in
+    let c1 = c .before in
+    let c2 = c1 .before in
+    let c3 = c2 .before in
+    let c4 = c3 .before in
+    let c5 = c4 .before in
+    let c6 = c5 .before in
+    let c7 = c6 .before in
+    let c8 = c7 .before in
+    let c9 = c8 .before in
+    let c10 = c9 .before in
+    let c11 = c10 .before in
+    let a = c11 .args in
     let m = a .sizes in
-    let fits = append-rows _ _ (c .before .before .before .before .before .before .before .before .constraint-lengths .ensures) (c .before .before .before .before .before .before .before .garbage-lengths .ensures) in
-    fit (garbageBounds m) 7 _ _ refl (c .before .before .before .before .before .before .before .before .before .before .garbage-bounds .ensures) (c .before .before .before .before .before .before .before .before .before .if1 .left) fits (c .before .before .before .before .before .before .if2 .left)
-    (single 8 _ (append-rows _ _ (c .before .before .before .constraint-ranges .ensures) (joined-row ((c .before .before .before .before .before .are-coefficients .ensures) & (c .before .before .before .before .are-coefficients2 .ensures) & end))) (c .first2 .ensures)
-    (single 9 _ (c .before .before .are-projection-entries .ensures) (c .before .first .ensures) none))
+    let fits = append-rows _ _ (c8 .constraint-lengths .ensures) (c7 .garbage-lengths .ensures) in
+    fit (garbageBounds m) 7 _ _ refl (c10 .garbage-bounds .ensures) (c9 .if1 .left) fits (c6 .if2 .left)
+    (single 8 _
+    (append-rows _ _ (c3 .constraint-ranges .ensures) (joined-row (c5 .are-coefficients .ensures
+    & c4 .are-coefficients2 .ensures & end))) (c .first2 .ensures)
+    (single 9 _ (c2 .are-projection-entries .ensures) (c1 .first .ensures) none))
 
 pub garbage-refusal-spec : {M : Type 1} → statement M
 garbage-refusal-spec =

@@ -34,24 +34,42 @@ matrix-lengths-requires c κs =
 
 constraint-lengths-requires : tie.Need-constraint-lengths-requires
 constraint-lengths-requires c κs =
-    let a = c .before .before .before .before .args in
+    let c1 = c .before in
+    let c2 = c1 .before in
+    let c3 = c2 .before in
+    let c4 = c3 .before in
+    let a = c4 .args in
     let m = a .sizes in
-    verify-constraints m (verify-sized m (c .before .before .before .verify-bounds .ensures) (c .before .before .if1 .left))
+    verify-constraints m (verify-sized m (c3 .verify-bounds .ensures) (c2 .if1 .left))
 
 list-fits-requires : tie.Need-list-fits-requires
 list-fits-requires c κs =
-    let a = c .before .before .before .before .before .args in
+    let c1 = c .before in
+    let c2 = c1 .before in
+    let c3 = c2 .before in
+    let c4 = c3 .before in
+    let c5 = c4 .before in
+    let a = c5 .args in
     let m = a .sizes in
-    let l = verify-sized m (c .before .before .before .before .verify-bounds .ensures) (c .before .before .before .if1 .left) in
+    let l = verify-sized m (c4 .verify-bounds .ensures) (c3 .if1 .left) in
     (omega arith, omega arith)
 
 returns-2 : tie.Need-returns-2
 unfolding verifyTests
 returns-2 c =
-    let a = c .before .before .before .before .before .before .before .args in
+    let c1 = c .before in
+    let c2 = c1 .before in
+    let c3 = c2 .before in
+    let c4 = c3 .before in
+    let c5 = c4 .before in
+    let c6 = c5 .before in
+    let c7 = c6 .before in
+    let a = c7 .args in
     let m = a .sizes in
-    let fits = (append-rows _ _ (append-rows _ _ (append-rows _ _ (c .before .before .before .before .message-lengths .ensures) (c .before .before .before .matrix-lengths .ensures)) (c .before .before .constraint-lengths .ensures)) (joined-row ((c .before .list-fits .ensures) & end))) in
-    unfit (verifyBounds m) 7 _ _ refl (c .before .before .before .before .before .before .verify-bounds .ensures) (c .before .before .before .before .before .if1 .left) fits (c .if2 .taken)
+    let messages = append-rows _ _ (c4 .message-lengths .ensures) (c3 .matrix-lengths .ensures) in
+    let lists = append-rows _ _ messages (c2 .constraint-lengths .ensures) in
+    let fits = append-rows _ _ lists (joined-row (c1 .list-fits .ensures & end)) in
+    unfit (verifyBounds m) 7 _ _ refl (c6 .verify-bounds .ensures) (c5 .if1 .left) fits (c .if2 .taken)
 
 message-ranges-requires : tie.Need-message-ranges-requires
 message-ranges-requires c κs = tt
@@ -67,7 +85,17 @@ are-projection-entries-requires c κs = tt
 
 challenges-requires : tie.Need-challenges-requires
 challenges-requires c κs =
-    let fits = fitting _ (append-rows _ _ (append-rows _ _ (append-rows _ _ (c .before .before .before .before .before .before .before .before .message-lengths .ensures) (c .before .before .before .before .before .before .before .matrix-lengths .ensures)) (c .before .before .before .before .before .before .constraint-lengths .ensures)) (joined-row ((c .before .before .before .before .before .list-fits .ensures) & end))) (c .before .before .before .before .if2 .left) in
+    let c1 = c .before in
+    let c2 = c1 .before in
+    let c3 = c2 .before in
+    let c4 = c3 .before in
+    let c5 = c4 .before in
+    let c6 = c5 .before in
+    let c7 = c6 .before in
+    let c8 = c7 .before in
+    let messages = append-rows _ _ (c8 .message-lengths .ensures) (c7 .matrix-lengths .ensures) in
+    let lists = append-rows _ _ messages (c6 .constraint-lengths .ensures) in
+    let fits = fitting _ (append-rows _ _ lists (joined-row (c5 .list-fits .ensures & end))) (c4 .if2 .left) in
     sized-iff _ _ .0 (fits .1 .1 .1 .1 .1 .1 .1 .1 .1 .1 .1 .1 .1 .1 .1 .1 .0)
 
 first-requires : tie.Need-first-requires
@@ -82,13 +110,32 @@ first-requires-3 c κs = tt
 returns-3 : tie.Need-returns-3
 unfolding verifyTests
 returns-3 c =
-    let a = c .before .before .before .before .before .before .before .before .before .before .before .before .before .before .before .args in
+    let c1 = c .before in
+    let c2 = c1 .before in
+    let c3 = c2 .before in
+    let c4 = c3 .before in
+    let c5 = c4 .before in
+    let c6 = c5 .before in
+    let c7 = c6 .before in
+    let c8 = c7 .before in
+    let c9 = c8 .before in
+    let c10 = c9 .before in
+    let c11 = c10 .before in
+    let c12 = c11 .before in
+    let c13 = c12 .before in
+    let c14 = c13 .before in
+    let c15 = c14 .before in
+    let a = c15 .args in
     let m = a .sizes in
-    let fits = (append-rows _ _ (append-rows _ _ (append-rows _ _ (c .before .before .before .before .before .before .before .before .before .before .before .before .message-lengths .ensures) (c .before .before .before .before .before .before .before .before .before .before .before .matrix-lengths .ensures)) (c .before .before .before .before .before .before .before .before .before .before .constraint-lengths .ensures)) (joined-row ((c .before .before .before .before .before .before .before .before .before .list-fits .ensures) & end))) in
-    fit (verifyBounds m) 7 _ _ refl (c .before .before .before .before .before .before .before .before .before .before .before .before .before .before .verify-bounds .ensures) (c .before .before .before .before .before .before .before .before .before .before .before .before .before .if1 .left) fits (c .before .before .before .before .before .before .before .before .if2 .left)
-    (single 8 _ (append-rows _ _ (append-rows _ _ (c .before .before .before .before .before .before .before .message-ranges .ensures) (c .before .before .before .before .before .before .constraint-ranges .ensures)) (joined-row ((c .before .before .before .before .before .are-coefficients .ensures) & end))) (c .first3 .ensures)
-    (single 9 _ (c .before .before .before .before .are-projection-entries .ensures) (c .before .first2 .ensures)
-    (single 10 _ (c .before .before .before .challenges .ensures) (c .before .before .first .ensures) none)))
+    let messages = append-rows _ _ (c12 .message-lengths .ensures) (c11 .matrix-lengths .ensures) in
+    let lists = append-rows _ _ messages (c10 .constraint-lengths .ensures) in
+    let fits = append-rows _ _ lists (joined-row (c9 .list-fits .ensures & end)) in
+    let read = append-rows _ _ (c7 .message-ranges .ensures) (c6 .constraint-ranges .ensures) in
+    let ranges = append-rows _ _ read (joined-row (c5 .are-coefficients .ensures & end)) in
+    fit (verifyBounds m) 7 _ _ refl (c14 .verify-bounds .ensures) (c13 .if1 .left) fits (c8 .if2 .left)
+    (single 8 _ ranges (c .first3 .ensures)
+    (single 9 _ (c4 .are-projection-entries .ensures) (c1 .first2 .ensures)
+    (single 10 _ (c3 .challenges .ensures) (c2 .first .ensures) none)))
 
 pub verify-refusal-spec : {M : Type 1} → statement M
 verify-refusal-spec =

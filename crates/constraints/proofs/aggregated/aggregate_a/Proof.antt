@@ -19,8 +19,8 @@ sum-requires c κs = c .before .before .pre .0 .shaped .degree
 returns : tie.Need-returns
 returns c =
     let s = c .before .before .before in
-    aggregate-a-end _ _ _ _ _ _ _ _ _ _ _ (s .pre .0 .shaped .degree) (c .before .before .whole-entry .ensures) (c .before .weighted-a .ensures)
-    (c .sum .ensures)
+    aggregate-a-end _ _ _ _ _ _ _ _ _ _ _ (s .pre .0 .shaped .degree) (c .before .before .whole-entry .ensures)
+    (c .before .weighted-a .ensures) (c .sum .ensures)
 
 pub aggregate-a-spec : {M : Type 1} → statement M
 aggregate-a-spec =

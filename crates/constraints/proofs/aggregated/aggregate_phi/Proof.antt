@@ -32,7 +32,8 @@ returns c =
     let f = c .before .before .before in
     let s = f .before in
     let wholes = rw (f .pair-count .ensures) at (c .before .before .whole-entry .ensures) in
-    aggregate-φ-end _ _ _ _ _ _ _ _ _ _ _ _ _ _ (s .pre .0 .wholes .shaped .degree) wholes (c .before .weighted-phi .ensures) (c .sum .ensures)
+    aggregate-φ-end _ _ _ _ _ _ _ _ _ _ _ _ _ _ (s .pre .0 .wholes .shaped .degree) wholes
+    (c .before .weighted-phi .ensures) (c .sum .ensures)
 
 pub aggregate-phi-spec : {M : Type 1} → statement M
 aggregate-phi-spec =

@@ -21,12 +21,12 @@ loop-holds c = summing-start (c .additive-identity .ensures (c .before .args .sh
 second-a-requires : tie.Need-second-a-requires Inv-loop μ-loop
 second-a-requires c κs =
     let s = c .before .before .before in
-    (s .pre .0, (c .loop-test .taken, s .pre .1 .1))
+    (s .pre .0, (omega arith, s .pre .1 .1))
 
 from-slice-requires : tie.Need-from-slice-requires Inv-loop μ-loop
 from-slice-requires c κs =
     let s = c .before .before .before .before in
-    (s .pre .0 .shaped .degree, δ-place (s .args .shape .d) (s .args .delta .now) (s .pre .1 .0) (c .before .loop-test .taken))
+    (s .pre .0 .shaped .degree, δ-place (s .args .shape .d) (s .args .delta .now) (s .pre .1 .0) (omega arith))
 
 multiplied-requires : tie.Need-multiplied-requires Inv-loop μ-loop
 multiplied-requires c κs = c .before .before .before .before .before .pre .0 .shaped .degree
@@ -47,10 +47,10 @@ loop-again c =
     let degree = l .before .before .pre .0 .shaped .degree in
     let weighted = values-product _ degree _ _ (c .before .before .from-slice .ensures) (c .before .before .before .second-a .ensures)
     (c .before .multiplied .ensures) in
-    summing-step (l .loop .inv) (degree .small) (c .before .before .before .before .loop-test .taken) weighted (c .sum .ensures)
+    summing-step (l .loop .inv) (degree .small) (omega arith) weighted (c .sum .ensures)
 
 returns : tie.Need-returns Inv-loop μ-loop
-returns c = five-end (c .before .loop .inv) (c .loop-test .left)
+returns c = five-end (c .before .loop .inv) (omega arith)
 
 pub weighted-a-spec : {M : Type 1} → statement M
 weighted-a-spec =

@@ -7,7 +7,8 @@ use Rattle.constraints.proofs.aggregated.weighted_phi.Statement.{statem
 use Rattle.constraints.proofs.aggregated.weighted_phi.Tie as tie
 
 abbrev Inv-loop : tie.InvT-loop
-Inv-loop shape l w term rows psi omega delta e d sum₀ k₀ sum k = Summing d (weightedΦ d (shape .n) (shape .r) l w term rows psi omega delta e) 5 k (sum .coefficients)
+Inv-loop shape l w term rows psi omega delta e d sum₀ k₀ sum k =
+    Summing d (weightedΦ d (shape .n) (shape .r) l w term rows psi omega delta e) 5 k (sum .coefficients)
 
 abbrev μ-loop : tie.MeasureT-loop
 μ-loop shape l w term rows psi omega delta e d sum₀ k₀ sum k = 5 - k
@@ -21,12 +22,12 @@ loop-holds c = summing-start (c .additive-identity .ensures (c .before .args .sh
 second-phi-requires : tie.Need-second-phi-requires Inv-loop μ-loop
 second-phi-requires c κs =
     let s = c .before .before .before in
-    (s .pre .0, (c .loop-test .taken, s .pre .1 .1))
+    (s .pre .0, (omega arith, s .pre .1 .1))
 
 from-slice-requires : tie.Need-from-slice-requires Inv-loop μ-loop
 from-slice-requires c κs =
     let s = c .before .before .before .before in
-    (s .pre .0 .terms .shaped .degree, δ-place (s .args .shape .d) (s .args .delta .now) (s .pre .1 .0) (c .before .loop-test .taken))
+    (s .pre .0 .terms .shaped .degree, δ-place (s .args .shape .d) (s .args .delta .now) (s .pre .1 .0) (omega arith))
 
 multiplied-requires : tie.Need-multiplied-requires Inv-loop μ-loop
 multiplied-requires c κs = c .before .before .before .before .before .pre .0 .terms .shaped .degree
@@ -47,10 +48,10 @@ loop-again c =
     let degree = l .before .before .pre .0 .terms .shaped .degree in
     let weighted = values-product _ degree _ _ (c .before .before .from-slice .ensures) (c .before .before .before .second-phi .ensures)
     (c .before .multiplied .ensures) in
-    summing-step (l .loop .inv) (degree .small) (c .before .before .before .before .loop-test .taken) weighted (c .sum .ensures)
+    summing-step (l .loop .inv) (degree .small) (omega arith) weighted (c .sum .ensures)
 
 returns : tie.Need-returns Inv-loop μ-loop
-returns c = five-end (c .before .loop .inv) (c .loop-test .left)
+returns c = five-end (c .before .loop .inv) (omega arith)
 
 pub weighted-phi-spec : {M : Type 1} → statement M
 weighted-phi-spec =

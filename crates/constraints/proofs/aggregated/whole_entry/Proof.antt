@@ -1,6 +1,6 @@
--- `constraints::aggregated::whole_entry` meets its contract. The loop has added the first k constraints, and `at` is where the next one starts.
+-- `constraints::aggregated::whole_entry` meets its contract. The loop has added k constraints, and `at` is where the next one starts.
 use mathlib.Core.Path.{_≡_}
-use Prim.Native.Nat.{_+_, _-_, _*_}
+use Prim.Native.Nat.{_-_, _*_}
 use native.Mathlib.Nat.{le-refl}
 use native.Mathlib.Omega.{arith}
 use Rattle.constraints.specs.Running.{Summing, summing-start, summing-end}
@@ -10,7 +10,8 @@ use Rattle.constraints.proofs.aggregated.whole_entry.Statement.{stateme
 use Rattle.constraints.proofs.aggregated.whole_entry.Tie as tie
 
 abbrev Inv-loop : tie.InvT-loop
-Inv-loop kc whole alpha e d size step sum₀ at₀ k₀ sum at k = (at ≡ k * step) × Summing d (wholeTerm d whole alpha step e) kc k (sum .coefficients)
+Inv-loop kc whole alpha e d size step sum₀ at₀ k₀ sum at k =
+    (at ≡ k * step) × Summing d (wholeTerm d whole alpha step e) kc k (sum .coefficients)
 
 abbrev μ-loop : tie.MeasureT-loop
 μ-loop kc whole alpha e d size step sum₀ at₀ k₀ sum at k = kc - k
@@ -86,10 +87,11 @@ loop-less c = omega arith
 loop-again : tie.Need-loop-again Inv-loop μ-loop
 loop-again c =
     let l = c .before .before .before .before .before .before in
-    let s = l .before .before .before in (
+    let degree = l .before .before .before .pre .0 .shaped .degree in
+    let taken = c .before .before .before .before .before .loop-test .taken in (
       omega (arith, l .loop .inv .0),
-      whole-step _ _ _ _ (l .loop .inv .1) (s .pre .0 .shaped .degree) (c .before .before .before .before .before .loop-test .taken) (l .loop .inv .0)
-          (c .before .before .before .from-slice .ensures) (c .before .before .from-slice2 .ensures) (c .before .multiplied .ensures) (c .sum .ensures),
+      whole-step _ _ _ _ (l .loop .inv .1) degree taken (l .loop .inv .0) (c .before .before .before .from-slice .ensures)
+          (c .before .before .from-slice2 .ensures) (c .before .multiplied .ensures) (c .sum .ensures),
     )
 
 returns : tie.Need-returns Inv-loop μ-loop

@@ -53,7 +53,8 @@ loop-again : tie.Need-loop-again Inv-loop μ-loop
 loop-again c =
     let l = c .before .before .before .before in (
       omega arith,
-      added-step (l .loop .inv .1) (omega arith) (c .add-signed .ok) (c .before .old .given) (c .before .before .x .given) (c .add-signed .ensures),
+      added-step (l .loop .inv .1) (omega arith) (c .add-signed .ok) (c .before .old .given) (c .before .before .x .given)
+          (c .add-signed .ensures),
     )
 
 returns : tie.Need-returns Inv-loop μ-loop

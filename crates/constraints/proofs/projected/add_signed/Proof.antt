@@ -18,13 +18,15 @@ add-result : tie.Need-add-result
 add-result c =
     let x = c .fits .x in
     let y = c .fits .y in
-    rw (wide x, wide y, toZ-ofZ (product-fits x y), toZ-ofZ (c .fits .acc)) (signed-fits (c .args .acc) (c .args .x) (c .args .y) (c .pre) x y)
+    rw (wide x, wide y, toZ-ofZ (product-fits x y), toZ-ofZ (c .fits .acc))
+    (signed-fits (c .args .acc) (c .args .x) (c .args .y) (c .pre) x y)
 
 returns : tie.Need-returns
 returns c =
     let x = c .fits .x in
     let y = c .fits .y in
-    rw (wide x, wide y, toZ-ofZ (product-fits x y), toZ-ofZ (c .fits .acc)) (toZ-ofZ (signed-fits (c .args .acc) (c .args .x) (c .args .y) (c .pre) x y))
+    rw (wide x, wide y, toZ-ofZ (product-fits x y), toZ-ofZ (c .fits .acc))
+    (toZ-ofZ (signed-fits (c .args .acc) (c .args .x) (c .args .y) (c .pre) x y))
 
 pub add-signed-spec : {M : Type 1} → statement M
 add-signed-spec = tie.close (tie.spec cast-a cast-b mul-product add-result returns)

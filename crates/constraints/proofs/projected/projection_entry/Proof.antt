@@ -1,4 +1,4 @@
--- `constraints::projected::projection_entry` meets its contract. The loop has added the first j rows, and `at` is where the next one is read.
+-- `constraints::projected::projection_entry` meets its contract. The loop has added j rows, and `at` is where the next one is read.
 use mathlib.Core.Path.{_∙_}
 use Prim.Native.Nat.{_-_, _*_}
 use native.Mathlib.Nat.{mul-le-mul-right}
@@ -10,7 +10,8 @@ use Rattle.constraints.proofs.projected.projection_entry.Statement.{sta
 use Rattle.constraints.proofs.projected.projection_entry.Tie as tie
 
 abbrev Inv-loop : tie.InvT-loop
-Inv-loop w rows omega k e d parts rank step first acc₀ at₀ j₀ acc at j = Projecting d (rowTerm d rows omega (parts * rank) first e) w (parts * rank) e at j acc
+Inv-loop w rows omega k e d parts rank step first acc₀ at₀ j₀ acc at j =
+    Projecting d (rowTerm d rows omega (parts * rank) first e) w (parts * rank) e at j acc
 
 abbrev μ-loop : tie.MeasureT-loop
 μ-loop w rows omega k e d parts rank step first acc₀ at₀ j₀ acc at j = w - j
@@ -67,8 +68,8 @@ loop-less c = omega arith
 loop-again : tie.Need-loop-again Inv-loop μ-loop
 loop-again c =
     let l = c .before .before .before .before in
-    projecting-step _ _ _ (l .loop .inv) (c .before .before .before .loop-test .taken) (c .before .before .c .given) (l .before .pre .0 .tested)
-    (c .add-row .ensures)
+    projecting-step _ _ _ (l .loop .inv) (c .before .before .before .loop-test .taken) (c .before .before .c .given)
+    (l .before .pre .0 .tested) (c .add-row .ensures)
 
 centre-all-requires : tie.Need-centre-all-requires Inv-loop μ-loop
 centre-all-requires c κs = c .before .before .before .pre .0 .shaped .degree

@@ -1,15 +1,17 @@
--- `constraints::second::term_entry` meets its contract. The loop has added the first j constraints, and `at` is where the next one starts.
+-- `constraints::second::term_entry` meets its contract. The loop has added j constraints, and `at` is where the next one starts.
 use mathlib.Core.Path.{_≡_}
-use Prim.Native.Nat.{_+_, _-_, _*_}
+use Prim.Native.Nat.{_-_, _*_}
 use native.Mathlib.Omega.{arith}
 use native.Mathlib.Nat.{le-refl, mul-le-mul-right}
 use Rattle.constraints.specs.Running.{Summing, summing-start, summing-end}
-use Rattle.constraints.specs.Terms.{termTerm, term-step, term-end, term-step-small, term-small, term-start, term-room, term-place, ψ-place, rest-room}
+use Rattle.constraints.specs.Terms.{termTerm, term-step, term-end, term-step-small, term-small}
+use Rattle.constraints.specs.Terms.{term-start, term-room, term-place, ψ-place, rest-room}
 use Rattle.constraints.proofs.second.term_entry.Statement.{statement}
 use Rattle.constraints.proofs.second.term_entry.Tie as tie
 
 abbrev Inv-loop : tie.InvT-loop
-Inv-loop l term psi k e d size step first sum₀ at₀ j₀ sum at j = (at ≡ j * step) × Summing d (termTerm d term psi step first e) l j (sum .coefficients)
+Inv-loop l term psi k e d size step first sum₀ at₀ j₀ sum at j =
+    (at ≡ j * step) × Summing d (termTerm d term psi step first e) l j (sum .coefficients)
 
 abbrev μ-loop : tie.MeasureT-loop
 μ-loop l term psi k e d size step first sum₀ at₀ j₀ sum at j = l - j
@@ -71,10 +73,9 @@ from-slice-requires : tie.Need-from-slice-requires Inv-loop μ-loop
 from-slice-requires c κs =
     let l = c .before .before .before in
     let f = l .before .before in
-    let s = f .before in (
-      s .pre .0 .shaped .degree,
-      rest-room (s .args .term .now) (l .loop .at) (term-place (s .pre .0) (f .function-size .ensures) (c .before .before .loop-test .taken) (s .pre .1 .1) (l .loop .inv .0)),
-    )
+    let s = f .before in
+    let place = term-place (s .pre .0) (f .function-size .ensures) (c .before .before .loop-test .taken) (s .pre .1 .1) (l .loop .inv .0) in
+    (s .pre .0 .shaped .degree, rest-room (s .args .term .now) (l .loop .at) place)
 
 scale-requires : tie.Need-scale-requires Inv-loop μ-loop
 scale-requires c κs = c .before .before .before .before .before .before .before .pre .0 .shaped .degree
@@ -99,15 +100,17 @@ loop-less c = omega arith
 loop-again : tie.Need-loop-again Inv-loop μ-loop
 loop-again c =
     let l = c .before .before .before .before .before .before in
-    let s = l .before .before .before in (
+    let degree = l .before .before .before .pre .0 .shaped .degree in
+    let taken = c .before .before .before .before .before .loop-test .taken in (
       omega (arith, l .loop .inv .0),
-      term-step _ _ _ _ _ (l .loop .inv .1) (s .pre .0 .shaped .degree) (c .before .before .before .before .before .loop-test .taken) (l .loop .inv .0)
-          (c .before .before .before .before .weight .given) (c .before .before .from-slice .ensures) (c .before .scale .ensures) (c .sum .ensures),
+      term-step _ _ _ _ _ (l .loop .inv .1) degree taken (l .loop .inv .0) (c .before .before .before .before .weight .given)
+          (c .before .before .from-slice .ensures) (c .before .scale .ensures) (c .sum .ensures),
     )
 
 returns : tie.Need-returns Inv-loop μ-loop
 returns c =
-    term-end _ _ _ _ _ _ _ _ (c .before .before .before .function-size .ensures) (summing-end (c .before .loop .inv .1) (c .loop-test .left))
+    let size = c .before .before .before .function-size .ensures in
+    term-end _ _ _ _ _ _ _ _ size (summing-end (c .before .loop .inv .1) (c .loop-test .left))
 
 pub term-entry-spec : {M : Type 1} → statement M
 term-entry-spec =

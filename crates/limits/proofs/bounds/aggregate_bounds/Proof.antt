@@ -35,7 +35,8 @@ returns c =
     let c5 = c4 .before in
     let c6 = c5 .before in
     single 1 _ (c6 .degree .ensures) (c .first2 .ensures)
-    (row 2 _ (c5 .rank .ensures & c4 .parts .ensures & c3 .constraint-count .ensures & c2 .projection-count .ensures & end) (c1 .first .ensures)
+    (row 2 _
+    (c5 .rank .ensures & c4 .parts .ensures & c3 .constraint-count .ensures & c2 .projection-count .ensures & end) (c1 .first .ensures)
     none)
 
 pub aggregate-bounds-spec : {M : Type 1} → statement M

@@ -59,7 +59,9 @@ returns c =
     let c11 = c10 .before in
     let c12 = c11 .before in
     single 1 _ (c12 .degree .ensures) (c .first4 .ensures)
-    (row 2 _ (c11 .rank .ensures & c10 .parts .ensures & c9 .constraint-count .ensures & c8 .constraint-count2 .ensures & c7 .projection-count .ensures & end) (c1 .first3 .ensures)
+    (row 2 _
+    (c11 .rank .ensures & c10 .parts .ensures & c9 .constraint-count .ensures & c8 .constraint-count2 .ensures
+    & c7 .projection-count .ensures & end) (c1 .first3 .ensures)
     (single 3 _ (c6 .commitment-rank .ensures) (c2 .first2 .ensures)
     (row 4 _ (c5 .base .ensures & c4 .digit-count .ensures & end) (c3 .first .ensures)
     none)))

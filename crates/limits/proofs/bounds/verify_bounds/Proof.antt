@@ -91,9 +91,13 @@ returns c =
     let c19 = c18 .before in
     let c20 = c19 .before in
     single 1 _ (c20 .degree .ensures) (c .first5 .ensures)
-    (row 2 _ (c19 .rank .ensures & c18 .parts .ensures & c17 .constraint-count .ensures & c16 .constraint-count2 .ensures & c15 .projection-count .ensures & end) (c1 .first4 .ensures)
+    (row 2 _
+    (c19 .rank .ensures & c18 .parts .ensures & c17 .constraint-count .ensures & c16 .constraint-count2 .ensures
+    & c15 .projection-count .ensures & end) (c1 .first4 .ensures)
     (row 3 _ (c14 .commitment-rank .ensures & c13 .commitment-rank2 .ensures & c12 .commitment-rank3 .ensures & end) (c2 .first3 .ensures)
-    (row 4 _ (c11 .base .ensures & c10 .base2 .ensures & c9 .base3 .ensures & c8 .digit-count .ensures & c7 .digit-count2 .ensures & end) (c3 .first2 .ensures)
+    (row 4 _
+    (c11 .base .ensures & c10 .base2 .ensures & c9 .base3 .ensures & c8 .digit-count .ensures & c7 .digit-count2 .ensures
+    & end) (c3 .first2 .ensures)
     (row 6 _ (c6 .length-bound .ensures & c5 .length-bound2 .ensures & end) (c4 .first .ensures)
     none))))
 

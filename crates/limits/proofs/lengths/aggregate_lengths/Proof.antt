@@ -31,7 +31,9 @@ returns c =
     let c3 = c2 .before in
     let c4 = c3 .before in
     let c5 = c4 .before in
-    joined-tests (c5 .term-fits .ensures & c4 .rows-fit .ensures & c3 .five-fit .ensures & c2 .five-fit2 .ensures & c1 .matrix-fits .ensures & c .five-fit3 .ensures & end) refl
+    joined-tests
+    (c5 .term-fits .ensures & c4 .rows-fit .ensures & c3 .five-fit .ensures & c2 .five-fit2 .ensures
+    & c1 .matrix-fits .ensures & c .five-fit3 .ensures & end) refl
 
 pub aggregate-lengths-spec : {M : Type 1} → statement M
 aggregate-lengths-spec =

@@ -13,8 +13,10 @@ opening-size-requires c κs = search needs
 
 list-fits-requires : tie.Need-list-fits-requires
 list-fits-requires c κs =
-    let l = c .before .pre in
-    (opening-within _ _ _ _ _ (c .opening-size .ensures) (l .shaped .rank-small) (l .shaped .parts-small) (l .κ-small) (l .t₁-most) (l .t₂-most), omega arith)
+    let c1 = c .before in
+    let l = c1 .pre in
+    let x = l .shaped in
+    (opening-within _ _ _ _ _ (c .opening-size .ensures) (x .rank-small) (x .parts-small) (l .κ-small) (l .t₁-most) (l .t₂-most), omega arith)
 
 list-fits-requires-2 : tie.Need-list-fits-requires-2
 list-fits-requires-2 c κs = search needs

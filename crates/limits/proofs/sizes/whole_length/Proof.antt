@@ -13,17 +13,20 @@ function-size-requires c κs = search needs
 
 add-result : tie.Need-add-result
 add-result c =
-    let few : c .function-size .result ≤ 4232 = rw (c .function-size .ensures) (functionSize-bound _ _ (c .before .pre .1) (c .before .pre .2)) in
+    let few : c .function-size .result ≤ 4232 =
+    rw (c .function-size .ensures) (functionSize-bound _ _ (c .before .pre .1) (c .before .pre .2)) in
     omega arith
 
 mul-result : tie.Need-mul-result
 mul-result c =
-    let few : c .function-size .result ≤ 4232 = rw (c .function-size .ensures) (functionSize-bound _ _ (c .before .pre .1) (c .before .pre .2)) in
+    let few : c .function-size .result ≤ 4232 =
+    rw (c .function-size .ensures) (functionSize-bound _ _ (c .before .pre .1) (c .before .pre .2)) in
     product-fits _ _ 4233 64 (omega arith) (c .before .pre .0) tt
 
 mul-result-2 : tie.Need-mul-result-2
 mul-result-2 c =
-    let few : c .function-size .result ≤ 4232 = rw (c .function-size .ensures) (functionSize-bound _ _ (c .before .pre .1) (c .before .pre .2)) in
+    let few : c .function-size .result ≤ 4232 =
+    rw (c .function-size .ensures) (functionSize-bound _ _ (c .before .pre .1) (c .before .pre .2)) in
     product-fits _ _ 32 270912 (c .before .pre .3) (product-bound _ _ 4233 64 (omega arith) (c .before .pre .0)) tt
 
 returns : tie.Need-returns
