@@ -3,7 +3,7 @@
 --     Blocks        a list filled block by block, all of one width, each block lent to a callee
 --     Rows          the elements of the pairs i ≤ j, row by row, at the beginning of a list
 --     drop-last     what stands in the last stretch of a block, where elements are written before they are split into digits
---     garbage-blocks, el-pairs      the digits of the elements of pairs by place, and those elements read back
+--     el-pairs, garbage-places, garbage-written     the elements of pairs read back, and their digits
 use mathlib.Core.Path.{_≡_, refl, sym, ap, _∙_}
 use mathlib.Core.List.{List, [], _++_, append-nil}
 use Prim.Native.Nat.{ℕ, zero, suc, _+_, _-_, _*_, _≤_, _<_}
@@ -78,20 +78,27 @@ module _ (d a : ℕ) (x : ℕ → R d .Carrier) (old : List ℤ) where
   unfolding elements flat
   elements-start = record { is = sym (over-nil old (a * d)); same = refl }
 
-  -- element k is stored, as the sixty-four numbers u
-  pub elements-turn : {k : ℕ} {new next u : List ℤ} → d ≤ 64 → (a + k) * d + d ≤ length old → Elements d a x old k new
-      → u ≡ array d (x k) → next ≡ over new ((a + k) * d) (take d u) → Elements d a x old (k + 1) next
+  -- element k is stored at element p, as the sixty-four numbers u
+  pub elements-turn : {k p : ℕ} {new next u : List ℤ} → d ≤ 64 → p ≡ a + k → p * d + d ≤ length old → Elements d a x old k new
+      → u ≡ array d (x k) → next ≡ over new (p * d) (take d u) → Elements d a x old (k + 1) next
   unfolding elements
-  elements-turn {k} {new} {next} {u} small fits sofar value stored =
+  elements-turn {k} {p} {new} {next} {u} small place fits sofar value stored =
       let numbers : take d u ≡ coeffs d (x k) = rw value (take-array d (x k) small) in
       let wide = length-coeffs d (x k) in
+      let at : p * d ≡ a * d + k * d = ap (λ (e : ℕ). e * d) place ∙ add-mul a k d in
       let before : a * d ≤ length old = omega arith in
       record {
         is =
             rw numbers at stored
-            ∙ rw (sofar .is, add-mul a k d) (over-flat old (a * d) k d (λ i. coeffs d (x i)) (λ i _. length-coeffs d (x i)) before);
-        same = rw numbers at (ap length stored) ∙ length-over new ((a + k) * d) (coeffs d (x k)) (omega (arith, sofar .same)) ∙ sofar .same;
+            ∙ rw (sofar .is, at) (over-flat old (a * d) k d (λ i. coeffs d (x i)) (λ i _. length-coeffs d (x i)) before);
+        same = rw numbers at (ap length stored) ∙ length-over new (p * d) (coeffs d (x k)) (omega (arith, sofar .same)) ∙ sofar .same;
       }
+
+-- elements that fill a list
+pub elements-all : (d n : ℕ) (x : ℕ → R d .Carrier) (old : List ℤ) {new : List ℤ} → length old ≡ n * d → Elements d 0 x old n new
+    → new ≡ elements d n x
+elements-all d n x old size done =
+    (rw zero-mul at (done .is)) ∙ over-all old (elements d n x) (length-elements d n x ∙ sym size)
 
 -- ---- blocks of one width
 
@@ -223,11 +230,24 @@ unfolding flat start
 flat-start w zero F = refl
 flat-start w (suc n) F = cc (flat-append (start w n) (w n) F, flat-start w n F)
 
-pub garbage-blocks : (d r b t : ℕ) (x : ℕ → ℕ → R d .Carrier) (y : ℕ → R d .Carrier)
-    → ((i j : ℕ) → i ≤ j → j < r → y (pair r i j) ≡ x i j)
-    → flat (pairs r) (λ e. split b t (coeffs d (y e))) ≡ garbageDigits d r b t x
+pub garbage-places : (d r b t : ℕ) (y : ℕ → R d .Carrier)
+    → flat (pairs r) (λ e. split b t (coeffs d (y e))) ≡ garbageDigits d r b t (λ i j. y (pair r i j))
 unfolding pair pairs pairs-count garbageDigits
-garbage-blocks d r b t x y e =
+garbage-places d r b t y =
     flat-start (λ k. r - k) r (λ e. split b t (coeffs d (y e)))
-    ∙ flat-cong r _ _ (λ i h. flat-cong (r - i) _ _ (λ k l. ap (λ u. split b t (coeffs d u))
-    (ap (λ (p : ℕ). y (start (λ k. r - k) i + p)) (sym (add-sub-cancel-left i k)) ∙ e i (i + k) (omega arith) (omega arith))))
+    ∙ flat-cong r _ _ (λ i h. flat-cong (r - i) _ _ (λ k l.
+    ap (λ (p : ℕ). split b t (coeffs d (y (start (λ k. r - k) i + p)))) (sym (add-sub-cancel-left i k))))
+
+pub garbage-cong : (d r b t : ℕ) (x y : ℕ → ℕ → R d .Carrier) → ((i j : ℕ) → i ≤ j → j < r → x i j ≡ y i j)
+    → garbageDigits d r b t x ≡ garbageDigits d r b t y
+unfolding garbageDigits
+garbage-cong d r b t x y e =
+    flat-cong r _ _ (λ i h. flat-cong (r - i) _ _ (λ k l.
+    ap (λ u. split b t (coeffs d u)) (e i (i + k) (omega arith) (omega arith))))
+
+-- the digits of elements that `values` holds, written there row by row
+pub garbage-written : (d r b t : ℕ) (x : ℕ → ℕ → R d .Carrier) (old : List ℤ) {values out : List ℤ} → pairs r * d ≤ length old
+    → values ≡ over old 0 (pairElements d r x) → out ≡ garbageDigits d r b t (λ i j. el d values (pair r i j))
+    → out ≡ garbageDigits d r b t x
+garbage-written d r b t x old fits values out =
+    out ∙ garbage-cong d r b t _ x (λ i j h l. ap (λ (v : List ℤ). el d v (pair r i j)) values ∙ el-pairs d r x old fits i j h l)

@@ -1,0 +1,78 @@
+use borrow.Author.Needs.{needs}
+use Rattle.lizkarg.specs.CallLaws.{commit-refused, commit-t, commit-g, commit-u, commit-written}
+use Rattle.lizkarg.proofs.commit.Statement.{statement}
+use Rattle.lizkarg.proofs.commit.Tie as tie
+use Rattle.lizkarg.proofs.commit.Reads as reads
+use Rattle.lizkarg.proofs.commit.Lts as lts
+use Rattle.limits.proofs.commit_refusal.Reads as commit-refusal-reads
+use Rattle.prover.proofs.commit.write_g.Reads as write-g-reads
+use Rattle.prover.proofs.commit.write_t.Reads as write-t-reads
+use Rattle.prover.proofs.commit.write_u1.Reads as write-u1-reads
+
+-- src/lib.rt:22:9
+commit-refusal-requires : tie.Need-commit-refusal-requires
+commit-refusal-requires c κs = tt
+
+-- src/lib.rt:24:9
+same-length : tie.Need-same-length
+same-length c = search needs
+
+-- src/lib.rt:24:9
+same-length-2 : tie.Need-same-length-2
+same-length-2 c = search needs
+
+-- src/lib.rt:24:9
+same-length-3 : tie.Need-same-length-3
+same-length-3 c = search needs
+
+-- src/lib.rt:24:9
+returns : tie.Need-returns
+returns c = commit-refused _ _ _ _ _ _ _ _ (c .before .commit-refusal .ensures) (c .if1 .taken)
+
+-- src/lib.rt:26:5
+write-t-requires : tie.Need-write-t-requires
+write-t-requires c κs = commit-t _ _ _ _ _ _ _ _ (c .before .before .commit-refusal .ensures) (c .before .if1 .left)
+
+-- src/lib.rt:27:5
+write-g-requires : tie.Need-write-g-requires
+write-g-requires c κs = commit-g _ _ _ _ _ _ _ _ (c .before .before .before .before .before .commit-refusal .ensures) (c .before .before .before .before .if1 .left)
+
+-- src/lib.rt:28:5
+write-u1-requires : tie.Need-write-u1-requires
+write-u1-requires c κs =
+    commit-u _ _ _ _ _ _ _ _ (c .before .before .before .before .before .before .before .before .before .before .commit-refusal .ensures) (c .before .before .before .before .before .before .before .before .before .if1 .left) (c .before .before .before .before .before .before .before .write-t .kept .1 .1 .1 .0) (c .before .before .before .before .write-g .kept .1 .1 .0)
+
+-- src/lib.rt:8:1
+same-length-4 : tie.Need-same-length-4
+same-length-4 c = search needs
+
+-- src/lib.rt:8:1
+same-length-5 : tie.Need-same-length-5
+same-length-5 c = search needs
+
+-- src/lib.rt:8:1
+same-length-6 : tie.Need-same-length-6
+same-length-6 c = search needs
+
+-- src/lib.rt:8:1
+returns-2 : tie.Need-returns-2
+returns-2 c =
+    commit-written _ _ _ _ _ _ _ _ (c .before .before .before .before .before .before .before .before .before .before .before .before .commit-refusal .ensures) (c .before .before .before .before .before .before .before .before .before .before .before .if1 .left) (c .before .before .before .before .before .before .before .before .before .write-t .ensures) (c .before .before .before .before .before .before .write-g .ensures)
+    (c .before .write-u1 .ensures)
+
+pub commit-spec : {M : Type 1} → statement M
+commit-spec =
+    tie.close
+    (tie.spec
+    commit-refusal-requires
+    same-length
+    same-length-2
+    same-length-3
+    returns
+    write-t-requires
+    write-g-requires
+    write-u1-requires
+    same-length-4
+    same-length-5
+    same-length-6
+    returns-2)

@@ -1,0 +1,71 @@
+-- `prover::commit::write_g` meets its contract: the products of pairs, and then their digits.
+use borrow.Author.Needs.{needs}
+use mathlib.Core.Path.{_≡_}
+use Prim.Native.Nat.{ℕ, _*_, _≤_}
+use native.Mathlib.Nat.{mul-le-mul}
+use native.Mathlib.Omega.{arith}
+use Rattle.fold.specs.Messages.{g, gDigits}
+use Rattle.fold.specs.WriterLaws.{garbage-written}
+use Rattle.prover.specs.Places.{pairs-small}
+use Rattle.prover.proofs.commit.write_g.Statement.{statement}
+use Rattle.prover.proofs.commit.write_g.Tie as tie
+
+slice-aggregate-write-pair-products : tie.Need-slice-aggregate-write-pair-products
+slice-aggregate-write-pair-products c = search needs
+
+write-pair-products-requires : tie.Need-write-pair-products-requires
+write-pair-products-requires c κs =
+    let s = c .before in
+    let shape = s .pre .sized .shape in (
+      shape .degree,
+      (
+        shape .rank-small,
+        omega (arith, s .pre .witness),
+        mul-le-mul (pairs-small (s .args .sizes .r) (shape .parts-small)) (shape .degree .small),
+      ),
+    )
+
+slice-aggregate-write-garbage-digits : tie.Need-slice-aggregate-write-garbage-digits
+slice-aggregate-write-garbage-digits c = search needs
+
+write-garbage-digits-requires : tie.Need-write-garbage-digits-requires
+write-garbage-digits-requires c κs =
+    let s = c .before .before .before .before .before in
+    let facts = s .pre .sized in
+    let fits = mul-le-mul (pairs-small (s .args .sizes .r) (facts .shape .parts-small)) (facts .shape .degree .small) in (
+      facts .shape .degree,
+      (
+        facts .g-base,
+        (
+          facts .shape .parts-small,
+          facts .g-digits,
+          facts .g-digits-few,
+          omega (arith, fits, c .before .before .before .write-pair-products .kept .1 .1 .1 .1 .0),
+          s .pre .output,
+        ),
+      ),
+    )
+
+same-length : tie.Need-same-length
+same-length c = search needs
+
+returns : tie.Need-returns
+unfolding gDigits
+returns c =
+    let s = c .before .before .before .before .before .before .before in
+    let z = s .args .sizes in
+    let shape = s .pre .sized .shape in
+    let fits = mul-le-mul (pairs-small (z .r) (shape .parts-small)) (shape .degree .small) in
+    garbage-written (z .d) (z .r) (z .b2) (z .t2) (g (z .d) (z .n) (s .args .witness .now)) _ fits
+    (c .before .before .before .before .before .write-pair-products .ensures) (c .before .write-garbage-digits .ensures)
+
+pub write-g-spec : {M : Type 1} → statement M
+write-g-spec =
+    tie.close
+    (tie.spec
+    slice-aggregate-write-pair-products
+    write-pair-products-requires
+    slice-aggregate-write-garbage-digits
+    write-garbage-digits-requires
+    same-length
+    returns)

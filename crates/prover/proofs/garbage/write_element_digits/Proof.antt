@@ -1,0 +1,45 @@
+-- `prover::garbage::write_element_digits` meets its contract: the element stands in the last stretch of the block before it is split.
+use borrow.Author.Needs.{needs}
+use mathlib.Core.Path.{_≡_, ap, _∙_}
+use Prim.Native.Nat.{ℕ, _+_, _-_, _*_}
+use native.Mathlib.Omega.{arith}
+use Rattle.fold.specs.WriterLaws.{split-element}
+use Rattle.ring.specs.DigitBlocks.{last-fits}
+use Rattle.prover.proofs.garbage.write_element_digits.Statement.{statement}
+use Rattle.prover.proofs.garbage.write_element_digits.Tie as tie
+
+from-slice-requires : tie.Need-from-slice-requires
+from-slice-requires c κs = search needs
+
+sub-store : tie.Need-sub-store
+sub-store c = search needs
+
+store-requires : tie.Need-store-requires
+store-requires c κs =
+    let s = c .before .before in
+    (s .pre .0, omega (arith, last-fits (s .args .t) (s .args .d) (s .pre .1 .1 .0), s .pre .1 .1 .2))
+
+split-digits-requires : tie.Need-split-digits-requires
+split-digits-requires c κs = search needs
+
+same-length : tie.Need-same-length
+same-length c = search needs
+
+returns : tie.Need-returns
+returns c =
+    let s = c .before .before .before .before .before .before .before in
+    let a = s .args in
+    split-element (a .d) (a .base) (a .t) _ (a .block .now) (s .pre .0 .small) (s .pre .1 .1 .0) (s .pre .1 .1 .2)
+    (c .before .before .before .before .before .before .from-slice .ensures) (c .before .before .before .before .store .ensures)
+    (c .before .split-digits .ensures)
+
+pub write-element-digits-spec : {M : Type 1} → statement M
+write-element-digits-spec =
+    tie.close
+    (tie.spec
+    from-slice-requires
+    sub-store
+    store-requires
+    split-digits-requires
+    same-length
+    returns)

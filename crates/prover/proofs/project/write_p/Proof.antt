@@ -1,0 +1,101 @@
+-- `prover::project::write_p` meets its contract. The loop's invariant: the first j numbers are written.
+use mathlib.Core.Path.{_≡_}
+use Prim.Native.Nat.{ℕ, _+_, _-_, _*_}
+use native.Mathlib.Nat.{mul-le-mul}
+use native.Mathlib.Omega.{arith}
+use lib.ListN.{length}
+use Rattle.ring.specs.RangeLaws.{projections-part}
+use Rattle.prover.specs.Facts.{rows-length, witness-short}
+use Rattle.prover.specs.Projected.{Projecting, projecting-start, projecting-fit, projecting-part, projecting-turn, projecting-end}
+use Rattle.prover.proofs.project.write_p.Statement.{statement}
+use Rattle.prover.proofs.project.write_p.Tie as tie
+
+abbrev Inv-loop : tie.InvT-loop
+Inv-loop w rows witness out₀ size at₀ j₀ out at j = Projecting w rows witness out₀ j at out
+
+abbrev μ-loop : tie.MeasureT-loop
+μ-loop w rows witness out₀ size at₀ j₀ out at j = w - j
+
+loop-holds : tie.Need-loop-holds Inv-loop μ-loop
+loop-holds c = projecting-start _ _ _ _ (rows-length (c .pre)) (c .pre .output)
+
+add-next : tie.Need-add-next Inv-loop μ-loop
+add-next c =
+    let s = c .before .before in
+    omega (arith, projecting-fit _ _ _ _ (rows-length (s .pre)) (s .pre .output) (c .before .loop .inv) (c .loop-test .taken))
+
+mul-project-row : tie.Need-mul-project-row Inv-loop μ-loop
+mul-project-row c =
+    let s = c .before .before in
+    omega (arith, projecting-fit _ _ _ _ (rows-length (s .pre)) (s .pre .output) (c .before .loop .inv) (c .loop-test .taken))
+
+sub-project-row : tie.Need-sub-project-row Inv-loop μ-loop
+sub-project-row c = omega arith
+
+part-project-row-start : tie.Need-part-project-row-start Inv-loop μ-loop
+part-project-row-start c = omega arith
+
+part-project-row-end : tie.Need-part-project-row-end Inv-loop μ-loop
+part-project-row-end c =
+    let s = c .before .before in
+    omega (arith, projecting-fit _ _ _ _ (rows-length (s .pre)) (s .pre .output) (c .before .loop .inv) (c .loop-test .taken))
+
+project-row-requires : tie.Need-project-row-requires Inv-loop μ-loop
+project-row-requires c κs =
+    let l = c .before .before in
+    let s = l .before in (
+      projections-part (l .loop .at) (l .loop .at + length (s .args .witness .now) - l .loop .at) (s .args .rows .now) (s .pre .entries),
+      projecting-part _ _ _ _ (rows-length (s .pre)) (s .pre .output) (l .loop .inv) (c .before .loop-test .taken),
+      witness-short (s .pre),
+    )
+
+mul-product : tie.Need-mul-product Inv-loop μ-loop
+mul-product c = omega arith
+
+slice-set-from-product : tie.Need-slice-set-from-product Inv-loop μ-loop
+slice-set-from-product c = omega arith
+
+add-j : tie.Need-add-j Inv-loop μ-loop
+add-j c = omega arith
+
+loop-less : tie.Need-loop-less Inv-loop μ-loop
+loop-less c = omega arith
+
+loop-again : tie.Need-loop-again Inv-loop μ-loop
+loop-again c =
+    let l = c .before .before .before in
+    let s = l .before in
+    projecting-turn _ _ _ _ (rows-length (s .pre)) (s .pre .output) (l .loop .inv) (c .before .before .loop-test .taken)
+    (c .project-row .ensures)
+
+same-length : tie.Need-same-length Inv-loop μ-loop
+same-length c = c .before .loop .inv .same
+
+returns : tie.Need-returns Inv-loop μ-loop
+returns c =
+    let l = c .before in
+    let s = l .before in
+    let a = s .args in
+    projecting-end _ _ _ _ (rows-length (s .pre)) (s .pre .output) (l .loop .inv) (a .shape .d) (a .shape .n) (a .shape .r)
+    (s .pre .witness) (c .loop-test .left)
+
+pub write-p-spec : {M : Type 1} → statement M
+write-p-spec =
+    tie.close
+    (tie.spec
+    Inv-loop
+    μ-loop
+    loop-holds
+    add-next
+    mul-project-row
+    sub-project-row
+    part-project-row-start
+    part-project-row-end
+    project-row-requires
+    mul-product
+    slice-set-from-product
+    add-j
+    loop-less
+    loop-again
+    same-length
+    returns)
