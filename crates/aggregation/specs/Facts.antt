@@ -13,7 +13,7 @@ use Rattle.ring.specs.Element.{Degree}
 use Rattle.ring.specs.Digits.{Base}
 use Rattle.fold.specs.Sizes.{garbageSize}
 use Rattle.fold.specs.CallFacts as calls
-use Rattle.constraints.specs.Facts.{TermFacts, ProjectionFacts, SecondFacts, WholeFacts, AggregateFacts}
+use Rattle.constraints.specs.Facts.{SecondFacts, AggregateFacts}
 
 pub record ValueFacts (d n r L w : ℕ) (term rows ψ ω s : List ℤ) : Type 0 where
   pub seconds : SecondFacts d n r L w term rows ψ ω

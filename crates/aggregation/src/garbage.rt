@@ -1,17 +1,15 @@
 // Message 4: "h_ii = <φ_i,s_i>; for i < j, h_ij is half of <φ_i,s_j> + <φ_j,s_i>; h in t1 digits to base b1; u2 = D·(h digits), κ2 rows."
 ghost use mathlib.Core.Path.{_≡_};
-ghost use Prim.Native.Nat.{ℕ, _+_, _-_, _*_, _<_, _≤_};
+ghost use Prim.Native.Nat.{_+_, _-_, _*_, _<_, _≤_};
 ghost use lib.ListN.{length};
 ghost use Rattle.integers.specs.Over.{over};
 ghost use Rattle.ring.specs.Element.{Degree, el, array};
 ghost use Rattle.fold.specs.Sizes.{pairs};
-ghost use Rattle.fold.specs.Statement.{part};
-ghost use Rattle.fold.specs.Messages.{elements, times, aggregate, h, hDigits, u₂};
-ghost use Rattle.fold.specs.Entries.{aggregateΦ};
+ghost use Rattle.fold.specs.Messages.{elements, times, aggregate, hDigits, u₂};
 ghost use Rattle.fold.specs.WriterLaws.{pairElements};
-ghost use Rattle.constraints.specs.Facts.{AggregateFacts};
 ghost use Rattle.aggregation.specs.Facts.{HFacts, OuterFacts};
-use constraints::aggregated::aggregate_phi;
+ghost use Rattle.aggregation.specs.Garbage.{halved};
+use crate::products::write_products;
 use fold::GarbageSizes;
 use fold::Shape;
 use prover::garbage::pairs;
@@ -19,108 +17,51 @@ use prover::garbage::write_digits;
 use ring::element::Element;
 use ring::product::inner;
 
-// The φ of the aggregate, part by part, as the first elements of `out`.
-fn write_phi(
-    shape: Shape,
-    kc: usize,
-    l: usize,
-    w: usize,
-    whole: &[i32],
-    term: &[i32],
-    rows: &[i32],
-    psi: &[i32],
-    omega: &[i32],
-    alpha: &[i32],
-    delta: &[i32],
-    out: &mut [i32],
-)
-    requires { ⌜ AggregateFacts (shape .d) (shape .n) (shape .r) kc l w (now whole) (now term) (now rows) (now psi) (now omega) (now alpha) (now delta) ⌝ }
-    requires { ⌜ shape .r * shape .n * shape .d ≤ length (now out) ⌝ }
-    ensures { λ _. ⌜ now (out .exit) ≡ over (now (out .entry)) 0 (elements (shape .d) (shape .r * shape .n) (aggregateΦ (shape .d) (shape .n) (shape .r) kc l w (now (whole .entry)) (now (term .entry)) (now (rows .entry)) (now (psi .entry)) (now (omega .entry)) (now (alpha .entry)) (now (delta .entry)))) ⌝ }
-{
-    let d = shape.d;
-    let parts = shape.r;
-    let rank = shape.n;
-    let count = parts * rank;
-    let mut e = 0;
-    while e < count {
-        let phi = aggregate_phi(
-            shape,
-            kc,
-            l,
-            w,
-            whole,
-            term,
-            rows,
-            psi,
-            omega,
-            alpha,
-            delta,
-            e,
-        );
-        phi.store(d, out, e);
-        e += 1;
-    }
-}
-
-// h_ij, where `phi` holds the φ_i: for i = j it is half of twice <φ_i, s_i>.
-fn half_product(d: usize, n: usize, phi: &[i32], witness: &[i32], i: usize, j: usize) -> Element
+// h_ij, where `products` holds the <φ_i, s_j>: for i = j it is half of twice <φ_i, s_i>.
+fn half_sum(d: usize, r: usize, products: &[i32], i: usize, j: usize) -> Element
     requires { ⌜ Degree d ⌝ }
-    requires { ⌜ (n ≤ 256) × ((i * n + n) * d ≤ length (now phi)) × ((j * n + n) * d ≤ length (now phi)) × ((i * n + n) * d ≤ length (now witness)) × ((j * n + n) * d ≤ length (now witness)) ⌝ }
-    ensures { λ x. ⌜ x .coefficients ≡ array d (h d n (part d n (now (phi .entry))) (now (witness .entry)) i j) ⌝ }
+    requires { ⌜ (i < r) × (j < r) × (r * r * d ≤ length (now products)) ⌝ }
+    ensures { λ x. ⌜ x .coefficients ≡ array d (halved d r (now (products .entry)) i j) ⌝ }
 {
-    let first = i * n;
-    let second = j * n;
-    let one = Element {
-        coefficients: inner(d, n, phi, first, witness, second),
-    };
-    let other = Element {
-        coefficients: inner(d, n, phi, second, witness, first),
-    };
+    let first = i * r + j;
+    let second = j * r + i;
+    let one = Element::from_slice(d, products, first);
+    let other = Element::from_slice(d, products, second);
     let both = one.sum(d, other);
     both.half(d)
 }
 
 // The h_ij of part i with the parts from i on, written from element `at` on.
-fn write_half_row(
-    d: usize,
-    n: usize,
-    r: usize,
-    phi: &[i32],
-    witness: &[i32],
-    i: usize,
-    out: &mut [i32],
-    at: usize,
-)
+fn write_half_row(d: usize, r: usize, products: &[i32], i: usize, out: &mut [i32], at: usize)
     requires { ⌜ Degree d ⌝ }
-    requires { ⌜ (n ≤ 256) × (i ≤ r) × (r * n * d ≤ length (now phi)) × (r * n * d ≤ length (now witness)) × ((at + (r - i)) * d ≤ length (now out)) ⌝ }
-    ensures { λ _. ⌜ now (out .exit) ≡ over (now (out .entry)) (at * d) (elements d (r - i) (λ k. h d n (part d n (now (phi .entry))) (now (witness .entry)) i (i + k))) ⌝ }
+    requires { ⌜ (i ≤ r) × (r * r * d ≤ length (now products)) × ((at + (r - i)) * d ≤ length (now out)) ⌝ }
+    ensures { λ _. ⌜ now (out .exit) ≡ over (now (out .entry)) (at * d) (elements d (r - i) (λ k. halved d r (now (products .entry)) i (i + k))) ⌝ }
 {
     let count = r - i;
     let mut k = 0;
     while k < count {
-        let product = half_product(d, n, phi, witness, i, i + k);
+        let product = half_sum(d, r, products, i, i + k);
         product.store(d, out, at + k);
         k += 1;
     }
 }
 
 // The h_ij for i ≤ j, as the first elements of `out`.
-fn write_half_products(d: usize, n: usize, r: usize, phi: &[i32], witness: &[i32], out: &mut [i32])
+fn write_half_sums(d: usize, r: usize, products: &[i32], out: &mut [i32])
     requires { ⌜ Degree d ⌝ }
-    requires { ⌜ (n ≤ 256) × (r * n * d ≤ length (now phi)) × (r * n * d ≤ length (now witness)) × (pairs r * d ≤ length (now out)) ⌝ }
-    ensures { λ _. ⌜ now (out .exit) ≡ over (now (out .entry)) 0 (pairElements d r (h d n (part d n (now (phi .entry))) (now (witness .entry)))) ⌝ }
+    requires { ⌜ (r * r * d ≤ length (now products)) × (pairs r * d ≤ length (now out)) ⌝ }
+    ensures { λ _. ⌜ now (out .exit) ≡ over (now (out .entry)) 0 (pairElements d r (halved d r (now (products .entry)))) ⌝ }
 {
     let mut at = 0;
     let mut i = 0;
     while i < r {
-        write_half_row(d, n, r, phi, witness, i, out, at);
+        write_half_row(d, r, products, i, out, at);
         at += r - i;
         i += 1;
     }
 }
 
-// The h digits: by i, then j, then digit. The φ are formed once each.
+// The h digits: by i, then j, then digit.
 pub fn write_h(
     sizes: GarbageSizes,
     whole: &[i32],
@@ -145,8 +86,8 @@ pub fn write_h(
     let b1 = sizes.b1;
     let t1 = sizes.t1;
     let shape = Shape { d, n, r };
-    let mut phi = [0i32; 262144];
-    write_phi(
+    let mut products = [0i32; 16384];
+    write_products(
         shape,
         kc,
         l,
@@ -158,10 +99,11 @@ pub fn write_h(
         omega,
         alpha,
         delta,
-        &mut phi,
+        witness,
+        &mut products,
     );
     let mut values = [0i32; 8704];
-    write_half_products(d, n, r, &phi, witness, &mut values);
+    write_half_sums(d, r, &products, &mut values);
     let count = pairs(r);
     write_digits(d, b1, t1, count, &values, out);
 }

@@ -17,7 +17,7 @@ use prover::garbage::write_pair_products;
 use ring::element::Element;
 
 // How many second functions there are.
-pub const COUNT: usize = 5;
+const COUNT: usize = 5;
 
 // The quadratic part of the value of f''_k: the a, each times the product <s_i, s_j> of its pair.
 fn weigh_pairs(

@@ -1,35 +1,31 @@
--- `aggregation::garbage::write_h` meets its contract: the φ, then the h_ij, then their digits.
+-- `aggregation::garbage::write_h` meets its contract: the products <φ_i, s_j>, then the h_ij, then their digits.
 use borrow.Author.Needs.{needs}
-use mathlib.Core.Path.{_≡_}
-use Prim.Native.Nat.{ℕ, _+_, _*_, _≤_}
 use native.Mathlib.Omega.{arith}
 use Rattle.aggregation.specs.Values.{pairs-room}
-use Rattle.aggregation.specs.Garbage.{phi-room, digits-length, h-written}
+use Rattle.aggregation.specs.Garbage.{square-room, digits-length, h-written}
 use Rattle.aggregation.proofs.garbage.write_h.Statement.{statement}
 use Rattle.aggregation.proofs.garbage.write_h.Tie as tie
 
-slice-aggregate-write-phi : tie.Need-slice-aggregate-write-phi
-slice-aggregate-write-phi c = search needs
+slice-aggregate-write-products : tie.Need-slice-aggregate-write-products
+slice-aggregate-write-products c = search needs
 
-write-phi-requires : tie.Need-write-phi-requires
-write-phi-requires c κs =
-    let facts = c .before .pre .aggregated in
-    (facts, phi-room (facts .wholes .shaped))
+write-products-requires : tie.Need-write-products-requires
+write-products-requires c κs =
+    let s = c .before in
+    (s .pre .aggregated, (s .pre .s-length, square-room (s .pre .aggregated .wholes .shaped)))
 
-slice-aggregate-write-half-products : tie.Need-slice-aggregate-write-half-products
-slice-aggregate-write-half-products c = search needs
+slice-aggregate-write-half-sums : tie.Need-slice-aggregate-write-half-sums
+slice-aggregate-write-half-sums c = search needs
 
-slice-aggregate-write-half-products-2 : tie.Need-slice-aggregate-write-half-products-2
-slice-aggregate-write-half-products-2 c = search needs
+slice-aggregate-write-half-sums-2 : tie.Need-slice-aggregate-write-half-sums-2
+slice-aggregate-write-half-sums-2 c = search needs
 
-write-half-products-requires : tie.Need-write-half-products-requires
-write-half-products-requires c κs =
+write-half-sums-requires : tie.Need-write-half-sums-requires
+write-half-sums-requires c κs =
     let s = c .before .before .before .before .before in
     let shaped = s .pre .aggregated .wholes .shaped in
-    let kept = c .before .before .before .write-phi .kept .1 .1 .1 .1 .1 .1 .1 .1 .1 .1 .1 .0 in (
-      shaped .degree,
-      (shaped .rank-small, omega (arith, phi-room shaped, kept), omega (arith, s .pre .s-length), pairs-room shaped),
-    )
+    let kept = c .before .before .before .write-products .kept .1 .1 .1 .1 .1 .1 .1 .1 .1 .1 .1 .1 .0 in
+    (shaped .degree, (omega (arith, square-room shaped, kept), pairs-room shaped))
 
 pairs-requires : tie.Need-pairs-requires
 pairs-requires c κs = search needs
@@ -43,7 +39,7 @@ write-digits-requires c κs =
     let z = s .args .sizes in
     let shaped = s .pre .aggregated .wholes .shaped in
     let count = c .before .before .pairs .ensures in
-    let kept = c .before .before .before .before .write-half-products .kept .1 .1 .1 .1 .1 .0 in (
+    let kept = c .before .before .before .before .write-half-sums .kept .1 .1 .1 .0 in (
       shaped .degree,
       (
         s .pre .base,
@@ -64,18 +60,18 @@ returns c =
     let s = c .before .before .before .before .before .before .before .before .before .before .before .before in
     let z = s .args .sizes in
     h-written (z .d) (z .n) (z .r) (z .k) (z .l) (z .w) (z .b1) (z .t1) _ _ _ _ _ _ _ _ _ _
-    (c .before .before .before .before .before .before .before .before .before .before .write-phi .ensures) (pairs-room (s .pre .aggregated .wholes .shaped))
-    (c .before .before .before .before .before .before .write-half-products .ensures) (c .before .before .before .before .pairs .ensures) (c .before .write-digits .ensures)
+    (c .before .before .before .before .before .before .before .before .before .before .write-products .ensures) (pairs-room (s .pre .aggregated .wholes .shaped))
+    (c .before .before .before .before .before .before .write-half-sums .ensures) (c .before .before .before .before .pairs .ensures) (c .before .write-digits .ensures)
 
 pub write-h-spec : {M : Type 1} → statement M
 write-h-spec =
     tie.close
     (tie.spec
-    slice-aggregate-write-phi
-    write-phi-requires
-    slice-aggregate-write-half-products
-    slice-aggregate-write-half-products-2
-    write-half-products-requires
+    slice-aggregate-write-products
+    write-products-requires
+    slice-aggregate-write-half-sums
+    slice-aggregate-write-half-sums-2
+    write-half-sums-requires
     pairs-requires
     slice-aggregate-write-digits
     write-digits-requires

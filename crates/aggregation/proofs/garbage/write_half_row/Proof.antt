@@ -1,20 +1,19 @@
 -- `aggregation::garbage::write_half_row` meets its contract. The loop's invariant: the h of the first k parts from i on are written.
 use mathlib.Core.Path.{_≡_, refl}
-use Prim.Native.Nat.{ℕ, _+_, _-_, _*_, _≤_}
+use Prim.Native.Nat.{_+_, _-_, _≤_}
 use native.Mathlib.Omega.{arith}
-use Rattle.fold.specs.Statement.{part}
-use Rattle.fold.specs.Messages.{h}
 use Rattle.fold.specs.WriterLaws.{Elements, elements-start, elements-turn}
-use Rattle.prover.specs.Places.{part-fits, place-below, element-fits}
+use Rattle.prover.specs.Places.{place-below, element-fits}
+use Rattle.aggregation.specs.Garbage.{halved}
 use Rattle.aggregation.proofs.garbage.write_half_row.Statement.{statement}
 use Rattle.aggregation.proofs.garbage.write_half_row.Tie as tie
 
 abbrev Inv-loop : tie.InvT-loop
-Inv-loop d n r phi witness i out₀ at count k₀ out k =
-    (k ≤ r - i) × Elements d at (λ k. h d n (part d n phi) witness i (i + k)) out₀ k out
+Inv-loop d r products i out₀ at count k₀ out k =
+    (k ≤ r - i) × Elements d at (λ k. halved d r products i (i + k)) out₀ k out
 
 abbrev μ-loop : tie.MeasureT-loop
-μ-loop d n r phi witness i out₀ at count k₀ out k = r - i - k
+μ-loop d r products i out₀ at count k₀ out k = r - i - k
 
 sub-count : tie.Need-sub-count Inv-loop μ-loop
 sub-count c = omega arith
@@ -22,36 +21,26 @@ sub-count c = omega arith
 loop-holds : tie.Need-loop-holds Inv-loop μ-loop
 loop-holds c = (omega arith, elements-start _ _ _ _)
 
-add-half-product : tie.Need-add-half-product Inv-loop μ-loop
-add-half-product c = omega arith
+add-half-sum : tie.Need-add-half-sum Inv-loop μ-loop
+add-half-sum c = omega arith
 
-half-product-requires : tie.Need-half-product-requires Inv-loop μ-loop
-half-product-requires c κs =
+half-sum-requires : tie.Need-half-sum-requires Inv-loop μ-loop
+half-sum-requires c κs =
     let s = c .before .before in
-    let a = s .args in
-    let j = a .i + c .before .loop .k in (
-      s .pre .0,
-      (
-        s .pre .1 .0,
-        part-fits (a .d) (a .n) {i = a .i} (omega arith) (s .pre .1 .2),
-        part-fits (a .d) (a .n) {i = j} (omega arith) (s .pre .1 .2),
-        part-fits (a .d) (a .n) {i = a .i} (omega arith) (s .pre .1 .3),
-        part-fits (a .d) (a .n) {i = j} (omega arith) (s .pre .1 .3),
-      ),
-    )
+    (s .pre .0, (omega arith, omega arith, s .pre .1 .1))
 
 add-store : tie.Need-add-store Inv-loop μ-loop
 add-store c =
     let s = c .before .before .before .before in
     let a = s .args in
-    omega (arith, place-below (a .d) (a .at + (a .r - a .i)) (s .pre .0 .positive) (s .pre .1 .4))
+    omega (arith, place-below (a .d) (a .at + (a .r - a .i)) (s .pre .0 .positive) (s .pre .1 .2))
 
 store-requires : tie.Need-store-requires Inv-loop μ-loop
 store-requires c κs =
     let l = c .before .before .before in
     let s = l .before in
     let a = s .args in
-    (s .pre .0, rw (l .loop .inv .1 .same) (element-fits (a .d) (a .at) {k = l .loop .k} (omega arith) (s .pre .1 .4)))
+    (s .pre .0, rw (l .loop .inv .1 .same) (element-fits (a .d) (a .at) {k = l .loop .k} (omega arith) (s .pre .1 .2)))
 
 add-k : tie.Need-add-k Inv-loop μ-loop
 add-k c = omega arith
@@ -65,8 +54,8 @@ loop-again c =
     let s = l .before in
     let a = s .args in (
       omega arith,
-      elements-turn _ _ _ _ (s .pre .0 .small) refl (element-fits (a .d) (a .at) {k = l .loop .k} (omega arith) (s .pre .1 .4)) (l .loop .inv .1)
-          (c .before .before .before .half-product .ensures) (c .before .store .ensures),
+      elements-turn _ _ _ _ (s .pre .0 .small) refl (element-fits (a .d) (a .at) {k = l .loop .k} (omega arith) (s .pre .1 .2)) (l .loop .inv .1)
+          (c .before .before .before .half-sum .ensures) (c .before .store .ensures),
     )
 
 same-length : tie.Need-same-length Inv-loop μ-loop
@@ -87,8 +76,8 @@ write-half-row-spec =
     μ-loop
     sub-count
     loop-holds
-    add-half-product
-    half-product-requires
+    add-half-sum
+    half-sum-requires
     add-store
     store-requires
     add-k

@@ -1,7 +1,5 @@
 -- `aggregation::garbage::write_u2` meets its contract.
 use borrow.Author.Needs.{needs}
-use mathlib.Core.Path.{_≡_}
-use Prim.Native.Nat.{ℕ, _+_, _*_, _≤_}
 use native.Mathlib.Omega.{arith}
 use Rattle.aggregation.specs.Garbage.{garbage-size, garbage-small, outer-end}
 use Rattle.aggregation.proofs.garbage.write_u2.Statement.{statement}

@@ -1,6 +1,6 @@
 -- `aggregation::second::write_values` meets its contract. The loop's invariant: the first k values are written.
 use mathlib.Core.Path.{_≡_, sym}
-use Prim.Native.Nat.{ℕ, _+_, _-_, _*_, _≤_}
+use Prim.Native.Nat.{_-_, _≤_}
 use native.Mathlib.Nat.{zero-add}
 use native.Mathlib.Omega.{arith}
 use Rattle.fold.specs.WriterLaws.{Elements, elements-start, elements-turn}

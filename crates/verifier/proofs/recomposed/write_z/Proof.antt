@@ -63,9 +63,9 @@ loop-again c =
     let a = s .args in
     let fits = block-before (a .d) (l .loop .k) (a .n) (c .before .before .before .before .loop-test .taken) in
     let place : l .loop .k ≡ 0 + l .loop .k = omega arith in (
-      elements-turn (a .d) 0 _ _ (s .pre .0 .small) (rw (← place) (omega (arith, s .pre .1 .1 .1))) (l .loop .inv .0)
+      elements-turn (a .d) 0 _ _ (s .pre .0 .small) place (omega (arith, s .pre .1 .1 .1)) (l .loop .inv .0)
           (c .before .before .before .recompose .ensures ∙ ap (array (a .d)) (z-recomposed (a .d) (a .n) (a .b) _ (l .loop .k)))
-          (c .before .store .ensures ∙ rw (← place) refl),
+          (c .before .store .ensures),
       omega arith,
     )
 

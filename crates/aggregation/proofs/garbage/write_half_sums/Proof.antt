@@ -1,30 +1,28 @@
--- `aggregation::garbage::write_half_products` meets its contract. The loop's invariant: the first i rows are written.
-use mathlib.Core.Path.{_≡_}
-use Prim.Native.Nat.{ℕ, _+_, _-_, _*_}
+-- `aggregation::garbage::write_half_sums` meets its contract. The loop's invariant: the first i rows are written.
+use Prim.Native.Nat.{_+_, _-_}
 use native.Mathlib.Omega.{arith}
-use Rattle.fold.specs.Statement.{part}
-use Rattle.fold.specs.Messages.{h}
 use Rattle.fold.specs.WriterLaws.{Rows, rows-start, rows-fit, rows-turn, rows-end}
 use Rattle.prover.specs.Places.{place-below}
-use Rattle.aggregation.proofs.garbage.write_half_products.Statement.{statement}
-use Rattle.aggregation.proofs.garbage.write_half_products.Tie as tie
+use Rattle.aggregation.specs.Garbage.{halved}
+use Rattle.aggregation.proofs.garbage.write_half_sums.Statement.{statement}
+use Rattle.aggregation.proofs.garbage.write_half_sums.Tie as tie
 
 abbrev Inv-loop : tie.InvT-loop
-Inv-loop d n r phi witness out₀ at₀ i₀ out at i =
-    Rows d r (h d n (part d n phi) witness) out₀ i at out
+Inv-loop d r products out₀ at₀ i₀ out at i =
+    Rows d r (halved d r products) out₀ i at out
 
 abbrev μ-loop : tie.MeasureT-loop
-μ-loop d n r phi witness out₀ at₀ i₀ out at i = r - i
+μ-loop d r products out₀ at₀ i₀ out at i = r - i
 
 loop-holds : tie.Need-loop-holds Inv-loop μ-loop
-loop-holds c = rows-start _ _ _ _ (c .pre .1 .3)
+loop-holds c = rows-start _ _ _ _ (c .pre .1 .1)
 
 write-half-row-requires : tie.Need-write-half-row-requires Inv-loop μ-loop
 write-half-row-requires c κs =
     let l = c .before .before in
     let s = l .before in
-    let fits = rows-fit _ _ _ _ (s .pre .1 .3) (l .loop .inv) (c .before .loop-test .taken) in
-    (s .pre .0, (s .pre .1 .0, omega arith, s .pre .1 .1, s .pre .1 .2, rw (l .loop .inv .same) fits))
+    let fits = rows-fit _ _ _ _ (s .pre .1 .1) (l .loop .inv) (c .before .loop-test .taken) in
+    (s .pre .0, (omega arith, s .pre .1 .0, rw (l .loop .inv .same) fits))
 
 sub-at : tie.Need-sub-at Inv-loop μ-loop
 sub-at c = omega arith
@@ -34,7 +32,7 @@ add-at c =
     let l = c .before .before .before .before in
     let s = l .before in
     let a = s .args in
-    let fits = rows-fit _ _ _ _ (s .pre .1 .3) (l .loop .inv) (c .before .before .before .loop-test .taken) in
+    let fits = rows-fit _ _ _ _ (s .pre .1 .1) (l .loop .inv) (c .before .before .before .loop-test .taken) in
     omega (arith, place-below (a .d) (l .loop .at + (a .r - l .loop .i)) (s .pre .0 .positive) fits)
 
 add-i : tie.Need-add-i Inv-loop μ-loop
@@ -46,16 +44,16 @@ loop-less c = omega arith
 loop-again : tie.Need-loop-again Inv-loop μ-loop
 loop-again c =
     let l = c .before .before .before .before in
-    rows-turn _ _ _ _ (l .before .pre .1 .3) (l .loop .inv) (c .before .before .before .loop-test .taken) (c .before .write-half-row .ensures)
+    rows-turn _ _ _ _ (l .before .pre .1 .1) (l .loop .inv) (c .before .before .before .loop-test .taken) (c .before .write-half-row .ensures)
 
 same-length : tie.Need-same-length Inv-loop μ-loop
 same-length c = c .before .loop .inv .same
 
 returns : tie.Need-returns Inv-loop μ-loop
-returns c = rows-end _ _ _ _ (c .before .before .pre .1 .3) (c .before .loop .inv) (c .loop-test .left)
+returns c = rows-end _ _ _ _ (c .before .before .pre .1 .1) (c .before .loop .inv) (c .loop-test .left)
 
-pub write-half-products-spec : {M : Type 1} → statement M
-write-half-products-spec =
+pub write-half-sums-spec : {M : Type 1} → statement M
+write-half-sums-spec =
     tie.close
     (tie.spec
     Inv-loop
