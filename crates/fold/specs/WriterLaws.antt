@@ -5,15 +5,15 @@
 --     drop-last     what stands in the last stretch of a block, where elements are written before they are split into digits
 --     el-pairs, garbage-places, garbage-written     the elements of pairs read back, and their digits
 use mathlib.Core.Path.{_≡_, refl, sym, ap, _∙_}
-use mathlib.Core.List.{List, [], _++_, append-nil}
+use mathlib.Core.List.{List, _++_, append-nil}
 use Prim.Native.Nat.{ℕ, zero, suc, _+_, _-_, _*_, _≤_, _<_}
-use native.Mathlib.Nat.{add-mul, mul-assoc, mul-le-mul-right, zero-mul, zero-add, add-sub-cancel-left, add-sub-of-le, le-refl}
+use native.Mathlib.Nat.{add-mul, mul-assoc, mul-le-mul-right, zero-mul, zero-add, add-sub-cancel-left}
 use native.Mathlib.Numerals.{add-one}
 use native.Mathlib.Omega.{arith}
 use lib.ListN.{length, take, drop, length-take, length-drop, drop-of-length-le}
 use lib.Seq.{length-take-le, take-at, drop-at}
 use lib.IntN.{ℤ}
-use Rattle.integers.specs.Over.{over, over-nil, over-all, over-over, over-lent, length-over, drop-over}
+use Rattle.integers.specs.Over.{over, over-nil, over-all, over-over, over-lent, length-over}
 use Rattle.integers.specs.Flat.{flat, flat-at, flat-suc, flat-append, flat-cong, length-flat, over-flat}
 use Rattle.algebra.specs.CommRing.{CommRing}
 use Rattle.algebra.specs.Tables.{length-flat-start}

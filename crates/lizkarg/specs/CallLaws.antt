@@ -1,7 +1,7 @@
 -- An answer and what was written, by the number of the refusal.
-use mathlib.Core.Path.{_≡_, refl, sym, ap₂, _∙_}
+use mathlib.Core.Path.{_≡_, refl, sym, ap, ap₂, _∙_}
 use mathlib.Core.List.{List}
-use Prim.Native.Nat.{ℕ, zero, suc}
+use Prim.Native.Nat.{ℕ, zero, suc, _*_}
 use native.Mathlib.Omega.{arith}
 use lib.ListN.{length}
 use lib.IntN.{ℤ}
@@ -9,15 +9,18 @@ use Rattle.fold.specs.declared.Answer.{Answer}
 use Rattle.fold.specs.declared.Answer.the-variants.{Refused}
 use Rattle.fold.specs.declared.Answer.the-variants.{Written}
 use Rattle.fold.specs.declared.CommitSizes.{CommitSizes}
+use Rattle.fold.specs.declared.GarbageSizes.{GarbageSizes}
 use Rattle.fold.specs.declared.Shape.{Shape}
 use Rattle.fold.specs.Answers.{answered, written}
-use Rattle.fold.specs.Arguments.{commitRefusal, projectRefusal, amortizeRefusal}
+use Rattle.fold.specs.Arguments.{commitRefusal, projectRefusal, aggregateRefusal, garbageRefusal, amortizeRefusal}
 use Rattle.fold.specs.CallFacts as CallFacts
-use Rattle.fold.specs.Messages.{p, zDigits}
+use Rattle.fold.specs.Messages.{p, b″, u₂, zDigits}
 use Rattle.prover.specs.Facts.{TFacts, GFacts, OuterFacts, ProjectFacts, AmortizeFacts}
 use Rattle.prover.specs.Facts as ProverFacts
 use Rattle.prover.specs.Outputs.{tOf, gOf, u₁Of}
-use Rattle.lizkarg.specs.Calls.{Committed, Projected, Amortized}
+use Rattle.aggregation.specs.Facts.{ValueFacts, HFacts}
+use Rattle.aggregation.specs.Facts as AggregationFacts
+use Rattle.lizkarg.specs.Calls.{Committed, Projected, Aggregated, GarbageCommitted, Amortized, hOf}
 
 -- where the number is not 0, the call refuses with it and writes nothing
 refused-number : (n : ℕ) (answer : Answer) → (n ≡ 0 → ⊥) → Refused n ≡ answered n answer
@@ -124,6 +127,62 @@ module _ {shape : Shape} {w : ℕ} {rows s v : List ℤ} {x : ℕ} (number : x �
 
   pub project-written : {v′ : List ℤ} → x ≡ 0 → v′ ≡ p (shape .d) (shape .n) (shape .r) w rows s → Projected shape w rows s v Written v′
   project-written none new = record { answer-is = answers Written (sym number ∙ none); p-is = writes v (sym number ∙ none) new }
+
+-- ---- message 3
+
+module _ (shape : Shape) (L w : ℕ) (term rows ψ ω s v : List ℤ) {x : ℕ} (number : x ≡ aggregateRefusal shape L w term rows ψ ω s v) where
+  pub aggregate-refused : (x ≡ 0 → ⊥) → Aggregated shape L w term rows ψ ω s v (Refused x) v
+  aggregate-refused some =
+      record {
+        answer-is = refused Written number some;
+        b-is = kept (b″ (shape .d) (shape .n) (shape .r) L w term rows ψ ω s) v number some;
+      }
+
+  pub aggregate-facts : x ≡ 0 → ValueFacts (shape .d) (shape .n) (shape .r) L w term rows ψ ω s
+  aggregate-facts none = AggregationFacts.value-facts (CallFacts.aggregate-facts {b″ = v} (sym number ∙ none))
+
+  pub aggregate-room : x ≡ 0 → length v ≡ 5 * shape .d
+  aggregate-room none = CallFacts.aggregate-facts {b″ = v} (sym number ∙ none) .b″-length
+
+  pub aggregate-written : {v′ : List ℤ} → x ≡ 0 → v′ ≡ b″ (shape .d) (shape .n) (shape .r) L w term rows ψ ω s
+      → Aggregated shape L w term rows ψ ω s v Written v′
+  aggregate-written none new = record { answer-is = answers Written (sym number ∙ none); b-is = writes v (sym number ∙ none) new }
+
+-- ---- message 4
+
+module _ (sizes : GarbageSizes) (whole term rows ψ ω α δ D s h u : List ℤ) {x : ℕ}
+    (number : x ≡ garbageRefusal sizes whole term rows ψ ω α δ D s h u) where
+  garbage-found : x ≡ 0
+      → CallFacts.GarbageFacts (sizes .d) (sizes .n) (sizes .r) (sizes .k) (sizes .l) (sizes .w) (sizes .kappa2) (sizes .b1) (sizes .t1)
+      whole term rows ψ ω α δ D s h u
+  garbage-found none = CallFacts.garbage-facts (sym number ∙ none)
+
+  pub garbage-refused : (x ≡ 0 → ⊥) → GarbageCommitted sizes whole term rows ψ ω α δ D s h u (Refused x) h u
+  garbage-refused some =
+      record {
+        answer-is = refused Written number some;
+        h-is = kept (hOf sizes whole term rows ψ ω α δ s) h number some;
+        u-is = kept (u₂ (sizes .d) (sizes .r) (sizes .kappa2) (sizes .t1) D (hOf sizes whole term rows ψ ω α δ s)) u number some;
+      }
+
+  pub garbage-h : x ≡ 0
+      → HFacts (sizes .d) (sizes .n) (sizes .r) (sizes .k) (sizes .l) (sizes .w) (sizes .b1) (sizes .t1) whole term rows ψ ω α δ s h
+  garbage-h none = AggregationFacts.h-facts (garbage-found none)
+
+  pub garbage-u : {h′ : List ℤ} → x ≡ 0 → length h′ ≡ length h
+      → AggregationFacts.OuterFacts (sizes .d) (sizes .r) (sizes .kappa2) (sizes .t1) D h′ u
+  garbage-u none long = AggregationFacts.outer-facts (garbage-found none) long
+
+  pub garbage-written : {h′ u′ : List ℤ} → x ≡ 0 → h′ ≡ hOf sizes whole term rows ψ ω α δ s
+      → u′ ≡ u₂ (sizes .d) (sizes .r) (sizes .kappa2) (sizes .t1) D h′
+      → GarbageCommitted sizes whole term rows ψ ω α δ D s h u Written h′ u′
+  garbage-written none h-new u-new =
+      let zero-is = sym number ∙ none in
+      record {
+        answer-is = answers Written zero-is;
+        h-is = writes h zero-is h-new;
+        u-is = writes u zero-is (u-new ∙ ap (u₂ (sizes .d) (sizes .r) (sizes .kappa2) (sizes .t1) D) h-new);
+      }
 
 -- ---- message 5
 

@@ -1,8 +1,10 @@
-// The library's calls: document 01's messages. None has a `requires`: what it cannot take it refuses by number.
-ghost use Rattle.lizkarg.specs.Calls.{Committed, Projected, Amortized};
+// The library's calls: document 01's messages and the verifier. None has a `requires`: what it cannot take it refuses by number.
+ghost use Rattle.lizkarg.specs.Calls.{Committed, Projected, Aggregated, GarbageCommitted, Amortized};
 use fold::Answer;
 use fold::CommitSizes;
+use fold::GarbageSizes;
 use fold::Shape;
+pub use verifier::verify;
 
 // Message 1: the inner commitments t and the products g, in digits, and the outer commitment u1.
 pub fn commit(
@@ -38,6 +40,83 @@ pub fn project(shape: Shape, w: usize, rows: &[i32], witness: &[i32], p: &mut [i
         return Answer::Refused(refusal);
     }
     prover::project::write_p(shape, w, rows, witness, p);
+    Answer::Written
+}
+
+// Message 3: the values b'' of the five second functions, here b2.
+pub fn aggregate(
+    shape: Shape,
+    l: usize,
+    w: usize,
+    term: &[i32],
+    rows: &[i32],
+    psi: &[i32],
+    omega: &[i32],
+    witness: &[i32],
+    b2: &mut [i32],
+) -> Answer
+    ensures { λ x.
+        ⌜ Aggregated shape l w (now (term .entry)) (now (rows .entry)) (now (psi .entry)) (now (omega .entry))
+        (now (witness .entry)) (now (b2 .entry)) x (now (b2 .exit)) ⌝ }
+{
+    let refusal = limits::aggregate_refusal(shape, l, w, term, rows, psi, omega, witness, b2);
+    if refusal != 0 {
+        return Answer::Refused(refusal);
+    }
+    aggregation::second::write_b2(shape, l, w, term, rows, psi, omega, witness, b2);
+    Answer::Written
+}
+
+// Message 4: the garbage h of the aggregate, in digits, and its commitment u2.
+pub fn commit_garbage(
+    sizes: GarbageSizes,
+    whole: &[i32],
+    term: &[i32],
+    rows: &[i32],
+    psi: &[i32],
+    omega: &[i32],
+    alpha: &[i32],
+    delta: &[i32],
+    d_matrix: &[i32],
+    witness: &[i32],
+    h: &mut [i32],
+    u2: &mut [i32],
+) -> Answer
+    ensures { λ x.
+        ⌜ GarbageCommitted sizes (now (whole .entry)) (now (term .entry)) (now (rows .entry)) (now (psi .entry)) (now (omega .entry))
+        (now (alpha .entry)) (now (delta .entry)) (now («d_matrix» .entry)) (now (witness .entry)) (now (h .entry))
+        (now (u2 .entry)) x (now (h .exit)) (now (u2 .exit)) ⌝ }
+{
+    let refusal = limits::garbage_refusal(
+        sizes,
+        whole,
+        term,
+        rows,
+        psi,
+        omega,
+        alpha,
+        delta,
+        d_matrix,
+        witness,
+        h,
+        u2,
+    );
+    if refusal != 0 {
+        return Answer::Refused(refusal);
+    }
+    aggregation::garbage::write_h(
+        sizes,
+        whole,
+        term,
+        rows,
+        psi,
+        omega,
+        alpha,
+        delta,
+        witness,
+        h,
+    );
+    aggregation::garbage::write_u2(sizes, d_matrix, h, u2);
     Answer::Written
 }
 

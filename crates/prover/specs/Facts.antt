@@ -70,7 +70,8 @@ pub record AmortizeFacts (shape : Shape) (b : ℕ) (c s out : List ℤ) : Type 0
 
 -- ---- what follows of the lengths
 
-pub t-length : {sizes : CommitSizes} {A s out : List ℤ} → TFacts sizes A s out → length out ≡ sizes .r * (sizes .t1 * (sizes .kappa * sizes .d))
+pub t-length : {sizes : CommitSizes} {A s out : List ℤ} → TFacts sizes A s out
+    → length out ≡ sizes .r * (sizes .t1 * (sizes .kappa * sizes .d))
 unfolding tSize
 t-length facts = omega (arith, facts .output)
 

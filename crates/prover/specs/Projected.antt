@@ -14,7 +14,7 @@ use lib.Signed.{mag}
 use mir.Syntax.{w32, w64}
 use mir.Val.{SFits, toZ, ofZ}
 use mir.Facts.{toZ-ofZ}
-use Rattle.integers.specs.Bridge.{P, N, pn-min, natAbs-pn, add-pn, mul-bnd, abs-bnd, bnd, zarith}
+use Rattle.integers.specs.Bridge.{P, N, pn-min, natAbs-pn, add-pn, mul-bnd, abs-bnd, zarith}
 use Rattle.integers.specs.Lists.{tab, length-tab}
 use Rattle.integers.specs.Over.{over, over-nil, over-all, over-tab}
 use Rattle.algebra.specs.CommRing.{CommRing}

@@ -1,7 +1,7 @@
 // Message 1: "t_i = A s_i (A has κ rows); g_ij = <s_i,s_j> for i ≤ j; t in t1 digits to base b1, g in t2 digits to base b2;
 // u1 = B·(t digits) + C·(g digits), κ1 rows."
 ghost use mathlib.Core.Path.{_≡_};
-ghost use Prim.Native.Nat.{ℕ, _+_, _-_, _*_, _<_, _≤_};
+ghost use Prim.Native.Nat.{_+_, _-_, _*_, _<_, _≤_};
 ghost use lib.ListN.{length};
 ghost use Rattle.integers.specs.Over.{over};
 ghost use Rattle.ring.specs.Element.{Degree, array};

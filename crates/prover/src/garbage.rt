@@ -1,7 +1,7 @@
 // Elements x_ij for i ≤ j, by i and then j: the products g_ij of message 1, and the digits of such elements, g of message 1
 // and h of message 4.
 ghost use mathlib.Core.Path.{_≡_};
-ghost use Prim.Native.Nat.{ℕ, _+_, _-_, _*_, _<_, _≤_};
+ghost use Prim.Native.Nat.{_+_, _-_, _*_, _<_, _≤_};
 ghost use lib.ListN.{length};
 ghost use Rattle.integers.specs.Over.{over};
 ghost use Rattle.integers.specs.Flat.{flat};

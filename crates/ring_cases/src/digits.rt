@@ -5,8 +5,8 @@ ghost use Prim.Native.Nat.{_*_, _<_, _≤_};
 ghost use lib.ListN.{length};
 ghost use Rattle.ring.specs.Digits.{Base};
 ghost use Rattle.ring.specs.Element.{Degree};
-use crate::numbers::size;
-use crate::printing;
+use cases::numbers::size;
+use cases::printing;
 use ring::digits;
 use ring::element::Element;
 

@@ -3,8 +3,8 @@
 ghost use Prim.Native.Nat.{_≤_};
 ghost use lib.ListN.{length};
 ghost use Rattle.ring.specs.Element.{Degree};
-use crate::numbers::size;
-use crate::printing;
+use cases::numbers::size;
+use cases::printing;
 use ring::element::Element;
 use ring::product;
 

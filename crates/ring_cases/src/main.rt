@@ -1,10 +1,8 @@
 // Runs the ring layer on the cases of tools/reference/ring_cases.py: standard input has one case a line, standard output gets one line
 // of results for each. The check compares them with the results of the second implementation.
-mod cases;
 mod digits;
 mod elements;
-mod numbers;
-mod printing;
+mod runs;
 mod tests;
 
 fn main() {
@@ -12,6 +10,6 @@ fn main() {
     let length = io::read_full(0, &mut text);
     let mut words = [0i32; 32768];
     let mut wides = [0i64; 32768];
-    let count = numbers::scan(&text[..length], &mut words, &mut wides);
-    cases::run_all(&words[..count], &wides);
+    let count = cases::numbers::scan(&text[..length], &mut words, &mut wides);
+    runs::run_all(&words[..count], &wides);
 }

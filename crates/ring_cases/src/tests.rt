@@ -2,8 +2,9 @@
 // result and answers how many numbers it used: 0 where they are not a case.
 ghost use Prim.Native.Nat.{_≤_};
 ghost use lib.ListN.{length};
-use crate::numbers::size;
-use crate::printing;
+use cases::numbers::natural;
+use cases::numbers::size;
+use cases::printing;
 use ring::length;
 use ring::modulus;
 use ring::range;
@@ -40,13 +41,6 @@ pub fn run_test(operation: i32, xs: &[i32]) -> usize
     used
 }
 
-fn bound(x: i64) -> u64 {
-    if x < 0 {
-        return 0;
-    }
-    x as u64
-}
-
 // Operation 16: `bound n x[n]`.
 pub fn run_norm(xs: &[i32], x: i64) -> usize
     ensures { λ r. ⌜ r ≤ length (now (xs .entry)) ⌝ }
@@ -56,7 +50,7 @@ pub fn run_norm(xs: &[i32], x: i64) -> usize
     if xs.len() < used {
         return 0;
     }
-    let margin = length::compare(bound(x), &xs[2..used]);
+    let margin = length::compare(natural(x), &xs[2..used]);
     printing::print_flag(length::is_within(margin));
     used
 }
@@ -72,7 +66,7 @@ pub fn run_two_norms(xs: &[i32], x: i64) -> usize
     if xs.len() < used {
         return 0;
     }
-    let margin = length::compare(bound(x), &xs[3..middle]);
+    let margin = length::compare(natural(x), &xs[3..middle]);
     let both = length::lessen(margin, &xs[middle..used]);
     printing::print_flag(length::is_within(both));
     used

@@ -1,6 +1,6 @@
 -- `prover::amortize::folded_element` meets its contract. The loop's invariant: the sum is that over the first i parts.
 use mathlib.Core.Path.{_≡_, sym, ap, _∙_}
-use Prim.Native.Nat.{ℕ, _+_, _-_, _*_, _≤_}
+use Prim.Native.Nat.{_+_, _-_, _*_, _≤_}
 use native.Mathlib.Omega.{arith}
 use Rattle.ring.specs.Element.{array}
 use Rattle.fold.specs.Messages.{z}
@@ -21,7 +21,8 @@ additive-identity-requires c κs = tt
 loop-holds : tie.Need-loop-holds Inv-loop μ-loop
 loop-holds c =
     let a = c .before .args in
-    (omega arith, c .additive-identity .ensures (a .d) ∙ ap (array (a .d)) (sym (folded-start (a .d) (a .n) (a .k) (a .c .now) (a .witness .now))))
+    let none = folded-start (a .d) (a .n) (a .k) (a .c .now) (a .witness .now) in
+    (omega arith, c .additive-identity .ensures (a .d) ∙ ap (array (a .d)) (sym none))
 
 from-slice-requires : tie.Need-from-slice-requires Inv-loop μ-loop
 from-slice-requires c κs =

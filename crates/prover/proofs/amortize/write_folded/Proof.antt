@@ -1,6 +1,6 @@
 -- `prover::amortize::write_folded` meets its contract. The loop's invariant: the first k elements of z are written.
 use mathlib.Core.Path.{_≡_, refl}
-use Prim.Native.Nat.{ℕ, _+_, _-_, _*_, _≤_}
+use Prim.Native.Nat.{_+_, _-_, _≤_}
 use native.Mathlib.Omega.{arith}
 use Rattle.fold.specs.Messages.{z}
 use Rattle.fold.specs.WriterLaws.{Elements, elements-start, elements-turn}
@@ -43,9 +43,10 @@ loop-again : tie.Need-loop-again Inv-loop μ-loop
 loop-again c =
     let l = c .before .before .before .before .before in
     let s = l .before in
-    let a = s .args in (
+    let a = s .args in
+    let fits = element-fits (a .d) (a .at) {k = l .loop .k} (omega arith) (s .pre .1 .2) in (
       omega arith,
-      elements-turn _ _ _ _ (s .pre .0 .small) refl (element-fits (a .d) (a .at) {k = l .loop .k} (omega arith) (s .pre .1 .2)) (l .loop .inv .1)
+      elements-turn _ _ _ _ (s .pre .0 .small) refl fits (l .loop .inv .1)
           (c .before .before .before .folded-element .ensures) (c .before .store .ensures),
     )
 

@@ -1,7 +1,6 @@
 -- `prover::commit::outer_row` meets its contract: a row is the sum of two inner products.
 use borrow.Author.Needs.{needs}
-use mathlib.Core.Path.{_≡_}
-use Prim.Native.Nat.{ℕ, _+_, _*_}
+use Prim.Native.Nat.{_+_, _*_}
 use native.Mathlib.Omega.{arith}
 use Rattle.prover.specs.Places.{place-below}
 use Rattle.prover.specs.Sums.{outer-sum}
@@ -32,8 +31,8 @@ returns : tie.Need-returns
 returns c =
     let s = c .before .before .before in
     let a = s .args in
-    outer-sum (a .d) (a .m) (a .l) (a .k) (a .b .now) (a .x .now) (a .c .now) (a .y .now) (s .pre .0 .small) (c .before .before .inner .ensures)
-    (c .before .inner2 .ensures) (c .sum .ensures)
+    outer-sum (a .d) (a .m) (a .l) (a .k) (a .b .now) (a .x .now) (a .c .now) (a .y .now) (s .pre .0 .small)
+    (c .before .before .inner .ensures) (c .before .inner2 .ensures) (c .sum .ensures)
 
 pub outer-row-spec : {M : Type 1} → statement M
 outer-row-spec =

@@ -1,7 +1,5 @@
 -- `prover::commit::write_g` meets its contract: the products of pairs, and then their digits.
 use borrow.Author.Needs.{needs}
-use mathlib.Core.Path.{_≡_}
-use Prim.Native.Nat.{ℕ, _*_, _≤_}
 use native.Mathlib.Nat.{mul-le-mul}
 use native.Mathlib.Omega.{arith}
 use Rattle.fold.specs.Messages.{g, gDigits}

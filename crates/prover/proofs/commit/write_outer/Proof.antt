@@ -1,6 +1,6 @@
 -- `prover::commit::write_outer` meets its contract. The loop's invariant: the first k rows are written.
 use mathlib.Core.Path.{_≡_, sym}
-use Prim.Native.Nat.{ℕ, _+_, _-_, _*_, _≤_}
+use Prim.Native.Nat.{_-_, _≤_}
 use native.Mathlib.Nat.{zero-add}
 use native.Mathlib.Omega.{arith}
 use Rattle.fold.specs.WriterLaws.{Elements, elements-start, elements-turn, elements-all}
@@ -48,9 +48,10 @@ loop-again c =
     let l = c .before .before .before .before .before in
     let s = l .before in
     let a = s .args in
-    let k = l .loop .k in (
+    let k = l .loop .k in
+    let fits = block-fits (a .d) k (a .rows) (omega arith) in (
       omega arith,
-      elements-turn _ _ _ _ (s .pre .0 .small) (sym (zero-add k)) (omega (arith, block-fits (a .d) k (a .rows) (omega arith), s .pre .1 .1 .1))
+      elements-turn _ _ _ _ (s .pre .0 .small) (sym (zero-add k)) (omega (arith, fits, s .pre .1 .1 .1))
           (l .loop .inv .1) (c .before .before .before .outer-row .ensures) (c .before .store .ensures),
     )
 

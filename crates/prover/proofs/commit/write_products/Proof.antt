@@ -1,6 +1,6 @@
 -- `prover::commit::write_products` meets its contract. The loop's invariant: the first k elements of t_i are written.
 use mathlib.Core.Path.{_≡_, refl}
-use Prim.Native.Nat.{ℕ, _+_, _-_, _*_, _≤_}
+use Prim.Native.Nat.{_+_, _-_, _*_, _≤_}
 use native.Mathlib.Omega.{arith}
 use Rattle.algebra.specs.DotProduct.{inner}
 use Rattle.fold.specs.Statement.{part}
@@ -35,7 +35,9 @@ inner-requires : tie.Need-inner-requires Inv-loop μ-loop
 inner-requires c κs =
     let s = c .before .before in
     let a = s .args in
-    (s .pre .0, (omega (arith, s .pre .1 .0 .rank-small), part-fits (a .d) (a .n) {i = c .before .loop .k} (omega arith) (s .pre .1 .0 .matrix), s .pre .1 .0 .part))
+    let facts = s .pre .1 .0 in
+    let fits = part-fits (a .d) (a .n) {i = c .before .loop .k} (omega arith) (facts .matrix) in
+    (s .pre .0, (omega (arith, facts .rank-small), fits, facts .part))
 
 add-store : tie.Need-add-store Inv-loop μ-loop
 add-store c =
@@ -61,9 +63,10 @@ unfolding t times inner part
 loop-again c =
     let l = c .before .before .before .before .before in
     let s = l .before in
-    let a = s .args in (
+    let a = s .args in
+    let fits = element-fits (a .d) (a .at) {k = l .loop .k} (omega arith) (s .pre .1 .1) in (
       omega arith,
-      elements-turn _ _ _ _ (s .pre .0 .small) refl (element-fits (a .d) (a .at) {k = l .loop .k} (omega arith) (s .pre .1 .1)) (l .loop .inv .1)
+      elements-turn _ _ _ _ (s .pre .0 .small) refl fits (l .loop .inv .1)
           (c .before .before .before .inner .ensures) (c .before .store .ensures),
     )
 

@@ -1,6 +1,6 @@
 -- `prover::commit::write_t` meets its contract. The loop's invariant: the blocks of the first i parts are written.
-use mathlib.Core.Path.{_≡_, refl}
-use Prim.Native.Nat.{ℕ, _+_, _-_, _*_, _≤_}
+use mathlib.Core.Path.{refl}
+use Prim.Native.Nat.{_-_, _*_}
 use native.Mathlib.Nat.{mul-le-mul}
 use native.Mathlib.Omega.{arith}
 use Rattle.ring.specs.Digits.{split}
@@ -95,7 +95,8 @@ returns c =
     let l = c .before in
     let s = l .before in
     let z = s .args .sizes in
-    blocks-end _ _ _ _ (t-length (s .pre)) (λ i. length-element-digits (z .d) (z .b1) (z .t1) (z .kappa) _) (l .loop .inv) (c .loop-test .left)
+    blocks-end _ _ _ _ (t-length (s .pre)) (λ i. length-element-digits (z .d) (z .b1) (z .t1) (z .kappa) _) (l .loop .inv)
+    (c .loop-test .left)
 
 pub write-t-spec : {M : Type 1} → statement M
 write-t-spec =

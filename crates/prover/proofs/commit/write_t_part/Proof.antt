@@ -1,6 +1,6 @@
 -- `prover::commit::write_t_part` meets its contract: t_i stands in the last stretch of the block before it is split.
 use borrow.Author.Needs.{needs}
-use Prim.Native.Nat.{ℕ, _-_, _*_, _+_}
+use Prim.Native.Nat.{_-_, _*_, _+_}
 use native.Mathlib.Omega.{arith}
 use Rattle.fold.specs.WriterLaws.{split-elements}
 use Rattle.prover.specs.Places.{place-below, last-place, stretch-below}

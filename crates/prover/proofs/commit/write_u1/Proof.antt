@@ -1,7 +1,6 @@
 -- `prover::commit::write_u1` meets its contract: the outer commitment at the sizes of t and g.
 use borrow.Author.Needs.{needs}
-use mathlib.Core.Path.{_≡_, ap, _∙_}
-use Prim.Native.Nat.{ℕ, _+_, _-_, _*_, _≤_}
+use Prim.Native.Nat.{_-_}
 use native.Mathlib.Nat.{mul-le-mul}
 use native.Mathlib.Omega.{arith}
 use Rattle.fold.specs.Sizes.{pairs, tSize, garbageSize}
@@ -17,7 +16,8 @@ mul-m c = omega (arith, mul-le-mul (c .pre .sized .t-digits-few) (c .pre .sized 
 mul-m-2 : tie.Need-mul-m-2
 mul-m-2 c =
     let z = c .args .sizes in
-    omega (arith, t-small (z .r) (z .kappa) (z .t1) (c .pre .sized .shape .parts-small) (c .pre .sized .rank-small) (c .pre .sized .t-digits-few))
+    let facts = c .pre .sized in
+    omega (arith, t-small (z .r) (z .kappa) (z .t1) (facts .shape .parts-small) (facts .rank-small) (facts .t-digits-few))
 
 pairs-requires : tie.Need-pairs-requires
 pairs-requires c κs = search needs
@@ -25,7 +25,8 @@ pairs-requires c κs = search needs
 mul-l : tie.Need-mul-l
 mul-l c =
     let s = c .before in
-    rw (c .pairs .ensures) (omega (arith, mul-le-mul (pairs-small (s .args .sizes .r) (s .pre .sized .shape .parts-small)) (s .pre .sized .g-digits-few)))
+    let facts = s .pre .sized in
+    rw (c .pairs .ensures) (omega (arith, mul-le-mul (pairs-small (s .args .sizes .r) (facts .shape .parts-small)) (facts .g-digits-few)))
 
 write-outer-requires : tie.Need-write-outer-requires
 unfolding tSize garbageSize

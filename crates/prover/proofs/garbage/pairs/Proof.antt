@@ -1,5 +1,5 @@
 -- `prover::garbage::pairs` meets its contract: twice the number of pairs is r * (r + 1).
-use mathlib.Core.Path.{_≡_, sym, ap, _∙_}
+use mathlib.Core.Path.{sym, ap, _∙_}
 use Prim.Native.Nat.{ℕ, _+_, _*_, _/_}
 use native.Mathlib.Nat.{mul-div-cancel, mul-le-mul}
 use native.Mathlib.Omega.{arith}

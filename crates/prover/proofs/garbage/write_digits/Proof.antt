@@ -1,6 +1,6 @@
 -- `prover::garbage::write_digits` meets its contract. The loop's invariant: the blocks of the first e elements are written.
-use mathlib.Core.Path.{_≡_, refl}
-use Prim.Native.Nat.{ℕ, _+_, _-_, _*_}
+use mathlib.Core.Path.{refl}
+use Prim.Native.Nat.{_-_, _*_}
 use native.Mathlib.Nat.{mul-le-mul}
 use native.Mathlib.Omega.{arith}
 use Rattle.ring.specs.Element.{el, coeffs}
@@ -11,7 +11,8 @@ use Rattle.prover.proofs.garbage.write_digits.Statement.{statement}
 use Rattle.prover.proofs.garbage.write_digits.Tie as tie
 
 abbrev Inv-loop : tie.InvT-loop
-Inv-loop d base t count values out₀ width at₀ e₀ out at e = Blocks count (t * d) (λ i. split base t (coeffs d (el d values i))) out₀ e at out
+Inv-loop d base t count values out₀ width at₀ e₀ out at e =
+    Blocks count (t * d) (λ i. split base t (coeffs d (el d values i))) out₀ e at out
 
 abbrev μ-loop : tie.MeasureT-loop
 μ-loop d base t count values out₀ width at₀ e₀ out at e = count - e
@@ -66,8 +67,8 @@ loop-again c =
     let l = c .before .before .before .before in
     let s = l .before in
     let a = s .args in
-    blocks-turn _ _ _ _ (s .pre .1 .1 .3) (λ i. length-digits (a .d) (a .base) (a .t) _) (l .loop .inv) (c .before .before .before .loop-test .taken)
-    (c .before .write-element-digits .ensures) refl
+    blocks-turn _ _ _ _ (s .pre .1 .1 .3) (λ i. length-digits (a .d) (a .base) (a .t) _) (l .loop .inv)
+    (c .before .before .before .loop-test .taken) (c .before .write-element-digits .ensures) refl
 
 same-length : tie.Need-same-length Inv-loop μ-loop
 same-length c = c .before .loop .inv .same

@@ -1,7 +1,6 @@
 -- `prover::garbage::write_element_digits` meets its contract: the element stands in the last stretch of the block before it is split.
 use borrow.Author.Needs.{needs}
-use mathlib.Core.Path.{_≡_, ap, _∙_}
-use Prim.Native.Nat.{ℕ, _+_, _-_, _*_}
+use Prim.Native.Nat.{_-_}
 use native.Mathlib.Omega.{arith}
 use Rattle.fold.specs.WriterLaws.{split-element}
 use Rattle.ring.specs.DigitBlocks.{last-fits}

@@ -1,7 +1,6 @@
 -- `prover::garbage::write_garbage_digits` meets its contract: the pairs stand one after the other.
 use borrow.Author.Needs.{needs}
-use mathlib.Core.Path.{_≡_, _∙_}
-use Prim.Native.Nat.{ℕ, _*_, _≤_}
+use mathlib.Core.Path.{_∙_}
 use native.Mathlib.Omega.{arith}
 use Rattle.fold.specs.Sizes.{garbageSize}
 use Rattle.fold.specs.WriterLaws.{garbage-places}

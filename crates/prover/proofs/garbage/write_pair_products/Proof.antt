@@ -1,6 +1,5 @@
 -- `prover::garbage::write_pair_products` meets its contract. The loop's invariant: the first i rows are written.
-use mathlib.Core.Path.{_≡_}
-use Prim.Native.Nat.{ℕ, _+_, _-_, _*_}
+use Prim.Native.Nat.{_+_, _-_}
 use native.Mathlib.Omega.{arith}
 use Rattle.fold.specs.Messages.{g}
 use Rattle.fold.specs.WriterLaws.{Rows, rows-start, rows-fit, rows-turn, rows-end}
@@ -44,7 +43,8 @@ loop-less c = omega arith
 loop-again : tie.Need-loop-again Inv-loop μ-loop
 loop-again c =
     let l = c .before .before .before .before in
-    rows-turn _ _ _ _ (l .before .pre .1 .2) (l .loop .inv) (c .before .before .before .loop-test .taken) (c .before .write-pair-row .ensures)
+    rows-turn _ _ _ _ (l .before .pre .1 .2) (l .loop .inv) (c .before .before .before .loop-test .taken)
+    (c .before .write-pair-row .ensures)
 
 same-length : tie.Need-same-length Inv-loop μ-loop
 same-length c = c .before .loop .inv .same

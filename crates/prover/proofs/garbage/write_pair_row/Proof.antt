@@ -1,6 +1,6 @@
 -- `prover::garbage::write_pair_row` meets its contract. The loop's invariant: the products with the first k parts from i on are written.
 use mathlib.Core.Path.{_≡_, refl}
-use Prim.Native.Nat.{ℕ, _+_, _-_, _*_, _≤_}
+use Prim.Native.Nat.{_+_, _-_, _*_, _≤_}
 use native.Mathlib.Omega.{arith}
 use Rattle.algebra.specs.DotProduct.{inner}
 use Rattle.fold.specs.Statement.{part}
@@ -80,9 +80,10 @@ unfolding g inner part
 loop-again c =
     let l = c .before .before .before .before .before in
     let s = l .before in
-    let a = s .args in (
+    let a = s .args in
+    let fits = element-fits (a .d) (a .at) {k = l .loop .k} (omega arith) (s .pre .1 .3) in (
       omega arith,
-      elements-turn _ _ _ _ (s .pre .0 .small) refl (element-fits (a .d) (a .at) {k = l .loop .k} (omega arith) (s .pre .1 .3)) (l .loop .inv .1)
+      elements-turn _ _ _ _ (s .pre .0 .small) refl fits (l .loop .inv .1)
           (c .before .before .before .inner .ensures) (c .before .store .ensures),
     )
 

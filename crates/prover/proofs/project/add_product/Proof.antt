@@ -1,5 +1,4 @@
 -- `prover::project::add_product` meets its contract: the sum stays far from the limits of 64 bits.
-use mathlib.Core.Path.{_∙_}
 use mir.Facts.{toZ-ofZ}
 use Rattle.ring.specs.Centring.{widen, wide, product-fits}
 use Rattle.prover.specs.Projected.{term-fits}
@@ -19,7 +18,8 @@ add-result : tie.Need-add-result
 add-result c =
     let x = c .fits .x in
     let y = c .fits .y in
-    rw (wide x, wide y, toZ-ofZ (product-fits x y), toZ-ofZ (c .fits .acc)) (term-fits (c .args .acc) (c .args .x) (c .args .y) (c .pre .0) (c .pre .1) y)
+    rw (wide x, wide y, toZ-ofZ (product-fits x y), toZ-ofZ (c .fits .acc))
+    (term-fits (c .args .acc) (c .args .x) (c .args .y) (c .pre .0) (c .pre .1) y)
 
 returns : tie.Need-returns
 returns c =

@@ -1,6 +1,7 @@
--- `prover::project::project_row` meets its contract. The loop's invariant: the accumulator is the sum of the first y terms, y * 2^31 at most.
-use mathlib.Core.Path.{_≡_, _∙_}
-use Prim.Native.Nat.{ℕ, _-_}
+-- `prover::project::project_row` meets its contract. The loop's invariant: the accumulator is the sum of the first y terms, at most
+-- y * 2^31.
+use mathlib.Core.Path.{_∙_}
+use Prim.Native.Nat.{_-_}
 use native.Mathlib.Omega.{arith}
 use lib.ListN.{length}
 use mir.Facts.{toZ-ofZ}
@@ -48,7 +49,8 @@ loop-again : tie.Need-loop-again Inv-loop μ-loop
 loop-again c =
     let l = c .before .before .before .before in
     let s = l .before in
-    dotted-turn (s .args .row .now) (s .args .witness .now) (s .pre .2) (l .loop .inv) (s .pre .0) (c .before .before .before .loop-test .taken)
+    dotted-turn (s .args .row .now) (s .args .witness .now) (s .pre .2) (l .loop .inv) (s .pre .0)
+    (c .before .before .before .loop-test .taken)
     (c .before .before .add-product-arg .given) (c .before .add-product-arg2 .given) (c .add-product .ensures)
 
 centre-requires : tie.Need-centre-requires Inv-loop μ-loop

@@ -1,7 +1,5 @@
 -- `prover::project::write_p` meets its contract. The loop's invariant: the first j numbers are written.
-use mathlib.Core.Path.{_≡_}
-use Prim.Native.Nat.{ℕ, _+_, _-_, _*_}
-use native.Mathlib.Nat.{mul-le-mul}
+use Prim.Native.Nat.{_+_, _-_}
 use native.Mathlib.Omega.{arith}
 use lib.ListN.{length}
 use Rattle.ring.specs.RangeLaws.{projections-part}

@@ -1,0 +1,79 @@
+-- `aggregation::garbage::write_h` meets its contract: the products <φ_i, s_j>, then the h_ij, then their digits.
+use borrow.Author.Needs.{needs}
+use native.Mathlib.Omega.{arith}
+use Rattle.aggregation.specs.Values.{pairs-room}
+use Rattle.aggregation.specs.Garbage.{square-room, digits-length, h-written}
+use Rattle.aggregation.proofs.garbage.write_h.Statement.{statement}
+use Rattle.aggregation.proofs.garbage.write_h.Tie as tie
+
+slice-aggregate-write-products : tie.Need-slice-aggregate-write-products
+slice-aggregate-write-products c = search needs
+
+write-products-requires : tie.Need-write-products-requires
+write-products-requires c κs =
+    let s = c .before in
+    (s .pre .aggregated, (s .pre .s-length, square-room (s .pre .aggregated .wholes .shaped)))
+
+slice-aggregate-write-half-sums : tie.Need-slice-aggregate-write-half-sums
+slice-aggregate-write-half-sums c = search needs
+
+slice-aggregate-write-half-sums-2 : tie.Need-slice-aggregate-write-half-sums-2
+slice-aggregate-write-half-sums-2 c = search needs
+
+write-half-sums-requires : tie.Need-write-half-sums-requires
+write-half-sums-requires c κs =
+    let s = c .before .before .before .before .before in
+    let shaped = s .pre .aggregated .wholes .shaped in
+    let kept = c .before .before .before .write-products .kept .1 .1 .1 .1 .1 .1 .1 .1 .1 .1 .1 .1 .0 in
+    (shaped .degree, (omega (arith, square-room shaped, kept), pairs-room shaped))
+
+pairs-requires : tie.Need-pairs-requires
+pairs-requires c κs = search needs
+
+slice-aggregate-write-digits : tie.Need-slice-aggregate-write-digits
+slice-aggregate-write-digits c = search needs
+
+write-digits-requires : tie.Need-write-digits-requires
+write-digits-requires c κs =
+    let s = c .before .before .before .before .before .before .before .before .before .before in
+    let z = s .args .sizes in
+    let shaped = s .pre .aggregated .wholes .shaped in
+    let count = c .before .before .pairs .ensures in
+    let kept = c .before .before .before .before .write-half-sums .kept .1 .1 .1 .0 in (
+      shaped .degree,
+      (
+        s .pre .base,
+        (
+          s .pre .t₁-positive,
+          s .pre .t₁-small,
+          rw count (omega (arith, pairs-room shaped, kept)),
+          digits-length (z .d) (z .r) (z .t1) count (s .pre .hs-length),
+        ),
+      ),
+    )
+
+same-length : tie.Need-same-length
+same-length c = search needs
+
+returns : tie.Need-returns
+returns c =
+    let s = c .before .before .before .before .before .before .before .before .before .before .before .before in
+    let z = s .args .sizes in
+    h-written (z .d) (z .n) (z .r) (z .k) (z .l) (z .w) (z .b1) (z .t1) _ _ _ _ _ _ _ _ _ _
+    (c .before .before .before .before .before .before .before .before .before .before .write-products .ensures) (pairs-room (s .pre .aggregated .wholes .shaped))
+    (c .before .before .before .before .before .before .write-half-sums .ensures) (c .before .before .before .before .pairs .ensures) (c .before .write-digits .ensures)
+
+pub write-h-spec : {M : Type 1} → statement M
+write-h-spec =
+    tie.close
+    (tie.spec
+    slice-aggregate-write-products
+    write-products-requires
+    slice-aggregate-write-half-sums
+    slice-aggregate-write-half-sums-2
+    write-half-sums-requires
+    pairs-requires
+    slice-aggregate-write-digits
+    write-digits-requires
+    same-length
+    returns)

@@ -1,0 +1,5 @@
+// The work of messages 3 and 4: the values of the second functions, the garbage h of the aggregate, and its commitment.
+// Document 01, 'Messages, in order'.
+pub mod garbage;
+mod products;
+pub mod second;

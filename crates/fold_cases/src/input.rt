@@ -1,0 +1,102 @@
+// The numbers of a case: the number of its call, its sizes, then its lists, each as its length and its numbers. What is missing counts
+// as 0, and a list that does not fit as an empty one.
+ghost use mathlib.Core.Path.{_≡_};
+ghost use Prim.Native.Nat.{_≤_};
+ghost use lib.IntN.{pos};
+ghost use lib.ListN.{length, replicate, take};
+use cases::numbers::natural;
+use cases::numbers::size;
+use fold::Sizes;
+
+// Where the lists of a case begin: after its call and sixteen sizes.
+pub const LISTS: usize = 17;
+
+// The longest list that a call may write here.
+pub const ROOM: usize = 8192;
+
+// What fills such a list before the call.
+pub const FILL: i32 = 77;
+
+// The numbers from a place on.
+pub fn rest(wides: &[i64], at: usize) -> &[i64] {
+    if wides.len() < at {
+        return &wides[0..0];
+    }
+    &wides[at..]
+}
+
+fn bound_at(wides: &[i64], place: usize) -> u64 {
+    if wides.len() <= place {
+        return 0;
+    }
+    natural(wides[place])
+}
+
+fn size_at(wides: &[i64], place: usize) -> usize {
+    bound_at(wides, place) as usize
+}
+
+// The sizes of a case: they may be any, so that the calls refuse them.
+pub fn read_sizes(wides: &[i64]) -> Sizes {
+    Sizes {
+        d: size_at(wides, 1),
+        n: size_at(wides, 2),
+        r: size_at(wides, 3),
+        k: size_at(wides, 4),
+        l: size_at(wides, 5),
+        w: size_at(wides, 6),
+        kappa: size_at(wides, 7),
+        kappa1: size_at(wides, 8),
+        kappa2: size_at(wides, 9),
+        b: size_at(wides, 10),
+        b1: size_at(wides, 11),
+        b2: size_at(wides, 12),
+        t1: size_at(wides, 13),
+        t2: size_at(wides, 14),
+        bound: bound_at(wides, 15),
+        target: bound_at(wides, 16),
+    }
+}
+
+// The list at a place.
+pub fn list(xs: &[i32], at: usize) -> &[i32] {
+    let room = xs.len();
+    if room <= at {
+        return &xs[0..0];
+    }
+    let start = at + 1;
+    let count = size(xs, at, room - start);
+    let end = start + count;
+    &xs[start..end]
+}
+
+// The place after the list at a place; the end where there is none.
+pub fn after_list(xs: &[i32], at: usize) -> usize
+    ensures { λ r. ⌜ r ≤ length (now (xs .entry)) ⌝ }
+{
+    let room = xs.len();
+    if room <= at {
+        return room;
+    }
+    let start = at + 1;
+    let count = size(xs, at, room - start);
+    start + count
+}
+
+// The place after the number at a place; the end where there is none.
+pub fn after_number(xs: &[i32], at: usize) -> usize
+    ensures { λ r. ⌜ r ≤ length (now (xs .entry)) ⌝ }
+{
+    let room = xs.len();
+    if room <= at {
+        return room;
+    }
+    at + 1
+}
+
+// The length of a list to write, 0 where it is too long. The filled array has a part that long.
+pub fn count_at(xs: &[i32], place: usize) -> usize
+    ensures { λ r. ⌜ (r ≤ 8192) × (r ≡ length (take r (replicate 8192 (pos 77)))) ⌝ }
+{
+    size(xs, place, ROOM)
+}

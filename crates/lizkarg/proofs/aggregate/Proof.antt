@@ -1,0 +1,44 @@
+use borrow.Author.Needs.{needs}
+use Rattle.lizkarg.specs.CallLaws.{aggregate-refused, aggregate-facts, aggregate-room, aggregate-written}
+use Rattle.lizkarg.proofs.aggregate.Statement.{statement}
+use Rattle.lizkarg.proofs.aggregate.Tie as tie
+use Rattle.lizkarg.proofs.aggregate.Reads as reads
+use Rattle.lizkarg.proofs.aggregate.Lts as lts
+use Rattle.aggregation.proofs.second.write_b2.Reads as write-b2-reads
+use Rattle.limits.proofs.aggregate_refusal.Reads as aggregate-refusal-reads
+
+-- src/lib.rt:61:9
+aggregate-refusal-requires : tie.Need-aggregate-refusal-requires
+aggregate-refusal-requires c κs = tt
+
+-- src/lib.rt:63:9
+same-length : tie.Need-same-length
+same-length c = search needs
+
+-- src/lib.rt:63:9
+returns : tie.Need-returns
+returns c = aggregate-refused _ _ _ _ _ _ _ _ _ (c .before .aggregate-refusal .ensures) (c .if1 .taken)
+
+-- src/lib.rt:65:5
+write-b2-requires : tie.Need-write-b2-requires
+write-b2-requires c κs =
+    (aggregate-facts _ _ _ _ _ _ _ _ _ (c .before .before .aggregate-refusal .ensures) (c .before .if1 .left), aggregate-room _ _ _ _ _ _ _ _ _ (c .before .before .aggregate-refusal .ensures) (c .before .if1 .left))
+
+-- src/lib.rt:46:1
+same-length-2 : tie.Need-same-length-2
+same-length-2 c = search needs
+
+-- src/lib.rt:46:1
+returns-2 : tie.Need-returns-2
+returns-2 c = aggregate-written _ _ _ _ _ _ _ _ _ (c .before .before .before .before .aggregate-refusal .ensures) (c .before .before .before .if1 .left) (c .before .write-b2 .ensures)
+
+pub aggregate-spec : {M : Type 1} → statement M
+aggregate-spec =
+    tie.close
+    (tie.spec
+    aggregate-refusal-requires
+    same-length
+    returns
+    write-b2-requires
+    same-length-2
+    returns-2)

@@ -1,0 +1,61 @@
+use borrow.Author.Needs.{needs}
+use Rattle.lizkarg.specs.CallLaws.{garbage-refused, garbage-h, garbage-u, garbage-written}
+use Rattle.lizkarg.proofs.commit_garbage.Statement.{statement}
+use Rattle.lizkarg.proofs.commit_garbage.Tie as tie
+use Rattle.lizkarg.proofs.commit_garbage.Reads as reads
+use Rattle.lizkarg.proofs.commit_garbage.Lts as lts
+use Rattle.aggregation.proofs.garbage.write_h.Reads as write-h-reads
+use Rattle.aggregation.proofs.garbage.write_u2.Reads as write-u2-reads
+use Rattle.limits.proofs.garbage_refusal.Reads as garbage-refusal-reads
+
+-- src/lib.rt:89:9
+garbage-refusal-requires : tie.Need-garbage-refusal-requires
+garbage-refusal-requires c κs = tt
+
+-- src/lib.rt:104:9
+same-length : tie.Need-same-length
+same-length c = search needs
+
+-- src/lib.rt:104:9
+same-length-2 : tie.Need-same-length-2
+same-length-2 c = search needs
+
+-- src/lib.rt:104:9
+returns : tie.Need-returns
+returns c = garbage-refused _ _ _ _ _ _ _ _ _ _ _ _ (c .before .garbage-refusal .ensures) (c .if1 .taken)
+
+-- src/lib.rt:106:5
+write-h-requires : tie.Need-write-h-requires
+write-h-requires c κs = garbage-h _ _ _ _ _ _ _ _ _ _ _ _ (c .before .before .garbage-refusal .ensures) (c .before .if1 .left)
+
+-- src/lib.rt:118:5
+write-u2-requires : tie.Need-write-u2-requires
+write-u2-requires c κs =
+    garbage-u _ _ _ _ _ _ _ _ _ _ _ _ (c .before .before .before .before .before .before .garbage-refusal .ensures) (c .before .before .before .before .before .if1 .left) (c .before .before .before .write-h .kept .1 .1 .1 .1 .1 .1 .1 .1 .1 .0)
+
+-- src/lib.rt:70:1
+same-length-3 : tie.Need-same-length-3
+same-length-3 c = search needs
+
+-- src/lib.rt:70:1
+same-length-4 : tie.Need-same-length-4
+same-length-4 c = search needs
+
+-- src/lib.rt:70:1
+returns-2 : tie.Need-returns-2
+returns-2 c =
+    garbage-written _ _ _ _ _ _ _ _ _ _ _ _ (c .before .before .before .before .before .before .before .before .garbage-refusal .ensures) (c .before .before .before .before .before .before .before .if1 .left) (c .before .before .before .before .before .write-h .ensures) (c .before .write-u2 .ensures)
+
+pub commit-garbage-spec : {M : Type 1} → statement M
+commit-garbage-spec =
+    tie.close
+    (tie.spec
+    garbage-refusal-requires
+    same-length
+    same-length-2
+    returns
+    write-h-requires
+    write-u2-requires
+    same-length-3
+    same-length-4
+    returns-2)

@@ -1,0 +1,61 @@
+-- `verifier::amortized::folded_row` meets its contract. The accumulator holds the sum of the terms so far.
+use Prim.Native.Nat.{_-_}
+use native.Mathlib.Omega.{arith}
+use Rattle.ring.specs.Element.{R, el}
+use Rattle.verifier.specs.Facts.{tValue}
+use Rattle.verifier.specs.Loops.{Summed, summed-start, summed-step, summed-end}
+use Rattle.verifier.proofs.amortized.folded_row.Statement.{statement}
+use Rattle.verifier.proofs.amortized.folded_row.Tie as tie
+
+abbrev Inv-loop : tie.InvT-loop
+Inv-loop sizes c opening k d count acc₀ i₀ acc i = Summed (sizes .d) (sizes .r) (λ i. R (sizes .d) .mul (el (sizes .d) c i)
+    (tValue sizes opening i k)) i (acc .coefficients)
+
+abbrev μ-loop : tie.MeasureT-loop
+μ-loop sizes c opening k d count acc₀ i₀ acc i = count - i
+
+additive-identity-requires : tie.Need-additive-identity-requires Inv-loop μ-loop
+additive-identity-requires c κs = tt
+
+loop-holds : tie.Need-loop-holds Inv-loop μ-loop
+loop-holds c = summed-start _ _ _ (c .additive-identity .ensures _)
+
+folded-term-requires : tie.Need-folded-term-requires Inv-loop μ-loop
+folded-term-requires c κs =
+    let s = c .before .before .before in
+    let p = s .pre in
+    (p .0, (p .1 .0, (p .1 .1 .0, (c .loop-test .taken, p .1 .1 .1))))
+
+sum-requires : tie.Need-sum-requires Inv-loop μ-loop
+sum-requires c κs = c .before .before .before .before .pre .0 .shaped .degree
+
+add-i : tie.Need-add-i Inv-loop μ-loop
+add-i c = omega arith
+
+loop-less : tie.Need-loop-less Inv-loop μ-loop
+loop-less c = omega arith
+
+loop-again : tie.Need-loop-again Inv-loop μ-loop
+loop-again c =
+    let l = c .before .before .before in
+    let s = l .before .before in
+    summed-step _ _ _ (c .before .folded-term .result .coefficients) (s .pre .0 .shaped .degree .small) (l .loop .inv)
+    (c .before .before .loop-test .taken) (c .before .folded-term .ensures) (c .sum .ensures)
+
+returns : tie.Need-returns Inv-loop μ-loop
+returns c = summed-end _ _ _ (c .before .loop .inv) (c .loop-test .left)
+
+pub folded-row-spec : {M : Type 1} → statement M
+folded-row-spec =
+    tie.close
+    (tie.spec
+    Inv-loop
+    μ-loop
+    additive-identity-requires
+    loop-holds
+    folded-term-requires
+    sum-requires
+    add-i
+    loop-less
+    loop-again
+    returns)

@@ -1,0 +1,78 @@
+-- `verifier::amortized::mixed_row` meets its contract. The accumulator holds the sum of the terms so far.
+use mathlib.Core.Path.{ap, _∙_}
+use Prim.Native.Nat.{_-_, _+_, _<_}
+use native.Mathlib.Omega.{arith}
+use Rattle.ring.specs.Element.{array}
+use Rattle.verifier.specs.Mixed.{mixedTerm, mixed-row, pair-along, pair-small}
+use Rattle.verifier.specs.Loops.{Summed, summed-start, summed-step, summed-end}
+use Rattle.verifier.proofs.amortized.mixed_row.Statement.{statement}
+use Rattle.verifier.proofs.amortized.mixed_row.Tie as tie
+
+abbrev Inv-loop : tie.InvT-loop
+Inv-loop d r b t opening place c i q width acc₀ k₀ acc k = Summed d width (mixedTerm d r b t place c opening i) k (acc .coefficients)
+
+abbrev μ-loop : tie.MeasureT-loop
+μ-loop d r b t opening place c i q width acc₀ k₀ acc k = width - k
+
+sub-width : tie.Need-sub-width Inv-loop μ-loop
+sub-width c = omega arith
+
+additive-identity-requires : tie.Need-additive-identity-requires Inv-loop μ-loop
+additive-identity-requires c κs = tt
+
+loop-holds : tie.Need-loop-holds Inv-loop μ-loop
+loop-holds c = summed-start _ _ _ (c .additive-identity .ensures _)
+
+add-mixed-term : tie.Need-add-mixed-term Inv-loop μ-loop
+add-mixed-term c =
+    let s = c .before .before .before in
+    omega (
+      arith,
+      pair-small (s .args .r) (s .args .i) (s .args .q) (s .pre .0 .parts) (s .pre .1 .1 .0)
+          (s .pre .1 .1 .1),
+      c .loop-test .taken,
+      s .pre .0 .parts,
+    )
+
+mixed-term-requires : tie.Need-mixed-term-requires Inv-loop μ-loop
+mixed-term-requires c κs =
+    let s = c .before .before .before in
+    (s .pre .0, (s .pre .1 .0, (omega arith, pair-along (s .args .r) (s .args .i) (c .before .loop .k) (s .args .q) (s .pre .1 .1 .1))))
+
+sum-requires : tie.Need-sum-requires Inv-loop μ-loop
+sum-requires c κs = c .before .before .before .before .pre .0 .degree
+
+add-k : tie.Need-add-k Inv-loop μ-loop
+add-k c = omega arith
+
+loop-less : tie.Need-loop-less Inv-loop μ-loop
+loop-less c = omega arith
+
+loop-again : tie.Need-loop-again Inv-loop μ-loop
+loop-again c =
+    let l = c .before .before .before in
+    let s = l .before .before in
+    summed-step _ _ _ (c .before .mixed-term .result .coefficients) (s .pre .0 .degree .small) (l .loop .inv)
+    (c .before .before .loop-test .taken) (c .before .mixed-term .ensures) (c .sum .ensures)
+
+returns : tie.Need-returns Inv-loop μ-loop
+returns c =
+    let s = c .before .before .before in
+    summed-end _ _ _ (c .before .loop .inv) (c .loop-test .left) ∙ ap (array (s .args .d)) (mixed-row _ _ _ _ _ _ _ (s .args .i))
+
+pub mixed-row-spec : {M : Type 1} → statement M
+mixed-row-spec =
+    tie.close
+    (tie.spec
+    Inv-loop
+    μ-loop
+    sub-width
+    additive-identity-requires
+    loop-holds
+    add-mixed-term
+    mixed-term-requires
+    sum-requires
+    add-k
+    loop-less
+    loop-again
+    returns)

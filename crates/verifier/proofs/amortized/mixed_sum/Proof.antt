@@ -1,0 +1,81 @@
+-- `verifier::amortized::mixed_sum` meets its contract. The accumulator holds the rows so far, and q is the number of the next row's first pair.
+use mathlib.Core.Path.{_≡_, ap, _∙_}
+use Prim.Native.Nat.{_-_, _+_}
+use native.Mathlib.Omega.{arith}
+use Rattle.algebra.specs.Triangle.{pair}
+use Rattle.ring.specs.Element.{array}
+use Rattle.verifier.specs.Mixed.{mixedRow, mixed-all, pair-first, pair-next-row, pair-small}
+use Rattle.verifier.specs.Loops.{Summed, summed-start, summed-step, summed-end}
+use Rattle.verifier.proofs.amortized.mixed_sum.Statement.{statement}
+use Rattle.verifier.proofs.amortized.mixed_sum.Tie as tie
+
+abbrev Inv-loop : tie.InvT-loop
+Inv-loop d r b t opening place c acc₀ q₀ i₀ acc q i = Summed d r (mixedRow d r b t place c opening) i (acc .coefficients) × (q ≡ pair r i i)
+
+abbrev μ-loop : tie.MeasureT-loop
+μ-loop d r b t opening place c acc₀ q₀ i₀ acc q i = r - i
+
+additive-identity-requires : tie.Need-additive-identity-requires Inv-loop μ-loop
+additive-identity-requires c κs = tt
+
+loop-holds : tie.Need-loop-holds Inv-loop μ-loop
+loop-holds c = (summed-start _ _ _ (c .additive-identity .ensures _), pair-first _)
+
+mixed-row-requires : tie.Need-mixed-row-requires Inv-loop μ-loop
+mixed-row-requires c κs =
+    let s = c .before .before .before in
+    (s .pre .0, (s .pre .1, (c .loop-test .taken, c .before .loop .inv .1)))
+
+sum-requires : tie.Need-sum-requires Inv-loop μ-loop
+sum-requires c κs = c .before .before .before .before .pre .0 .degree
+
+sub-q : tie.Need-sub-q Inv-loop μ-loop
+sub-q c = omega arith
+
+add-q : tie.Need-add-q Inv-loop μ-loop
+add-q c =
+    let l = c .before .before .before in
+    let s = l .before .before in
+    omega (
+      arith,
+      pair-small (s .args .r) (l .loop .i) (l .loop .q) (s .pre .0 .parts) (c .before .before .loop-test .taken)
+          (l .loop .inv .1),
+      s .pre .0 .parts,
+    )
+
+add-i : tie.Need-add-i Inv-loop μ-loop
+add-i c = omega arith
+
+loop-less : tie.Need-loop-less Inv-loop μ-loop
+loop-less c = omega arith
+
+loop-again : tie.Need-loop-again Inv-loop μ-loop
+loop-again c =
+    let l = c .before .before .before in
+    let s = l .before .before in (
+      summed-step _ _ _ (c .before .mixed-row .result .coefficients) (s .pre .0 .degree .small) (l .loop .inv .0)
+          (c .before .before .loop-test .taken) (c .before .mixed-row .ensures) (c .sum .ensures),
+      pair-next-row (s .args .r) (l .loop .i) (l .loop .q) (c .before .before .loop-test .taken) (l .loop .inv .1),
+    )
+
+returns : tie.Need-returns Inv-loop μ-loop
+returns c =
+    let s = c .before .before .before in
+    summed-end _ _ _ (c .before .loop .inv .0) (c .loop-test .left) ∙ ap (array (s .args .d)) (mixed-all _ _ _ _ _ _ _)
+
+pub mixed-sum-spec : {M : Type 1} → statement M
+mixed-sum-spec =
+    tie.close
+    (tie.spec
+    Inv-loop
+    μ-loop
+    additive-identity-requires
+    loop-holds
+    mixed-row-requires
+    sum-requires
+    sub-q
+    add-q
+    add-i
+    loop-less
+    loop-again
+    returns)

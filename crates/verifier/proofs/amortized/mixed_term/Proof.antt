@@ -1,0 +1,82 @@
+-- `verifier::amortized::mixed_term` meets its contract: once on the diagonal, twice off it.
+use Prim.Native.Nat.{_+_, _≤_, _<_}
+use native.Mathlib.Omega.{arith}
+use Rattle.verifier.specs.Places.{element-fits}
+use Rattle.verifier.specs.Mixed.{garbage-fits, mixed-term-once, mixed-term-twice}
+use borrow.Author.Needs.{needs}
+use Rattle.verifier.proofs.amortized.mixed_term.Statement.{statement}
+use Rattle.verifier.proofs.amortized.mixed_term.Tie as tie
+
+garbage-of-requires : tie.Need-garbage-of-requires
+garbage-of-requires c κs =
+    let a = c .args in
+    let g = c .pre .0 in (
+      g .degree,
+      (
+        g .base,
+        (
+          g .digits,
+          garbage-fits (a .d) (a .r) (a .t) (a .place) (a .i) (a .i + a .k) (a .q) _ (omega arith)
+              (c .pre .1 .1 .0) (c .pre .1 .1 .1) (g .inside),
+        ),
+      ),
+    )
+
+from-slice-requires : tie.Need-from-slice-requires
+from-slice-requires c κs =
+    let s = c .before in
+    (s .pre .0 .degree, element-fits (s .args .d) (s .args .r) (s .args .i) _ (s .pre .1 .0) (omega (arith, s .pre .1 .1 .0)))
+
+add-from-slice : tie.Need-add-from-slice
+add-from-slice c = search needs
+
+from-slice-requires-2 : tie.Need-from-slice-requires-2
+from-slice-requires-2 c κs =
+    let s = c .before .before in
+    (s .pre .0 .degree, element-fits (s .args .d) (s .args .r) (s .args .i + s .args .k) _ (s .pre .1 .0) (s .pre .1 .1 .0))
+
+element-product-requires : tie.Need-element-product-requires
+element-product-requires c κs = search needs
+
+element-product-requires-2 : tie.Need-element-product-requires-2
+element-product-requires-2 c κs = search needs
+
+returns : tie.Need-returns
+returns c =
+    let p = c .before .before in
+    let s = p .before .before .before .before in
+    let a = s .args in
+    let zero : a .k ≤ 0 = omega (arith, c .if1 .taken) in
+    mixed-term-once (a .d) (a .r) (a .b) (a .t) (a .place) _ _ (a .i) (a .k) (a .q) _ _ _ _ _ (s .pre .0 .degree .small) zero
+    (s .pre .1 .1 .1) (p .before .before .before .garbage-of .ensures)
+    (p .before .before .from-slice .ensures) (p .before .from-slice2 .ensures) (p .element-product .ensures)
+    (c .before .element-product2 .ensures)
+
+sum-requires : tie.Need-sum-requires
+sum-requires c κs = search needs
+
+returns-2 : tie.Need-returns-2
+returns-2 c =
+    let l = c .before in
+    let p = l .before .before in
+    let s = p .before .before .before .before in
+    let a = s .args in
+    let apart : 0 < a .k = omega (arith, l .if1 .left) in
+    mixed-term-twice (a .d) (a .r) (a .b) (a .t) (a .place) _ _ (a .i) (a .k) (a .q) _ _ _ _ _ _ (s .pre .0 .degree .small) apart
+    (s .pre .1 .1 .1) (p .before .before .before .garbage-of .ensures)
+    (p .before .before .from-slice .ensures) (p .before .from-slice2 .ensures) (p .element-product .ensures)
+    (l .before .element-product2 .ensures) (c .sum .ensures)
+
+pub mixed-term-spec : {M : Type 1} → statement M
+mixed-term-spec =
+    tie.close
+    (tie.spec
+    garbage-of-requires
+    from-slice-requires
+    add-from-slice
+    from-slice-requires-2
+    element-product-requires
+    element-product-requires-2
+    returns
+    sum-requires
+    returns-2)

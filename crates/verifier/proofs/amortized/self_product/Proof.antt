@@ -1,0 +1,38 @@
+-- `verifier::amortized::self_product` meets its contract.
+use mathlib.Core.Path.{ap, _∙_}
+use Prim.Native.Nat.{ℕ}
+use Rattle.algebra.specs.DotProduct.{mixed}
+use Rattle.ring.specs.Element.{R, el, array}
+use Rattle.fold.specs.Verdict.{block, garbageOf}
+use Rattle.verifier.specs.Mixed.{g-garbage}
+use Rattle.verifier.specs.Rows.{self-product}
+use borrow.Author.Needs.{needs}
+use Rattle.verifier.proofs.amortized.self_product.Statement.{statement}
+use Rattle.verifier.proofs.amortized.self_product.Tie as tie
+
+inner-requires : tie.Need-inner-requires
+inner-requires c κs = search needs
+
+g-place-requires : tie.Need-g-place-requires
+g-place-requires c κs = search needs
+
+mixed-sum-requires : tie.Need-mixed-sum-requires
+mixed-sum-requires c κs =
+    let s = c .before .before in
+    (g-garbage (s .args .sizes) (s .pre .0) _ (s .pre .1 .1 .1) _ (c .g-place .ensures), s .pre .1 .0)
+
+equals-requires : tie.Need-equals-requires
+equals-requires c κs = search needs
+
+returns : tie.Need-returns
+returns c =
+    let s = c .before .before .before .before in
+    let z = s .args .sizes in
+    let right = c .before .mixed-sum .ensures ∙ ap (λ (p : ℕ). array (z .d) (mixed (R (z .d)) (z .r) (garbageOf (z .d) (z .r) (z .b2)
+    (z .t2) (block (z .d) (s .args .opening .now) p)) (el (z .d) (s .args .c .now)))) (c .before .before .g-place .ensures) in
+    self-product (z .d) (z .n) (z .r) _ _ _ _ _ _ (s .pre .0 .shaped .degree .small) (c .before .before .before .inner .ensures) right
+    (c .equals .ensures)
+
+pub self-product-spec : {M : Type 1} → statement M
+self-product-spec =
+    tie.close (tie.spec inner-requires g-place-requires mixed-sum-requires equals-requires returns)

@@ -1,0 +1,45 @@
+-- `verifier::judgement::judge_recomposed` meets its contract.
+use Rattle.verifier.specs.SizeLaws.{product-bound, z-within}
+use Rattle.verifier.specs.Judgement.{recomposed}
+use borrow.Author.Needs.{needs}
+use Rattle.verifier.proofs.judgement.judge_recomposed.Statement.{statement}
+use Rattle.verifier.proofs.judgement.judge_recomposed.Tie as tie
+
+slice-aggregate-write-z : tie.Need-slice-aggregate-write-z
+slice-aggregate-write-z c = search needs
+
+write-z-requires : tie.Need-write-z-requires
+write-z-requires c κs =
+    let s = c .before in
+    let f = s .pre .fits in (
+      f .shaped .degree,
+      (
+        f .base,
+        (
+          z-within (s .args .sizes) _ (s .pre .opening),
+          product-bound (f .shaped .rank-small)
+              (f .shaped .degree .small),
+        ),
+      ),
+    )
+
+slice-aggregate-judge-opening : tie.Need-slice-aggregate-judge-opening
+slice-aggregate-judge-opening c = search needs
+
+judge-opening-requires : tie.Need-judge-opening-requires
+judge-opening-requires c κs =
+    let s = c .before .before .before .before in
+    (s .pre, recomposed (s .args .sizes) (s .pre .fits) _ _ _ (search needs) (c .before .before .write-z .ensures))
+
+returns : tie.Need-returns
+returns c = search needs
+
+pub judge-recomposed-spec : {M : Type 1} → statement M
+judge-recomposed-spec =
+    tie.close
+    (tie.spec
+    slice-aggregate-write-z
+    write-z-requires
+    slice-aggregate-judge-opening
+    judge-opening-requires
+    returns)

@@ -1,0 +1,53 @@
+-- `verifier::norms::short_opening` meets its contract: the opening is cut where t and h start.
+use mathlib.Core.Path.{ap, _∙_}
+use Prim.Native.Nat.{ℕ, _*_, _≤_}
+use native.Mathlib.Omega.{arith}
+use native.Mathlib.Nat.{mul-le-mul-right}
+use Rattle.verifier.specs.SizeLaws.{product-bound, t-place-bound, h-place-bound, h-within, t-before-h}
+use Rattle.verifier.specs.Norms.{check-nine}
+use borrow.Author.Needs.{needs}
+use Rattle.verifier.proofs.norms.short_opening.Statement.{statement}
+use Rattle.verifier.proofs.norms.short_opening.Tie as tie
+
+t-place-requires : tie.Need-t-place-requires
+t-place-requires c κs = search needs
+
+mul-t-start : tie.Need-mul-t-start
+mul-t-start c =
+    let s = c .before in
+    let small : c .t-place .result ≤ 512 = rw (c .t-place .ensures) (t-place-bound (s .args .sizes) (s .pre .0)) in
+    omega (arith, product-bound small (s .pre .0 .shaped .degree .small))
+
+h-place-requires : tie.Need-h-place-requires
+h-place-requires c κs = search needs
+
+mul-h-start : tie.Need-mul-h-start
+mul-h-start c =
+    let s = c .before .before in
+    let small : c .h-place .result ≤ 2624 = rw (c .h-place .ensures) (h-place-bound (s .args .sizes) (s .pre .0)) in
+    omega (arith, product-bound small (s .pre .0 .shaped .degree .small))
+
+short-parts-requires : tie.Need-short-parts-requires
+short-parts-requires c κs =
+    let s = c .before .before in (
+      rw (c .before .t-place .ensures, c .h-place .ensures) (mul-le-mul-right (s .args .sizes .d) (t-before-h (s .args .sizes))),
+      rw (c .h-place .ensures) (omega (arith, h-within (s .args .sizes) _ (s .pre .1))),
+    )
+
+returns : tie.Need-returns
+returns c =
+    let s = c .before .before .before in
+    c .short-parts .ensures
+    ∙ check-nine _ _ _ _ _ _ _ _ _ _ _ (s .pre .1 .sized) (ap (λ (a : ℕ). a * s .args .sizes .d) (c .before .before .t-place .ensures))
+    (ap (λ (a : ℕ). a * s .args .sizes .d) (c .before .h-place .ensures))
+
+pub short-opening-spec : {M : Type 1} → statement M
+short-opening-spec =
+    tie.close
+    (tie.spec
+    t-place-requires
+    mul-t-start
+    h-place-requires
+    mul-h-start
+    short-parts-requires
+    returns)

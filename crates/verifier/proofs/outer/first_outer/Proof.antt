@@ -1,0 +1,44 @@
+-- `verifier::outer::first_outer` meets its contract. The rows so far hold.
+use Prim.Native.Nat.{_-_}
+use native.Mathlib.Omega.{arith}
+use Rattle.ring.specs.Element.{el, same}
+use Rattle.fold.specs.Messages.{outer₁}
+use Rattle.fold.specs.Verdict.{check₃}
+use Rattle.verifier.specs.Facts.{tBlockOf, gBlockOf}
+use Rattle.verifier.specs.Loops.{Tested, tested-start, tested-step, tested-end}
+use Rattle.verifier.proofs.outer.first_outer.Statement.{statement}
+use Rattle.verifier.proofs.outer.first_outer.Tie as tie
+
+abbrev Inv-loop : tie.InvT-loop
+Inv-loop sizes b c u1 opening rows all₀ k₀ all k = Tested rows (λ k. same (sizes .d) (el (sizes .d) u1 k) (outer₁ (sizes .d) (sizes .r)
+    (sizes .kappa) (sizes .t1) (sizes .t2) b c k (tBlockOf sizes opening) (gBlockOf sizes opening))) k all
+
+abbrev μ-loop : tie.MeasureT-loop
+μ-loop sizes b c u1 opening rows all₀ k₀ all k = rows - k
+
+loop-holds : tie.Need-loop-holds Inv-loop μ-loop
+loop-holds c = tested-start _ _
+
+first-row-requires : tie.Need-first-row-requires Inv-loop μ-loop
+first-row-requires c κs =
+    let s = c .before .before in
+    let p = s .pre in
+    (p .0, (p .1 .0, (p .1 .1 .0, (p .1 .1 .1 .0, (p .1 .1 .1 .1, c .loop-test .taken)))))
+
+add-k : tie.Need-add-k Inv-loop μ-loop
+add-k c = omega arith
+
+loop-less : tie.Need-loop-less Inv-loop μ-loop
+loop-less c = omega arith
+
+loop-again : tie.Need-loop-again Inv-loop μ-loop
+loop-again c = tested-step _ _ (c .first-row .result) (c .before .before .loop .inv) (c .before .loop-test .taken) (c .first-row .ensures)
+
+returns : tie.Need-returns Inv-loop μ-loop
+unfolding check₃
+returns c = tested-end _ _ (c .before .loop .inv) (c .loop-test .left)
+
+pub first-outer-spec : {M : Type 1} → statement M
+first-outer-spec =
+    tie.close
+    (tie.spec Inv-loop μ-loop loop-holds first-row-requires add-k loop-less loop-again returns)

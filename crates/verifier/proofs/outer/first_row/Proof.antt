@@ -1,0 +1,80 @@
+-- `verifier::outer::first_row` meets its contract.
+use Prim.Native.Nat.{_≤_}
+use native.Mathlib.Omega.{arith}
+use Rattle.verifier.specs.Places.{row-fits, part-fits, element-fits}
+use Rattle.verifier.specs.SizeLaws.{t-size-bound, g-size-bound, t-within, g-within}
+use Rattle.verifier.specs.Rows.{first-row}
+use borrow.Author.Needs.{needs}
+use Rattle.verifier.proofs.outer.first_row.Statement.{statement}
+use Rattle.verifier.proofs.outer.first_row.Tie as tie
+
+t-size-requires : tie.Need-t-size-requires
+t-size-requires c κs = search needs
+
+t-place-requires : tie.Need-t-place-requires
+t-place-requires c κs = search needs
+
+row-times-requires : tie.Need-row-times-requires
+row-times-requires c κs =
+    let s = c .before .before in
+    let z = s .args .sizes in
+    let small : c .before .t-size .result ≤ 4096 = rw (c .before .t-size .ensures) (omega (arith, t-size-bound z (s .pre .0))) in
+    let row = row-fits (z .d) _ (z .kappa1) (s .args .k) _ _ (c .before .t-size .ensures) (s .pre .1 .0) (s .pre .1 .1 .1 .1 .1) in
+    let part = part-fits (z .d) (c .t-place .ensures) (c .before .t-size .ensures) (t-within z _ (s .pre .1 .1 .1 .1 .0)) in
+    (s .pre .0 .shaped .degree, (small, (row, part)))
+
+g-size-requires : tie.Need-g-size-requires
+g-size-requires c κs = search needs
+
+g-place-requires : tie.Need-g-place-requires
+g-place-requires c κs = search needs
+
+row-times-requires-2 : tie.Need-row-times-requires-2
+row-times-requires-2 c κs =
+    let s = c .before .before .before .before .before in
+    let z = s .args .sizes in
+    let small : c .before .g-size .result ≤ 4096 = rw (c .before .g-size .ensures) (omega (arith, g-size-bound z (s .pre .0))) in
+    let row = row-fits (z .d) _ (z .kappa1) (s .args .k) _ _ (c .before .g-size .ensures) (s .pre .1 .1 .0) (s .pre .1 .1 .1 .1 .1) in
+    let part = part-fits (z .d) (c .g-place .ensures) (c .before .g-size .ensures) (g-within z _ (s .pre .1 .1 .1 .1 .0)) in
+    (s .pre .0 .shaped .degree, (small, (row, part)))
+
+sum-requires : tie.Need-sum-requires
+sum-requires c κs = search needs
+
+from-slice-requires : tie.Need-from-slice-requires
+from-slice-requires c κs =
+    let s = c .before .before .before .before .before .before .before in
+    (s .pre .0 .shaped .degree, element-fits _ _ (s .args .k) _ (s .pre .1 .1 .1 .0) (s .pre .1 .1 .1 .1 .1))
+
+equals-requires : tie.Need-equals-requires
+equals-requires c κs = search needs
+
+returns : tie.Need-returns
+returns c =
+    let u = c .before in
+    let row = u .before in
+    let g = row .before in
+    let gp = g .before in
+    let gc = gp .before in
+    let t = gc .before in
+    let tp = t .before in
+    let tc = tp .before in
+    let s = tc .before in
+    first-row (s .args .sizes) (s .pre .0 .shaped .degree .small) _ _ (s .args .k) _ _ _ _ _ _ _ _ _ _ _ (tc .t-size .ensures)
+    (tp .t-place .ensures) (t .row-times .ensures) (gc .g-size .ensures) (gp .g-place .ensures) (g .row-times2 .ensures) (row .sum .ensures)
+    (u .from-slice .ensures) (c .equals .ensures)
+
+pub first-row-spec : {M : Type 1} → statement M
+first-row-spec =
+    tie.close
+    (tie.spec
+    t-size-requires
+    t-place-requires
+    row-times-requires
+    g-size-requires
+    g-place-requires
+    row-times-requires-2
+    sum-requires
+    from-slice-requires
+    equals-requires
+    returns)

@@ -1,0 +1,99 @@
+-- `verifier::relation::diagonal_sum` meets its contract. The accumulator holds the terms so far, and q is the number of the next pair (i, i).
+use mathlib.Core.Path.{_≡_, refl, ap, _∙_}
+use Prim.Native.Nat.{_-_, _+_}
+use native.Mathlib.Omega.{arith}
+use native.Mathlib.Nat.{le-refl}
+use Rattle.algebra.specs.Triangle.{pair}
+use Rattle.ring.specs.Element.{array}
+use Rattle.fold.specs.Verdict.{block, garbageOf}
+use Rattle.verifier.specs.Places.{garbage-at}
+use Rattle.verifier.specs.Mixed.{garbage-fits, pair-first, pair-next-row, pair-small}
+use Rattle.verifier.specs.Loops.{Summed, summed-start, summed-step, summed-end}
+use Rattle.verifier.proofs.relation.diagonal_sum.Statement.{statement}
+use Rattle.verifier.proofs.relation.diagonal_sum.Tie as tie
+
+abbrev Inv-loop : tie.InvT-loop
+Inv-loop d r b t opening place acc₀ q₀ i₀ acc q i = Summed d r (λ i. garbageOf d r b t (block d opening place) i i) i
+    (acc .coefficients) × (q ≡ pair r i i)
+
+abbrev μ-loop : tie.MeasureT-loop
+μ-loop d r b t opening place acc₀ q₀ i₀ acc q i = r - i
+
+additive-identity-requires : tie.Need-additive-identity-requires Inv-loop μ-loop
+additive-identity-requires c κs = tt
+
+loop-holds : tie.Need-loop-holds Inv-loop μ-loop
+loop-holds c = (summed-start _ _ _ (c .additive-identity .ensures _), pair-first _)
+
+garbage-of-requires : tie.Need-garbage-of-requires Inv-loop μ-loop
+garbage-of-requires c κs =
+    let l = c .before in
+    let s = l .before .before in
+    let a = s .args in
+    let g = s .pre in (
+      g .degree,
+      (
+        g .base,
+        (
+          g .digits,
+          garbage-fits (a .d) (a .r) (a .t) (a .place) (l .loop .i) (l .loop .i) (l .loop .q) _ (le-refl _)
+              (c .loop-test .taken) (l .loop .inv .1) (g .inside),
+        ),
+      ),
+    )
+
+sum-requires : tie.Need-sum-requires Inv-loop μ-loop
+sum-requires c κs = c .before .before .before .before .pre .degree
+
+sub-q : tie.Need-sub-q Inv-loop μ-loop
+sub-q c = omega arith
+
+add-q : tie.Need-add-q Inv-loop μ-loop
+add-q c =
+    let l = c .before .before .before in
+    let s = l .before .before in
+    omega (
+      arith,
+      pair-small (s .args .r) (l .loop .i) (l .loop .q) (s .pre .parts) (c .before .before .loop-test .taken)
+          (l .loop .inv .1),
+      s .pre .parts,
+    )
+
+add-i : tie.Need-add-i Inv-loop μ-loop
+add-i c = omega arith
+
+loop-less : tie.Need-loop-less Inv-loop μ-loop
+loop-less c = omega arith
+
+loop-again : tie.Need-loop-again Inv-loop μ-loop
+loop-again c =
+    let l = c .before .before .before in
+    let s = l .before .before in
+    let a = s .args in
+    let value = c .before .garbage-of .ensures
+    ∙ ap (array (a .d)) (garbage-at (a .d) (a .r) (a .b) (a .t) (block (a .d) (a .opening .now) (a .place)) (l .loop .i) (l .loop .i)
+    (l .loop .q) (l .loop .inv .1)) in (
+      summed-step _ _ _ (c .before .garbage-of .result .coefficients) (s .pre .degree .small) (l .loop .inv .0)
+          (c .before .before .loop-test .taken) value (c .sum .ensures),
+      pair-next-row (a .r) (l .loop .i) (l .loop .q) (c .before .before .loop-test .taken) (l .loop .inv .1),
+    )
+
+returns : tie.Need-returns Inv-loop μ-loop
+returns c = summed-end _ _ _ (c .before .loop .inv .0) (c .loop-test .left)
+
+pub diagonal-sum-spec : {M : Type 1} → statement M
+diagonal-sum-spec =
+    tie.close
+    (tie.spec
+    Inv-loop
+    μ-loop
+    additive-identity-requires
+    loop-holds
+    garbage-of-requires
+    sum-requires
+    sub-q
+    add-q
+    add-i
+    loop-less
+    loop-again
+    returns)

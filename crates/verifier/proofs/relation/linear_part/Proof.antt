@@ -1,0 +1,32 @@
+-- `verifier::relation::linear_part` meets its contract.
+use Rattle.verifier.specs.Mixed.{h-garbage}
+use Rattle.verifier.specs.Relation.{check-seven}
+use Rattle.verifier.proofs.relation.linear_part.Statement.{statement}
+use Rattle.verifier.proofs.relation.linear_part.Tie as tie
+
+linear-sum-requires : tie.Need-linear-sum-requires
+linear-sum-requires c κs = (c .pre .1 .0, (c .pre .1 .1 .0, c .pre .1 .1 .1 .0))
+
+h-place-requires : tie.Need-h-place-requires
+h-place-requires c κs = c .before .pre .0
+
+mixed-sum-requires : tie.Need-mixed-sum-requires
+mixed-sum-requires c κs =
+    let s = c .before .before in
+    (h-garbage (s .args .sizes) (s .pre .0) _ (s .pre .1 .1 .1 .1) _ (c .h-place .ensures), s .pre .1 .1 .0)
+
+equals-requires : tie.Need-equals-requires
+equals-requires c κs = c .before .before .before .pre .0 .shaped .degree
+
+returns : tie.Need-returns
+returns c =
+    let right = c .before in
+    let start = right .before in
+    let left = start .before in
+    let s = left .before in
+    check-seven (s .args .sizes) _ _ _ _ _ _ _ _ _ _ _ _ _ _ (s .pre .0 .shaped .degree .small) (left .linear-sum .ensures)
+    (start .h-place .ensures)
+    (right .mixed-sum .ensures) (c .equals .ensures)
+
+pub linear-part-spec : {M : Type 1} → statement M
+linear-part-spec = tie.close (tie.spec linear-sum-requires h-place-requires mixed-sum-requires equals-requires returns)

@@ -1,0 +1,30 @@
+-- `verifier::relation::relation_term` meets its contract.
+use native.Mathlib.Omega.{arith}
+use Rattle.verifier.specs.Mixed.{garbage-below}
+use Rattle.verifier.specs.Relation.{relation-term}
+use borrow.Author.Needs.{needs}
+use Rattle.verifier.proofs.relation.relation_term.Statement.{statement}
+use Rattle.verifier.proofs.relation.relation_term.Tie as tie
+
+aggregate-a-requires : tie.Need-aggregate-a-requires
+aggregate-a-requires c κs = search needs
+
+garbage-of-requires : tie.Need-garbage-of-requires
+garbage-of-requires c κs =
+    let s = c .before in
+    let z = s .args .sizes in
+    let g = s .pre .1 .1 .1 .0 in
+    (g .degree, (g .base, (g .digits, garbage-below (z .d) (z .r) (z .t2) (s .args .place) (s .args .q) _ (s .pre .1 .1 .1 .1) (g .inside))))
+
+element-product-requires : tie.Need-element-product-requires
+element-product-requires c κs = search needs
+
+returns : tie.Need-returns
+returns c =
+    let s = c .before .before .before in
+    relation-term (s .args .sizes) _ _ _ _ _ _ (s .args .place) (s .args .q) _ _ _ (s .pre .0 .shaped .degree .small)
+    (c .before .before .aggregate-a .ensures) (c .before .garbage-of .ensures) (c .element-product .ensures)
+
+pub relation-term-spec : {M : Type 1} → statement M
+relation-term-spec =
+    tie.close (tie.spec aggregate-a-requires garbage-of-requires element-product-requires returns)

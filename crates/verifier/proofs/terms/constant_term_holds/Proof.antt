@@ -1,0 +1,100 @@
+-- `verifier::terms::constant_term_holds` meets its contract.
+use mathlib.Core.Path.{refl, ap}
+use Prim.Native.Nat.{ℕ, _*_, _≤_}
+use native.Mathlib.Omega.{arith}
+use Rattle.verifier.specs.Places.{element-fits}
+use Rattle.verifier.specs.SizeLaws.{product-bound, function-size-bound}
+use Rattle.verifier.specs.ConstantTerms.{term-holds, weights-fit, constants-fit}
+use borrow.Author.Needs.{needs}
+use Rattle.verifier.proofs.terms.constant_term_holds.Statement.{statement}
+use Rattle.verifier.proofs.terms.constant_term_holds.Tie as tie
+
+function-size-requires : tie.Need-function-size-requires
+function-size-requires c κs = search needs
+
+mul-last : tie.Need-mul-last
+mul-last c =
+    let s = c .before in
+    let small : c .function-size .result ≤ 4232 = rw (c .function-size .ensures) (function-size-bound (s .args .sizes) (s .pre .0)) in
+    omega (arith, product-bound small (s .pre .0 .shaped .degree .small))
+
+mul-weighted-sum : tie.Need-mul-weighted-sum
+mul-weighted-sum c =
+    let s = c .before .before in
+    omega (arith, weights-fit (s .args .k) (s .args .sizes .l) _ (s .pre .1 .1) (s .pre .1 .0 .psi))
+
+add-weighted-sum : tie.Need-add-weighted-sum
+add-weighted-sum c =
+    let s = c .before .before in
+    let small : c .before .function-size .result ≤ 4232 = rw (c .before .function-size .ensures) (function-size-bound (s .args .sizes)
+    (s .pre .0)) in
+    omega (arith, product-bound small (s .pre .0 .shaped .degree .small))
+
+weighted-sum-requires : tie.Need-weighted-sum-requires
+weighted-sum-requires c κs =
+    let s = c .before .before in
+    let last = ap (λ (m : ℕ). m * s .args .sizes .d) (c .before .function-size .ensures) in (
+      weights-fit (s .args .k) (s .args .sizes .l) _ (s .pre .1 .1) (s .pre .1 .0 .psi),
+      constants-fit (s .args .sizes .d) (s .args .sizes .n) (s .args .sizes .r) (s .args .sizes .l) _ _ last (s .pre .1 .0 .terms),
+    )
+
+mul-weighted-sum-2 : tie.Need-mul-weighted-sum-2
+mul-weighted-sum-2 c =
+    let s = c .before .before .before .before in
+    omega (arith, weights-fit (s .args .k) (s .args .sizes .w) _ (s .pre .1 .1) (s .pre .1 .0 .omega-length))
+
+weighted-sum-requires-2 : tie.Need-weighted-sum-requires-2
+weighted-sum-requires-2 c κs =
+    let s = c .before .before .before .before in
+    (weights-fit (s .args .k) (s .args .sizes .w) _ (s .pre .1 .1) (s .pre .1 .0 .omega-length), omega (arith, s .pre .1 .0 .projections))
+
+add-requires : tie.Need-add-requires
+add-requires c κs = search needs
+
+from-slice-requires : tie.Need-from-slice-requires
+from-slice-requires c κs =
+    let s = c .before .before .before .before .before .before in
+    (s .pre .0 .shaped .degree, element-fits _ 5 (s .args .k) _ (s .pre .1 .0 .second) (s .pre .1 .1))
+
+constant-term-requires : tie.Need-constant-term-requires
+constant-term-requires c κs = search needs
+
+residue-requires : tie.Need-residue-requires
+residue-requires c κs = search needs
+
+residue-requires-2 : tie.Need-residue-requires-2
+residue-requires-2 c κs = search needs
+
+returns : tie.Need-returns
+returns c =
+    let given = c .before .before in
+    let element = given .before in
+    let expected = element .before in
+    let projected = expected .before in
+    let terms = projected .before .before in
+    let size = terms .before .before in
+    let s = size .before in
+    let z = s .args .sizes in
+    let last = ap (λ (m : ℕ). m * z .d) (size .function-size .ensures) in
+    term-holds (z .d) (z .n) (z .r) (z .l) (z .w) (s .args .k) _ _ _ _ _ _ _ _ _ _ _ _ _ _ _ (s .pre .0 .shaped .degree .small)
+    (s .pre .0 .shaped .degree .positive)
+    last refl refl (terms .weighted-sum .ensures) (projected .weighted-sum2 .ensures) (expected .add .ensures) (element .from-slice .ensures)
+    (given .constant-term .ensures) (c .before .residue .ensures) (c .residue2 .ensures)
+
+pub constant-term-holds-spec : {M : Type 1} → statement M
+constant-term-holds-spec =
+    tie.close
+    (tie.spec
+    function-size-requires
+    mul-last
+    mul-weighted-sum
+    add-weighted-sum
+    weighted-sum-requires
+    mul-weighted-sum-2
+    weighted-sum-requires-2
+    add-requires
+    from-slice-requires
+    constant-term-requires
+    residue-requires
+    residue-requires-2
+    returns)

@@ -1,0 +1,49 @@
+-- `verifier::terms::constant_terms` meets its contract. The tests so far hold.
+use mathlib.Core.Path.{_∙_}
+use Prim.Native.Nat.{_-_}
+use native.Mathlib.Omega.{arith}
+use Rattle.verifier.specs.ConstantTerms.{termHolds, check-two}
+use Rattle.verifier.specs.Loops.{Tested, tested-start, tested-step, tested-end}
+use Rattle.verifier.proofs.terms.constant_terms.Statement.{statement}
+use Rattle.verifier.proofs.terms.constant_terms.Tie as tie
+
+abbrev Inv-loop : tie.InvT-loop
+Inv-loop sizes term psi omega p b2 all₀ k₀ all k = Tested 5 (termHolds (sizes .d) (sizes .n) (sizes .r) (sizes .l)
+    (sizes .w) term psi omega p b2) k all
+
+abbrev μ-loop : tie.MeasureT-loop
+μ-loop sizes term psi omega p b2 all₀ k₀ all k = 5 - k
+
+loop-holds : tie.Need-loop-holds Inv-loop μ-loop
+loop-holds c = tested-start _ _
+
+constant-term-holds-requires : tie.Need-constant-term-holds-requires Inv-loop μ-loop
+constant-term-holds-requires c κs =
+    let s = c .before .before in
+    (s .pre .0, (s .pre .1, c .loop-test .taken))
+
+add-k : tie.Need-add-k Inv-loop μ-loop
+add-k c = omega arith
+
+loop-less : tie.Need-loop-less Inv-loop μ-loop
+loop-less c = omega arith
+
+loop-again : tie.Need-loop-again Inv-loop μ-loop
+loop-again c = tested-step _ _ (c .constant-term-holds .result) (c .before .before .loop .inv) (c .before .loop-test .taken)
+    (c .constant-term-holds .ensures)
+
+returns : tie.Need-returns Inv-loop μ-loop
+returns c = tested-end _ _ (c .before .loop .inv) (c .loop-test .left) ∙ check-two _ _ _ _ _ _ _ _ _ _
+
+pub constant-terms-spec : {M : Type 1} → statement M
+constant-terms-spec =
+    tie.close
+    (tie.spec
+    Inv-loop
+    μ-loop
+    loop-holds
+    constant-term-holds-requires
+    add-k
+    loop-less
+    loop-again
+    returns)

@@ -1,0 +1,10 @@
+pub mod Facts
+pub mod SizeLaws
+pub mod Places
+pub mod Loops
+pub mod Rows
+pub mod Norms
+pub mod Mixed
+pub mod ConstantTerms
+pub mod Relation
+pub mod Judgement

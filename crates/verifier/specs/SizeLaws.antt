@@ -1,0 +1,85 @@
+-- Bounds of the sizes: how large the blocks of an opening are, and that they lie within it.
+use mathlib.Core.Path.{_≡_, refl}
+use mathlib.Core.List.{List}
+use Prim.Native.Nat.{ℕ, _+_, _*_, _/_, _<_, _≤_}
+use native.Mathlib.Nat.{mul-le-mul, mul-le-mul-right}
+use native.Mathlib.Omega.{arith}
+use lib.ListN.{length}
+use lib.IntN.{ℤ}
+use Rattle.algebra.specs.Triangle.{pairs-count, pairs-count-twice}
+use Rattle.fold.specs.declared.Sizes.{Sizes}
+use Rattle.fold.specs.Sizes.{pairs, functionSize, tSize, garbageSize, restSize, openingSize}
+use Rattle.fold.specs.Verdict.{tPlace, gPlace, hPlace}
+use Rattle.verifier.specs.Facts.{Fits, Holds, Opening}
+
+pub product-bound : {x y a b : ℕ} → x ≤ a → y ≤ b → x * y ≤ a * b
+product-bound h k = mul-le-mul h k
+
+pub pairs-half : (r : ℕ) → r * (r + 1) / 2 ≡ pairs r
+unfolding pairs
+pairs-half r = omega (arith, pairs-count-twice r)
+
+pub pairs-bound : (r : ℕ) → r ≤ 16 → pairs r ≤ 136
+unfolding pairs
+pairs-bound r h = omega (arith, pairs-count-twice r, product-bound h h)
+
+module _ (s : Sizes) (fits : Fits s) where
+  pub t-size-bound : tSize (s .r) (s .kappa) (s .t1) ≤ 1024
+  unfolding tSize
+  t-size-bound = mul-le-mul (fits .shaped .parts-small) (mul-le-mul (fits .t₁-most) (fits .κ-small))
+
+  pub g-size-bound : garbageSize (s .r) (s .t2) ≤ 1088
+  unfolding garbageSize
+  g-size-bound = mul-le-mul (pairs-bound (s .r) (fits .shaped .parts-small)) (fits .t₂-most)
+
+  pub h-size-bound : garbageSize (s .r) (s .t1) ≤ 1088
+  unfolding garbageSize
+  h-size-bound = mul-le-mul (pairs-bound (s .r) (fits .shaped .parts-small)) (fits .t₁-most)
+
+  pub t-place-bound : tPlace 2 (s .n) ≤ 512
+  unfolding tPlace
+  t-place-bound = omega (arith, fits .shaped .rank-small)
+
+  pub g-place-bound : gPlace 2 (s .n) (s .r) (s .kappa) (s .t1) ≤ 1536
+  unfolding gPlace
+  g-place-bound = omega (arith, t-place-bound, t-size-bound)
+
+  pub h-place-bound : hPlace 2 (s .n) (s .r) (s .kappa) (s .t1) (s .t2) ≤ 2624
+  unfolding hPlace
+  h-place-bound = omega (arith, g-place-bound, g-size-bound)
+
+-- the blocks lie within the opening
+module _ (s : Sizes) (o : List ℤ) (whole : Opening s o) where
+  pub z-within : 2 * s .n * s .d ≤ length o
+  unfolding openingSize
+  z-within = omega (arith, whole .sized)
+
+  pub t-within : (tPlace 2 (s .n) + tSize (s .r) (s .kappa) (s .t1)) * s .d ≤ length o
+  unfolding openingSize restSize tPlace
+  t-within = omega (arith, whole .sized)
+
+  pub g-within : (gPlace 2 (s .n) (s .r) (s .kappa) (s .t1) + garbageSize (s .r) (s .t2)) * s .d ≤ length o
+  unfolding openingSize restSize gPlace tPlace
+  g-within = omega (arith, whole .sized)
+
+  pub h-within : (hPlace 2 (s .n) (s .r) (s .kappa) (s .t1) (s .t2) + garbageSize (s .r) (s .t1)) * s .d ≤ length o
+  unfolding openingSize restSize hPlace gPlace tPlace
+  h-within = omega (arith, whole .sized)
+
+pub t-before-h : (s : Sizes) → tPlace 2 (s .n) ≤ hPlace 2 (s .n) (s .r) (s .kappa) (s .t1) (s .t2)
+unfolding hPlace gPlace
+t-before-h s = omega arith
+
+-- the digits of t_i lie within the t block
+pub t-part-within : (s : Sizes) (o : List ℤ) → Opening s o → (i place : ℕ) → i < s .r → place ≡ tPlace 2 (s .n)
+    → (place + (i * s .t1 + s .t1) * s .kappa) * s .d ≤ length o
+unfolding tSize
+t-part-within s o whole i place h e =
+    let below : place + (i * s .t1 + s .t1) * s .kappa ≤ tPlace 2 (s .n) + tSize (s .r) (s .kappa) (s .t1)
+    = omega (arith, mul-le-mul-right (s .t1 * s .kappa) h) in
+    omega (arith, t-within s o whole, mul-le-mul-right (s .d) below)
+
+pub function-size-bound : (s : Sizes) → Fits s → functionSize (s .n) (s .r) ≤ 4232
+unfolding functionSize
+function-size-bound s fits =
+    omega (arith, pairs-bound (s .r) (fits .shaped .parts-small), product-bound (fits .shaped .parts-small) (fits .shaped .rank-small))

@@ -1,0 +1,214 @@
+// Checks 5 and 6: the amortized opening z against t and g.
+ghost use mathlib.Core.Path.{_≡_};
+ghost use Prim.Native.Nat.{_+_, _-_, _*_, _<_, _≤_};
+ghost use lib.ListN.{length};
+ghost use Rattle.algebra.specs.Sum.{sum};
+ghost use Rattle.algebra.specs.Triangle.{pair};
+ghost use Rattle.algebra.specs.DotProduct.{mixed};
+ghost use Rattle.ring.specs.Element.{R, Degree, lift, el, array, same};
+ghost use Rattle.fold.specs.Messages.{times};
+ghost use Rattle.fold.specs.Verdict.{block, garbageOf, check₅, check₆};
+ghost use Rattle.verifier.specs.Facts.{Fits, Holds, Opening, tValue, gValue};
+ghost use Rattle.verifier.specs.Mixed.{Garbage, mixedTerm, mixedRow};
+use crate::outer;
+use crate::recomposed;
+use crate::sizes;
+use fold::Sizes;
+use ring::element::Element;
+use ring::product;
+
+// The product of two elements.
+pub fn element_product(d: usize, x: Element, y: Element) -> Element
+    requires { ⌜ Degree d ⌝ }
+    ensures { λ r. ⌜ r .coefficients ≡ array d (R d .mul (lift d (x .coefficients)) (lift d (y .coefficients))) ⌝ }
+{
+    let a = x.coefficients;
+    let b = y.coefficients;
+    Element {
+        coefficients: product::multiply(d, a, b),
+    }
+}
+
+// c_i times row k of t_i.
+fn folded_term(sizes: Sizes, c: &[i32], opening: &[i32], i: usize, k: usize) -> Element
+    requires { ⌜ Fits sizes ⌝ }
+    requires { ⌜ Holds (sizes .d) (sizes .r) (now c) ⌝ }
+    requires { ⌜ Opening sizes (now opening) ⌝ }
+    requires { ⌜ (i < sizes .r) × (k < sizes .kappa) ⌝ }
+    ensures { λ x.
+        ⌜ x .coefficients ≡ array (sizes .d) (R (sizes .d) .mul (el (sizes .d) (now (c .entry)) i)
+        (tValue sizes (now (opening .entry)) i k)) ⌝ }
+{
+    let d = sizes.d;
+    let start = sizes::t_place(sizes);
+    let t = recomposed::t_of(d, sizes.kappa, sizes.b1, sizes.t1, opening, start, i, k);
+    let challenge = Element::from_slice(d, c, i);
+    element_product(d, challenge, t)
+}
+
+// Row k of Σ c_i t_i.
+fn folded_row(sizes: Sizes, c: &[i32], opening: &[i32], k: usize) -> Element
+    requires { ⌜ Fits sizes ⌝ }
+    requires { ⌜ Holds (sizes .d) (sizes .r) (now c) ⌝ }
+    requires { ⌜ Opening sizes (now opening) ⌝ }
+    requires { ⌜ k < sizes .kappa ⌝ }
+    ensures { λ x.
+        ⌜ x .coefficients ≡ array (sizes .d) (sum (R (sizes .d)) (sizes .r)
+        (λ i. R (sizes .d) .mul (el (sizes .d) (now (c .entry)) i) (tValue sizes (now (opening .entry)) i k))) ⌝ }
+{
+    let d = sizes.d;
+    let count = sizes.r;
+    let mut acc = Element::additive_identity();
+    let mut i = 0;
+    while i < count {
+        let term = folded_term(sizes, c, opening, i, k);
+        acc = acc.sum(d, term);
+        i += 1;
+    }
+    acc
+}
+
+// Row k of A z is that of Σ c_i t_i.
+fn amortized_row(sizes: Sizes, a: &[i32], c: &[i32], z: &[i32], opening: &[i32], k: usize) -> bool
+    requires { ⌜ Fits sizes ⌝ }
+    requires { ⌜ Holds (sizes .d) (sizes .kappa * sizes .n) (now a) ⌝ }
+    requires { ⌜ Holds (sizes .d) (sizes .r) (now c) ⌝ }
+    requires { ⌜ sizes .n * sizes .d ≤ length (now z) ⌝ }
+    requires { ⌜ Opening sizes (now opening) ⌝ }
+    requires { ⌜ k < sizes .kappa ⌝ }
+    ensures { λ r.
+        ⌜ r ≡ same (sizes .d) (times (sizes .d) (sizes .n) (now (a .entry)) k (el (sizes .d) (now (z .entry))))
+        (sum (R (sizes .d)) (sizes .r) (λ i. R (sizes .d) .mul (el (sizes .d) (now (c .entry)) i)
+        (tValue sizes (now (opening .entry)) i k))) ⌝ }
+{
+    let d = sizes.d;
+    let left = outer::row_times(d, sizes.n, a, k, z, 0);
+    let right = folded_row(sizes, c, opening, k);
+    left.equals(d, right)
+}
+
+// Check 5: every row of A z, with z read from the start of a slice.
+pub fn amortized(sizes: Sizes, a: &[i32], c: &[i32], z: &[i32], opening: &[i32]) -> bool
+    requires { ⌜ Fits sizes ⌝ }
+    requires { ⌜ Holds (sizes .d) (sizes .kappa * sizes .n) (now a) ⌝ }
+    requires { ⌜ Holds (sizes .d) (sizes .r) (now c) ⌝ }
+    requires { ⌜ sizes .n * sizes .d ≤ length (now z) ⌝ }
+    requires { ⌜ Opening sizes (now opening) ⌝ }
+    ensures { λ r.
+        ⌜ r ≡ check₅ (sizes .d) (sizes .n) (sizes .r) (sizes .kappa) (now (a .entry)) (now (c .entry))
+        (el (sizes .d) (now (z .entry))) (tValue sizes (now (opening .entry))) ⌝ }
+{
+    let rows = sizes.kappa;
+    let mut all = true;
+    let mut k = 0;
+    while k < rows {
+        let row = amortized_row(sizes, a, c, z, opening, k);
+        all = all & row;
+        k += 1;
+    }
+    all
+}
+
+// Term k of row i of the mixed sum: garbage element q times c_i c_j for j = i + k, doubled off the diagonal.
+fn mixed_term(
+    d: usize,
+    r: usize,
+    b: usize,
+    t: usize,
+    opening: &[i32],
+    place: usize,
+    c: &[i32],
+    i: usize,
+    k: usize,
+    q: usize,
+) -> Element
+    requires { ⌜ Garbage d r b t place (now opening) ⌝ }
+    requires { ⌜ Holds d r (now c) ⌝ }
+    requires { ⌜ (i + k < r) × (q ≡ pair r i (i + k)) ⌝ }
+    ensures { λ x. ⌜ x .coefficients ≡ array d (mixedTerm d r b t place (now (c .entry)) (now (opening .entry)) i k) ⌝ }
+{
+    let garbage = recomposed::garbage_of(d, b, t, opening, place, q);
+    let left = Element::from_slice(d, c, i);
+    let right = Element::from_slice(d, c, i + k);
+    let challenges = element_product(d, left, right);
+    let once = element_product(d, garbage, challenges);
+    if k == 0 {
+        return once;
+    }
+    once.sum(d, once)
+}
+
+// Row i of the mixed sum; q is the number of its first pair.
+fn mixed_row(
+    d: usize,
+    r: usize,
+    b: usize,
+    t: usize,
+    opening: &[i32],
+    place: usize,
+    c: &[i32],
+    i: usize,
+    q: usize,
+) -> Element
+    requires { ⌜ Garbage d r b t place (now opening) ⌝ }
+    requires { ⌜ Holds d r (now c) ⌝ }
+    requires { ⌜ (i < r) × (q ≡ pair r i i) ⌝ }
+    ensures { λ x. ⌜ x .coefficients ≡ array d (mixedRow d r b t place (now (c .entry)) (now (opening .entry)) i) ⌝ }
+{
+    let width = r - i;
+    let mut acc = Element::additive_identity();
+    let mut k = 0;
+    while k < width {
+        let term = mixed_term(d, r, b, t, opening, place, c, i, k, q + k);
+        acc = acc.sum(d, term);
+        k += 1;
+    }
+    acc
+}
+
+// Σ w_ii c_i² + 2 Σ_{i<j} w_ij c_i c_j, where w is g or h, its digits from element `place` of the opening on.
+pub fn mixed_sum(
+    d: usize,
+    r: usize,
+    b: usize,
+    t: usize,
+    opening: &[i32],
+    place: usize,
+    c: &[i32],
+) -> Element
+    requires { ⌜ Garbage d r b t place (now opening) ⌝ }
+    requires { ⌜ Holds d r (now c) ⌝ }
+    ensures { λ x.
+        ⌜ x .coefficients ≡ array d (mixed (R d) r (garbageOf d r b t (block d (now (opening .entry)) place))
+        (el d (now (c .entry)))) ⌝ }
+{
+    let mut acc = Element::additive_identity();
+    let mut q = 0;
+    let mut i = 0;
+    while i < r {
+        let row = mixed_row(d, r, b, t, opening, place, c, i, q);
+        acc = acc.sum(d, row);
+        q += r - i;
+        i += 1;
+    }
+    acc
+}
+
+// Check 6: <z,z> is the mixed sum of g, with z read from the start of a slice.
+pub fn self_product(sizes: Sizes, c: &[i32], z: &[i32], opening: &[i32]) -> bool
+    requires { ⌜ Fits sizes ⌝ }
+    requires { ⌜ Holds (sizes .d) (sizes .r) (now c) ⌝ }
+    requires { ⌜ sizes .n * sizes .d ≤ length (now z) ⌝ }
+    requires { ⌜ Opening sizes (now opening) ⌝ }
+    ensures { λ r.
+        ⌜ r ≡ check₆ (sizes .d) (sizes .n) (sizes .r) (now (c .entry)) (el (sizes .d) (now (z .entry)))
+        (gValue sizes (now (opening .entry))) ⌝ }
+{
+    let d = sizes.d;
+    let left = Element {
+        coefficients: product::inner(d, sizes.n, z, 0, z, 0),
+    };
+    let start = sizes::g_place(sizes);
+    let right = mixed_sum(d, sizes.r, sizes.b2, sizes.t2, opening, start, c);
+    left.equals(d, right)
+}

@@ -1,0 +1,90 @@
+// The verifier: document 01, 'Verdict'. It refuses a call, or judges it by checks 1 to 9.
+ghost use mathlib.Core.Path.{_≡_};
+ghost use Rattle.fold.specs.Arguments.{statementOf, drawsOf, transcriptOf};
+ghost use Rattle.fold.specs.Verification.{verification};
+use fold::Answer;
+use fold::Sizes;
+use limits::verify_refusal;
+
+pub mod amortized;
+pub mod judgement;
+pub mod norms;
+pub mod outer;
+pub mod recomposed;
+pub mod relation;
+pub mod sizes;
+pub mod terms;
+
+// The answer to a statement, the draws, the messages and an opening.
+pub fn verify(
+    sizes: Sizes,
+    a: &[i32],
+    b: &[i32],
+    c_matrix: &[i32],
+    d_matrix: &[i32],
+    whole: &[i32],
+    term: &[i32],
+    u1: &[i32],
+    rows: &[i32],
+    p: &[i32],
+    psi: &[i32],
+    omega: &[i32],
+    b2: &[i32],
+    alpha: &[i32],
+    delta: &[i32],
+    u2: &[i32],
+    c: &[i32],
+    opening: &[i32],
+) -> Answer
+    ensures { λ x.
+        ⌜ x ≡ verification (statementOf sizes (now (a .entry)) (now (b .entry)) (now («c_matrix» .entry))
+        (now («d_matrix» .entry)) (now (whole .entry)) (now (term .entry)))
+        (drawsOf (now (rows .entry)) (now (psi .entry)) (now (omega .entry)) (now (alpha .entry)) (now (delta .entry))
+        (now (c .entry))) (transcriptOf (now (u1 .entry)) (now (p .entry)) (now (b2 .entry)) (now (u2 .entry)))
+        (now (opening .entry)) ⌝ }
+{
+    let refusal = verify_refusal(
+        sizes,
+        a,
+        b,
+        c_matrix,
+        d_matrix,
+        whole,
+        term,
+        u1,
+        rows,
+        p,
+        psi,
+        omega,
+        b2,
+        alpha,
+        delta,
+        u2,
+        c,
+        opening,
+    );
+    if 0 < refusal {
+        return Answer::Refused(refusal);
+    }
+    let verdict = judgement::judge(
+        sizes,
+        a,
+        b,
+        c_matrix,
+        d_matrix,
+        whole,
+        term,
+        u1,
+        rows,
+        p,
+        psi,
+        omega,
+        b2,
+        alpha,
+        delta,
+        u2,
+        c,
+        opening,
+    );
+    Answer::Judged(verdict)
+}

@@ -1,0 +1,113 @@
+// Checks 3 and 4: the outer commitments u1 and u2.
+ghost use mathlib.Core.Path.{_≡_};
+ghost use Prim.Native.Nat.{_+_, _*_, _<_, _≤_};
+ghost use lib.ListN.{length};
+ghost use Rattle.ring.specs.Element.{Degree, el, array, same};
+ghost use Rattle.fold.specs.Sizes.{tSize, garbageSize};
+ghost use Rattle.fold.specs.Messages.{times, outer₁, outer₂};
+ghost use Rattle.fold.specs.Verdict.{block, check₃, check₄};
+ghost use Rattle.verifier.specs.Facts.{Fits, Holds, Opening, tBlockOf, gBlockOf, hBlockOf};
+use crate::sizes;
+use fold::Sizes;
+use ring::element::Element;
+use ring::product;
+
+// Row k of a matrix of m columns, times the m elements of xs from element `place` on.
+pub fn row_times(d: usize, m: usize, matrix: &[i32], k: usize, xs: &[i32], place: usize) -> Element
+    requires { ⌜ Degree d ⌝ }
+    requires { ⌜ m ≤ 4096 ⌝ }
+    requires { ⌜ ((k * m + m) * d ≤ length (now matrix)) × ((place + m) * d ≤ length (now xs)) ⌝ }
+    ensures { λ r. ⌜ r .coefficients ≡ array d (times d m (now (matrix .entry)) k (block d (now (xs .entry)) place)) ⌝ }
+{
+    let row = k * m;
+    Element {
+        coefficients: product::inner(d, m, matrix, row, xs, place),
+    }
+}
+
+// Row k of u1 is B·(t digits) + C·(g digits).
+fn first_row(sizes: Sizes, b: &[i32], c: &[i32], u1: &[i32], opening: &[i32], k: usize) -> bool
+    requires { ⌜ Fits sizes ⌝ }
+    requires { ⌜ Holds (sizes .d) (sizes .kappa1 * tSize (sizes .r) (sizes .kappa) (sizes .t1)) (now b) ⌝ }
+    requires { ⌜ Holds (sizes .d) (sizes .kappa1 * garbageSize (sizes .r) (sizes .t2)) (now c) ⌝ }
+    requires { ⌜ Holds (sizes .d) (sizes .kappa1) (now u1) ⌝ }
+    requires { ⌜ Opening sizes (now opening) ⌝ }
+    requires { ⌜ k < sizes .kappa1 ⌝ }
+    ensures { λ r.
+        ⌜ r ≡ same (sizes .d) (el (sizes .d) (now (u1 .entry)) k) (outer₁ (sizes .d) (sizes .r) (sizes .kappa) (sizes .t1)
+        (sizes .t2) (now (b .entry)) (now (c .entry)) k (tBlockOf sizes (now (opening .entry)))
+        (gBlockOf sizes (now (opening .entry)))) ⌝ }
+{
+    let d = sizes.d;
+    let t_count = sizes::t_size(sizes);
+    let t_start = sizes::t_place(sizes);
+    let t_part = row_times(d, t_count, b, k, opening, t_start);
+    let g_count = sizes::g_size(sizes);
+    let g_start = sizes::g_place(sizes);
+    let g_part = row_times(d, g_count, c, k, opening, g_start);
+    let row = t_part.sum(d, g_part);
+    let u = Element::from_slice(d, u1, k);
+    u.equals(d, row)
+}
+
+// Check 3: every row of u1.
+pub fn first_outer(sizes: Sizes, b: &[i32], c: &[i32], u1: &[i32], opening: &[i32]) -> bool
+    requires { ⌜ Fits sizes ⌝ }
+    requires { ⌜ Holds (sizes .d) (sizes .kappa1 * tSize (sizes .r) (sizes .kappa) (sizes .t1)) (now b) ⌝ }
+    requires { ⌜ Holds (sizes .d) (sizes .kappa1 * garbageSize (sizes .r) (sizes .t2)) (now c) ⌝ }
+    requires { ⌜ Holds (sizes .d) (sizes .kappa1) (now u1) ⌝ }
+    requires { ⌜ Opening sizes (now opening) ⌝ }
+    ensures { λ r.
+        ⌜ r ≡ check₃ (sizes .d) (sizes .r) (sizes .kappa) (sizes .kappa1) (sizes .t1) (sizes .t2) (now (b .entry))
+        (now (c .entry)) (now (u1 .entry)) (tBlockOf sizes (now (opening .entry))) (gBlockOf sizes (now (opening .entry))) ⌝ }
+{
+    let rows = sizes.kappa1;
+    let mut all = true;
+    let mut k = 0;
+    while k < rows {
+        let row = first_row(sizes, b, c, u1, opening, k);
+        all = all & row;
+        k += 1;
+    }
+    all
+}
+
+// Row k of u2 is D·(h digits).
+fn second_row(sizes: Sizes, matrix: &[i32], u2: &[i32], opening: &[i32], k: usize) -> bool
+    requires { ⌜ Fits sizes ⌝ }
+    requires { ⌜ Holds (sizes .d) (sizes .kappa2 * garbageSize (sizes .r) (sizes .t1)) (now matrix) ⌝ }
+    requires { ⌜ Holds (sizes .d) (sizes .kappa2) (now u2) ⌝ }
+    requires { ⌜ Opening sizes (now opening) ⌝ }
+    requires { ⌜ k < sizes .kappa2 ⌝ }
+    ensures { λ r.
+        ⌜ r ≡ same (sizes .d) (el (sizes .d) (now (u2 .entry)) k) (outer₂ (sizes .d) (sizes .r) (sizes .t1)
+        (now (matrix .entry)) k (hBlockOf sizes (now (opening .entry)))) ⌝ }
+{
+    let d = sizes.d;
+    let count = sizes::h_size(sizes);
+    let start = sizes::h_place(sizes);
+    let row = row_times(d, count, matrix, k, opening, start);
+    let u = Element::from_slice(d, u2, k);
+    u.equals(d, row)
+}
+
+// Check 4: every row of u2.
+pub fn second_outer(sizes: Sizes, matrix: &[i32], u2: &[i32], opening: &[i32]) -> bool
+    requires { ⌜ Fits sizes ⌝ }
+    requires { ⌜ Holds (sizes .d) (sizes .kappa2 * garbageSize (sizes .r) (sizes .t1)) (now matrix) ⌝ }
+    requires { ⌜ Holds (sizes .d) (sizes .kappa2) (now u2) ⌝ }
+    requires { ⌜ Opening sizes (now opening) ⌝ }
+    ensures { λ r.
+        ⌜ r ≡ check₄ (sizes .d) (sizes .r) (sizes .kappa2) (sizes .t1) (now (matrix .entry)) (now (u2 .entry))
+        (hBlockOf sizes (now (opening .entry))) ⌝ }
+{
+    let rows = sizes.kappa2;
+    let mut all = true;
+    let mut k = 0;
+    while k < rows {
+        let row = second_row(sizes, matrix, u2, opening, k);
+        all = all & row;
+        k += 1;
+    }
+    all
+}

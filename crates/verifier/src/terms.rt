@@ -1,0 +1,93 @@
+// Check 2: the constant terms of b''.
+ghost use mathlib.Core.Path.{_≡_};
+ghost use mathlib.Core.Bool.{Bool};
+ghost use Prim.Native.Nat.{_+_, _*_, _<_, _≤_};
+ghost use lib.Dec.{eqb};
+ghost use lib.ListN.{length, getD};
+ghost use lib.IntN.{pos};
+ghost use Rattle.algebra.specs.Sum.{sum};
+ghost use Rattle.ring.specs.Modulus.{Zq, red, cent};
+ghost use Rattle.fold.specs.Sizes.{functionSize};
+ghost use Rattle.fold.specs.Verdict.{check₂};
+ghost use Rattle.verifier.specs.Facts.{Fits};
+ghost use Rattle.verifier.specs.ConstantTerms.{Terms, weighted, termHolds};
+use crate::sizes;
+use fold::Sizes;
+use ring::element::Element;
+use ring::modulus;
+
+// The sum, modulo q, of `count` weights from place `at` on times the numbers of xs at `first`, `first + step`, ..
+fn weighted_sum(
+    count: usize,
+    weights: &[i32],
+    at: usize,
+    xs: &[i32],
+    first: usize,
+    step: usize,
+) -> i32
+    requires { ⌜ (at + count ≤ length (now weights)) × (first + count * step < length (now xs) + step) ⌝ }
+    ensures { λ r. ⌜ r ≡ cent (sum Zq count (weighted (now (weights .entry)) at (now (xs .entry)) first step)) ⌝ }
+{
+    let mut acc: i32 = 0;
+    let mut l = 0;
+    while l < count {
+        let x = weights[at + l];
+        let y = xs[first + l * step];
+        let product = modulus::multiply(x, y);
+        acc = modulus::add(acc, product);
+        l += 1;
+    }
+    acc
+}
+
+// The constant term of b''_k is Σ ψ b' + Σ ω p.
+fn constant_term_holds(
+    sizes: Sizes,
+    term: &[i32],
+    psi: &[i32],
+    omega: &[i32],
+    p: &[i32],
+    b2: &[i32],
+    k: usize,
+) -> bool
+    requires { ⌜ Fits sizes ⌝ }
+    requires { ⌜ Terms sizes (now term) (now psi) (now omega) (now p) (now b2) ⌝ }
+    requires { ⌜ k < 5 ⌝ }
+    ensures { λ r.
+        ⌜ r ≡ termHolds (sizes .d) (sizes .n) (sizes .r) (sizes .l) (sizes .w) (now (term .entry)) (now (psi .entry))
+        (now (omega .entry)) (now (p .entry)) (now (b2 .entry)) k ⌝ }
+{
+    let d = sizes.d;
+    let last = sizes::function_size(sizes) * d;
+    let terms = weighted_sum(sizes.l, psi, k * sizes.l, term, last, last + 1);
+    let projected = weighted_sum(sizes.w, omega, k * sizes.w, p, 0, 1);
+    let expected = modulus::add(terms, projected);
+    let element = Element::from_slice(d, b2, k);
+    let given = element.constant_term();
+    modulus::residue(given) == modulus::residue(expected)
+}
+
+// Check 2: all five.
+pub fn constant_terms(
+    sizes: Sizes,
+    term: &[i32],
+    psi: &[i32],
+    omega: &[i32],
+    p: &[i32],
+    b2: &[i32],
+) -> bool
+    requires { ⌜ Fits sizes ⌝ }
+    requires { ⌜ Terms sizes (now term) (now psi) (now omega) (now p) (now b2) ⌝ }
+    ensures { λ r.
+        ⌜ r ≡ check₂ (sizes .d) (sizes .n) (sizes .r) (sizes .l) (sizes .w) (now (term .entry)) (now (psi .entry))
+        (now (omega .entry)) (now (p .entry)) (now (b2 .entry)) ⌝ }
+{
+    let mut all = true;
+    let mut k = 0;
+    while k < 5 {
+        let holds = constant_term_holds(sizes, term, psi, omega, p, b2, k);
+        all = all & holds;
+        k += 1;
+    }
+    all
+}
