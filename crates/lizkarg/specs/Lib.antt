@@ -1,2 +1,3 @@
 pub mod Calls
 pub mod CallLaws
+pub mod Demand3
