@@ -1,46 +1,69 @@
-// Results on standard output.
+// Results on standard output. Each call answers what it printed: a magnitude, or how many numbers, blanks or line ends.
+ghost use mathlib.Core.Path.{_≡_};
+ghost use mathlib.Core.Bool.{cond};
+ghost use Prim.Native.Nat.{min};
+ghost use lib.IntN.{natAbs};
+ghost use lib.ListN.{length};
 ghost use Rattle.ring.specs.Element.{Degree};
 use ring::element::Element;
 
-pub fn print_word(x: i32) {
+pub fn print_word(x: i32) -> u64
+    ensures { λ r. ⌜ r ≡ natAbs x ⌝ }
+{
     if x < 0 {
         io::write_all(1, b"-");
     }
-    io::print_decimal(1, ring::range::magnitude(x));
+    let number = ring::range::magnitude(x);
+    io::print_decimal(1, number);
+    number
 }
 
-pub fn print_flag(flag: bool) {
+pub fn print_flag(flag: bool) -> u64
+    ensures { λ r. ⌜ r ≡ cond flag 1 0 ⌝ }
+{
     if flag {
         io::print_decimal(1, 1);
-    } else {
-        io::print_decimal(1, 0);
+        return 1;
     }
+    io::print_decimal(1, 0);
+    0
 }
 
 // A blank between two results, and none before the first.
-pub fn print_gap(place: usize) {
+pub fn print_gap(place: usize) -> usize
+    ensures { λ r. ⌜ r ≡ min 1 place ⌝ }
+{
     if place > 0 {
         io::write_all(1, b" ");
+        return 1;
     }
+    0
 }
 
-pub fn print_line_end() {
+pub fn print_line_end() -> usize
+    ensures { λ r. ⌜ r ≡ 1 ⌝ }
+{
     io::write_all(1, b"\n");
+    1
 }
 
-pub fn print_words(xs: &[i32]) {
+pub fn print_words(xs: &[i32]) -> usize
+    ensures { λ r. ⌜ r ≡ length (now (xs .entry)) ⌝ }
+{
     let mut i = 0;
     while i < xs.len() {
         print_gap(i);
         print_word(xs[i]);
         i += 1;
     }
+    i
 }
 
-pub fn print_element(d: usize, a: Element)
+pub fn print_element(d: usize, a: Element) -> usize
     requires { ⌜ Degree d ⌝ }
+    ensures { λ r. ⌜ r ≡ d ⌝ }
 {
     let mut numbers = [0i32; 64];
     a.store(d, &mut numbers, 0);
-    print_words(&numbers[..d]);
+    print_words(&numbers[..d])
 }

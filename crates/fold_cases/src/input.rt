@@ -3,7 +3,7 @@
 ghost use mathlib.Core.Path.{_≡_};
 ghost use Prim.Native.Nat.{_≤_};
 ghost use lib.IntN.{pos};
-ghost use lib.ListN.{length, replicate, take};
+ghost use lib.ListN.{length, replicate, take, drop};
 use cases::numbers::natural;
 use cases::numbers::size;
 use fold::Sizes;
@@ -18,14 +18,18 @@ pub const ROOM: usize = 8192;
 pub const FILL: i32 = 77;
 
 // The numbers from a place on.
-pub fn rest(wides: &[i64], at: usize) -> &[i64] {
+pub fn rest(wides: &[i64], at: usize) -> &[i64]
+    ensures { λ r. ⌜ now r ≡ drop at (now (wides .entry)) ⌝ }
+{
     if wides.len() < at {
         return &wides[0..0];
     }
     &wides[at..]
 }
 
-fn bound_at(wides: &[i64], place: usize) -> u64 {
+fn bound_at(wides: &[i64], place: usize) -> u64
+    ensures { λ r. ⌜ r ≤ 9223372036854775807 ⌝ }
+{
     if wides.len() <= place {
         return 0;
     }
@@ -36,8 +40,10 @@ fn size_at(wides: &[i64], place: usize) -> usize {
     bound_at(wides, place) as usize
 }
 
-// The sizes of a case: they may be any, so that the calls refuse them.
-pub fn read_sizes(wides: &[i64]) -> Sizes {
+// The sizes of a case: they may be any that an i64 holds, so that the calls refuse them.
+pub fn read_sizes(wides: &[i64]) -> Sizes
+    ensures { λ r. ⌜ (r .bound ≤ 9223372036854775807) × (r .target ≤ 9223372036854775807) ⌝ }
+{
     Sizes {
         d: size_at(wides, 1),
         n: size_at(wides, 2),
@@ -59,7 +65,9 @@ pub fn read_sizes(wides: &[i64]) -> Sizes {
 }
 
 // The list at a place.
-pub fn list(xs: &[i32], at: usize) -> &[i32] {
+pub fn list(xs: &[i32], at: usize) -> &[i32]
+    ensures { λ r. ⌜ length (now r) ≤ length (now (xs .entry)) ⌝ }
+{
     let room = xs.len();
     if room <= at {
         return &xs[0..0];

@@ -37,9 +37,12 @@ fn run_all(words: &[i32], wides: &[i64]) {
     }
 }
 
-// Reads the text and runs its cases. The slices have room for it and for its numbers.
-pub fn run_text(text: &mut [u8], words: &mut [i32], wides: &mut [i64]) {
+// Reads the text, runs its cases and answers how many numbers it has. The slices have room for it and for its numbers.
+pub fn run_text(text: &mut [u8], words: &mut [i32], wides: &mut [i64]) -> usize
+    ensures { λ r. ⌜ r ≤ length (now (words .exit)) ⌝ }
+{
     let length = io::read_full(0, text);
     let count = numbers::scan(&text[..length], words, wides);
     run_all(&words[..count], wides);
+    count
 }

@@ -50,7 +50,10 @@ fn wide_at(wides: &[i64], place: usize) -> i64 {
     0
 }
 
-pub fn run_all(words: &[i32], wides: &[i64]) {
+// All cases, up to the first that is none: the answer is the place where that begins, or the end.
+pub fn run_all(words: &[i32], wides: &[i64]) -> usize
+    ensures { λ r. ⌜ r ≤ length (now (words .entry)) ⌝ }
+{
     let mut at = 0;
     while at < words.len() {
         let operation = words[at];
@@ -58,9 +61,10 @@ pub fn run_all(words: &[i32], wides: &[i64]) {
         let first = wide_at(wides, next);
         let used = run(operation, &words[next..], first);
         if used == 0 {
-            return;
+            return at;
         }
         printing::print_line_end();
         at = next + used;
     }
+    at
 }

@@ -1,5 +1,5 @@
--- `cases::printing::print_element` is safe. Assumes nothing.
-use mathlib.Core.Path.{sym}
+-- `cases::printing::print_element` meets its contract. Assumes nothing.
+use mathlib.Core.Path.{sym, _∙_}
 use lib.Seq.{length-take-le}
 use borrow.Author.Needs.{needs}
 use Rattle.cases.proofs.printing.print_element.Statement.{statement}
@@ -21,7 +21,7 @@ print-words-requires : tie.Need-print-words-requires
 print-words-requires c κs = search needs
 
 returns : tie.Need-returns
-returns c = search needs
+returns c = c .print-words .ensures ∙ length-take-le _ _ (search needs)
 
 pub print-element-spec : {M : Type 1} → statement M
 print-element-spec =

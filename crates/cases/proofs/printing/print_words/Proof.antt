@@ -1,4 +1,4 @@
--- `cases::printing::print_words` is safe and ends. Assumes nothing.
+-- `cases::printing::print_words` meets its contract. Assumes nothing.
 use Prim.Native.Nat.{_-_, _≤_}
 use native.Mathlib.Omega.{arith}
 use lib.ListN.{length}
@@ -36,7 +36,7 @@ loop-again : tie.Need-loop-again Inv-loop μ-loop
 loop-again c = omega arith
 
 returns : tie.Need-returns Inv-loop μ-loop
-returns c = tt
+returns c = omega arith
 
 pub print-words-spec : {M : Type 1} → statement M
 print-words-spec =

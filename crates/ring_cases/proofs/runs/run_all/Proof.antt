@@ -1,4 +1,4 @@
--- `ring_cases::runs::run_all` is safe and ends: each case uses up its operation's number at least. Assumes nothing.
+-- `ring_cases::runs::run_all` meets its contract and ends: each case uses up its operation's number at least. Assumes nothing.
 use Prim.Native.Nat.{_-_, _≤_}
 use native.Mathlib.Omega.{arith}
 use lib.ListN.{length, length-take, length-drop}
@@ -43,7 +43,7 @@ run-requires : tie.Need-run-requires Inv-loop μ-loop
 run-requires c κs = tt
 
 returns : tie.Need-returns Inv-loop μ-loop
-returns c = tt
+returns c = omega arith
 
 print-line-end-requires : tie.Need-print-line-end-requires Inv-loop μ-loop
 print-line-end-requires c κs = tt
@@ -58,7 +58,7 @@ loop-again : tie.Need-loop-again Inv-loop μ-loop
 loop-again c = omega (arith, simp (length-take, length-drop) at (c .before .before .run .ensures))
 
 returns-2 : tie.Need-returns-2 Inv-loop μ-loop
-returns-2 c = tt
+returns-2 c = omega arith
 
 pub run-all-spec : {M : Type 1} → statement M
 run-all-spec =

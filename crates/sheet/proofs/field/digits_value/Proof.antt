@@ -1,0 +1,67 @@
+-- `sheet::field::digits_value` meets its contract. The loop's invariant: `value` is that of the digits among the first k bytes.
+use mathlib.Core.Path.{_≡_, refl, _∙_}
+use Prim.Native.Nat.{_-_, _≤_}
+use native.Mathlib.Omega.{arith}
+use lib.ListN.{take, drop}
+use Rattle.sheet.specs.Field.{valueFrom}
+use Rattle.sheet.specs.FieldSteps.{value-start, value-next, value-below}
+use Rattle.sheet.proofs.field.digits_value.Statement.{statement}
+use Rattle.sheet.proofs.field.digits_value.Tie as tie
+
+abbrev Inv-loop : tie.InvT-loop
+Inv-loop text at value₀ k₀ value k = (k ≤ 16) × (value ≡ valueFrom 0 (take k (drop at text)))
+
+abbrev μ-loop : tie.MeasureT-loop
+μ-loop text at value₀ k₀ value k = 16 - k
+
+loop-holds : tie.Need-loop-holds Inv-loop μ-loop
+loop-holds c = (omega arith, value-start (drop (c .before .args .at) (c .before .args .text .now)))
+
+add-digit-step : tie.Need-add-digit-step Inv-loop μ-loop
+add-digit-step c = omega arith
+
+shared-slice-read-digit-step : tie.Need-shared-slice-read-digit-step Inv-loop μ-loop
+shared-slice-read-digit-step c = omega arith
+
+digit-step-requires : tie.Need-digit-step-requires Inv-loop μ-loop
+digit-step-requires c κs =
+    let at = c .before .before in
+    let start = at .before .before in
+    omega (arith, at .loop .inv .1, value-below (drop (start .args .at) (start .args .text .now)) (at .loop .k) (at .loop .inv .0))
+
+add-k : tie.Need-add-k Inv-loop μ-loop
+add-k c = omega arith
+
+loop-less : tie.Need-loop-less Inv-loop μ-loop
+loop-less c = omega arith
+
+loop-again : tie.Need-loop-again Inv-loop μ-loop
+loop-again c =
+    let at = c .before .before .before in
+    let start = at .before .before in (
+      omega arith,
+      value-next (start .args .text .now) (start .args .at) (at .loop .k) (omega arith) (at .loop .inv .1)
+          (c .digit-step .ensures),
+    )
+
+returns : tie.Need-returns Inv-loop μ-loop
+returns c =
+    let at = c .before in
+    let start = at .before .before in
+    let all : at .loop .k ≡ 16 = omega arith in
+    at .loop .inv .1 ∙ rw all refl
+
+pub digits-value-spec : {M : Type 1} → statement M
+digits-value-spec =
+    tie.close
+    (tie.spec
+    Inv-loop
+    μ-loop
+    loop-holds
+    add-digit-step
+    shared-slice-read-digit-step
+    digit-step-requires
+    add-k
+    loop-less
+    loop-again
+    returns)

@@ -1,0 +1,49 @@
+-- `sheet::reader::store` meets its contract.
+use mathlib.Core.Path.{ap, _∙_}
+use native.Mathlib.Omega.{arith}
+use Rattle.integers.specs.Over.{over}
+use Rattle.ring.specs.Range.{coefficients}
+use Rattle.sheet.specs.ReadingLaws.{lines-positive, front-span, all-numbers}
+use borrow.Author.Needs.{needs}
+use Rattle.sheet.proofs.reader.store.Statement.{statement}
+use Rattle.sheet.proofs.reader.store.Tie as tie
+
+sections-of-requires : tie.Need-sections-of-requires
+sections-of-requires c κs = c .before .pre .0 .bounded
+
+total-numbers-requires : tie.Need-total-numbers-requires
+total-numbers-requires c κs = c .before .before .pre .0 .bounded
+
+fill-requires : tie.Need-fill-requires
+fill-requires c κs =
+    let start = c .before .before .before .before in
+    let count = c .before .total-numbers .ensures in (
+      lines-positive _ _ (start .pre .0 .bounded) (c .before .before .sections-of .ensures),
+      (
+        front-span (c .before .before .before .before .args .s) (c .before .before .before .before .args .text .now)
+            (c .before .before .sections-of .result) (c .before .before .before .before .pre .0)
+            (c .before .before .sections-of .ensures) (c .before .total-numbers .result) (omega (arith, count)),
+        (
+          ap coefficients
+              (all-numbers (c .before .before .before .before .args .s) (c .before .before .before .before .args .text .now)
+              (c .before .before .sections-of .result) (c .before .before .before .before .pre .0)
+              (c .before .before .sections-of .ensures) count) ∙ start .pre .1 .0,
+          omega (arith, count, start .pre .1 .1),
+        ),
+      ),
+    )
+
+same-length : tie.Need-same-length
+same-length c = search needs
+
+returns : tie.Need-returns
+returns c =
+    let start = c .before .before .before .before .before .before in
+    c .before .fill .ensures ∙ ap (over (start .args .numbers .now) 0)
+    (all-numbers (start .args .s) (start .args .text .now) (c .before .before .before .before .sections-of .result) (start .pre .0)
+    (c .before .before .before .before .sections-of .ensures) (c .before .before .before .total-numbers .ensures))
+
+pub store-spec : {M : Type 1} → statement M
+store-spec =
+    tie.close
+    (tie.spec sections-of-requires total-numbers-requires fill-requires same-length returns)

@@ -1,0 +1,62 @@
+-- `sheet::sizes::challenges_from` meets its contract.
+use native.Mathlib.Nat.{mul-le-mul}
+use native.Mathlib.Omega.{arith}
+use Rattle.sheet.specs.SectionLaws.{before-challenges, challenges-is}
+use borrow.Author.Needs.{needs}
+use Rattle.sheet.proofs.sizes.challenges_from.Statement.{statement}
+use Rattle.sheet.proofs.sizes.challenges_from.Tie as tie
+
+sections-of-requires : tie.Need-sections-of-requires
+sections-of-requires c κs = search needs
+
+add-a : tie.Need-add-a
+add-a c = search needs
+
+add-a-2 : tie.Need-add-a-2
+add-a-2 c = search needs
+
+add-a-3 : tie.Need-add-a-3
+add-a-3 c = search needs
+
+mul-own : tie.Need-mul-own
+mul-own c =
+    let start = c .before .before .before .before in
+    omega (arith, mul-le-mul (before-challenges (start .pre .whole) (start .pre .κ₂)) (start .pre .degree))
+
+add-result : tie.Need-add-result
+add-result c =
+    let start = c .before .before .before .before .before in
+    omega (arith, mul-le-mul (before-challenges (start .pre .whole) (start .pre .κ₂)) (start .pre .degree))
+
+add-result-2 : tie.Need-add-result-2
+add-result-2 c =
+    let start = c .before .before .before .before .before .before in
+    omega (arith, mul-le-mul (before-challenges (start .pre .whole) (start .pre .κ₂)) (start .pre .degree))
+
+add-result-3 : tie.Need-add-result-3
+add-result-3 c =
+    let start = c .before .before .before .before .before .before .before in
+    omega (arith, mul-le-mul (before-challenges (start .pre .whole) (start .pre .κ₂)) (start .pre .degree))
+
+add-result-4 : tie.Need-add-result-4
+add-result-4 c =
+    let start = c .before .before .before .before .before .before .before .before in
+    omega (arith, mul-le-mul (before-challenges (start .pre .whole) (start .pre .κ₂)) (start .pre .degree))
+
+returns : tie.Need-returns
+returns c = challenges-is _ _ (c .before .before .before .before .before .before .before .sections-of .ensures .is)
+
+pub challenges-from-spec : {M : Type 1} → statement M
+challenges-from-spec =
+    tie.close
+    (tie.spec
+    sections-of-requires
+    add-a
+    add-a-2
+    add-a-3
+    mul-own
+    add-result
+    add-result-2
+    add-result-3
+    add-result-4
+    returns)

@@ -1,0 +1,25 @@
+-- `sheet::sizes::rows_from` meets its contract.
+use native.Mathlib.Nat.{mul-le-mul}
+use native.Mathlib.Omega.{arith}
+use Rattle.sheet.specs.SectionLaws.{rows-is}
+use borrow.Author.Needs.{needs}
+use Rattle.sheet.proofs.sizes.rows_from.Statement.{statement}
+use Rattle.sheet.proofs.sizes.rows_from.Tie as tie
+
+sections-of-requires : tie.Need-sections-of-requires
+sections-of-requires c κs = search needs
+
+mul-own : tie.Need-mul-own
+mul-own c = omega (arith, mul-le-mul (c .before .before .pre .κ₁) (c .before .before .pre .degree))
+
+add-result : tie.Need-add-result
+add-result c = omega (arith, mul-le-mul (c .before .before .before .pre .κ₁) (c .before .before .before .pre .degree))
+
+add-result-2 : tie.Need-add-result-2
+add-result-2 c = omega (arith, mul-le-mul (c .before .before .before .before .pre .κ₁) (c .before .before .before .before .pre .degree))
+
+returns : tie.Need-returns
+returns c = rows-is _ _ (c .before .before .before .sections-of .ensures .is)
+
+pub rows-from-spec : {M : Type 1} → statement M
+rows-from-spec = tie.close (tie.spec sections-of-requires mul-own add-result add-result-2 returns)

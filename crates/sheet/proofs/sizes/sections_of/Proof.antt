@@ -1,0 +1,72 @@
+-- `sheet::sizes::sections_of` meets its contract.
+use mathlib.Core.Path.{refl}
+use native.Mathlib.Nat.{mul-le-mul}
+use native.Mathlib.Omega.{arith}
+use Rattle.sheet.specs.Sections.{onesCount, sectionsOf}
+use borrow.Author.Needs.{needs}
+use Rattle.sheet.proofs.sizes.sections_of.Statement.{statement}
+use Rattle.sheet.proofs.sizes.sections_of.Tie as tie
+
+head-numbers-requires : tie.Need-head-numbers-requires
+head-numbers-requires c κs = search needs
+
+term-size-requires : tie.Need-term-size-requires
+term-size-requires c κs = search needs
+
+middle-numbers-requires : tie.Need-middle-numbers-requires
+middle-numbers-requires c κs = search needs
+
+mul-terms : tie.Need-mul-terms
+mul-terms c = omega (arith, mul-le-mul (c .before .before .before .before .pre .term) (c .before .before .term-size .ensures .1))
+
+mul-ones : tie.Need-mul-ones
+mul-ones c = search needs
+
+mul-ones-2 : tie.Need-mul-ones-2
+mul-ones-2 c = search needs
+
+add-ones : tie.Need-add-ones
+add-ones c = search needs
+
+add-ones-2 : tie.Need-add-ones-2
+add-ones-2 c = search needs
+
+returns : tie.Need-returns
+unfolding sectionsOf onesCount
+returns c =
+    record {
+      is =
+          rw (
+            c .before .before .before .before .before .before .head-numbers .ensures .0,
+            c .before .before .before .before .before .term-size .ensures .0,
+            c .before .before .before .before .middle-numbers .ensures .0,
+          ) refl;
+      head = c .before .before .before .before .before .before .head-numbers .ensures .1;
+      terms =
+          omega (
+            arith,
+            mul-le-mul (c .before .before .before .before .before .before .before .pre .term)
+                (c .before .before .before .before .before .term-size .ensures .1),
+          );
+      middle = c .before .before .before .before .middle-numbers .ensures .1;
+      ones =
+          omega (
+            arith,
+            c .before .before .before .before .before .before .before .pre .term,
+            c .before .before .before .before .before .before .before .pre .projections,
+          );
+    }
+
+pub sections-of-spec : {M : Type 1} → statement M
+sections-of-spec =
+    tie.close
+    (tie.spec
+    head-numbers-requires
+    term-size-requires
+    middle-numbers-requires
+    mul-terms
+    mul-ones
+    mul-ones-2
+    add-ones
+    add-ones-2
+    returns)

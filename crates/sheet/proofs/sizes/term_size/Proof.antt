@@ -1,0 +1,28 @@
+-- `sheet::sizes::term_size` meets its contract.
+use mathlib.Core.Path.{refl}
+use native.Mathlib.Nat.{mul-le-mul}
+use native.Mathlib.Omega.{arith}
+use Rattle.sheet.specs.Sections.{termSize}
+use borrow.Author.Needs.{needs}
+use Rattle.sheet.proofs.sizes.term_size.Statement.{statement}
+use Rattle.sheet.proofs.sizes.term_size.Tie as tie
+
+function-size-requires : tie.Need-function-size-requires
+function-size-requires c κs = search needs
+
+mul-result : tie.Need-mul-result
+mul-result c = omega (arith, mul-le-mul (c .before .function-size .ensures .1) (c .before .before .pre .degree))
+
+add-result : tie.Need-add-result
+add-result c = omega (arith, mul-le-mul (c .before .function-size .ensures .1) (c .before .before .pre .degree))
+
+returns : tie.Need-returns
+unfolding termSize
+returns c = (
+  rw (c .before .function-size .ensures .0) refl,
+  omega
+      (arith, mul-le-mul (c .before .function-size .ensures .1) (c .before .before .pre .degree)),
+)
+
+pub term-size-spec : {M : Type 1} → statement M
+term-size-spec = tie.close (tie.spec function-size-requires mul-result add-result returns)

@@ -1,0 +1,29 @@
+-- `sheet::sizes::whole_count` meets its contract.
+use mathlib.Core.Path.{refl}
+use native.Mathlib.Nat.{mul-le-mul}
+use native.Mathlib.Omega.{arith}
+use Rattle.sheet.specs.Sections.{wholeCount}
+use Rattle.sheet.specs.SectionLaws.{le-one}
+use borrow.Author.Needs.{needs}
+use Rattle.sheet.proofs.sizes.whole_count.Statement.{statement}
+use Rattle.sheet.proofs.sizes.whole_count.Tie as tie
+
+function-size-requires : tie.Need-function-size-requires
+function-size-requires c κs = search needs
+
+add-result : tie.Need-add-result
+add-result c = search needs
+
+mul-result : tie.Need-mul-result
+mul-result c = omega (arith, mul-le-mul (c .before .before .pre .whole) (le-one (c .before .function-size .ensures .1)))
+
+returns : tie.Need-returns
+unfolding wholeCount
+returns c = (
+  rw (c .before .function-size .ensures .0) refl,
+  omega
+      (arith, mul-le-mul (c .before .before .pre .whole) (le-one (c .before .function-size .ensures .1))),
+)
+
+pub whole-count-spec : {M : Type 1} → statement M
+whole-count-spec = tie.close (tie.spec function-size-requires add-result mul-result returns)

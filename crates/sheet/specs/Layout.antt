@@ -1,0 +1,94 @@
+-- Document 01, 'Sheet': the lines of a sheet, each by its number of fields, and the text of numbers on lines.
+--     bodyLines s          the lines after the header
+--     textOf widths xs     numbers laid out on lines
+--     sheetText h xs       the text of the header's numbers h and of all others xs
+--     SheetNumbers h xs    these are the numbers of a sheet; the reader takes them and the writer writes them
+use mathlib.Core.Path.{_≡_}
+use mathlib.Core.List.{List, [], _∷_, _++_}
+use Prim.Native.Nat.{ℕ, zero, suc, _+_, _*_, _<_}
+use lib.ListN.{length, getD, take, drop}
+use lib.IntN.{ℤ, pos}
+use Rattle.integers.specs.Flat.{flat}
+use Rattle.fold.specs.Answers.{firstRefusal}
+use Rattle.fold.specs.Sizes.{pairs, tSize, garbageSize, openingSize}
+use Rattle.sheet.specs.declared.sizes.SheetSizes.{SheetSizes}
+use Rattle.sheet.specs.Field.{fieldText, Fits16}
+use Rattle.sheet.specs.Reading.{headerTests, sizesOf, numberTests}
+
+-- ---- lines
+
+-- c copies of some lines
+unfoldable pub copies : ℕ → List ℕ → List ℕ
+copies zero lines = []
+copies (suc c) lines = lines ++ copies c lines
+
+-- c lines of d fields: "one ring element per line (d fields)"
+unfoldable pub elements : ℕ → ℕ → List ℕ
+elements d c = copies c (d ∷ [])
+
+-- the fields of some lines
+unfoldable pub fields : List ℕ → ℕ
+fields [] = 0
+fields (w ∷ ws) = w + fields ws
+
+module _ (s : SheetSizes) where
+  -- "A, B, C, D by rows"
+  unfoldable pub matrixLines : List ℕ
+  matrixLines =
+      elements (s .d) (s .kappa * s .n)
+      ++ (elements (s .d) (s .kappa1 * tSize (s .r) (s .kappa) (s .t1))
+      ++ (elements (s .d) (s .kappa1 * garbageSize (s .r) (s .t2)) ++ elements (s .d) (s .kappa2 * garbageSize (s .r) (s .t1))))
+
+  -- "each whole constraint as a (by i, then j), φ (by part), b"
+  unfoldable pub wholeLines : List ℕ
+  wholeLines = copies (s .k) (elements (s .d) (pairs (s .r)) ++ (elements (s .d) (s .r * s .n) ++ elements (s .d) 1))
+
+  -- "each constant-term one likewise, its b a line of one field"
+  unfoldable pub termLines : List ℕ
+  termLines = copies (s .l) (elements (s .d) (pairs (s .r)) ++ (elements (s .d) (s .r * s .n) ++ elements 1 1))
+
+  -- "u1; projection rows (by row, then part)"
+  unfoldable pub rowLines : List ℕ
+  rowLines = elements (s .d) (s .kappa1) ++ elements (s .d) (s .w * (s .r * s .n))
+
+  -- "p, ψ, ω (one number a line, ψ and ω by k)"
+  unfoldable pub numberLines : List ℕ
+  numberLines = elements 1 (s .w) ++ (elements 1 (5 * s .l) ++ elements 1 (5 * s .w))
+
+  -- "b''; α; δ; u2; c; the opening."
+  unfoldable pub lastLines : List ℕ
+  lastLines =
+      elements (s .d) 5
+      ++ (elements (s .d) (s .k)
+      ++ (elements (s .d) 5
+      ++ (elements (s .d) (s .kappa2)
+      ++ (elements (s .d) (s .r) ++ elements (s .d) (openingSize 2 (s .n) (s .r) (s .kappa) (s .t1) (s .t2))))))
+
+  unfoldable pub bodyLines : List ℕ
+  bodyLines = matrixLines ++ (wholeLines ++ (termLines ++ (rowLines ++ (numberLines ++ lastLines))))
+
+-- ---- text
+
+-- the fields of a line, and "one line feed"
+unfoldable pub lineText : List ℤ → List ℕ
+lineText xs = flat (length xs) (λ i. fieldText (getD xs i (pos 0))) ++ (10 ∷ [])
+
+unfoldable pub textOf : List ℕ → List ℤ → List ℕ
+textOf [] xs = []
+textOf (w ∷ ws) xs = lineText (take w xs) ++ textOf ws (drop w xs)
+
+-- "Header: d n r K L w κ κ1 κ2 b b1 b2 t1 t2 ν μ β² β'²." "Nothing follows."
+unfoldable pub sheetText : List ℤ → List ℤ → List ℕ
+sheetText h xs = lineText h ++ textOf (bodyLines (sizesOf h)) xs
+
+-- each number fits 16 columns
+abbrev pub AllFit : List ℤ → Type 0
+AllFit xs = (i : ℕ) → i < length xs → Fits16 (getD xs i (pos 0))
+
+-- the numbers of a sheet: rows 1 to 6 do not refuse the header's, and rows 8 to 10 not the others
+pub record SheetNumbers (h xs : List ℤ) : Type 0 where
+  pub header : length h ≡ 18
+  pub fit : AllFit h
+  pub sizes : firstRefusal (headerTests h) ≡ 0
+  pub count : length xs ≡ fields (bodyLines (sizesOf h))
+  pub numbers : firstRefusal (numberTests (sizesOf h) xs) ≡ 0

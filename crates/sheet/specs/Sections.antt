@@ -1,0 +1,94 @@
+-- How many elements and numbers each part of a sheet has, and where its lines end, by the place of a number among those after the header.
+--     matrixCount .. lastCount    elements of A, B, C, D; of the whole constraints; of u1 and the projection rows; of b'', α, δ, u2, c and the opening
+--     sectionsOf, endsLine        the parts in numbers, and whether number i is the last of its line
+--     total, rowsFrom, challengesFrom    numbers in all, and before the projection rows and before c
+use mathlib.Core.Path.{_≡_}
+use mathlib.Core.Bool.{Bool, true, cond}
+use Prim.Native.Nat.{ℕ, _+_, _*_, _-_, _%_, _≤_, _<_}
+use lib.Dec.{ltb, eqb}
+use Rattle.fold.specs.Sizes.{functionSize, tSize, garbageSize, openingSize}
+use Rattle.sheet.specs.declared.sizes.SheetSizes.{SheetSizes}
+use Rattle.sheet.specs.declared.sizes.Sections.{Sections}
+
+-- what the header's tests leave known of the sizes that count something
+pub record Bounded (s : SheetSizes) : Type 0 where
+  pub degree-positive : 0 < s .d
+  pub degree : s .d ≤ 64
+  pub rank : s .n ≤ 256
+  pub parts : s .r ≤ 16
+  pub whole : s .k ≤ 32
+  pub term : s .l ≤ 32
+  pub projections : s .w ≤ 256
+  pub κ : s .kappa ≤ 8
+  pub κ₁ : s .kappa1 ≤ 8
+  pub κ₂ : s .kappa2 ≤ 8
+  pub t₁ : s .t1 ≤ 8
+  pub t₂ : s .t2 ≤ 8
+
+module _ (s : SheetSizes) where
+  unfoldable pub matrixCount : ℕ
+  matrixCount =
+      s .kappa * s .n
+      + (s .kappa1 * tSize (s .r) (s .kappa) (s .t1)
+      + (s .kappa1 * garbageSize (s .r) (s .t2) + s .kappa2 * garbageSize (s .r) (s .t1)))
+
+  unfoldable pub wholeCount : ℕ
+  wholeCount = s .k * (functionSize (s .n) (s .r) + 1)
+
+  unfoldable pub rowCount : ℕ
+  rowCount = s .kappa1 + s .w * (s .r * s .n)
+
+  unfoldable pub lastCount : ℕ
+  lastCount = 5 + (s .k + (5 + (s .kappa2 + (s .r + openingSize 2 (s .n) (s .r) (s .kappa) (s .t1) (s .t2)))))
+
+  -- numbers of one constant-term constraint, and numbers on lines of their own
+  unfoldable pub termSize : ℕ
+  termSize = functionSize (s .n) (s .r) * s .d + 1
+
+  unfoldable pub onesCount : ℕ
+  onesCount = s .w + (5 * s .l + 5 * s .w)
+
+  unfoldable pub sectionsOf : Sections
+  sectionsOf = record {
+    d = s .d;
+    head = (matrixCount + wholeCount) * s .d;
+    period = termSize;
+    terms = s .l * termSize;
+    middle = rowCount * s .d;
+    ones = onesCount;
+  }
+
+  unfoldable pub total : ℕ
+  total = (matrixCount + wholeCount) * s .d + (s .l * termSize + (rowCount * s .d + (onesCount + lastCount * s .d)))
+
+  unfoldable pub rowsFrom : ℕ
+  rowsFrom = (matrixCount + wholeCount) * s .d + (s .l * termSize + s .kappa1 * s .d)
+
+  unfoldable pub challengesFrom : ℕ
+  challengesFrom =
+      (matrixCount + wholeCount) * s .d
+      + (s .l * termSize + (rowCount * s .d + (onesCount + (5 + (s .k + (5 + s .kappa2))) * s .d)))
+
+-- the parts, and that they are few numbers
+pub record Sectioned (s : SheetSizes) (q : Sections) : Type 0 where
+  pub is : q ≡ sectionsOf s
+  pub head : q .head ≤ 10438656
+  pub terms : q .terms ≤ 8667168
+  pub middle : q .middle ≤ 67109376
+  pub ones : q .ones ≤ 1696
+
+-- number i, on lines of d numbers, is the last of its line
+unfoldable pub endsElement : ℕ → ℕ → Bool
+endsElement d i = eqb (i % d + 1) d
+
+-- number i, among constraints of `period` numbers each, whose last stands alone
+unfoldable pub endsTerm : ℕ → ℕ → ℕ → Bool
+endsTerm d period i = cond (eqb (i % period + 1) period) true (endsElement d (i % period))
+
+unfoldable pub endsLine : Sections → ℕ → Bool
+endsLine s i =
+    cond (ltb i (s .head)) (endsElement (s .d) i)
+    (cond (ltb (i - s .head) (s .terms)) (endsTerm (s .d) (s .period) (i - s .head))
+    (cond (ltb (i - s .head - s .terms) (s .middle)) (endsElement (s .d) (i - s .head - s .terms))
+    (cond (ltb (i - s .head - s .terms - s .middle) (s .ones)) true
+    (endsElement (s .d) (i - s .head - s .terms - s .middle - s .ones)))))

@@ -1,0 +1,158 @@
+// The reader of a sheet: document 01, 'Sheet'. Every test comes before the first number is written.
+ghost use mathlib.Core.Path.{_≡_};
+ghost use mathlib.Core.Bool.{true};
+ghost use Prim.Native.Nat.{_≤_};
+ghost use lib.ListN.{length};
+ghost use Rattle.integers.specs.Over.{over};
+ghost use Rattle.ring.specs.Range.{coefficients, projections};
+ghost use Rattle.fold.specs.Answers.{firstRefusal, written};
+ghost use Rattle.fold.specs.Refusals.{challenges, projectionLength};
+ghost use Rattle.sheet.specs.Sections.{Bounded, sectionsOf, total, endsLine};
+ghost use Rattle.sheet.specs.Place.{place};
+ghost use Rattle.sheet.specs.Reading.{headerNumbers, sizesOf, bodyNumbers, rowsIn, challengesIn, numberTests, bodyTests, readingTests, reading};
+ghost use Rattle.sheet.specs.ReadingLaws.{endsAt, Inside};
+use crate::header::first;
+use crate::header::header_refusal;
+use crate::header::sheet_sizes;
+use crate::sizes::SheetSizes;
+use crate::sizes::challenges_from;
+use crate::sizes::rows_from;
+use crate::sizes::sections_of;
+use crate::sizes::total_numbers;
+use crate::walk::End;
+use crate::walk::all_within;
+use crate::walk::are_challenges;
+use crate::walk::fill;
+use crate::walk::laid_end;
+use crate::walk::place_after;
+
+// A sheet's sizes, or the number of the refusal.
+pub enum SheetAnswer {
+    Sheet(SheetSizes),
+    Refused(u8),
+}
+
+// Numbers of the projection rows.
+fn row_numbers(s: SheetSizes) -> usize
+    requires { ⌜ Bounded s ⌝ }
+    ensures { λ p. ⌜ p ≡ projectionLength (s .d) (s .n) (s .r) (s .w) ⌝ }
+{
+    let a = s.r * s.n;
+    let b = a * s.d;
+    s.w * b
+}
+
+// Row 9.
+fn rows_ok(s: SheetSizes, text: &[u8]) -> bool
+    requires { ⌜ Inside s (now text) ⌝ }
+    ensures { λ r. ⌜ r ≡ projections (rowsIn s (bodyNumbers s (now (text .entry)))) ⌝ }
+{
+    let q = sections_of(s);
+    let from = rows_from(s);
+    let start = place_after(q, text, 0, 289, from);
+    let count = row_numbers(s);
+    all_within(q, text, from, start, count, 1)
+}
+
+// Row 10.
+fn challenges_ok(s: SheetSizes, text: &[u8]) -> bool
+    requires { ⌜ Inside s (now text) ⌝ }
+    requires { ⌜ coefficients (bodyNumbers s (now text)) ≡ true ⌝ }
+    ensures { λ r. ⌜ r ≡ challenges (s .d) (s .r) (challengesIn s (bodyNumbers s (now (text .entry)))) ⌝ }
+{
+    let q = sections_of(s);
+    let from = challenges_from(s);
+    let start = place_after(q, text, 0, 289, from);
+    are_challenges(q, text, from, start, s.d, s.r)
+}
+
+// Row 8.
+fn numbers_ok(s: SheetSizes, text: &[u8]) -> bool
+    requires { ⌜ Inside s (now text) ⌝ }
+    ensures { λ r. ⌜ r ≡ coefficients (bodyNumbers s (now (text .entry))) ⌝ }
+{
+    let q = sections_of(s);
+    let count = total_numbers(s);
+    all_within(q, text, 0, 289, count, 2147483598)
+}
+
+// Rows 8 to 10; 0 where the numbers pass.
+fn number_refusal(s: SheetSizes, text: &[u8]) -> u8
+    requires { ⌜ Inside s (now text) ⌝ }
+    ensures { λ r. ⌜ r ≡ firstRefusal (numberTests s (bodyNumbers s (now (text .entry)))) ⌝ }
+{
+    if !numbers_ok(s, text) {
+        return 8;
+    }
+    let ten = first(challenges_ok(s, text), 10, 0);
+    first(rows_ok(s, text), 9, ten)
+}
+
+fn ends_at(end: End, n: usize) -> bool
+    ensures { λ r. ⌜ r ≡ endsAt end n ⌝ }
+{
+    match end {
+        End::At(at) => at == n,
+        End::Broken => false,
+    }
+}
+
+// The other lines, and the numbers on them; 0 where they pass.
+fn body_refusal(s: SheetSizes, text: &[u8], room: usize) -> u8
+    requires { ⌜ Bounded s ⌝ }
+    ensures { λ r. ⌜ r ≡ firstRefusal (bodyTests room s (now (text .entry))) ⌝ }
+{
+    let q = sections_of(s);
+    let count = total_numbers(s);
+    let end = laid_end(q, text, 289, count);
+    let size = text.len();
+    if !ends_at(end, size) {
+        return 12;
+    }
+    if room < count {
+        return 7;
+    }
+    number_refusal(s, text)
+}
+
+// Every test, for a slice of `room` numbers; 0 where the text is a sheet.
+pub fn sheet_refusal(text: &[u8], room: usize) -> u8
+    ensures { λ r. ⌜ r ≡ firstRefusal (readingTests room (now (text .entry))) ⌝ }
+{
+    let header = header_refusal(text);
+    if 0 < header {
+        return header;
+    }
+    let s = sheet_sizes(text);
+    body_refusal(s, text, room)
+}
+
+// The numbers after the header, in the sheet's order.
+fn store(s: SheetSizes, text: &[u8], numbers: &mut [i32])
+    requires { ⌜ Inside s (now text) ⌝ }
+    requires { ⌜ coefficients (bodyNumbers s (now text)) ≡ true ⌝ }
+    requires { ⌜ total s ≤ length (now numbers) ⌝ }
+    ensures { λ r. ⌜ now (numbers .exit) ≡ over (now (numbers .entry)) 0 (bodyNumbers s (now (text .entry))) ⌝ }
+{
+    let q = sections_of(s);
+    let count = total_numbers(s);
+    fill(q, text, 0, 289, count, numbers);
+}
+
+// Reads a sheet: the sizes, and in `numbers` all numbers after the header. Numbers past those are left as they are, and on a
+// refusal all are.
+pub fn read_sheet(text: &[u8], numbers: &mut [i32]) -> SheetAnswer
+    ensures { λ r. ⌜ (r ≡ reading (length (now (numbers .entry))) (now (text .entry)))
+        × (now (numbers .exit)
+        ≡ written (firstRefusal (readingTests (length (now (numbers .entry))) (now (text .entry))))
+        (over (now (numbers .entry)) 0 (bodyNumbers (sizesOf (headerNumbers (now (text .entry)))) (now (text .entry))))
+        (now (numbers .entry))) ⌝ }
+{
+    let refusal = sheet_refusal(text, numbers.len());
+    if 0 < refusal {
+        return SheetAnswer::Refused(refusal);
+    }
+    let s = sheet_sizes(text);
+    store(s, text, numbers);
+    SheetAnswer::Sheet(s)
+}

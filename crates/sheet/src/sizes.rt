@@ -1,0 +1,239 @@
+// The sizes on a sheet's header, and how many numbers each part of the sheet has.
+ghost use mathlib.Core.Path.{_≡_};
+ghost use Prim.Native.Nat.{_+_, _*_, _≤_, _<_};
+ghost use Rattle.fold.specs.Sizes.{pairs, functionSize, tSize, garbageSize};
+ghost use Rattle.sheet.specs.Sections.{Bounded, Sectioned, matrixCount, wholeCount, rowCount, lastCount, termSize};
+ghost use Rattle.sheet.specs.Sections.{total, rowsFrom, challengesFrom, endsElement, endsTerm, endsLine};
+
+// The header's numbers, in its order; `bound` is β² and `target` is β'².
+pub struct SheetSizes {
+    pub d: usize,
+    pub n: usize,
+    pub r: usize,
+    pub k: usize,
+    pub l: usize,
+    pub w: usize,
+    pub kappa: usize,
+    pub kappa1: usize,
+    pub kappa2: usize,
+    pub b: usize,
+    pub b1: usize,
+    pub b2: usize,
+    pub t1: usize,
+    pub t2: usize,
+    pub nu: usize,
+    pub mu: usize,
+    pub bound: u64,
+    pub target: u64,
+}
+
+// Where lines end: `head` numbers on lines of d, then `terms` numbers of constant-term constraints of `period` numbers each (lines of
+// d, and one of a single number), `middle` numbers on lines of d, `ones` on lines of one, and the rest on lines of d.
+pub struct Sections {
+    pub d: usize,
+    pub head: usize,
+    pub period: usize,
+    pub terms: usize,
+    pub middle: usize,
+    pub ones: usize,
+}
+
+// The number of pairs i ≤ j of r parts.
+fn pair_count(r: usize) -> usize
+    requires { ⌜ r ≤ 16 ⌝ }
+    ensures { λ p. ⌜ (p ≡ pairs r) × (p ≤ 136) ⌝ }
+{
+    r * (r + 1) / 2
+}
+
+fn function_size(n: usize, r: usize) -> usize
+    requires { ⌜ (n ≤ 256) × (r ≤ 16) ⌝ }
+    ensures { λ p. ⌜ (p ≡ functionSize n r) × (p ≤ 4232) ⌝ }
+{
+    let a = pair_count(r);
+    a + r * n
+}
+
+fn t_size(r: usize, kappa: usize, t1: usize) -> usize
+    requires { ⌜ (r ≤ 16) × (kappa ≤ 8) × (t1 ≤ 8) ⌝ }
+    ensures { λ p. ⌜ (p ≡ tSize r kappa t1) × (p ≤ 1024) ⌝ }
+{
+    let rows = t1 * kappa;
+    r * rows
+}
+
+fn garbage_size(r: usize, t: usize) -> usize
+    requires { ⌜ (r ≤ 16) × (t ≤ 8) ⌝ }
+    ensures { λ p. ⌜ (p ≡ garbageSize r t) × (p ≤ 1088) ⌝ }
+{
+    let a = pair_count(r);
+    a * t
+}
+
+// Elements of A, B, C and D.
+fn matrix_count(s: SheetSizes) -> usize
+    requires { ⌜ Bounded s ⌝ }
+    ensures { λ p. ⌜ (p ≡ matrixCount s) × (p ≤ 27648) ⌝ }
+{
+    let ts = t_size(s.r, s.kappa, s.t1);
+    let gs = garbage_size(s.r, s.t2);
+    let hs = garbage_size(s.r, s.t1);
+    let a = s.kappa * s.n;
+    let b = s.kappa1 * ts;
+    let c = s.kappa1 * gs;
+    let d = s.kappa2 * hs;
+    a + (b + (c + d))
+}
+
+// Elements of the whole constraints.
+fn whole_count(s: SheetSizes) -> usize
+    requires { ⌜ Bounded s ⌝ }
+    ensures { λ p. ⌜ (p ≡ wholeCount s) × (p ≤ 135456) ⌝ }
+{
+    let f = function_size(s.n, s.r);
+    s.k * (f + 1)
+}
+
+// Elements of u1 and the projection rows.
+fn row_count(s: SheetSizes) -> usize
+    requires { ⌜ Bounded s ⌝ }
+    ensures { λ p. ⌜ (p ≡ rowCount s) × (p ≤ 1048584) ⌝ }
+{
+    let a = s.r * s.n;
+    s.kappa1 + s.w * a
+}
+
+// Elements of b'', α, δ, u2, c and the opening.
+fn last_count(s: SheetSizes) -> usize
+    requires { ⌜ Bounded s ⌝ }
+    ensures { λ p. ⌜ (p ≡ lastCount s) × (p ≤ 3778) ⌝ }
+{
+    let ts = t_size(s.r, s.kappa, s.t1);
+    let gs = garbage_size(s.r, s.t2);
+    let hs = garbage_size(s.r, s.t1);
+    let opening = 2 * s.n + (ts + (gs + hs));
+    5 + (s.k + (5 + (s.kappa2 + (s.r + opening))))
+}
+
+// Numbers before the constant-term constraints.
+fn head_numbers(s: SheetSizes) -> usize
+    requires { ⌜ Bounded s ⌝ }
+    ensures { λ p. ⌜ (p ≡ (matrixCount s + wholeCount s) * s .d) × (p ≤ 10438656) ⌝ }
+{
+    let a = matrix_count(s);
+    let b = whole_count(s);
+    (a + b) * s.d
+}
+
+// Numbers of one constant-term constraint.
+fn term_size(s: SheetSizes) -> usize
+    requires { ⌜ Bounded s ⌝ }
+    ensures { λ p. ⌜ (p ≡ termSize s) × (p ≤ 270849) ⌝ }
+{
+    let f = function_size(s.n, s.r);
+    f * s.d + 1
+}
+
+// Numbers of u1 and the projection rows.
+fn middle_numbers(s: SheetSizes) -> usize
+    requires { ⌜ Bounded s ⌝ }
+    ensures { λ p. ⌜ (p ≡ rowCount s * s .d) × (p ≤ 67109376) ⌝ }
+{
+    let a = row_count(s);
+    a * s.d
+}
+
+// The lines of the sheet after its header.
+pub fn sections_of(s: SheetSizes) -> Sections
+    requires { ⌜ Bounded s ⌝ }
+    ensures { λ q. ⌜ Sectioned s q ⌝ }
+{
+    let head = head_numbers(s);
+    let period = term_size(s);
+    let middle = middle_numbers(s);
+    let terms = s.l * period;
+    let ones = s.w + (5 * s.l + 5 * s.w);
+    Sections {
+        d: s.d,
+        head: head,
+        period: period,
+        terms: terms,
+        middle: middle,
+        ones: ones,
+    }
+}
+
+// The numbers after the header.
+pub fn total_numbers(s: SheetSizes) -> usize
+    requires { ⌜ Bounded s ⌝ }
+    ensures { λ p. ⌜ p ≡ total s ⌝ }
+{
+    let q = sections_of(s);
+    let a = last_count(s);
+    let tail = a * s.d;
+    q.head + (q.terms + (q.middle + (q.ones + tail)))
+}
+
+// The numbers before the projection rows.
+pub fn rows_from(s: SheetSizes) -> usize
+    requires { ⌜ Bounded s ⌝ }
+    ensures { λ p. ⌜ p ≡ rowsFrom s ⌝ }
+{
+    let q = sections_of(s);
+    let own = s.kappa1 * s.d;
+    q.head + (q.terms + own)
+}
+
+// The numbers before the challenges c.
+pub fn challenges_from(s: SheetSizes) -> usize
+    requires { ⌜ Bounded s ⌝ }
+    ensures { λ p. ⌜ p ≡ challengesFrom s ⌝ }
+{
+    let q = sections_of(s);
+    let a = 5 + (s.k + (5 + s.kappa2));
+    let own = a * s.d;
+    q.head + (q.terms + (q.middle + (q.ones + own)))
+}
+
+// Number i of lines of d numbers is the last of its line.
+fn ends_element(d: usize, i: usize) -> bool
+    requires { ⌜ 0 < d ⌝ }
+    ensures { λ e. ⌜ e ≡ endsElement d i ⌝ }
+{
+    i % d + 1 == d
+}
+
+// Number i of constant-term constraints is the last of its line.
+fn ends_term(d: usize, period: usize, i: usize) -> bool
+    requires { ⌜ (0 < d) × (0 < period) ⌝ }
+    ensures { λ e. ⌜ e ≡ endsTerm d period i ⌝ }
+{
+    let p = i % period;
+    if p + 1 == period {
+        return true;
+    }
+    ends_element(d, p)
+}
+
+// Number i of the sections is the last of its line.
+pub fn ends_line(s: Sections, i: usize) -> bool
+    requires { ⌜ (0 < s .d) × (0 < s .period) ⌝ }
+    ensures { λ e. ⌜ e ≡ endsLine s i ⌝ }
+{
+    if i < s.head {
+        return ends_element(s.d, i);
+    }
+    let j = i - s.head;
+    if j < s.terms {
+        return ends_term(s.d, s.period, j);
+    }
+    let k = j - s.terms;
+    if k < s.middle {
+        return ends_element(s.d, k);
+    }
+    let m = k - s.middle;
+    if m < s.ones {
+        return true;
+    }
+    ends_element(s.d, m - s.ones)
+}
