@@ -1,0 +1,1 @@
+// The opening cut into stretches: document 01, 'Next instance'.

@@ -1,0 +1,1 @@
+// The constraints of the next instance, by place: document 01, 'Next instance'.
