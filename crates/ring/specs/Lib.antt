@@ -20,6 +20,8 @@ pub mod Product
 pub mod ColumnLaws
 pub mod ProductArrays
 pub mod ProductLaws
+pub mod Short
+pub mod ShortLaws
 pub mod Words
 pub mod Length
 pub mod LengthLaws

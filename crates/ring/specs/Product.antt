@@ -23,9 +23,9 @@ highs n f = total n (λ i. f i / 4294967296)
 unfoldable pub folded : ℕ → (ℕ → ℕ) → ℕ
 folded n f = (total n f - 4294967296 * highs n f) + 99 * highs n f
 
--- column k of the product of two arrays
+-- the column of the product of two arrays that starts at a place of e; column k starts at d - k
 unfoldable pub column : ℕ → List ℕ → List ℕ → ℕ → ℕ
-column d a e k = folded d (term a e (d - k))
+column d a e start = folded d (term a e start)
 
 -- the largest value of a column
 unfoldable pub most : ℕ
@@ -42,10 +42,10 @@ pub record Extended (d : ℕ) (u : R d .Carrier) (n : ℕ) (e : List ℕ) : Type
   pub front : (i : ℕ) → i < n → getD e (i + 1) 0 ≡ coeff Zq u (d - 1 - i) .val
   pub back : (i : ℕ) → i < n → getD e (d + i + 1) 0 ≡ q - coeff Zq u (d - 1 - i) .val
 
--- two columns, which start at two places of an array
-pub record TwoColumns (d : ℕ) (a e : List ℕ) (start other x y : ℕ) : Type 0 where
-  pub first : x ≡ folded d (term a e start)
-  pub second : y ≡ folded d (term a e other)
+-- two columns, which start at two places of an array; `col` gives a column by its start
+pub record TwoColumns (col : ℕ → ℕ) (start other x y : ℕ) : Type 0 where
+  pub first : x ≡ col start
+  pub second : y ≡ col other
 
 -- an accumulator with room for one more column at each place
 pub record Room (acc : List ℕ) : Type 0 where
@@ -53,9 +53,15 @@ pub record Room (acc : List ℕ) : Type 0 where
   pub small : (k : ℕ) → k < 64 → getD acc k 0 ≤ 4096 * most
 
 -- the columns of a product added to an accumulator; past column d - 1 its places stay small
-pub record Added (d : ℕ) (a e old new : List ℕ) : Type 0 where
+pub record Added (d : ℕ) (col : ℕ → ℕ) (old new : List ℕ) : Type 0 where
   pub size : length new ≡ 64
-  pub value : (k : ℕ) → k < d → getD new k 0 ≡ getD old k 0 + column d a e k
+  pub value : (k : ℕ) → k < d → getD new k 0 ≡ getD old k 0 + col (d - k)
+  pub small : (k : ℕ) → k < 64 → getD new k 0 ≤ getD old k 0 + most
+
+-- an element added to what an accumulator holds, up to multiples of q
+pub record Gained (d : ℕ) (x : R d .Carrier) (old new : List ℕ) : Type 0 where
+  pub size : length new ≡ 64
+  pub value : (k : ℕ) → k < d → make q q-positive (getD new k 0) ≡ Zq .add (make q q-positive (getD old k 0)) (coeff Zq x k)
   pub small : (k : ℕ) → k < 64 → getD new k 0 ≤ getD old k 0 + most
 
 -- an accumulator after n products: it holds an element, up to multiples of q

@@ -89,21 +89,21 @@ extended-start d u e s = record { size = s; front = λ i h. absurd (omega arith)
 
 -- ---- an accumulator to which a loop adds two columns a turn
 
-pub column-most : (d : ℕ) (a e : List ℕ) (k : ℕ) → d ≤ 64 → column d a e k ≤ most
+pub column-most : (d : ℕ) (a e : List ℕ) → d ≤ 64 → (start : ℕ) → start ≤ d → column d a e start ≤ most
 unfolding column
-column-most d a e k h = folded-most d (term a e (d - k)) h (term-small a e (d - k))
+column-most d a e h start b = folded-most d (term a e start) h (term-small a e start)
 
 -- the loop has added columns 0 to k - 1 and half to half + k - 1
-pub record Adding (d : ℕ) (a e old : List ℕ) (half k : ℕ) (new : List ℕ) : Type 0 where
+pub record Adding (d : ℕ) (col : ℕ → ℕ) (old : List ℕ) (half k : ℕ) (new : List ℕ) : Type 0 where
   pub size : length new ≡ 64
   pub within : k ≤ half
-  pub lower : (j : ℕ) → j < k → getD new j 0 ≡ getD old j 0 + column d a e j
+  pub lower : (j : ℕ) → j < k → getD new j 0 ≡ getD old j 0 + col (d - j)
   pub between : (j : ℕ) → k ≤ j → j < half → getD new j 0 ≡ getD old j 0
-  pub upper : (j : ℕ) → j < k → getD new (half + j) 0 ≡ getD old (half + j) 0 + column d a e (half + j)
+  pub upper : (j : ℕ) → j < k → getD new (half + j) 0 ≡ getD old (half + j) 0 + col (d - (half + j))
   pub beyond : (j : ℕ) → half + k ≤ j → getD new j 0 ≡ getD old j 0
 
-pub adding-start : (d : ℕ) (a e acc : List ℕ) (half : ℕ) → length acc ≡ 64 → Adding d a e acc half 0 acc
-adding-start d a e acc half s =
+pub adding-start : (d : ℕ) (col : ℕ → ℕ) (acc : List ℕ) (half : ℕ) → length acc ≡ 64 → Adding d col acc half 0 acc
+adding-start d col acc half s =
     record {
       size = s;
       within = omega arith;
@@ -113,67 +113,66 @@ adding-start d a e acc half s =
       beyond = λ j h. refl;
     }
 
-module _ {d : ℕ} {a e old new : List ℕ} {half k x y : ℕ} (r : Adding d a e old half k new) (h : k < half) (small : half ≤ 32)
-    (found : TwoColumns d a e (d - k) (d - k - half) x y) where
-  first-column : x ≡ column d a e k
-  unfolding column
+module _ {d : ℕ} {col : ℕ → ℕ} {old new : List ℕ} {half k x y : ℕ} (r : Adding d col old half k new) (h : k < half) (small : half ≤ 32)
+    (found : TwoColumns col (d - k) (d - k - half) x y) where
+  first-column : x ≡ col (d - k)
   first-column = found .first
 
-  second-column : y ≡ column d a e (half + k)
-  unfolding column
+  second-column : y ≡ col (d - (half + k))
   second-column =
       let place : d - k - half ≡ d - (half + k) = omega arith in
-      found .second ∙ ap (λ t. folded d (term a e t)) place
+      found .second ∙ ap col place
 
   pub adding-step :
-      Adding d a e old half (k + 1) (set (set new k (getD new k 0 + x)) (half + k) (getD (set new k (getD new k 0 + x)) (half + k) 0 + y))
+      Adding d col old half (k + 1) (set (set new k (getD new k 0 + x)) (half + k) (getD (set new k (getD new k 0 + x)) (half + k) 0 + y))
   adding-step =
       let once : List ℕ = set new k (getD new k 0 + x) in
       let v : ℕ = getD new k 0 + x in
       let w : ℕ = getD once (half + k) 0 + y in
       let length-once : length once ≡ 64 = length-set new k v ∙ r .size in
-      let add-first : v ≡ getD old k 0 + column d a e k = ap₂ _+_ (r .between k (omega arith) h) first-column in
-      let add-second : w ≡ getD old (half + k) 0 + column d a e (half + k) =
+      let add-first : v ≡ getD old k 0 + col (d - k) = ap₂ _+_ (r .between k (omega arith) h) first-column in
+      let add-second : w ≡ getD old (half + k) 0 + col (d - (half + k)) =
       ap₂ _+_ (getD-set-other new k (half + k) v 0 (λ g. omega arith) ∙ r .beyond (half + k) (omega arith)) second-column in
       record {
         size = length-set once (half + k) w ∙ length-once;
         within = omega arith;
         lower = λ j b. getD-set-other once (half + k) j w 0 (λ g. omega arith)
-            ∙ fill (λ j. j) (λ j. getD old j 0 + column d a e j) new k v (omega (arith, r .size)) add-first (λ j b g. omega arith)
+            ∙ fill (λ j. j) (λ j. getD old j 0 + col (d - j)) new k v (omega (arith, r .size)) add-first (λ j b g. omega arith)
             (r .lower) j b;
         between = λ j b l. getD-set-other once (half + k) j w 0 (λ g. omega arith)
             ∙ getD-set-other new k j v 0 (λ g. omega arith) ∙ r .between j (omega arith) l;
-        upper = fill (λ j. half + j) (λ j. getD old (half + j) 0 + column d a e (half + j)) once k w (omega (arith, length-once)) add-second
+        upper = fill (λ j. half + j) (λ j. getD old (half + j) 0 + col (d - (half + j))) once k w (omega (arith, length-once)) add-second
             (λ j b g. omega arith) (λ j b. getD-set-other new k (half + j) v 0 (λ g. omega arith) ∙ r .upper j b);
         beyond = λ j b. getD-set-other once (half + k) j w 0 (λ g. omega arith)
             ∙ getD-set-other new k j v 0 (λ g. omega arith) ∙ r .beyond j (omega arith);
       }
 
-  pub first-fits : d ≤ 64 → Room old → Fits w64 (getD new k 0 + x)
+  pub first-fits : ((s : ℕ) → s ≤ d → col s ≤ most) → Room old → Fits w64 (getD new k 0 + x)
   unfolding most
-  first-fits d≤64 room = omega (arith, first-column, r .between k (omega arith) h, column-most d a e k d≤64, room .small k (omega arith))
+  first-fits limit room =
+      omega (arith, first-column, r .between k (omega arith) h, limit (d - k) (omega arith), room .small k (omega arith))
 
-  pub second-fits : d ≤ 64 → Room old → (v : ℕ) → Fits w64 (getD (set new k v) (half + k) 0 + y)
+  pub second-fits : ((s : ℕ) → s ≤ d → col s ≤ most) → Room old → (v : ℕ) → Fits w64 (getD (set new k v) (half + k) 0 + y)
   unfolding most
-  second-fits d≤64 room v =
+  second-fits limit room v =
       omega (
         arith,
         second-column,
         getD-set-other new k (half + k) v 0 (λ g. omega arith),
         r .beyond (half + k) (omega arith),
-        column-most d a e (half + k) d≤64,
+        limit (d - (half + k)) (omega arith),
         room .small (half + k) (omega arith),
       )
 
-module _ {d : ℕ} {a e old new : List ℕ} {half k : ℕ} (r : Adding d a e old half k new) (all : half ≤ k) where
-  added-below : (j : ℕ) → j < half + half → (half ≤ j) ⊎ (j < half) → getD new j 0 ≡ getD old j 0 + column d a e j
+module _ {d : ℕ} {col : ℕ → ℕ} {old new : List ℕ} {half k : ℕ} (r : Adding d col old half k new) (all : half ≤ k) where
+  added-below : (j : ℕ) → j < half + half → (half ≤ j) ⊎ (j < half) → getD new j 0 ≡ getD old j 0 + col (d - j)
   added-below j b (inr l) = r .lower j (omega arith)
   added-below j b (inl l) =
       let place : half + (j - half) ≡ j = omega arith in
       rw place at (r .upper (j - half) (omega arith))
 
-  pub adding-end : d ≤ half + half → d ≤ 64 → Added d a e old new
-  adding-end enough d≤64 =
+  pub adding-end : d ≤ half + half → ((s : ℕ) → s ≤ d → col s ≤ most) → Added d col old new
+  adding-end enough limit =
       record {
         size = r .size;
         value = λ j b. added-below j (omega arith) (le-or-lt half j);
@@ -182,4 +181,4 @@ module _ {d : ℕ} {a e old new : List ℕ} {half k : ℕ} (r : Adding d a e old
     where
       small : (j : ℕ) → (half + half ≤ j) ⊎ (j < half + half) → getD new j 0 ≤ getD old j 0 + most
       small j (inl l) = omega (arith, r .beyond j (omega (arith, r .within)))
-      small j (inr l) = omega (arith, added-below j l (le-or-lt half j), column-most d a e j d≤64)
+      small j (inr l) = omega (arith, added-below j l (le-or-lt half j), limit (d - j) (omega arith))

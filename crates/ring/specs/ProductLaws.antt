@@ -19,18 +19,21 @@ use Rattle.ring.specs.ModulusLaws.{q-value, cent-red}
 use Rattle.ring.specs.Element.{Degree, R, lift, el, array}
 use Rattle.ring.specs.ElementArrays.{array-fill}
 use Rattle.ring.specs.ElementPlaces.{el-zero}
-use Rattle.ring.specs.Product.{term, column, most, Residues, Extended, Room, Added, Holds}
+use Rattle.ring.specs.Product.{term, column, most, Residues, Extended, Room, Added, Gained, Holds}
 use Rattle.ring.specs.ColumnLaws.{folded-mod, make-total}
 use Rattle.ring.specs.ProductArrays.{le-or-lt}
 
 -- ---- residues
 
-red-pos : (n : ℕ) → red (pos n) ≡ make q q-positive n
+pub red-pos : (n : ℕ) → red (pos n) ≡ make q q-positive n
 unfolding red
 red-pos n = reduce-pos q q-positive n
 
 pub coeff-small : {d : ℕ} (u : R d .Carrier) (i : ℕ) → coeff Zq u i .val < 4294967197
 coeff-small u i = omega (arith, q-value, ltb→lt (coeff Zq u i .val) q (coeff Zq u i .ok))
+
+pub residues-small : {d : ℕ} {x : R d .Carrier} {a : List ℕ} → Residues d x d a → (i : ℕ) → i < d → getD a i 0 < 4294967197
+residues-small {d} {x} left i h = omega (arith, left .entry i h, coeff-small x i)
 
 -- ---- a column is a coefficient of the product
 
@@ -38,17 +41,18 @@ make-neg : (x : Zq .Carrier) → make q q-positive (q - x .val) ≡ Zq .neg x
 unfolding neg
 make-neg x = refl
 
-make-term : (a e : List ℕ) (start i : ℕ) → make q q-positive (term a e start i)
+pub make-term : (a e : List ℕ) (start i : ℕ) → make q q-positive (term a e start i)
     ≡ Zq .mul (make q q-positive (getD a i 0 % 4294967296)) (make q q-positive (getD e (start + i) 0 % 4294967296))
 unfolding term
 make-term a e start i = make-mul q q-positive (getD a i 0 % 4294967296) (getD e (start + i) 0 % 4294967296)
 
-module _ {d : ℕ} {x y : R d .Carrier} {a e : List ℕ} (left : Residues d x d a) (right : Extended d y d e) where
-  left-factor : (i : ℕ) → i < d → make q q-positive (getD a i 0 % 4294967296) ≡ coeff Zq x i
-  left-factor i h =
-      let whole : getD a i 0 % 4294967296 ≡ coeff Zq x i .val = omega (arith, left .entry i h, coeff-small x i) in
-      ap (make q q-positive) whole ∙ make-val q q-positive (coeff Zq x i)
+pub left-factor : {d : ℕ} {x : R d .Carrier} {a : List ℕ} → Residues d x d a → (i : ℕ) → i < d
+    → make q q-positive (getD a i 0 % 4294967296) ≡ coeff Zq x i
+left-factor {d} {x} {a} left i h =
+    let whole : getD a i 0 % 4294967296 ≡ coeff Zq x i .val = omega (arith, left .entry i h, coeff-small x i) in
+    ap (make q q-positive) whole ∙ make-val q q-positive (coeff Zq x i)
 
+module _ {d : ℕ} {x y : R d .Carrier} {a e : List ℕ} (left : Residues d x d a) (right : Extended d y d e) where
   right-factor : (k i : ℕ) → k < d → i < d → (i ≤ k) ⊎ (k < i)
       → make q q-positive (getD e (d - k + i) 0 % 4294967296) ≡ wrapped Zq y k i
   right-factor k i l h (inl b) =
@@ -66,7 +70,7 @@ module _ {d : ℕ} {x y : R d .Carrier} {a e : List ℕ} (left : Residues d x d 
       let whole : getD e (d - k + i) 0 % 4294967296 ≡ q - coeff Zq y (d + k - i) .val = omega (arith, value, q-value) in
       ap (make q q-positive) whole ∙ make-neg (coeff Zq y (d + k - i)) ∙ sym (wrapped-no Zq y k i b)
 
-  pub column-value : (k : ℕ) → k < d → make q q-positive (column d a e k) ≡ coeff Zq (R d .mul x y) k
+  pub column-value : (k : ℕ) → k < d → make q q-positive (column d a e (d - k)) ≡ coeff Zq (R d .mul x y) k
   unfolding column
   column-value k l =
       folded-mod d (term a e (d - k))
@@ -75,7 +79,7 @@ module _ {d : ℕ} {x y : R d .Carrier} {a e : List ℕ} (left : Residues d x d 
       ∙ sym (coeff-mul Zq x y k l)
     where
       one-term : (i : ℕ) → i < d → make q q-positive (term a e (d - k) i) ≡ Zq .mul (coeff Zq x i) (wrapped Zq y k i)
-      one-term i h = make-term a e (d - k) i ∙ ap₂ (Zq .mul) (left-factor i h) (right-factor k i l h (le-or-lt i k))
+      one-term i h = make-term a e (d - k) i ∙ ap₂ (Zq .mul) (left-factor left i h) (right-factor k i l h (le-or-lt i k))
 
 -- ---- an accumulator holds the sum of the products
 
@@ -83,19 +87,24 @@ pub holds-room : {d : ℕ} {u : R d .Carrier} {n : ℕ} {acc : List ℕ} → Hol
 unfolding most
 holds-room r h = record { size = r .size; small = λ k b. omega (arith, r .small k b) }
 
-module _ {d : ℕ} {x y w : R d .Carrier} {n : ℕ} {a e old new : List ℕ} where
-  pub holds-step : Residues d x d a → Extended d y d e → Holds d w n old → Added d a e old new
-      → Holds d (R d .add w (R d .mul x y)) (n + 1) new
-  holds-step left right held sums =
-      record {
-        size = sums .size;
-        small = λ k b. omega (arith, sums .small k b, held .small k b);
-        value = λ k b.
-            ap (make q q-positive) (sums .value k b)
-            ∙ make-add q q-positive (getD old k 0) (column d a e k)
-            ∙ ap₂ (Zq .add) (held .value k b) (column-value left right k b)
-            ∙ sym (coeff-add Zq w (R d .mul x y) k);
-      }
+pub gained : {d : ℕ} {x : R d .Carrier} {col : ℕ → ℕ} {old new : List ℕ} → Added d col old new
+    → ((k : ℕ) → k < d → make q q-positive (col (d - k)) ≡ coeff Zq x k) → Gained d x old new
+gained {d} {x} {col} {old} sums columns =
+    record {
+      size = sums .size;
+      value = λ k b. ap (make q q-positive) (sums .value k b)
+          ∙ make-add q q-positive (getD old k 0) (col (d - k)) ∙ ap (Zq .add (make q q-positive (getD old k 0))) (columns k b);
+      small = sums .small;
+    }
+
+pub holds-step : {d : ℕ} {x w : R d .Carrier} {n : ℕ} {old new : List ℕ} → Holds d w n old → Gained d x old new
+    → Holds d (R d .add w x) (n + 1) new
+holds-step {d} {x} {w} {n} {old} held sums =
+    record {
+      size = sums .size;
+      small = λ k b. omega (arith, sums .small k b, held .small k b);
+      value = λ k b. sums .value k b ∙ ap (λ t. Zq .add t (coeff Zq x k)) (held .value k b) ∙ sym (coeff-add Zq w x k);
+    }
 
 pub holds-start : {d : ℕ} → Degree d → Holds d (R d .zero) 0 (replicate 64 0)
 holds-start {d} degree =
@@ -128,14 +137,14 @@ summed-start d n f degree =
     record { within = omega arith; held = holds-start degree; left = refl; right = refl }
 
 module _ {d n : ℕ} {f : ℕ → R d .Carrier} {acc a e : List ℕ} {k : ℕ} (now : Summed d n f acc a e k) where
-  pub summed-step : {x y : R d .Carrier} {a′ e′ acc′ : List ℕ} → k < n → f k ≡ R d .mul x y
-      → Residues d x d a′ → Extended d y d e′ → Added d a′ e′ acc acc′ → Summed d n f acc′ a′ e′ (k + 1)
-  summed-step {x} {y} h is left right sums =
+  pub summed-step : {a′ e′ acc′ : List ℕ} → k < n → length a′ ≡ 64 → length e′ ≡ 129 → Gained d (f k) acc acc′
+      → Summed d n f acc′ a′ e′ (k + 1)
+  summed-step h left right sums =
       record {
         within = omega arith;
-        held = rw (sum-one-more (R d) k f, is) (holds-step left right (now .held) sums);
-        left = left .size;
-        right = right .size;
+        held = rw (sum-one-more (R d) k f) (holds-step (now .held) sums);
+        left = left;
+        right = right;
       }
 
   pub summed-end : n ≤ k → tab 64 (upto d (λ j. centred (pos (getD acc j 0))) (pos 0)) ≡ array d (sum (R d) n f)

@@ -7,3 +7,4 @@ pub mod length;
 pub mod modulus;
 pub mod product;
 pub mod range;
+mod short;

@@ -9,9 +9,10 @@ ghost use Rattle.integers.specs.Lists.{tab, upto};
 ghost use Rattle.algebra.specs.Sum.{sum};
 ghost use Rattle.ring.specs.Modulus.{centred};
 ghost use Rattle.ring.specs.Element.{Degree, R, lift, el, array};
-ghost use Rattle.ring.specs.Product.{Residues, Extended, TwoColumns, Room, Added};
+ghost use Rattle.ring.specs.Product.{Residues, Extended, column, TwoColumns, Room, Added, Gained};
 use crate::modulus::from_residue;
 use crate::modulus::residue;
+use crate::short;
 use std::num;
 
 // The coefficients of element p of u.
@@ -45,9 +46,9 @@ fn extend(d: usize, v: &[i32], p: usize, e: &mut [u64; 129])
 }
 
 // Two columns.
-struct ColumnPair {
-    first: u64,
-    second: u64,
+pub struct ColumnPair {
+    pub first: u64,
+    pub second: u64,
 }
 
 // Two columns, which start at two places of e: each is the sum of d products, up to a multiple of q, and below 2^46. Products are added
@@ -55,7 +56,7 @@ struct ColumnPair {
 // since 2^32 is 99 modulo q.
 fn columns(d: usize, start: usize, other: usize, a: &[u64; 64], e: &[u64; 129]) -> ColumnPair
     requires { ⌜ (d ≤ 64) × (start ≤ 64) × (other ≤ 64) ⌝ }
-    ensures { λ r. ⌜ TwoColumns d (now (a .entry)) (now (e .entry)) start other (r .first) (r .second) ⌝ }
+    ensures { λ r. ⌜ TwoColumns (column d (now (a .entry)) (now (e .entry))) start other (r .first) (r .second) ⌝ }
 {
     let mut sum: u64 = 0;
     let mut high: u64 = 0;
@@ -86,7 +87,7 @@ fn columns(d: usize, start: usize, other: usize, a: &[u64; 64], e: &[u64; 129]) 
 fn add_pair(d: usize, a: &[u64; 64], e: &[u64; 129], acc: &mut [u64; 64])
     requires { ⌜ Degree d ⌝ }
     requires { ⌜ Room (now acc) ⌝ }
-    ensures { λ r. ⌜ Added d (now (a .entry)) (now (e .entry)) (now (acc .entry)) (now (acc .exit)) ⌝ }
+    ensures { λ r. ⌜ Added d (column d (now (a .entry)) (now (e .entry))) (now (acc .entry)) (now (acc .exit)) ⌝ }
 {
     let half = (d + 1) / 2;
     let mut k = 0;
@@ -114,6 +115,35 @@ fn finish(d: usize, acc: &[u64; 64]) -> [i32; 64]
     out
 }
 
+// Adds the product of element p of u and element s of v to an accumulator, with a and e for the operands.
+fn add_product(
+    d: usize,
+    u: &[i32],
+    p: usize,
+    v: &[i32],
+    s: usize,
+    a: &mut [u64; 64],
+    e: &mut [u64; 129],
+    acc: &mut [u64; 64],
+)
+    requires { ⌜ Degree d ⌝ }
+    requires { ⌜ (p * d + d ≤ length (now u)) × (s * d + d ≤ length (now v)) ⌝ }
+    requires { ⌜ (length (now a) ≡ 64) × (length (now e) ≡ 129) × Room (now acc) ⌝ }
+    ensures { λ r. ⌜ (length (now (a .exit)) ≡ 64) × (length (now (e .exit)) ≡ 129)
+        × Gained d (R d .mul (el d (now (u .entry)) p) (el d (now (v .entry)) s)) (now (acc .entry)) (now (acc .exit)) ⌝ }
+{
+    load(d, u, p, a);
+    let small = short::is_short(d, v, s);
+    if small {
+        short::raise(d, v, s, e);
+        let weight = short::raised_weight(d, &*a);
+        short::add_pair(d, weight, &*a, &*e, acc);
+        return;
+    }
+    extend(d, v, s, e);
+    add_pair(d, &*a, &*e, acc);
+}
+
 // The inner product of the n elements of u from element p on with the n elements of v from element s on.
 pub fn inner(d: usize, n: usize, u: &[i32], p: usize, v: &[i32], s: usize) -> [i32; 64]
     requires { ⌜ Degree d ⌝ }
@@ -125,9 +155,7 @@ pub fn inner(d: usize, n: usize, u: &[i32], p: usize, v: &[i32], s: usize) -> [i
     let mut e = [0u64; 129];
     let mut k = 0;
     while k < n {
-        load(d, u, p + k, &mut a);
-        extend(d, v, s + k, &mut e);
-        add_pair(d, &a, &e, &mut acc);
+        add_product(d, u, p + k, v, s + k, &mut a, &mut e, &mut acc);
         k += 1;
     }
     finish(d, &acc)

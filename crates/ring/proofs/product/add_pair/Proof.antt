@@ -1,12 +1,13 @@
 -- `ring::product::add_pair` meets its contract. The loop has added the first k columns of each half.
 use Prim.Native.Nat.{_-_}
 use native.Mathlib.Omega.{arith}
-use Rattle.ring.specs.ProductArrays.{Adding, adding-start, adding-step, adding-end, first-fits, second-fits}
+use Rattle.ring.specs.Product.{column}
+use Rattle.ring.specs.ProductArrays.{Adding, adding-start, adding-step, adding-end, first-fits, second-fits, column-most}
 use Rattle.ring.proofs.product.add_pair.Statement.{statement}
 use Rattle.ring.proofs.product.add_pair.Tie as tie
 
 abbrev Inv-loop : tie.InvT-loop
-Inv-loop d a e acc₀ half k₀ acc k = Adding d a e acc₀ half k acc
+Inv-loop d a e acc₀ half k₀ acc k = Adding d (column d a e) acc₀ half k acc
 
 abbrev μ-loop : tie.MeasureT-loop
 μ-loop d a e acc₀ half k₀ acc k = half - k
@@ -15,7 +16,7 @@ add-half : tie.Need-add-half Inv-loop μ-loop
 add-half c = omega arith
 
 loop-holds : tie.Need-loop-holds Inv-loop μ-loop
-loop-holds c = adding-start _ _ _ _ _ (c .pre .1 .size)
+loop-holds c = adding-start _ _ _ _ (c .pre .1 .size)
 
 sub-columns : tie.Need-sub-columns Inv-loop μ-loop
 sub-columns c = omega arith
@@ -39,7 +40,7 @@ add-acc : tie.Need-add-acc Inv-loop μ-loop
 add-acc c =
     let t = c .before .before in
     let args = t .before .before .pre in
-    first-fits (t .before .loop .inv) (t .loop-test .taken) (omega arith) (c .before .columns .ensures) (args .0 .small) (args .1)
+    first-fits (t .before .loop .inv) (t .loop-test .taken) (omega arith) (c .before .columns .ensures) (column-most _ _ _ (args .0 .small)) (args .1)
 
 mul-acc-2 : tie.Need-mul-acc-2 Inv-loop μ-loop
 mul-acc-2 c = omega arith
@@ -61,7 +62,7 @@ add-acc-3 c =
     let t = c .before .before .before in
     let args = t .before .before .pre in
     second-fits (t .before .loop .inv) (t .loop-test .taken) (omega arith) (c .before .before .columns .ensures)
-    (args .0 .small) (args .1) _
+    (column-most _ _ _ (args .0 .small)) (args .1) _
 
 add-acc-4 : tie.Need-add-acc-4 Inv-loop μ-loop
 add-acc-4 c = omega arith
@@ -84,7 +85,7 @@ loop-again c =
     adding-step (t .before .loop .inv) (t .loop-test .taken) (omega arith) (c .before .before .columns .ensures)
 
 returns : tie.Need-returns Inv-loop μ-loop
-returns c = adding-end (c .before .loop .inv) (c .loop-test .left) (omega arith) (c .before .before .pre .0 .small)
+returns c = adding-end (c .before .loop .inv) (c .loop-test .left) (omega arith) (column-most _ _ _ (c .before .before .pre .0 .small))
 
 pub add-pair-spec : {M : Type 1} → statement M
 add-pair-spec =

@@ -1,7 +1,7 @@
 -- `ring::product::columns` meets its contract. For each column the loop keeps the sum modulo 2^64 and the sum of the upper halves.
 use Prim.Native.Nat.{_-_}
 use native.Mathlib.Omega.{arith}
-use Rattle.ring.specs.Product.{term}
+use Rattle.ring.specs.Product.{term, column}
 use Rattle.ring.specs.ColumnLaws.{Running, product-fits, term-small, running-start, running-step, running-end}
 use Rattle.ring.specs.ColumnLaws.{running-high, running-high-fits, running-end-fits}
 use Rattle.ring.proofs.product.columns.Statement.{statement}
@@ -110,6 +110,7 @@ add-second c =
     omega (arith, running-end-fits (t .before .loop .inv .1) (t .before .before .pre .0) (t .loop-test .left) (w .ok) (w .ensures))
 
 returns : tie.Need-returns Inv-loop μ-loop
+unfolding column
 returns c =
     let t = c .before .before in
     let w = c .before .wrapping-sub-u64 in

@@ -1,5 +1,5 @@
 -- `ring::product::inner` meets its contract. The accumulator holds the sum of the products of the first k pairs.
-use mathlib.Core.Path.{refl, _∙_}
+use mathlib.Core.Path.{_∙_}
 use Prim.Native.Nat.{_-_}
 use native.Mathlib.Omega.{arith}
 use Rattle.ring.specs.ProductLaws.{pair, Summed, summed-start, summed-step, summed-end, holds-room, element-within, index-within}
@@ -15,40 +15,30 @@ abbrev μ-loop : tie.MeasureT-loop
 loop-holds : tie.Need-loop-holds Inv-loop μ-loop
 loop-holds c = summed-start _ _ _ (c .pre .0)
 
-add-load : tie.Need-add-load Inv-loop μ-loop
-add-load c =
+add-add-product : tie.Need-add-add-product Inv-loop μ-loop
+add-add-product c =
     let start = c .before .before in
     omega (arith, index-within (start .args .p) (start .pre .0) (c .loop-test .taken) (start .pre .1 .1))
 
-load-requires : tie.Need-load-requires Inv-loop μ-loop
-load-requires c κs =
-    let start = c .before .before .before in (
+add-add-product-2 : tie.Need-add-add-product-2 Inv-loop μ-loop
+add-add-product-2 c =
+    let start = c .before .before in
+    omega (arith, index-within (start .args .s) (start .pre .0) (c .loop-test .taken) (start .pre .1 .2))
+
+add-product-requires : tie.Need-add-product-requires Inv-loop μ-loop
+add-product-requires c κs =
+    let t = c .before .before .before in
+    let held = t .before .loop .inv in
+    let start = t .before .before in (
       start .pre .0,
       (
-        element-within (start .args .p) (start .pre .0) (c .before .loop-test .taken) (start .pre .1 .1),
-        c .before .before .loop .inv .left,
+        (
+          element-within (start .args .p) (start .pre .0) (t .loop-test .taken) (start .pre .1 .1),
+          element-within (start .args .s) (start .pre .0) (t .loop-test .taken) (start .pre .1 .2),
+        ),
+        (held .left, held .right, holds-room (held .held) (omega (arith, held .within, start .pre .1 .0))),
       ),
     )
-
-add-extend : tie.Need-add-extend Inv-loop μ-loop
-add-extend c =
-    let start = c .before .before .before .before in
-    omega (arith, index-within (start .args .s) (start .pre .0) (c .before .before .loop-test .taken) (start .pre .1 .2))
-
-extend-requires : tie.Need-extend-requires Inv-loop μ-loop
-extend-requires c κs =
-    let start = c .before .before .before .before .before in (
-      start .pre .0,
-      (
-        element-within (start .args .s) (start .pre .0) (c .before .before .before .loop-test .taken) (start .pre .1 .2),
-        c .before .before .before .before .loop .inv .right,
-      ),
-    )
-
-add-pair-requires : tie.Need-add-pair-requires Inv-loop μ-loop
-add-pair-requires c κs =
-    let l = c .before .before .before .before .before .before .before .before in
-    (l .before .pre .0, holds-room (l .loop .inv .held) (omega (arith, l .loop .inv .within, l .before .pre .1 .0)))
 
 add-k : tie.Need-add-k Inv-loop μ-loop
 add-k c = omega arith
@@ -58,10 +48,9 @@ loop-less c = omega arith
 
 loop-again : tie.Need-loop-again Inv-loop μ-loop
 loop-again c =
-    let t = c .before .before .before .before .before .before .before .before in
-    let extended = c .before .before .before .before in
-    summed-step (t .before .loop .inv) (t .loop-test .taken) refl (extended .before .before .load .ensures) (extended .extend .ensures)
-    (c .add-pair .ensures)
+    let t = c .before .before .before .before in
+    let added = c .add-product .ensures in
+    summed-step (t .before .loop .inv) (t .loop-test .taken) (added .0) (added .1) (added .2)
 
 finish-requires : tie.Need-finish-requires Inv-loop μ-loop
 finish-requires c κs = c .before .before .before .pre .0
@@ -76,11 +65,9 @@ inner-spec =
     Inv-loop
     μ-loop
     loop-holds
-    add-load
-    load-requires
-    add-extend
-    extend-requires
-    add-pair-requires
+    add-add-product
+    add-add-product-2
+    add-product-requires
     add-k
     loop-less
     loop-again

@@ -1,0 +1,129 @@
+-- `ring::short::columns` meets its contract. For each column the loop keeps c and the sum of the products so far.
+use Prim.Native.Nat.{_-_}
+use native.Mathlib.Omega.{arith}
+use Rattle.ring.specs.Product.{term}
+use Rattle.ring.specs.ColumnLaws.{product-fits}
+use Rattle.ring.specs.Short.{shortColumn}
+use Rattle.ring.specs.ShortLaws.{Sized, narrow-term, sized-start, sized-step, sized-most, sized-fits, sized-end}
+use Rattle.ring.proofs.short.columns.Statement.{statement}
+use Rattle.ring.proofs.short.columns.Tie as tie
+
+abbrev Inv-loop : tie.InvT-loop
+Inv-loop d start other c a e sum₀ sum2₀ i₀ sum sum2 i =
+    Sized d c (term a e start) i sum × Sized d c (term a e other) i sum2
+
+abbrev μ-loop : tie.MeasureT-loop
+μ-loop d start other c a e sum₀ sum2₀ i₀ sum sum2 i = d - i
+
+loop-holds : tie.Need-loop-holds Inv-loop μ-loop
+loop-holds c =
+    let (d≤64, start≤d, other≤d, c-small, narrow) = c .pre in (
+      sized-start _ _ _ (λ j h. narrow-term _ _ _ _ j narrow start≤d h),
+      sized-start _ _ _ (λ j h. narrow-term _ _ _ _ j narrow other≤d h),
+    )
+
+mul-x : tie.Need-mul-x Inv-loop μ-loop
+mul-x c = omega arith
+
+element-copy-out-x : tie.Need-element-copy-out-x Inv-loop μ-loop
+element-copy-out-x c = omega arith
+
+add-y : tie.Need-add-y Inv-loop μ-loop
+add-y c = omega arith
+
+mul-y : tie.Need-mul-y Inv-loop μ-loop
+mul-y c = omega arith
+
+element-copy-out-y : tie.Need-element-copy-out-y Inv-loop μ-loop
+element-copy-out-y c = omega arith
+
+add-z : tie.Need-add-z Inv-loop μ-loop
+add-z c = omega arith
+
+mul-z : tie.Need-mul-z Inv-loop μ-loop
+mul-z c = omega arith
+
+element-copy-out-z : tie.Need-element-copy-out-z Inv-loop μ-loop
+element-copy-out-z c = omega arith
+
+mul-sum : tie.Need-mul-sum Inv-loop μ-loop
+mul-sum c = product-fits _ _
+
+add-sum : tie.Need-add-sum Inv-loop μ-loop
+unfolding term
+add-sum c =
+    let l = c .before .before .before .before in
+    sized-fits (l .loop .inv .0) (l .before .pre .0) (l .before .pre .3) (c .before .before .before .loop-test .taken)
+
+mul-sum2 : tie.Need-mul-sum2 Inv-loop μ-loop
+mul-sum2 c = product-fits _ _
+
+add-sum2 : tie.Need-add-sum2 Inv-loop μ-loop
+unfolding term
+add-sum2 c =
+    let l = c .before .before .before .before in
+    sized-fits (l .loop .inv .1) (l .before .pre .0) (l .before .pre .3) (c .before .before .before .loop-test .taken)
+
+add-i : tie.Need-add-i Inv-loop μ-loop
+add-i c = omega arith
+
+loop-less : tie.Need-loop-less Inv-loop μ-loop
+loop-less c = omega arith
+
+loop-again : tie.Need-loop-again Inv-loop μ-loop
+unfolding term
+loop-again c =
+    let l = c .before .before .before .before in
+    let t = c .before .before .before .loop-test .taken in (
+      sized-step (l .loop .inv .0) (l .before .pre .0) (l .before .pre .3) t,
+      sized-step (l .loop .inv .1) (l .before .pre .0) (l .before .pre .3) t,
+    )
+
+mul-first : tie.Need-mul-first Inv-loop μ-loop
+mul-first c = omega (arith, sized-most (c .before .loop .inv .0) (c .before .before .pre .0) (c .before .before .pre .3))
+
+add-first : tie.Need-add-first Inv-loop μ-loop
+add-first c = omega (arith, sized-most (c .before .loop .inv .0) (c .before .before .pre .0) (c .before .before .pre .3))
+
+mul-second : tie.Need-mul-second Inv-loop μ-loop
+mul-second c = omega (arith, sized-most (c .before .loop .inv .1) (c .before .before .pre .0) (c .before .before .pre .3))
+
+add-second : tie.Need-add-second Inv-loop μ-loop
+add-second c = omega (arith, sized-most (c .before .loop .inv .1) (c .before .before .pre .0) (c .before .before .pre .3))
+
+returns : tie.Need-returns Inv-loop μ-loop
+unfolding shortColumn
+returns c =
+    let l = c .before in
+    record {
+      first = sized-end (l .loop .inv .0) (l .before .pre .0) (l .before .pre .3) (c .loop-test .left);
+      second = sized-end (l .loop .inv .1) (l .before .pre .0) (l .before .pre .3) (c .loop-test .left);
+    }
+
+pub columns-spec : {M : Type 1} → statement M
+columns-spec =
+    tie.close
+    (tie.spec
+    Inv-loop
+    μ-loop
+    loop-holds
+    mul-x
+    element-copy-out-x
+    add-y
+    mul-y
+    element-copy-out-y
+    add-z
+    mul-z
+    element-copy-out-z
+    mul-sum
+    add-sum
+    mul-sum2
+    add-sum2
+    add-i
+    loop-less
+    loop-again
+    mul-first
+    add-first
+    mul-second
+    add-second
+    returns)

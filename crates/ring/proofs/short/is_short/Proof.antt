@@ -1,0 +1,78 @@
+-- `ring::short::is_short` meets its contract. The loop keeps what the numbers so far hold of 2^22.
+use mathlib.Core.Path.{ap, _∙_}
+use Prim.Native.Nat.{_+_, _-_, _*_}
+use native.Mathlib.Omega.{arith}
+use lib.ListN.{getD}
+use lib.IntN.{pos, natAbs}
+use borrow.Author.Tests.{eqb-true}
+use Rattle.ring.specs.Words.{word}
+use Rattle.ring.specs.ShortLaws.{Counting, counting-start, counting-step, counting-end, magnitude-small}
+use Rattle.ring.proofs.short.is_short.Statement.{statement}
+use Rattle.ring.proofs.short.is_short.Tie as tie
+
+abbrev Inv-loop : tie.InvT-loop
+Inv-loop d v p at excess₀ i₀ excess i = Counting d v p excess i
+
+abbrev μ-loop : tie.MeasureT-loop
+μ-loop d v p at excess₀ i₀ excess i = d - i
+
+mul-at : tie.Need-mul-at Inv-loop μ-loop
+mul-at c = omega arith
+
+loop-holds : tie.Need-loop-holds Inv-loop μ-loop
+loop-holds c = counting-start _ _ _
+
+add-magnitude : tie.Need-add-magnitude Inv-loop μ-loop
+add-magnitude c = omega arith
+
+mul-magnitude : tie.Need-mul-magnitude Inv-loop μ-loop
+mul-magnitude c = omega arith
+
+shared-slice-copy-out-magnitude : tie.Need-shared-slice-copy-out-magnitude Inv-loop μ-loop
+shared-slice-copy-out-magnitude c = omega arith
+
+magnitude-requires : tie.Need-magnitude-requires Inv-loop μ-loop
+magnitude-requires c κs = tt
+
+add-excess : tie.Need-add-excess Inv-loop μ-loop
+add-excess c =
+    let l = c .before .before .before in
+    let x = getD (l .before .args .v .now) (l .before .args .p * l .before .args .d + l .loop .i) (pos 0) in
+    let given = c .before .magnitude-arg .given in
+    let small = magnitude-small x given (c .magnitude .ensures ∙ ap natAbs (word x given)) in
+    omega (arith, l .loop .inv .small, l .loop .inv .within, l .before .pre .0 .small, small)
+
+add-i : tie.Need-add-i Inv-loop μ-loop
+add-i c = omega arith
+
+loop-less : tie.Need-loop-less Inv-loop μ-loop
+loop-less c = omega arith
+
+loop-again : tie.Need-loop-again Inv-loop μ-loop
+loop-again c =
+    let l = c .before .before .before in
+    let x = getD (l .before .args .v .now) (l .before .args .p * l .before .args .d + l .loop .i) (pos 0) in
+    let given = c .before .magnitude-arg .given in
+    let value = c .magnitude .ensures ∙ ap natAbs (word x given) in
+    counting-step (l .loop .inv) (c .before .before .loop-test .taken) value (magnitude-small x given value)
+
+returns : tie.Need-returns Inv-loop μ-loop
+returns c = λ e. counting-end (c .before .loop .inv) (c .loop-test .left) (eqb-true _ _ e)
+
+pub is-short-spec : {M : Type 1} → statement M
+is-short-spec =
+    tie.close
+    (tie.spec
+    Inv-loop
+    μ-loop
+    mul-at
+    loop-holds
+    add-magnitude
+    mul-magnitude
+    shared-slice-copy-out-magnitude
+    magnitude-requires
+    add-excess
+    add-i
+    loop-less
+    loop-again
+    returns)

@@ -1,0 +1,24 @@
+-- `ring::short::raised` meets its contract: 2^22 + x is not negative.
+use mathlib.Core.Path.{refl}
+use mir.Facts.{toZ-ofZ, sfits-widen}
+use Rattle.ring.specs.Words.{wide}
+use Rattle.ring.specs.Short.{lifted}
+use Rattle.ring.specs.ShortLaws.{raised-fits, raised-natural}
+use Rattle.ring.proofs.short.raised.Statement.{statement}
+use Rattle.ring.proofs.short.raised.Tie as tie
+
+cast-wide : tie.Need-cast-wide
+cast-wide c = rw (toZ-ofZ (c .fits .x)) (sfits-widen tt (c .fits .x))
+
+add-result : tie.Need-add-result
+add-result c = rw (wide (c .args .x) (c .fits .x)) (raised-fits (c .args .x) (c .pre))
+
+cast-result : tie.Need-cast-result
+cast-result c = rw (wide (c .args .x) (c .fits .x), toZ-ofZ (raised-fits (c .args .x) (c .pre))) (raised-natural (c .args .x) (c .pre))
+
+returns : tie.Need-returns
+unfolding lifted
+returns c = rw (wide (c .args .x) (c .fits .x), toZ-ofZ (raised-fits (c .args .x) (c .pre))) refl
+
+pub raised-spec : {M : Type 1} → statement M
+raised-spec = tie.close (tie.spec cast-wide add-result cast-result returns)
