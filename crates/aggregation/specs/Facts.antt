@@ -10,7 +10,7 @@ use native.Mathlib.Omega.{arith}
 use lib.ListN.{length}
 use lib.IntN.{ℤ}
 use Rattle.ring.specs.Element.{Degree}
-use Rattle.ring.specs.Digits.{Base}
+use Rattle.residues.specs.Digits.{Base}
 use Rattle.fold.specs.Sizes.{garbageSize}
 use Rattle.fold.specs.CallFacts as calls
 use Rattle.constraints.specs.Facts.{SecondFacts, AggregateFacts}

@@ -19,7 +19,7 @@ use Rattle.algebra.specs.Triangle.{pair}
 use Rattle.ring.specs.Element.{R, Degree, lift, el, coeffs, array, number}
 use Rattle.ring.specs.ElementLaws.{lift-array}
 use Rattle.ring.specs.ElementPlaces.{block-before, el-cong, el-overs, el-flat-coeffs}
-use Rattle.ring.specs.Digits.{split}
+use Rattle.residues.specs.Digits.{split}
 use Rattle.fold.specs.Facts.{Shaped}
 use Rattle.fold.specs.Sizes.{pairs, garbageSize}
 use Rattle.fold.specs.Statement.{part}

@@ -3,7 +3,7 @@
 ghost use mathlib.Core.Path.{_≡_};
 ghost use Prim.Native.Nat.{_≤_};
 ghost use lib.ListN.{length, take};
-use ring::range;
+use residues::range;
 
 // The first place from `at` on where a blank stands, or something else; the text's end where there is none.
 fn find(text: &[u8], at: usize, blank: bool) -> usize

@@ -13,7 +13,7 @@ pub fn print_word(x: i32) -> u64
     if x < 0 {
         io::write_all(1, b"-");
     }
-    let number = ring::range::magnitude(x);
+    let number = residues::range::magnitude(x);
     io::print_decimal(1, number);
     number
 }

@@ -5,7 +5,7 @@ use mathlib.Core.List.{List}
 use Prim.Native.Nat.{ℕ, _+_, _*_, _≤_, _<_}
 use lib.ListN.{length}
 use lib.IntN.{ℤ}
-use Rattle.ring.specs.Range.{coefficients, projections}
+use Rattle.residues.specs.Range.{coefficients, projections}
 use Rattle.fold.specs.Sizes.{tSize, garbageSize, restSize, nextRank, nextParts, nextCount}
 use Rattle.fold.specs.Statement.{Relation}
 use Rattle.fold.specs.Verdict.{Statement, Draws, Transcript}

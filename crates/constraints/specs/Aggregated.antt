@@ -10,7 +10,7 @@ use lib.ListN.{length}
 use lib.IntN.{ℤ}
 use Rattle.algebra.specs.Sum.{sum, sum-cong}
 use Rattle.algebra.specs.Conjugation.{conjugate}
-use Rattle.ring.specs.Modulus.{Zq}
+use Rattle.residues.specs.Modulus.{Zq}
 use Rattle.ring.specs.Element.{R, Degree, lift, el, array}
 use Rattle.ring.specs.ElementLaws.{lift-array}
 use Rattle.fold.specs.Sizes.{pairs, functionSize}

@@ -6,7 +6,7 @@ use mathlib.Core.List.{List}
 use Prim.Native.Nat.{ℕ, _*_, _≤_}
 use lib.ListN.{length}
 use lib.IntN.{ℤ}
-use Rattle.ring.specs.Range.{projections}
+use Rattle.residues.specs.Range.{projections}
 use Rattle.fold.specs.Facts.{Shaped}
 use Rattle.fold.specs.Refusals.{wholeLength, termLength, projectionLength}
 

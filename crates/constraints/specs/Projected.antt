@@ -24,15 +24,15 @@ use Rattle.integers.specs.Lists.{tab, upto}
 use Rattle.algebra.specs.Sum.{sum, sum-one-more}
 use Rattle.algebra.specs.Negacyclic.{coeff, coeff-zero, coeff-add}
 use Rattle.algebra.specs.Constant.{coeff-constant-mul}
-use Rattle.ring.specs.Modulus.{Zq, red, cent, centred}
-use Rattle.ring.specs.ModulusLaws.{red-zero, red-add, red-mul, cent-red}
-use Rattle.ring.specs.Range.{projections}
-use Rattle.ring.specs.RangeLaws.{allWithin-at}
+use Rattle.residues.specs.Modulus.{Zq, red, cent, centred}
+use Rattle.residues.specs.ModulusLaws.{red-zero, red-add, red-mul, cent-red}
+use Rattle.residues.specs.Range.{projections}
+use Rattle.residues.specs.RangeLaws.{allWithin-at}
 use Rattle.ring.specs.Element.{R, Degree, el, array, number}
 use Rattle.ring.specs.ElementPlaces.{coeff-el}
 use Rattle.ring.specs.ElementArrays.{array-fill}
 use Rattle.ring.specs.ElementSteps.{bits32-centred}
-use Rattle.ring.specs.Words.{word}
+use Rattle.residues.specs.Words.{word}
 use Rattle.fold.specs.Refusals.{projectionLength}
 use Rattle.fold.specs.Entries.{projectionEntry}
 use Rattle.constraints.specs.Facts.{ProjectionFacts}

@@ -16,7 +16,7 @@ use Rattle.integers.specs.Flat.{block-fits}
 use Rattle.algebra.specs.Sum.{sum}
 use Rattle.ring.specs.Element.{R, Degree, lift, el, array, number}
 use Rattle.ring.specs.ElementLaws.{lift-array}
-use Rattle.ring.specs.Words.{word}
+use Rattle.residues.specs.Words.{word}
 use Rattle.fold.specs.Sizes.{functionSize}
 use Rattle.fold.specs.Statement.{termAt, wholeAt}
 use Rattle.fold.specs.Refusals.{termLength, wholeLength}

@@ -5,14 +5,14 @@ ghost use Prim.Native.Nat.{_+_, _*_, _<_, _≤_};
 ghost use lib.ListN.{length, getD};
 ghost use lib.IntN.{pos, natAbs, _+ℤ_, _*ℤ_};
 ghost use Rattle.integers.specs.Lists.{tab, upto};
-ghost use Rattle.ring.specs.Modulus.{centred};
+ghost use Rattle.residues.specs.Modulus.{centred};
 ghost use Rattle.ring.specs.Element.{Degree, array};
 ghost use Rattle.fold.specs.Entries.{projectionEntry};
 ghost use Rattle.constraints.specs.Facts.{ProjectionFacts};
 ghost use Rattle.constraints.specs.Projected.{Room, Added};
 use fold::Shape;
+use residues::modulus;
 use ring::element::Element;
-use ring::modulus;
 
 fn add_signed(acc: i64, x: i32, y: i32) -> i64
     requires { ⌜ natAbs acc < 4611686018427387904 ⌝ }

@@ -14,7 +14,7 @@ use Rattle.algebra.specs.Sum.{sum}
 use Rattle.algebra.specs.Triangle.{rows}
 use Rattle.algebra.specs.Conjugation.{ct}
 use Rattle.algebra.specs.DotProduct.{inner, mixed}
-use Rattle.ring.specs.Modulus.{Zq, red}
+use Rattle.residues.specs.Modulus.{Zq, red}
 use Rattle.ring.specs.Element.{R, el, same}
 use Rattle.ring.specs.ElementEquality.{every-true, true-every, same-true, same-refl}
 use Rattle.fold.specs.declared.Verdict.the-variants.{Accepted, Failed}

@@ -19,9 +19,9 @@ use Rattle.algebra.specs.Constant.{constant-add}
 use Rattle.algebra.specs.Conjugation.{conjugate, ct, ct-add, ct-sum, ct-constant-mul, ct-conjugate}
 use Rattle.algebra.specs.DotProduct.{Function, inner, value, combination}
 use Rattle.algebra.specs.DotProductLaws.{value-plus, value-combination}
-use Rattle.ring.specs.Modulus.{q-positive, Zq, red, centred}
-use Rattle.ring.specs.Modulus as Modulus
-use Rattle.ring.specs.ModulusLaws.{red-mul, red-centred, two-halves}
+use Rattle.residues.specs.Modulus.{q-positive, Zq, red, centred}
+use Rattle.residues.specs.Modulus as Modulus
+use Rattle.residues.specs.ModulusLaws.{red-mul, red-centred, two-halves}
 use Rattle.ring.specs.Element.{R, el, number}
 use Rattle.ring.specs.ElementPlaces.{coeff-el}
 use Rattle.fold.specs.Statement.{Relation, Meets, part, function, wholeAt, termAt, termConstant}

@@ -5,7 +5,7 @@ use mathlib.Core.Bool.{true}
 use mathlib.Core.List.{[], _∷_}
 use Prim.Native.Nat.{ℕ, _≤_}
 use lib.IntN.{pos}
-use Rattle.ring.specs.Digits.{Base}
+use Rattle.residues.specs.Digits.{Base}
 use Rattle.fold.specs.Facts.{Shaped}
 use Rattle.fold.specs.Refusals.{allOf, degree, rank, parts, constraintCount, projectionCount, commitmentRank, base, digitCount}
 use Rattle.fold.specs.Refusals.{lengthBound}

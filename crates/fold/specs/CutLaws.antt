@@ -16,8 +16,8 @@ use Rattle.integers.specs.Sums.{total-cong, sq, normSq, normSq-append}
 use Rattle.integers.specs.Flat.{flat, flat-cong, length-flat, block-flat, getD-flat, normSq-flat, block-fits}
 use Rattle.algebra.specs.Triangle.{start, start-mono}
 use Rattle.algebra.specs.Negacyclic.{coeff-zero}
-use Rattle.ring.specs.Modulus.{Zq, red}
-use Rattle.ring.specs.ModulusLaws.{red-zero}
+use Rattle.residues.specs.Modulus.{Zq, red}
+use Rattle.residues.specs.ModulusLaws.{red-zero}
 use Rattle.ring.specs.Element.{R, el}
 use Rattle.ring.specs.ElementLaws.{element-ext}
 use Rattle.ring.specs.ElementPlaces.{coeff-el, el-cong}

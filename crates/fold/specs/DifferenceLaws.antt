@@ -12,8 +12,8 @@ use Rattle.integers.specs.Sums.{total-mono, total-sum, total-times, sq, normSq,
 use Rattle.integers.specs.Squares.{sq-mono, sq-difference}
 use Rattle.algebra.specs.CommRing.{sub, sub-zero-iff}
 use Rattle.algebra.specs.Negacyclic.{coeff, coeff-add, coeff-neg}
-use Rattle.ring.specs.Modulus.{Zq, red, centred}
-use Rattle.ring.specs.ModulusLaws.{red-zero, red-sub, red-centred, centred-shorter, centred-fixed, centred-eq}
+use Rattle.residues.specs.Modulus.{Zq, red, centred}
+use Rattle.residues.specs.ModulusLaws.{red-zero, red-sub, red-centred, centred-shorter, centred-fixed, centred-eq}
 use Rattle.ring.specs.Element.{R, el}
 use Rattle.ring.specs.ElementLaws.{element-ext}
 use Rattle.ring.specs.ElementPlaces.{coeff-el}

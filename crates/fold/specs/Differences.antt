@@ -4,7 +4,7 @@ use Prim.Native.Nat.{_+_, _*_}
 use lib.ListN.{length, getD, take, drop}
 use lib.IntN.{ℤ, pos, _-ℤ_}
 use Rattle.integers.specs.Lists.{tab}
-use Rattle.ring.specs.Modulus.{centred}
+use Rattle.residues.specs.Modulus.{centred}
 use Rattle.fold.specs.Sizes.{tSize, garbageSize}
 use Rattle.fold.specs.Statement.{Relation}
 use Rattle.fold.specs.Verdict.{Statement, tPlace}

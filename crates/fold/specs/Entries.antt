@@ -7,7 +7,7 @@ use lib.IntN.{ℤ, pos}
 use Rattle.algebra.specs.CommRing.{CommRing}
 use Rattle.algebra.specs.Sum.{sum}
 use Rattle.algebra.specs.Conjugation.{conjugate}
-use Rattle.ring.specs.Modulus.{Zq}
+use Rattle.residues.specs.Modulus.{Zq}
 use Rattle.ring.specs.Element.{R, el, number}
 use Rattle.fold.specs.Sizes.{pairs}
 use Rattle.fold.specs.Statement.{wholeAt, termAt}

@@ -19,7 +19,7 @@ use Rattle.algebra.specs.Constant.{constant-zero}
 use Rattle.algebra.specs.Conjugation.{conjugate, conjugate-add}
 use Rattle.algebra.specs.ConjugationProduct.{conjugate-constant, conjugate-mul}
 use Rattle.algebra.specs.DotProduct.{Function, inner, value}
-use Rattle.ring.specs.Modulus.{Zq, red}
+use Rattle.residues.specs.Modulus.{Zq, red}
 use Rattle.ring.specs.Element.{R, el, coeffs, number}
 use Rattle.ring.specs.ElementLaws.{length-coeffs, lift-coeffs}
 use Rattle.ring.specs.ElementPlaces.{el-cong, el-zero}

@@ -18,7 +18,7 @@ use Rattle.algebra.specs.Conjugation.{ct}
 use Rattle.algebra.specs.DotProduct.{value}
 use Rattle.algebra.specs.DotProductLaws.{inner-cong}
 use Rattle.algebra.specs.FoldLaws.{mixed-cong, folded-linear, folded-self, folded-garbage, value-garbage}
-use Rattle.ring.specs.Modulus.{Zq}
+use Rattle.residues.specs.Modulus.{Zq}
 use Rattle.ring.specs.Element.{R, el, same}
 use Rattle.ring.specs.ElementEquality.{true-every, same-iff}
 use Rattle.fold.specs.Sizes.{tSize, garbageSize}

@@ -6,9 +6,9 @@ use mathlib.Core.List.{List, [], _∷_, _++_}
 use Prim.Native.Nat.{ℕ, _*_}
 use lib.ListN.{length}
 use lib.IntN.{ℤ, pos}
-use Rattle.ring.specs.Digits.{Base}
-use Rattle.ring.specs.Range.{coefficients}
-use Rattle.ring.specs.RangeLaws.{coefficients-join}
+use Rattle.residues.specs.Digits.{Base}
+use Rattle.residues.specs.Range.{coefficients}
+use Rattle.residues.specs.RangeLaws.{coefficients-join}
 use Rattle.fold.specs.Answers.{firstRefusal}
 use Rattle.fold.specs.Sizes.{openingSize}
 use Rattle.fold.specs.Statement.{Relation}

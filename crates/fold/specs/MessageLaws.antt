@@ -11,8 +11,8 @@ use Rattle.algebra.specs.Triangle.{pair}
 use Rattle.ring.specs.Element.{R, el, coeffs}
 use Rattle.ring.specs.ElementLaws.{length-coeffs, lift-coeffs}
 use Rattle.ring.specs.ElementPlaces.{el-cong, el-zero, el-flat-coeffs}
-use Rattle.ring.specs.Digits.{split}
-use Rattle.ring.specs.DigitLaws.{length-split}
+use Rattle.residues.specs.Digits.{split}
+use Rattle.residues.specs.DigitLaws.{length-split}
 use Rattle.ring.specs.DigitElements.{joined-cong, joined-split}
 use Rattle.fold.specs.Sizes.{pairs, tSize, garbageSize}
 use Rattle.fold.specs.Layout.{length-triangle, getD-triangle}

@@ -10,13 +10,13 @@ use lib.ListN.{length, getD}
 use lib.IntN.{ℤ, pos, natAbs}
 use Rattle.integers.specs.Lists.{length-tab, getD-tab}
 use Rattle.integers.specs.Flat.{flat}
-use Rattle.ring.specs.ModulusLaws.{centred-bound}
+use Rattle.residues.specs.ModulusLaws.{centred-bound}
 use Rattle.ring.specs.Element.{R, coeffs}
 use Rattle.ring.specs.ElementLaws.{length-coeffs, coeffs-small}
-use Rattle.ring.specs.Digits.{Base, digit, split}
-use Rattle.ring.specs.DigitLaws.{digit-small}
-use Rattle.ring.specs.Range.{allWithin, coefficients}
-use Rattle.ring.specs.RangeLaws.{coefficients-at, coefficients-of, coefficients-join}
+use Rattle.residues.specs.Digits.{Base, digit, split}
+use Rattle.residues.specs.DigitLaws.{digit-small}
+use Rattle.residues.specs.Range.{allWithin, coefficients}
+use Rattle.residues.specs.RangeLaws.{coefficients-at, coefficients-of, coefficients-join}
 use Rattle.fold.specs.Messages as Messages
 use Rattle.fold.specs.Messages.{elements, garbageDigits, tDigits, gDigits, hDigits, zDigits, p, five}
 

@@ -11,9 +11,9 @@ use Rattle.algebra.specs.Integers.{ℤ-ring}
 use Rattle.algebra.specs.Sum.{sum}
 use Rattle.algebra.specs.Conjugation.{conjugate}
 use Rattle.algebra.specs.DotProduct.{Function, inner, value, plus, combination, folded, garbage}
-use Rattle.ring.specs.Modulus.{Zq, centred}
+use Rattle.residues.specs.Modulus.{Zq, centred}
 use Rattle.ring.specs.Element.{R, el, coeffs, number}
-use Rattle.ring.specs.Digits.{split}
+use Rattle.residues.specs.Digits.{split}
 use Rattle.fold.specs.Sizes.{functionSize, tSize, garbageSize}
 use Rattle.fold.specs.Statement.{part, function, wholeAt, wholeConstant, termAt, termConstant}
 

@@ -9,7 +9,7 @@ use Prim.Native.Nat.{ℕ, _*_, _<_}
 use native.Mathlib.Nat.{mul-assoc}
 use lib.ListN.{length}
 use lib.IntN.{ℤ}
-use Rattle.ring.specs.Range.{coefficients}
+use Rattle.residues.specs.Range.{coefficients}
 use Rattle.fold.specs.declared.Verdict.the-variants.{Accepted}
 use Rattle.fold.specs.declared.Answer.the-variants.{Judged}
 use Rattle.fold.specs.Answers.{firstRefusal, answered}

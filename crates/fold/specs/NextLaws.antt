@@ -15,7 +15,7 @@ use Rattle.algebra.specs.Tables.{dot, dot-cong}
 use Rattle.algebra.specs.DotProduct.{inner, value, mixed}
 use Rattle.algebra.specs.Solver.{_:+_, _:-_, :neg, num, solve1, solve2}
 use Rattle.ring.specs.Element.{R, el}
-use Rattle.ring.specs.Digits.{joined}
+use Rattle.ring.specs.Joined.{joined}
 use Rattle.fold.specs.Sizes.{tSize, garbageSize, restSize, openingSize, nextRank, nextParts}
 use Rattle.fold.specs.Statement.{Relation, part}
 use Rattle.fold.specs.Messages.{times, outer₁, outer₂}

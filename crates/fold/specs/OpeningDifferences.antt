@@ -17,10 +17,10 @@ use Rattle.algebra.specs.DotProduct.{inner}
 use Rattle.algebra.specs.DotProductLaws.{inner-cong, inner-add-right, inner-neg-right}
 use Rattle.ring.specs.Element.{R, el, coeffs, number}
 use Rattle.ring.specs.ElementPlaces.{block-before, el-take, el-part}
-use Rattle.ring.specs.Digits.{joined}
+use Rattle.ring.specs.Joined.{joined}
 use Rattle.ring.specs.DigitElements.{joined-cong}
-use Rattle.ring.specs.Range.{coefficients}
-use Rattle.ring.specs.RangeLaws.{coefficients-at}
+use Rattle.residues.specs.Range.{coefficients}
+use Rattle.residues.specs.RangeLaws.{coefficients-at}
 use Rattle.fold.specs.Sizes.{tSize, garbageSize, restSize, openingSize}
 use Rattle.fold.specs.Statement.{Relation}
 use Rattle.fold.specs.Messages.{elements, times, outer₁}

@@ -12,7 +12,7 @@ use lib.IntN.{ℤ, pos}
 use Rattle.integers.specs.Sums.{normSq}
 use Rattle.algebra.specs.Triangle.{start}
 use Rattle.ring.specs.Element.{R, el}
-use Rattle.ring.specs.Range.{coefficients}
+use Rattle.residues.specs.Range.{coefficients}
 use Rattle.fold.specs.Sizes.{nextRank, nextParts}
 use Rattle.fold.specs.Statement.{part}
 use Rattle.fold.specs.Chunks.{width, cut, cutPadded, padded, unpadded, ZeroPadding}

@@ -11,10 +11,10 @@ use Rattle.integers.specs.Flat.{normSq-flat}
 use Rattle.integers.specs.Sums.{total, total-cong, total-mono, total-times, total-swap, total-blocks, sq, normSq, normSq-total, normSq-tab}
 use Rattle.integers.specs.Squares.{natAbs-sum, natAbs-product, cauchy-schwarz}
 use Rattle.algebra.specs.Negacyclic.{coeff}
-use Rattle.ring.specs.Modulus.{Zq, cent, centred}
-use Rattle.ring.specs.ModulusLaws.{centred-shorter}
+use Rattle.residues.specs.Modulus.{Zq, cent, centred}
+use Rattle.residues.specs.ModulusLaws.{centred-shorter}
 use Rattle.ring.specs.Element.{el, coeffs}
-use Rattle.ring.specs.Digits.{value}
+use Rattle.residues.specs.Digits.{value}
 use Rattle.ring.specs.DigitElements.{cent-joined-el}
 use Rattle.fold.specs.Messages.{elements}
 use Rattle.fold.specs.Verdict.{zOf}

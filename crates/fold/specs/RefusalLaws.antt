@@ -15,8 +15,8 @@ use lib.IntN.{ℤ, pos}
 use borrow.Author.Tests.{le-leb, leb-true, eq-eqb, eqb-true}
 use Rattle.ring.specs.Element.{Degree}
 use Rattle.ring.specs.ElementEquality.{every-true, true-every}
-use Rattle.ring.specs.Digits.{Base}
-use Rattle.ring.specs.Range.{challenge}
+use Rattle.residues.specs.Digits.{Base}
+use Rattle.residues.specs.Range.{challenge}
 use Rattle.fold.specs.Answers.{firstRefusal}
 use Rattle.fold.specs.Refusals.{allOf, anyOf, between, degree, rank, parts, constraintCount, projectionCount, commitmentRank, base}
 use Rattle.fold.specs.Refusals.{digitCount, chunks, lengthBound, sized, challenges}

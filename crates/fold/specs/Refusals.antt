@@ -7,7 +7,7 @@ use lib.Dec.{leb, eqb}
 use lib.ListN.{length, take, drop}
 use lib.IntN.{ℤ, pos, negsuc}
 use Rattle.ring.specs.Element.{every}
-use Rattle.ring.specs.Range.{coefficients, projections, challenge}
+use Rattle.residues.specs.Range.{coefficients, projections, challenge}
 use Rattle.fold.specs.Sizes.{functionSize, tSize, garbageSize, restSize, openingSize, nextRank, nextParts, nextCount}
 use Rattle.fold.specs.Statement.{Relation}
 use Rattle.fold.specs.Verdict.{Statement, Draws, Transcript}

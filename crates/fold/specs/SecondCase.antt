@@ -9,7 +9,7 @@ use lib.IntN.{ℤ}
 use Rattle.integers.specs.Sums.{normSq}
 use Rattle.algebra.specs.Conjugation.{ct}
 use Rattle.algebra.specs.DotProduct.{value}
-use Rattle.ring.specs.Modulus.{Zq, red}
+use Rattle.residues.specs.Modulus.{Zq, red}
 use Rattle.ring.specs.Element.{R}
 use Rattle.fold.specs.declared.Verdict.{Verdict}
 use Rattle.fold.specs.declared.Verdict.the-variants.{Accepted, Failed}

@@ -11,7 +11,7 @@ use Rattle.integers.specs.Sums.{normSq}
 use Rattle.algebra.specs.Conjugation.{ct}
 use Rattle.algebra.specs.DotProduct.{Function, value}
 use Rattle.algebra.specs.Triangle.{pair}
-use Rattle.ring.specs.Modulus.{Zq, red}
+use Rattle.residues.specs.Modulus.{Zq, red}
 use Rattle.ring.specs.Element.{R, el}
 use Rattle.fold.specs.Sizes.{pairs, functionSize}
 

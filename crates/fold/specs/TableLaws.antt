@@ -20,7 +20,7 @@ use Rattle.algebra.specs.Tables.{dot, dot-tab, dot-zeros}
 use Rattle.algebra.specs.DotProduct.{inner, mixed}
 use Rattle.ring.specs.Element.{R, number}
 use Rattle.ring.specs.Numbers.{number-one, number-add, number-mul}
-use Rattle.ring.specs.Digits.{joined}
+use Rattle.ring.specs.Joined.{joined}
 use Rattle.fold.specs.Sizes.{pairs, tSize, garbageSize}
 use Rattle.fold.specs.Verdict.{zOf, tOf, garbageOf}
 use Rattle.fold.specs.TableSums.{length-digits, length-parts, length-triangle, dot-digits, dot-parts, dot-triangle}

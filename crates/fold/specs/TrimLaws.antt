@@ -14,8 +14,8 @@ use lib.IntN.{ℤ, pos, natAbs}
 use Rattle.integers.specs.Flat.{flat, flat-cong, flat-at, flat-cut}
 use Rattle.algebra.specs.Triangle.{start}
 use Rattle.algebra.specs.Tables.{length-flat-start}
-use Rattle.ring.specs.Range.{coefficients}
-use Rattle.ring.specs.RangeLaws.{coefficients-at, coefficients-of, coefficients-join}
+use Rattle.residues.specs.Range.{coefficients}
+use Rattle.residues.specs.RangeLaws.{coefficients-at, coefficients-of, coefficients-join}
 use Rattle.fold.specs.Chunks.{cut, cutPadded, trimmed}
 use Rattle.fold.specs.ChunkLaws.{start-scale}
 use Rattle.fold.specs.CutLaws.{padded-width}

@@ -13,9 +13,9 @@ use Rattle.algebra.specs.Sum.{sum}
 use Rattle.algebra.specs.Triangle.{pair, rows}
 use Rattle.algebra.specs.Conjugation.{ct}
 use Rattle.algebra.specs.DotProduct.{Function, inner, mixed}
-use Rattle.ring.specs.Modulus.{Zq, red}
+use Rattle.residues.specs.Modulus.{Zq, red}
 use Rattle.ring.specs.Element.{R, el, every, same}
-use Rattle.ring.specs.Digits.{joined}
+use Rattle.ring.specs.Joined.{joined}
 use Rattle.fold.specs.declared.Verdict.{Verdict}
 use Rattle.fold.specs.Answers.{firstFailed}
 use Rattle.fold.specs.Sizes.{tSize, garbageSize}

@@ -6,7 +6,7 @@ use Prim.Native.Nat.{ℕ, zero, suc, _*_}
 use native.Mathlib.Omega.{arith}
 use lib.ListN.{length}
 use lib.IntN.{ℤ}
-use Rattle.ring.specs.Range.{coefficients}
+use Rattle.residues.specs.Range.{coefficients}
 use Rattle.fold.specs.declared.Verdict.{Verdict}
 use Rattle.fold.specs.declared.Verdict.the-variants.{Accepted}
 use Rattle.fold.specs.declared.Answer.the-variants.{Judged}

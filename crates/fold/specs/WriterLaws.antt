@@ -21,9 +21,9 @@ use Rattle.algebra.specs.Triangle.{start, start-suc, start-mono, pair, pair-bou
 use Rattle.ring.specs.Element.{R, el, coeffs, array}
 use Rattle.ring.specs.ElementLaws.{length-coeffs, take-array}
 use Rattle.ring.specs.ElementPlaces.{el-take, el-drop, el-overs, el-flat-coeffs, block-before}
-use Rattle.ring.specs.Digits.{split}
-use Rattle.ring.specs.DigitLaws.{length-split}
-use Rattle.ring.specs.DigitBlocks.{last-fits}
+use Rattle.residues.specs.Digits.{split}
+use Rattle.residues.specs.DigitLaws.{length-split}
+use Rattle.residues.specs.DigitBlocks.{last-fits}
 use Rattle.fold.specs.Sizes.{pairs}
 use Rattle.fold.specs.Messages.{elements, garbageDigits}
 

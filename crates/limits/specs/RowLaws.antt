@@ -8,7 +8,7 @@ use lib.Dec.{leb, eqb}
 use lib.ListN.{take, drop}
 use lib.IntN.{ℤ, pos}
 use borrow.Author.Tests.{le-leb}
-use Rattle.ring.specs.Range.{challenge}
+use Rattle.residues.specs.Range.{challenge}
 use Rattle.ring.specs.ElementEquality.{every-zero, every-next}
 use Rattle.fold.specs.Refusals.{allOf, anyOf, between, degree, challenges}
 

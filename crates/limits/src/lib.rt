@@ -30,8 +30,8 @@ use lengths::message_lengths;
 use lengths::project_lengths;
 use ranges::constraint_ranges;
 use ranges::message_ranges;
-use ring::range::are_coefficients;
-use ring::range::are_projection_entries;
+use residues::range::are_coefficients;
+use residues::range::are_projection_entries;
 use rows::challenges;
 use rows::first;
 

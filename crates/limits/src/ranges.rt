@@ -2,7 +2,7 @@
 ghost use mathlib.Core.Path.{_≡_};
 ghost use Rattle.fold.specs.Refusals.{allOf};
 ghost use Rattle.limits.specs.Stages as spec;
-use ring::range::are_coefficients;
+use residues::range::are_coefficients;
 
 // Both kinds of constraints and what is lent to aggregate them.
 pub fn constraint_ranges(

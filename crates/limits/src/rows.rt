@@ -5,7 +5,7 @@ ghost use Prim.Native.Nat.{_*_, _<_, _≤_};
 ghost use lib.ListN.{length};
 ghost use lib.IntN.{pos};
 ghost use Rattle.fold.specs.Refusals as spec;
-use ring::range;
+use residues::range;
 
 // Row 1.
 pub fn degree(d: usize) -> bool

@@ -12,8 +12,8 @@ use native.Mathlib.Nat.{mul-le-mul}
 use native.Mathlib.Omega.{arith}
 use lib.ListN.{length}
 use lib.IntN.{ℤ}
-use Rattle.ring.specs.Digits.{Base}
-use Rattle.ring.specs.Range.{projections}
+use Rattle.residues.specs.Digits.{Base}
+use Rattle.residues.specs.Range.{projections}
 use Rattle.fold.specs.declared.CommitSizes.{CommitSizes}
 use Rattle.fold.specs.declared.Shape.{Shape}
 use Rattle.fold.specs.Facts.{Shaped}

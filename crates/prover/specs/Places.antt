@@ -4,7 +4,7 @@ use Prim.Native.Nat.{ℕ, _+_, _-_, _*_, _<_, _≤_}
 use native.Mathlib.Nat.{mul-le-mul, mul-le-mul-right}
 use native.Mathlib.Omega.{arith}
 use Rattle.algebra.specs.Triangle.{pairs-count-twice}
-use Rattle.ring.specs.DigitBlocks.{last-fits}
+use Rattle.residues.specs.DigitBlocks.{last-fits}
 use Rattle.fold.specs.Sizes.{pairs}
 
 -- block k of n blocks of m

@@ -20,11 +20,11 @@ use Rattle.integers.specs.Over.{over, over-nil, over-all, over-tab}
 use Rattle.algebra.specs.CommRing.{CommRing}
 use Rattle.algebra.specs.Integers.{ℤ-ring}
 use Rattle.algebra.specs.Sum.{sum, sum-cong, sum-one-more}
-use Rattle.ring.specs.Modulus.{centred}
-use Rattle.ring.specs.ModulusLaws.{centred-fits}
-use Rattle.ring.specs.Range.{projections}
-use Rattle.ring.specs.RangeLaws.{projections-at}
-use Rattle.ring.specs.Words.{word}
+use Rattle.residues.specs.Modulus.{centred}
+use Rattle.residues.specs.ModulusLaws.{centred-fits}
+use Rattle.residues.specs.Range.{projections}
+use Rattle.residues.specs.RangeLaws.{projections-at}
+use Rattle.residues.specs.Words.{word}
 use Rattle.fold.specs.Messages.{p}
 use Rattle.prover.specs.Places.{block-fits}
 

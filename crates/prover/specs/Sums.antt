@@ -15,7 +15,7 @@ use Rattle.algebra.specs.Sum.{sum, sum-one-more}
 use Rattle.algebra.specs.DotProduct.{inner, folded}
 use Rattle.ring.specs.Element.{R, lift, el, array}
 use Rattle.ring.specs.ElementLaws.{lift-array}
-use Rattle.ring.specs.Digits.{split}
+use Rattle.residues.specs.Digits.{split}
 use Rattle.fold.specs.Statement.{part}
 use Rattle.fold.specs.Messages.{elements, times, z, zDigits}
 use Rattle.fold.specs.WriterLaws.{split-elements}

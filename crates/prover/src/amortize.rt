@@ -7,7 +7,7 @@ ghost use Rattle.ring.specs.Element.{Degree, array};
 ghost use Rattle.fold.specs.Messages.{elements, z, zDigits};
 ghost use Rattle.prover.specs.Facts.{AmortizeFacts};
 use fold::Shape;
-use ring::digits::split_digits;
+use residues::digits::split_digits;
 use ring::element::Element;
 use ring::product::multiply;
 

@@ -5,7 +5,7 @@ ghost use Prim.Native.Nat.{_+_, _-_, _*_, _<_, _≤_};
 ghost use lib.ListN.{length};
 ghost use Rattle.integers.specs.Over.{over};
 ghost use Rattle.ring.specs.Element.{Degree, array};
-ghost use Rattle.ring.specs.Digits.{Base, split};
+ghost use Rattle.residues.specs.Digits.{Base, split};
 ghost use Rattle.fold.specs.Messages.{elements, t};
 ghost use Rattle.prover.specs.Facts.{PartFacts, TFacts, GFacts, OuterFacts};
 ghost use Rattle.prover.specs.Outputs.{outer, tOf, gOf, u₁Of};
@@ -13,7 +13,7 @@ use crate::garbage::pairs;
 use crate::garbage::write_garbage_digits;
 use crate::garbage::write_pair_products;
 use fold::CommitSizes;
-use ring::digits::split_digits;
+use residues::digits::split_digits;
 use ring::element::Element;
 use ring::product::inner;
 

@@ -7,11 +7,11 @@ ghost use Rattle.integers.specs.Over.{over};
 ghost use Rattle.integers.specs.Flat.{flat};
 ghost use Rattle.algebra.specs.Triangle.{pair};
 ghost use Rattle.ring.specs.Element.{Degree, el, coeffs};
-ghost use Rattle.ring.specs.Digits.{Base, split};
+ghost use Rattle.residues.specs.Digits.{Base, split};
 ghost use Rattle.fold.specs.Sizes.{pairs, garbageSize};
 ghost use Rattle.fold.specs.Messages.{elements, g, garbageDigits};
 ghost use Rattle.fold.specs.WriterLaws.{pairElements};
-use ring::digits::split_digits;
+use residues::digits::split_digits;
 use ring::element::Element;
 use ring::product::inner;
 

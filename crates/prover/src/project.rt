@@ -4,13 +4,13 @@ ghost use mathlib.Core.Bool.{true};
 ghost use Prim.Native.Nat.{_≤_};
 ghost use lib.ListN.{length};
 ghost use lib.IntN.{natAbs, _+ℤ_, _*ℤ_};
-ghost use Rattle.ring.specs.Modulus.{centred};
-ghost use Rattle.ring.specs.Range.{projections};
+ghost use Rattle.residues.specs.Modulus.{centred};
+ghost use Rattle.residues.specs.Range.{projections};
 ghost use Rattle.fold.specs.Messages.{p};
 ghost use Rattle.prover.specs.Facts.{ProjectFacts};
 ghost use Rattle.prover.specs.Projected.{dot};
 use fold::Shape;
-use ring::modulus::centre;
+use residues::modulus::centre;
 
 // One term more of a dot product, where x is a projection entry.
 fn add_product(acc: i64, x: i32, y: i32) -> i64

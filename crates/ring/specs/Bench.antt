@@ -7,9 +7,9 @@ use Rattle.integers.specs.Literals.{+_, -_}
 use Rattle.algebra.specs.CommRing.{CommRing}
 use Rattle.algebra.specs.Convolution.{indeterminate}
 use Rattle.algebra.specs.Conjugation.{conjugate}
-use Rattle.ring.specs.Modulus.{Zq, centred}
+use Rattle.residues.specs.Modulus.{Zq, centred}
 use Rattle.ring.specs.Element.{R, lift, coeffs, number}
-use Rattle.ring.specs.Digits.{split}
+use Rattle.residues.specs.Digits.{split}
 use Rattle.ring.specs.Computing.{ring-computes}
 
 -- the product of two elements given by their coefficients

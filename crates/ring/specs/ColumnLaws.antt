@@ -10,7 +10,7 @@ use mir.Val.{Fits}
 use Rattle.integers.specs.Sums.{total, total-add-one, total-bound}
 use Rattle.algebra.specs.Sum.{sum}
 use Rattle.algebra.specs.Residue.{make, make-eq, make-add}
-use Rattle.ring.specs.Modulus.{q, q-positive, Zq}
+use Rattle.residues.specs.Modulus.{q, q-positive, Zq}
 use Rattle.ring.specs.Product.{term, highs, folded, most}
 
 -- ---- one term

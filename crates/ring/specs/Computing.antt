@@ -12,10 +12,11 @@ use Rattle.algebra.specs.Negacyclic.{zeros, constant, plus, negate, scale, shif
 use Rattle.algebra.specs.Convolution.{indeterminate}
 use Rattle.algebra.specs.Conjugation.{reflected, conjugate}
 use Rattle.algebra.specs.DotProduct.{inner, value, mixed, folded, garbage}
-use Rattle.ring.specs.Modulus.{q, red, cent, centred}
+use Rattle.residues.specs.Modulus.{q, red, cent, centred}
 use Rattle.ring.specs.Element.{every, lift, el, coeffs, array, number, same}
-use Rattle.ring.specs.Digits.{low, rest, rests, digit, split, joined}
-use Rattle.ring.specs.Range.{allWithin, coefficients, projections, challenge}
+use Rattle.residues.specs.Digits.{low, rest, rests, digit, split}
+use Rattle.ring.specs.Joined.{joined}
+use Rattle.residues.specs.Range.{allWithin, coefficients, projections, challenge}
 
 unfoldable pub integers-compute : Unit {0}
 unfolding total sq normSq tab flat emod centre

@@ -11,13 +11,14 @@ use Rattle.algebra.specs.Negacyclic.{coeff}
 use Rattle.algebra.specs.Constant.{coeff-constant-mul}
 use Rattle.algebra.specs.Convolution.{coeff-sum}
 use Rattle.integers.specs.Flat.{block-fits}
-use Rattle.ring.specs.Modulus.{Zq, red, cent, centred}
-use Rattle.ring.specs.ModulusLaws.{red-zero, red-add, red-mul, cent-red}
+use Rattle.residues.specs.Modulus.{Zq, red, cent, centred}
+use Rattle.residues.specs.ModulusLaws.{red-zero, red-add, red-mul, cent-red}
 use Rattle.ring.specs.Element.{R, number, lift, el, coeffs}
 use Rattle.ring.specs.ElementLaws.{element-ext, coeff-lift, lift-coeffs, length-coeffs}
 use Rattle.ring.specs.ElementPlaces.{coeff-el, el-cong}
-use Rattle.ring.specs.Digits.{digit, split, value, joined}
-use Rattle.ring.specs.DigitLaws.{recompose, value-cong, getD-digits, getD-split}
+use Rattle.residues.specs.Digits.{digit, split, value}
+use Rattle.ring.specs.Joined.{joined}
+use Rattle.residues.specs.DigitLaws.{recompose, value-cong, getD-digits, getD-split}
 
 pub red-value : (b t : ℕ) (f : ℕ → ℤ) → red (value b t f) ≡ sum Zq t (λ e. Zq .mul (red (pos (b ^ e))) (red (f e)))
 unfolding value sum

@@ -16,7 +16,7 @@ use Rattle.integers.specs.Lists.{tab}
 use Rattle.algebra.specs.CommRing.{CommRing}
 use Rattle.algebra.specs.Vec.{Vec, build}
 use Rattle.algebra.specs.Negacyclic.{Negacyclic, coeff, constant}
-use Rattle.ring.specs.Modulus.{Zq, red, cent}
+use Rattle.residues.specs.Modulus.{Zq, red, cent}
 
 -- a test holds at every k below n
 unfoldable pub every : ℕ → (ℕ → Bool) → Bool

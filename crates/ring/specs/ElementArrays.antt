@@ -21,8 +21,8 @@ use Rattle.algebra.specs.Constant.{coeff-constant-mul}
 use Rattle.algebra.specs.CommRing.{neg-zero}
 use Rattle.algebra.specs.Conjugation.{conjugate, coeff-conjugate-zero, coeff-conjugate}
 use Rattle.algebra.specs.Convolution.{indeterminate}
-use Rattle.ring.specs.Modulus.{Zq, red, cent, centred}
-use Rattle.ring.specs.ModulusLaws.{red-zero, red-one, red-add, red-mul, red-neg, cent-red, centred-fixed}
+use Rattle.residues.specs.Modulus.{Zq, red, cent, centred}
+use Rattle.residues.specs.ModulusLaws.{red-zero, red-one, red-add, red-mul, red-neg, cent-red, centred-fixed}
 use Rattle.ring.specs.Element.{R, lift, el, array, number}
 use Rattle.ring.specs.ElementLaws.{coeff-lift, coeff-past}
 use Rattle.ring.specs.ElementPlaces.{coeff-el}

@@ -14,8 +14,8 @@ use borrow.Author.Tests.{eq-eqb, eqb-true}
 use Rattle.integers.specs.Remainder.{emod}
 use Rattle.algebra.specs.Residue.{residue-eq}
 use Rattle.algebra.specs.Negacyclic.{coeff}
-use Rattle.ring.specs.Modulus.{q, Zq}
-use Rattle.ring.specs.ModulusLaws.{red-residue}
+use Rattle.residues.specs.Modulus.{q, Zq}
+use Rattle.residues.specs.ModulusLaws.{red-residue}
 use Rattle.ring.specs.Element.{R, lift, every, same}
 use Rattle.ring.specs.ElementLaws.{element-ext, coeff-lift}
 

@@ -12,8 +12,8 @@ use lib.IntN.{ℤ, pos, natAbs}
 use Rattle.integers.specs.Lists.{length-tab, getD-tab, tab-unique, take-tab}
 use Rattle.algebra.specs.Vec.{at-build, at-past, ext}
 use Rattle.algebra.specs.Negacyclic.{coeff, constant}
-use Rattle.ring.specs.Modulus.{Zq, red, cent, centred}
-use Rattle.ring.specs.ModulusLaws.{red-cent, cent-red, cent-bound, centred-fixed}
+use Rattle.residues.specs.Modulus.{Zq, red, cent, centred}
+use Rattle.residues.specs.ModulusLaws.{red-cent, cent-red, cent-bound, centred-fixed}
 use Rattle.ring.specs.Element.{R, lift, coeffs, array, number}
 
 module _ (d : ℕ) where

@@ -18,7 +18,7 @@ use borrow.Author.Tests.{ltb-true, ltb-false}
 use Rattle.integers.specs.Over.{over, getD-over, getD-over-before, getD-over-after}
 use Rattle.integers.specs.Flat.{flat, getD-flat}
 use Rattle.algebra.specs.Negacyclic.{coeff}
-use Rattle.ring.specs.Modulus.{Zq, red}
+use Rattle.residues.specs.Modulus.{Zq, red}
 use Rattle.ring.specs.Element.{R, lift, el, coeffs}
 use Rattle.ring.specs.ElementLaws.{coeff-lift, lift-cong, lift-coeffs, length-coeffs}
 

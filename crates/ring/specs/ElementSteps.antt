@@ -13,8 +13,8 @@ use mir.Facts.{toZ-ofZ}
 use Rattle.integers.specs.Bridge.{add-pn, zarith}
 use Rattle.integers.specs.Lists.{tab, tab-unique}
 use Rattle.integers.specs.Over.{over, over-tab}
-use Rattle.ring.specs.Modulus.{centred}
-use Rattle.ring.specs.ModulusLaws.{centred-fits}
+use Rattle.residues.specs.Modulus.{centred}
+use Rattle.residues.specs.ModulusLaws.{centred-fits}
 
 -- a number as a 32-bit signed local holds it
 abbrev pub bits32 : ℤ → ℤ

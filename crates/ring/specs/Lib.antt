@@ -1,13 +1,5 @@
-pub mod Modulus
-pub mod ModulusLaws
-pub mod Centring
-pub mod ResidueSteps
 pub mod Element
-pub mod Digits
-pub mod DigitLaws
-pub mod DigitSteps
-pub mod DigitBlocks
-pub mod DigitSums
+pub mod Joined
 pub mod ElementLaws
 pub mod ElementArrays
 pub mod ElementPlaces
@@ -22,10 +14,5 @@ pub mod ProductArrays
 pub mod ProductLaws
 pub mod Short
 pub mod ShortLaws
-pub mod Words
-pub mod Length
-pub mod LengthLaws
-pub mod Range
-pub mod RangeLaws
 pub mod Computing
 pub mod Bench

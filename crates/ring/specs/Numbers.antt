@@ -5,8 +5,8 @@ use lib.IntN.{ℤ, pos, negsuc, negℤ, _+ℤ_, _*ℤ_}
 use Rattle.algebra.specs.CommRing.{neg-mul, one-mul}
 use Rattle.algebra.specs.Negacyclic.{coeff, constant, coeff-add, coeff-neg}
 use Rattle.algebra.specs.Constant.{constant-zero, constant-add, constant-neg, constant-mul, coeff-constant-mul}
-use Rattle.ring.specs.Modulus.{Zq, red}
-use Rattle.ring.specs.ModulusLaws.{red-zero, red-one, red-add, red-neg, red-mul, two-halves}
+use Rattle.residues.specs.Modulus.{Zq, red}
+use Rattle.residues.specs.ModulusLaws.{red-zero, red-one, red-add, red-neg, red-mul, two-halves}
 use Rattle.ring.specs.Element.{R, number}
 use Rattle.ring.specs.ElementLaws.{element-ext}
 

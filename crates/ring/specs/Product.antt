@@ -11,7 +11,7 @@ use lib.ListN.{length, getD}
 use Rattle.integers.specs.Sums.{total}
 use Rattle.algebra.specs.Negacyclic.{coeff}
 use Rattle.algebra.specs.Residue.{make}
-use Rattle.ring.specs.Modulus.{q, q-positive, Zq}
+use Rattle.residues.specs.Modulus.{q, q-positive, Zq}
 use Rattle.ring.specs.Element.{R}
 
 unfoldable pub term : List ℕ → List ℕ → ℕ → ℕ → ℕ

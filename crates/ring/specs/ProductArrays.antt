@@ -17,8 +17,8 @@ use borrow.Author.Tests.{ltb-true, ltb-false}
 use Rattle.integers.specs.Remainder.{emod}
 use Rattle.integers.specs.RemainderLaws.{emod-lt}
 use Rattle.algebra.specs.Negacyclic.{coeff}
-use Rattle.ring.specs.Modulus.{q, Zq}
-use Rattle.ring.specs.ModulusLaws.{q-value, q-above, red-residue}
+use Rattle.residues.specs.Modulus.{q, Zq}
+use Rattle.residues.specs.ModulusLaws.{q-value, q-above, red-residue}
 use Rattle.ring.specs.Element.{Degree, R, el}
 use Rattle.ring.specs.ElementPlaces.{coeff-el}
 use Rattle.ring.specs.Product.{term, folded, column, most, Residues, Extended, TwoColumns, Room, Added}

@@ -14,8 +14,8 @@ use Rattle.algebra.specs.Sum.{sum, sum-cong, sum-one-more}
 use Rattle.algebra.specs.Negacyclic.{coeff, coeff-add, coeff-zero}
 use Rattle.algebra.specs.Convolution.{wrapped, wrapped-yes, wrapped-no, coeff-mul}
 use Rattle.algebra.specs.Residue.{make, make-val, make-add, make-mul, neg, reduce-pos}
-use Rattle.ring.specs.Modulus.{q, q-positive, Zq, red, cent, centred}
-use Rattle.ring.specs.ModulusLaws.{q-value, cent-red}
+use Rattle.residues.specs.Modulus.{q, q-positive, Zq, red, cent, centred}
+use Rattle.residues.specs.ModulusLaws.{q-value, cent-red}
 use Rattle.ring.specs.Element.{Degree, R, lift, el, array}
 use Rattle.ring.specs.ElementArrays.{array-fill}
 use Rattle.ring.specs.ElementPlaces.{el-zero}

@@ -11,7 +11,7 @@ use Rattle.algebra.specs.Sum.{sum, sum-cong, sum-first, sum-mul}
 use Rattle.ring.specs.Element.{R, lift, array, number}
 use Rattle.ring.specs.ElementLaws.{lift-array}
 use Rattle.ring.specs.Numbers.{number-one, number-mul}
-use Rattle.ring.specs.Digits.{joined}
+use Rattle.ring.specs.Joined.{joined}
 use Rattle.ring.specs.DigitElements.{joined-cong}
 
 module _ (d b : ℕ) where

@@ -22,8 +22,8 @@ use Rattle.algebra.specs.Sum.{sum, sum-cong, sum-add, sum-mul}
 use Rattle.algebra.specs.Negacyclic.{coeff}
 use Rattle.algebra.specs.Convolution.{wrapped, wrapped-yes, wrapped-no, coeff-mul}
 use Rattle.algebra.specs.Residue.{make, make-eq, make-val, make-add, make-mul}
-use Rattle.ring.specs.Modulus.{q, q-positive, Zq, red}
-use Rattle.ring.specs.ModulusLaws.{q-value, red-add, red-neg}
+use Rattle.residues.specs.Modulus.{q, q-positive, Zq, red}
+use Rattle.residues.specs.ModulusLaws.{q-value, red-add, red-neg}
 use Rattle.ring.specs.Element.{Degree, R, el}
 use Rattle.ring.specs.ElementPlaces.{coeff-el}
 use Rattle.ring.specs.Product.{term, most, Residues}

@@ -1,13 +1,14 @@
 // Operations of R on the numbers of ring elements: sixty-four numbers by value, lowest power first, those past d zero.
-use crate::modulus;
+use residues::modulus;
 ghost use mathlib.Core.Path.{_≡_};
 ghost use Prim.Native.Nat.{_+_, _-_, _*_, _<_, _≤_};
 ghost use lib.ListN.{length, take};
 ghost use Rattle.integers.specs.Over.{over};
 ghost use Rattle.algebra.specs.Conjugation.{conjugate};
-ghost use Rattle.ring.specs.Modulus.{Zq};
+ghost use Rattle.residues.specs.Modulus.{Zq};
 ghost use Rattle.ring.specs.Element.{R, Degree, lift, el, array, number, same};
-ghost use Rattle.ring.specs.Digits.{Base, joined};
+ghost use Rattle.residues.specs.Digits.{Base};
+ghost use Rattle.ring.specs.Joined.{joined};
 
 // Element p of a list with d numbers to an element. The numbers are centred on the way in.
 pub fn loaded(d: usize, xs: &[i32], p: usize) -> [i32; 64]

@@ -1,8 +1,8 @@
 // Ring elements by value: sixty-four numbers, lowest power first, those past d zero.
 use crate::coefficients;
 use crate::constants;
-use crate::modulus;
 use crate::product;
+use residues::modulus;
 ghost use mathlib.Core.Path.{_≡_};
 ghost use Prim.Native.Nat.{ℕ, _+_, _-_, _*_, _<_, _≤_};
 ghost use lib.ListN.{length, getD, take};
@@ -10,9 +10,10 @@ ghost use lib.IntN.{pos};
 ghost use Rattle.integers.specs.Over.{over};
 ghost use Rattle.algebra.specs.Conjugation.{conjugate};
 ghost use Rattle.algebra.specs.Convolution.{indeterminate};
-ghost use Rattle.ring.specs.Modulus.{Zq, centred};
+ghost use Rattle.residues.specs.Modulus.{Zq, centred};
 ghost use Rattle.ring.specs.Element.{R, Degree, lift, el, array, number, same};
-ghost use Rattle.ring.specs.Digits.{Base, joined};
+ghost use Rattle.residues.specs.Digits.{Base};
+ghost use Rattle.ring.specs.Joined.{joined};
 
 pub struct Element {
     pub coefficients: [i32; 64],

@@ -7,12 +7,12 @@ ghost use lib.ListN.{length, getD};
 ghost use lib.IntN.{pos};
 ghost use Rattle.integers.specs.Lists.{tab, upto};
 ghost use Rattle.algebra.specs.Sum.{sum};
-ghost use Rattle.ring.specs.Modulus.{centred};
+ghost use Rattle.residues.specs.Modulus.{centred};
 ghost use Rattle.ring.specs.Element.{Degree, R, lift, el, array};
 ghost use Rattle.ring.specs.Product.{Residues, Extended, column, TwoColumns, Room, Added, Gained};
-use crate::modulus::from_residue;
-use crate::modulus::residue;
 use crate::short;
+use residues::modulus::from_residue;
+use residues::modulus::residue;
 use std::num;
 
 // The coefficients of element p of u.

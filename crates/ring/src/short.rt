@@ -9,7 +9,7 @@ ghost use Rattle.ring.specs.Element.{Degree, R};
 ghost use Rattle.ring.specs.Product.{Residues, TwoColumns, Room, Added};
 ghost use Rattle.ring.specs.Short.{lifted, weight, shortColumn, Short, Raised, Narrow};
 use crate::product::ColumnPair;
-use crate::range::magnitude;
+use residues::range::magnitude;
 
 // Whether all numbers of element p are below 2^22 in absolute value.
 pub fn is_short(d: usize, v: &[i32], p: usize) -> bool

@@ -3,11 +3,11 @@
 ghost use mathlib.Core.Path.{_≡_};
 ghost use Prim.Native.Nat.{_*_, _<_, _≤_};
 ghost use lib.ListN.{length};
-ghost use Rattle.ring.specs.Digits.{Base};
+ghost use Rattle.residues.specs.Digits.{Base};
 ghost use Rattle.ring.specs.Element.{Degree};
 use cases::numbers::size;
 use cases::printing;
-use ring::digits;
+use residues::digits;
 use ring::element::Element;
 
 // The digits of a number one by one, the lowest first.

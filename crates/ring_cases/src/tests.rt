@@ -5,9 +5,9 @@ ghost use lib.ListN.{length};
 use cases::numbers::natural;
 use cases::numbers::size;
 use cases::printing;
-use ring::length;
-use ring::modulus;
-use ring::range;
+use residues::length;
+use residues::modulus;
+use residues::range;
 
 // Operation 1: `x`.
 pub fn run_centre(xs: &[i32], x: i64) -> usize

@@ -11,7 +11,7 @@ use lib.ListN.{getD}
 use lib.IntN.{ℤ, pos, negsuc, natAbs}
 use borrow.Author.Tests.{leb-true, le-leb}
 use Rattle.ring.specs.Element.{Degree}
-use Rattle.ring.specs.Range.{coefficients, projections}
+use Rattle.residues.specs.Range.{coefficients, projections}
 use Rattle.fold.specs.Answers.{firstRefusal, written}
 use Rattle.fold.specs.Refusals.{degree, rank, parts, constraintCount, projectionCount, commitmentRank, digitCount}
 use Rattle.fold.specs.RefusalLaws.{Passes, refusal-passes, passes-refusal, passes-front, passes-back, passes-join, allOf-all, degree-fits}

@@ -15,8 +15,8 @@ use Rattle.integers.specs.Lists.{take-tab, drop-tab, tab-cong}
 use Rattle.integers.specs.Over.{over, length-over, part-over}
 use Rattle.ring.specs.Element.{every}
 use Rattle.ring.specs.ElementEquality.{every-true, every-zero, every-add-one}
-use Rattle.ring.specs.Range.{coefficients, challenge}
-use Rattle.ring.specs.RangeLaws.{coefficients-part}
+use Rattle.residues.specs.Range.{coefficients, challenge}
+use Rattle.residues.specs.RangeLaws.{coefficients-part}
 use Rattle.fold.specs.Refusals.{challenges}
 use Rattle.sheet.specs.Place.{place, numberAt, numbersFrom, Span}
 use Rattle.sheet.specs.PlaceLaws.{place-mono, contradiction}

@@ -10,7 +10,7 @@ use lib.Dec.{leb, eqb}
 use lib.ListN.{length, getD, take, drop}
 use lib.IntN.{ℤ, pos, natAbs}
 use Rattle.integers.specs.Lists.{tab}
-use Rattle.ring.specs.Range.{coefficients, projections}
+use Rattle.residues.specs.Range.{coefficients, projections}
 use Rattle.fold.specs.Answers.{firstRefusal}
 use Rattle.fold.specs.Refusals.{allOf, degree, rank, parts, constraintCount, projectionCount, commitmentRank, base, digitCount, chunks}
 use Rattle.fold.specs.Refusals.{lengthBound, challenges, projectionLength}

@@ -12,8 +12,8 @@ use lib.Dec.{eqb}
 use lib.ListN.{length, take, drop}
 use lib.IntN.{ℤ}
 use borrow.Author.Tests.{eqb-true, lt-leb, le-leb, not-true, not-false}
-use Rattle.ring.specs.RangeLaws.{coefficients-part}
-use Rattle.ring.specs.Range.{coefficients, projections}
+use Rattle.residues.specs.RangeLaws.{coefficients-part}
+use Rattle.residues.specs.Range.{coefficients, projections}
 use Rattle.fold.specs.Answers.{firstRefusal}
 use Rattle.fold.specs.Refusals.{challenges, projectionLength}
 use Rattle.sheet.specs.declared.sizes.SheetSizes.{SheetSizes}

@@ -15,8 +15,8 @@ use Rattle.integers.specs.Lists.{length-tab, getD-tab}
 use Rattle.integers.specs.Bridge.{zarith, natAbs-pn}
 use Rattle.ring.specs.Element.{every}
 use Rattle.ring.specs.ElementEquality.{every-true}
-use Rattle.ring.specs.Range.{coefficients}
-use Rattle.ring.specs.RangeLaws.{coefficients-at}
+use Rattle.residues.specs.Range.{coefficients}
+use Rattle.residues.specs.RangeLaws.{coefficients-at}
 use Rattle.sheet.specs.declared.field.Field.{Field}
 use Rattle.sheet.specs.declared.field.Field.the-variants.{Number, Broken}
 use Rattle.sheet.specs.declared.sizes.SheetSizes.{SheetSizes}

@@ -15,8 +15,8 @@ use lib.IntN.{ℤ, pos, natAbs}
 use borrow.Author.Tests.{le-leb, leb-true, leb-false, not-true, not-false}
 use Rattle.integers.specs.Lists.{tab, length-tab, getD-tab, tab-suc}
 use Rattle.integers.specs.Over.{over, over-nil, over-tab}
-use Rattle.ring.specs.Range.{allWithin, coefficients}
-use Rattle.ring.specs.RangeLaws.{allWithin-join, allWithin-false, coefficients-at}
+use Rattle.residues.specs.Range.{allWithin, coefficients}
+use Rattle.residues.specs.RangeLaws.{allWithin-join, allWithin-false, coefficients-at}
 use Rattle.sheet.specs.Place.{fieldWidth, place, numberAt, numbersFrom, Span}
 use Rattle.sheet.specs.PlaceLaws.{place-next, place-mono}
 

@@ -6,7 +6,7 @@ use lib.IntN.{ℤ}
 use Rattle.integers.specs.Literals.{+_, -_, _zeros∷_}
 use Rattle.algebra.specs.Triangle.{start, pairs-count}
 use Rattle.ring.specs.Element.{every}
-use Rattle.ring.specs.Range.{allWithin, coefficients, projections, challenge}
+use Rattle.residues.specs.Range.{allWithin, coefficients, projections, challenge}
 use Rattle.integers.specs.Sums.{normSq, sq}
 use Rattle.fold.specs.Answers.{firstRefusal}
 use Rattle.fold.specs.Sizes.{pairs, functionSize, tSize, garbageSize, restSize, openingSize}

@@ -4,7 +4,7 @@ ghost use mathlib.Core.Bool.{true};
 ghost use Prim.Native.Nat.{_≤_};
 ghost use lib.ListN.{length};
 ghost use Rattle.integers.specs.Over.{over};
-ghost use Rattle.ring.specs.Range.{coefficients, projections};
+ghost use Rattle.residues.specs.Range.{coefficients, projections};
 ghost use Rattle.fold.specs.Answers.{firstRefusal, written};
 ghost use Rattle.fold.specs.Refusals.{challenges, projectionLength};
 ghost use Rattle.sheet.specs.Sections.{Bounded, sectionsOf, total, endsLine};

@@ -6,7 +6,7 @@ ghost use lib.Dec.{eqb, leb};
 ghost use lib.ListN.{length, getD};
 ghost use lib.IntN.{natAbs};
 ghost use Rattle.integers.specs.Over.{over};
-ghost use Rattle.ring.specs.Range.{allWithin, coefficients, challenge};
+ghost use Rattle.residues.specs.Range.{allWithin, coefficients, challenge};
 ghost use Rattle.fold.specs.Refusals.{challenges};
 ghost use Rattle.sheet.specs.Fields.{fieldAt, isNumber, numberIn};
 ghost use Rattle.sheet.specs.Sections.{endsLine};
@@ -15,7 +15,7 @@ use crate::field::Field;
 use crate::field::read_field;
 use crate::sizes::Sections;
 use crate::sizes::ends_line;
-use ring::range::is_challenge;
+use residues::range::is_challenge;
 
 // Where fields end, or that they are broken.
 pub enum End {

@@ -17,8 +17,8 @@ use Rattle.integers.specs.Remainder.{emod}
 use Rattle.algebra.specs.Sum.{sum, sum-one-more, sum-cong}
 use Rattle.algebra.specs.Conjugation.{ct}
 use Rattle.algebra.specs.Negacyclic.{coeff}
-use Rattle.ring.specs.Modulus.{q, Zq, red, cent, centred}
-use Rattle.ring.specs.ModulusLaws.{red-zero, red-add, red-mul, red-residue, red-cent, red-centred, cent-red, cent-fits, centred-fixed, cent-bound}
+use Rattle.residues.specs.Modulus.{q, Zq, red, cent, centred}
+use Rattle.residues.specs.ModulusLaws.{red-zero, red-add, red-mul, red-residue, red-cent, red-centred, cent-red, cent-fits, centred-fixed, cent-bound}
 use Rattle.ring.specs.Element.{R, el, array, every}
 use Rattle.ring.specs.ElementLaws.{getD-array}
 use Rattle.ring.specs.ElementSteps.{bits32, bits32-small, bits32-centred}

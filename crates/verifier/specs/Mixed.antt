@@ -12,7 +12,7 @@ use Rattle.algebra.specs.Sum.{sum, sum-cong}
 use Rattle.algebra.specs.Triangle.{pair, pair-row, pair-bound, pairs-count, start, rows, rows-below, below, below-mul, below-cong}
 use Rattle.algebra.specs.DotProduct.{mixed}
 use Rattle.ring.specs.Element.{R, Degree, lift, el, array}
-use Rattle.ring.specs.Digits.{Base}
+use Rattle.residues.specs.Digits.{Base}
 use Rattle.fold.specs.declared.Sizes.{Sizes}
 use Rattle.fold.specs.Sizes.{pairs, garbageSize}
 use Rattle.fold.specs.Verdict.{block, gPlace, hPlace, garbageOf}

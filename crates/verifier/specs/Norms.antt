@@ -8,9 +8,9 @@ use lib.Dec.{leb}
 use lib.ListN.{length, take, drop}
 use lib.IntN.{ℤ}
 use Rattle.integers.specs.Sums.{normSq}
-use Rattle.ring.specs.declared.length.Margin.{Margin}
-use Rattle.ring.specs.Length.{remaining, lessened, holds}
-use Rattle.ring.specs.LengthLaws.{lessened-remaining, holds-remaining}
+use Rattle.residues.specs.declared.length.Margin.{Margin}
+use Rattle.residues.specs.Length.{remaining, lessened, holds}
+use Rattle.residues.specs.LengthLaws.{lessened-remaining, holds-remaining}
 use Rattle.fold.specs.Sizes.{tSize, garbageSize, restSize, openingSize}
 use Rattle.fold.specs.Verdict.{check₁, check₉, zLength, tgLength, hLength, tPlace, gPlace, hPlace}
 

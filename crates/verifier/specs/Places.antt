@@ -13,7 +13,7 @@ use Rattle.algebra.specs.DotProduct.{inner}
 use Rattle.ring.specs.Element.{R, lift, el, array}
 use Rattle.ring.specs.ElementLaws.{lift-array}
 use Rattle.ring.specs.ElementPlaces.{el-overs, el-flat-coeffs}
-use Rattle.ring.specs.Digits.{joined}
+use Rattle.ring.specs.Joined.{joined}
 use Rattle.ring.specs.DigitElements.{joined-cong}
 use Rattle.fold.specs.Messages.{elements, times}
 use Rattle.fold.specs.Verdict.{block, zOf, tOf, garbageOf}

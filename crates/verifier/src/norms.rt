@@ -7,7 +7,7 @@ ghost use Rattle.verifier.specs.Facts.{Fits, Opening};
 ghost use Rattle.verifier.specs.Norms.{withinThree};
 use crate::sizes;
 use fold::Sizes;
-use ring::length;
+use residues::length;
 
 // Check 1: 2·|p|² is at most w·β².
 pub fn short_projection(w: usize, bound: u64, p: &[i32]) -> bool

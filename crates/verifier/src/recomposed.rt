@@ -4,7 +4,7 @@ ghost use Prim.Native.Nat.{_+_, _*_, _<_, _≤_};
 ghost use lib.ListN.{length};
 ghost use Rattle.integers.specs.Over.{over};
 ghost use Rattle.ring.specs.Element.{Degree, el, array};
-ghost use Rattle.ring.specs.Digits.{Base};
+ghost use Rattle.residues.specs.Digits.{Base};
 ghost use Rattle.fold.specs.Messages.{elements};
 ghost use Rattle.fold.specs.Verdict.{block, zOf, tOf};
 ghost use Rattle.verifier.specs.Places.{garbageAt};

@@ -6,15 +6,15 @@ ghost use lib.Dec.{eqb};
 ghost use lib.ListN.{length, getD};
 ghost use lib.IntN.{pos};
 ghost use Rattle.algebra.specs.Sum.{sum};
-ghost use Rattle.ring.specs.Modulus.{Zq, red, cent};
+ghost use Rattle.residues.specs.Modulus.{Zq, red, cent};
 ghost use Rattle.fold.specs.Sizes.{functionSize};
 ghost use Rattle.fold.specs.Verdict.{check₂};
 ghost use Rattle.verifier.specs.Facts.{Fits};
 ghost use Rattle.verifier.specs.ConstantTerms.{Terms, weighted, termHolds};
 use crate::sizes;
 use fold::Sizes;
+use residues::modulus;
 use ring::element::Element;
-use ring::modulus;
 
 // The sum, modulo q, of `count` weights from place `at` on times the numbers of xs at `first`, `first + step`, ..
 fn weighted_sum(

@@ -1,6 +1,6 @@
 -- `constraints::projected::add_signed` meets its contract: the product of two 32-bit numbers leaves room for the sum.
 use mir.Facts.{toZ-ofZ}
-use Rattle.ring.specs.Centring.{widen, wide, product-fits}
+use Rattle.residues.specs.Centring.{widen, wide, product-fits}
 use Rattle.constraints.specs.Projected.{signed-fits}
 use Rattle.constraints.proofs.projected.add_signed.Statement.{statement}
 use Rattle.constraints.proofs.projected.add_signed.Tie as tie

@@ -5,7 +5,7 @@ use native.Mathlib.Omega.{arith}
 use lib.ListN.{getD}
 use lib.IntN.{pos}
 use Rattle.integers.specs.Lists.{tab, upto, fill-start, fill-step}
-use Rattle.ring.specs.Modulus.{centred}
+use Rattle.residues.specs.Modulus.{centred}
 use Rattle.constraints.specs.Projected.{stored-centre}
 use Rattle.constraints.proofs.projected.centre_all.Statement.{statement}
 use Rattle.constraints.proofs.projected.centre_all.Tie as tie

@@ -3,7 +3,7 @@ use mathlib.Core.Path.{refl}
 use Prim.Native.Nat.{_-_, _*_}
 use native.Mathlib.Nat.{mul-le-mul}
 use native.Mathlib.Omega.{arith}
-use Rattle.ring.specs.Digits.{split}
+use Rattle.residues.specs.Digits.{split}
 use Rattle.fold.specs.Messages.{elements, t, tDigits}
 use Rattle.fold.specs.WriterLaws.{Blocks, blocks-start, blocks-fit, blocks-part, blocks-turn, blocks-end, length-element-digits}
 use Rattle.prover.specs.Facts.{t-length}

@@ -4,7 +4,7 @@ use Prim.Native.Nat.{_-_, _*_}
 use native.Mathlib.Nat.{mul-le-mul}
 use native.Mathlib.Omega.{arith}
 use Rattle.ring.specs.Element.{el, coeffs}
-use Rattle.ring.specs.Digits.{split}
+use Rattle.residues.specs.Digits.{split}
 use Rattle.fold.specs.WriterLaws.{Blocks, blocks-start, blocks-fit, blocks-part, blocks-turn, blocks-end, length-digits}
 use Rattle.prover.specs.Places.{block-fits}
 use Rattle.prover.proofs.garbage.write_digits.Statement.{statement}

@@ -3,7 +3,7 @@ use borrow.Author.Needs.{needs}
 use Prim.Native.Nat.{_-_}
 use native.Mathlib.Omega.{arith}
 use Rattle.fold.specs.WriterLaws.{split-element}
-use Rattle.ring.specs.DigitBlocks.{last-fits}
+use Rattle.residues.specs.DigitBlocks.{last-fits}
 use Rattle.prover.proofs.garbage.write_element_digits.Statement.{statement}
 use Rattle.prover.proofs.garbage.write_element_digits.Tie as tie
 

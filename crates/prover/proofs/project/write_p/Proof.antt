@@ -2,7 +2,7 @@
 use Prim.Native.Nat.{_+_, _-_}
 use native.Mathlib.Omega.{arith}
 use lib.ListN.{length}
-use Rattle.ring.specs.RangeLaws.{projections-part}
+use Rattle.residues.specs.RangeLaws.{projections-part}
 use Rattle.prover.specs.Facts.{rows-length, witness-short}
 use Rattle.prover.specs.Projected.{Projecting, projecting-start, projecting-fit, projecting-part, projecting-turn, projecting-end}
 use Rattle.prover.proofs.project.write_p.Statement.{statement}

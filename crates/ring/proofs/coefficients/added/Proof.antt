@@ -5,7 +5,7 @@ use native.Mathlib.Omega.{arith}
 use lib.IntN.{pos, _+ℤ_}
 use lib.ListN.{getD}
 use Rattle.integers.specs.Lists.{tab, upto, fill-start, fill-step}
-use Rattle.ring.specs.Modulus.{centred}
+use Rattle.residues.specs.Modulus.{centred}
 use Rattle.ring.specs.ElementSteps.{stored-sum}
 use Rattle.ring.specs.ElementArrays.{array-add}
 use Rattle.ring.proofs.coefficients.added.Statement.{statement}

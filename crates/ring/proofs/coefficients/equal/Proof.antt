@@ -6,7 +6,7 @@ use lib.ListN.{getD}
 use lib.Dec.{eqb}
 use lib.IntN.{pos}
 use Rattle.integers.specs.Remainder.{emod}
-use Rattle.ring.specs.Modulus.{q}
+use Rattle.residues.specs.Modulus.{q}
 use Rattle.ring.specs.ElementSteps.{bits32-small}
 use Rattle.ring.specs.Element.{every}
 use Rattle.ring.specs.ElementEquality.{every-zero, every-next, same-lift}

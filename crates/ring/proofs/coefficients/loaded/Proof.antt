@@ -5,7 +5,7 @@ use native.Mathlib.Omega.{arith}
 use lib.ListN.{getD}
 use lib.IntN.{pos}
 use Rattle.integers.specs.Lists.{tab, upto, fill-start, fill-step}
-use Rattle.ring.specs.Modulus.{centred}
+use Rattle.residues.specs.Modulus.{centred}
 use Rattle.ring.specs.ElementSteps.{stored-number}
 use Rattle.ring.specs.ElementArrays.{array-el}
 use Rattle.ring.proofs.coefficients.loaded.Statement.{statement}

@@ -8,7 +8,7 @@ use mir.Syntax.{w32}
 use mir.Val.{toZ}
 use mir.Facts.{toZ-ofZ}
 use Rattle.integers.specs.Lists.{tab, upto, fill-start, fill-step}
-use Rattle.ring.specs.Modulus.{centred}
+use Rattle.residues.specs.Modulus.{centred}
 use Rattle.ring.specs.ElementSteps.{bits32, stored-product}
 use Rattle.ring.specs.ElementArrays.{array-scale}
 use Rattle.ring.proofs.coefficients.scaled.Statement.{statement}

@@ -4,7 +4,7 @@ use Prim.Native.Nat.{_+_, _-_, _*_, _≤_}
 use native.Mathlib.Omega.{arith}
 use lib.ListN.{getD}
 use lib.IntN.{pos}
-use Rattle.ring.specs.Words.{word}
+use Rattle.residues.specs.Words.{word}
 use Rattle.ring.specs.Short.{lifted, Raised}
 use Rattle.ring.specs.ShortLaws.{raised-start, raised-step, raised-limit, short-at}
 use Rattle.ring.proofs.short.raise.Statement.{statement}

@@ -1,7 +1,7 @@
 -- `ring::short::raised` meets its contract: 2^22 + x is not negative.
 use mathlib.Core.Path.{refl}
 use mir.Facts.{toZ-ofZ, sfits-widen}
-use Rattle.ring.specs.Words.{wide}
+use Rattle.residues.specs.Words.{wide}
 use Rattle.ring.specs.Short.{lifted}
 use Rattle.ring.specs.ShortLaws.{raised-fits, raised-natural}
 use Rattle.ring.proofs.short.raised.Statement.{statement}

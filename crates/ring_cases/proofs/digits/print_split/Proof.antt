@@ -1,7 +1,7 @@
 -- `ring_cases::digits::print_split` is safe. Assumes nothing.
 use native.Mathlib.Omega.{arith}
 use borrow.Author.Needs.{needs}
-use Rattle.ring.specs.DigitBlocks.{last-fits}
+use Rattle.residues.specs.DigitBlocks.{last-fits}
 use Rattle.ring_cases.proofs.digits.print_split.Statement.{statement}
 use Rattle.ring_cases.proofs.digits.print_split.Tie as tie
 

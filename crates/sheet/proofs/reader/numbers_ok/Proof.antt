@@ -1,7 +1,7 @@
 -- `sheet::reader::numbers_ok` meets its contract.
 use mathlib.Core.Path.{ap, _∙_}
 use native.Mathlib.Omega.{arith}
-use Rattle.ring.specs.Range.{allWithin, coefficients}
+use Rattle.residues.specs.Range.{allWithin, coefficients}
 use Rattle.sheet.specs.ReadingLaws.{lines-positive, front-span, all-numbers}
 use Rattle.sheet.proofs.reader.numbers_ok.Statement.{statement}
 use Rattle.sheet.proofs.reader.numbers_ok.Tie as tie

@@ -2,7 +2,7 @@
 use mathlib.Core.Path.{ap, _∙_}
 use native.Mathlib.Omega.{arith}
 use Rattle.integers.specs.Over.{over}
-use Rattle.ring.specs.Range.{coefficients}
+use Rattle.residues.specs.Range.{coefficients}
 use Rattle.sheet.specs.ReadingLaws.{lines-positive, front-span, all-numbers}
 use borrow.Author.Needs.{needs}
 use Rattle.sheet.proofs.reader.store.Statement.{statement}

@@ -1,6 +1,6 @@
 -- `sheet::walk::challenge_at` meets its contract.
 use mathlib.Core.Path.{refl, ap, _∙_}
-use Rattle.ring.specs.Range.{challenge}
+use Rattle.residues.specs.Range.{challenge}
 use Rattle.sheet.specs.Sections.{endsLine}
 use Rattle.sheet.specs.ChallengeLaws.{lent-length, lent-part}
 use borrow.Author.Needs.{needs}

@@ -1,0 +1,50 @@
+-- `residues::digits::quotient` meets its contract: the difference fits 64 bits, and its quotient 32.
+use native.Mathlib.Omega.{arith}
+use mir.Syntax.{w32}
+use mir.Val.{SFits}
+use mir.Facts.{toZ-ofZ}
+use Rattle.residues.specs.Centring.{widen}
+use Rattle.residues.specs.DigitSteps.{sub-low-fits, rest-quotient-fits, rest-narrow-fits, rest-held}
+use borrow.Author.Needs.{needs}
+use Rattle.residues.proofs.digits.quotient.Statement.{statement}
+use Rattle.residues.proofs.digits.quotient.Tie as tie
+
+low-digit-requires : tie.Need-low-digit-requires
+low-digit-requires c κs = search needs
+
+cast-difference : tie.Need-cast-difference
+cast-difference c = let x = c .before .fits .x in rw (toZ-ofZ x) (widen x)
+
+cast-difference-2 : tie.Need-cast-difference-2
+cast-difference-2 c = let r : SFits w32 (c .low-digit .result) = record { sfits = c .low-digit .ok } in rw (toZ-ofZ r) (widen r)
+
+sub-difference : tie.Need-sub-difference
+sub-difference c = sub-low-fits (c .before .pre) (c .before .fits .x) (record { sfits = c .low-digit .ok }) (c .low-digit .ensures)
+
+cast-result : tie.Need-cast-result
+cast-result c = search needs
+
+div-result : tie.Need-div-result
+div-result c = (
+  omega (arith, c .before .pre .least),
+  rest-quotient-fits (c .before .pre) (c .before .fits .x) (record { sfits = c .low-digit .ok }) (c .low-digit .ensures),
+)
+
+cast-result-2 : tie.Need-cast-result-2
+cast-result-2 c = rest-narrow-fits (c .before .pre) (c .before .fits .x) (record { sfits = c .low-digit .ok }) (c .low-digit .ensures)
+
+returns : tie.Need-returns
+returns c = rest-held (c .before .pre) (c .before .fits .x) (record { sfits = c .low-digit .ok }) (c .low-digit .ensures)
+
+pub quotient-spec : {M : Type 1} → statement M
+quotient-spec =
+    tie.close
+    (tie.spec
+    low-digit-requires
+    cast-difference
+    cast-difference-2
+    sub-difference
+    cast-result
+    div-result
+    cast-result-2
+    returns)

@@ -1,0 +1,25 @@
+-- `residues::modulus::from_residue` meets its contract: the remainder has the same centred number.
+use mathlib.Core.Path.{_∙_}
+use Prim.Native.Nat.{_%_, _^_, _<_}
+use native.Mathlib.Omega.{arith}
+use borrow.Author.Needs.{needs}
+use mir.Syntax.{w64}
+use mir.Facts.{toZ-ofZ, toZ-pos}
+use Rattle.residues.specs.ModulusLaws.{centred-mod}
+use Rattle.residues.proofs.modulus.from_residue.Statement.{statement}
+use Rattle.residues.proofs.modulus.from_residue.Tie as tie
+
+cast-wide : tie.Need-cast-wide
+cast-wide c = search needs
+
+centre-requires : tie.Need-centre-requires
+centre-requires c κs = search needs
+
+returns : tie.Need-returns
+returns c =
+    let x = c .before .args .x in
+    let low : x % 4294967197 < 2 ^ 63 = omega arith in
+    toZ-ofZ (record { sfits = c .centre .ok }) ∙ (rw (toZ-pos w64 low) at (c .centre .ensures)) ∙ centred-mod x
+
+pub from-residue-spec : {M : Type 1} → statement M
+from-residue-spec = tie.close (tie.spec cast-wide centre-requires returns)

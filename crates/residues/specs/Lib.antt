@@ -1,0 +1,14 @@
+pub mod Modulus
+pub mod ModulusLaws
+pub mod Centring
+pub mod ResidueSteps
+pub mod Digits
+pub mod DigitLaws
+pub mod DigitSteps
+pub mod DigitBlocks
+pub mod DigitSums
+pub mod Words
+pub mod Length
+pub mod LengthLaws
+pub mod Range
+pub mod RangeLaws

@@ -1,0 +1,208 @@
+-- Laws of the range tests on slices.
+--     allWithin-at, allWithin-of        the test by index: true is a bound for each number
+--     allWithin-false                   one number above the bound
+--     allWithin-append, -take, -drop, -part, -mono    joined slices, a part of a slice, a greater bound
+--     Tested                            the invariant of the loop of `all_within`, with its start, its step and its two ends
+--     coefficients-.., projections-..   the same at the bounds of rows 8 and 9
+--     challenge-..                      row 10: what the rule says of each number, of the squared length and of the sum of absolute values
+use mathlib.Core.Path.{_≡_, refl, sym, ap, _∙_, subst}
+use mathlib.Core.Bool.{Bool, true, false, cond, _&&_}
+use mathlib.Core.List.{List, [], _∷_, _++_}
+use Prim.Native.Nat.{ℕ, zero, suc, _+_, _*_, _^_, _≤_, _<_}
+use native.Mathlib.Nat.{le-trans}
+use native.Mathlib.Numerals.{add-one}
+use native.Mathlib.Omega.{arith}
+use lib.Dec.{T, leb, lit≤}
+use lib.ListN.{length, getD, take, drop, take-append-drop}
+use lib.Seq.{take-suc, take-all}
+use lib.IntN.{ℤ, pos, natAbs}
+use lib.Signed.{mag}
+use mir.Syntax.{w32}
+use mir.Val.{SFits, toZ, ofZ}
+use borrow.Author.Tests.{le-leb, lt-leb, leb-true}
+use Rattle.integers.specs.Bridge.{zarith, natAbs-pn}
+use Rattle.integers.specs.Sums.{normSq, sq, total, total-mono, normSq-total}
+use Rattle.residues.specs.declared.length.Margin.{Margin}
+use Rattle.residues.specs.Length.{remaining, holds}
+use Rattle.residues.specs.LengthLaws.{holds-remaining}
+use Rattle.residues.specs.Words.{word}
+use Rattle.residues.specs.Range.{allWithin, coefficients, projections, challenge}
+
+-- ---- both tests of a conjunction
+
+both-left : (s t : Bool) → cond s t false ≡ true → s ≡ true
+both-left true t e = refl
+both-left false t e = e
+
+both-right : (s t : Bool) → cond s t false ≡ true → t ≡ true
+both-right true t e = e
+both-right false t e = absurd (subst T (sym e) tt)
+
+both-and : (s t : Bool) → s && t ≡ cond s t false
+both-and true t = refl
+both-and false t = refl
+
+both-false : (s : Bool) → cond s false false ≡ false
+both-false true = refl
+both-false false = refl
+
+single : (b : ℕ) (x : ℤ) → natAbs x ≤ b → allWithin b (x ∷ []) ≡ true
+unfolding allWithin
+single b x h = rw (le-leb (natAbs x) b h) refl
+
+-- ---- the test by index
+
+-- the default, 0, is within every bound, so the index need not be below the length
+pub allWithin-at : (b : ℕ) (xs : List ℤ) → allWithin b xs ≡ true → (i : ℕ) → natAbs (getD xs i (pos 0)) ≤ b
+unfolding allWithin
+allWithin-at b [] e i = omega arith
+allWithin-at b (x ∷ xs) e zero = leb-true (natAbs x) b (both-left (leb (natAbs x) b) (allWithin b xs) e)
+allWithin-at b (x ∷ xs) e (suc i) = allWithin-at b xs (both-right (leb (natAbs x) b) (allWithin b xs) e) i
+
+pub allWithin-of : (b : ℕ) (xs : List ℤ) → ((i : ℕ) → i < length xs → natAbs (getD xs i (pos 0)) ≤ b) → allWithin b xs ≡ true
+unfolding allWithin
+allWithin-of b [] h = refl
+allWithin-of b (x ∷ xs) h =
+    rw (le-leb (natAbs x) b (h 0 (omega arith)), allWithin-of b xs (λ i k. h (suc i) (omega arith))) refl
+
+pub allWithin-false : (b : ℕ) (xs : List ℤ) (i : ℕ) → b < natAbs (getD xs i (pos 0)) → allWithin b xs ≡ false
+unfolding allWithin
+allWithin-false b [] i h = let f : ⊥ = omega arith in absurd f
+allWithin-false b (x ∷ xs) zero h = rw (lt-leb (natAbs x) b h) refl
+allWithin-false b (x ∷ xs) (suc i) h = rw (allWithin-false b xs i h) (both-false (leb (natAbs x) b))
+
+pub allWithin-mono : (b c : ℕ) (xs : List ℤ) → b ≤ c → allWithin b xs ≡ true → allWithin c xs ≡ true
+allWithin-mono b c xs h e = allWithin-of c xs (λ i k. le-trans (allWithin-at b xs e i) h)
+
+-- ---- joined slices, and a part of one
+
+pub allWithin-append : (b : ℕ) (xs ys : List ℤ) → allWithin b (xs ++ ys) ≡ cond (allWithin b xs) (allWithin b ys) false
+unfolding allWithin
+allWithin-append b [] ys = refl
+allWithin-append b (x ∷ xs) ys = rw (allWithin-append b xs ys) (cond-assoc (leb (natAbs x) b))
+  where
+    cond-assoc : (s : Bool)
+        → cond s (cond (allWithin b xs) (allWithin b ys) false) false ≡ cond (cond s (allWithin b xs) false) (allWithin b ys) false
+    cond-assoc true = refl
+    cond-assoc false = refl
+
+pub allWithin-join : (b : ℕ) (xs ys : List ℤ) → allWithin b xs ≡ true → allWithin b ys ≡ true → allWithin b (xs ++ ys) ≡ true
+allWithin-join b xs ys e f = rw (allWithin-append b xs ys, e) f
+
+pub allWithin-take : (b n : ℕ) (xs : List ℤ) → allWithin b xs ≡ true → allWithin b (take n xs) ≡ true
+allWithin-take b n xs e =
+    both-left (allWithin b (take n xs)) (allWithin b (drop n xs)) (sym (allWithin-append b (take n xs) (drop n xs)) ∙ rw take-append-drop e)
+
+pub allWithin-drop : (b n : ℕ) (xs : List ℤ) → allWithin b xs ≡ true → allWithin b (drop n xs) ≡ true
+allWithin-drop b n xs e =
+    both-right (allWithin b (take n xs)) (allWithin b (drop n xs)) (sym (allWithin-append b (take n xs) (drop n xs)) ∙ rw take-append-drop e)
+
+-- a part `&xs[m..m + n]`
+pub allWithin-part : (b m n : ℕ) (xs : List ℤ) → allWithin b xs ≡ true → allWithin b (take n (drop m xs)) ≡ true
+allWithin-part b m n xs e = allWithin-take b n (drop m xs) (allWithin-drop b m xs e)
+
+-- one number more
+pub allWithin-take-suc : (b : ℕ) (xs : List ℤ) (i : ℕ) → i < length xs → allWithin b (take i xs) ≡ true
+    → natAbs (getD xs i (pos 0)) ≤ b → allWithin b (take (suc i) xs) ≡ true
+allWithin-take-suc b xs i h e k =
+    rw (take-suc xs i (pos 0)) (allWithin-join b (take i xs) (getD xs i (pos 0) ∷ []) e (single b (getD xs i (pos 0)) k))
+
+-- ---- the loop of `all_within`: the first i numbers are within the bound, and m is the absolute value of the next
+
+pub record Tested (b : ℕ) (xs : List ℤ) (i : ℕ) : Type 0 where
+  pub below : i ≤ length xs
+  pub passed : allWithin b (take i xs) ≡ true
+
+pub tested-start : (b : ℕ) (xs : List ℤ) → Tested b xs 0
+unfolding allWithin
+tested-start b xs = record { below = omega arith; passed = refl }
+
+-- the answer of `magnitude`, which reads the element back from its bits
+module _ (b : ℕ) (xs : List ℤ) (i m : ℕ) (fits : mag (getD xs i (pos 0)) < 2 ^ 31)
+    (e : m ≡ natAbs (toZ w32 (ofZ w32 (getD xs i (pos 0))))) where
+  absolute : m ≡ natAbs (getD xs i (pos 0))
+  absolute = e ∙ ap natAbs (word (getD xs i (pos 0)) fits)
+
+  pub tested-step : Tested b xs i → i < length xs → m ≤ b → Tested b xs (i + 1)
+  tested-step inv h k =
+      record { below = omega arith; passed = rw add-one (allWithin-take-suc b xs i h (inv .passed) (omega (arith, absolute))) }
+
+  pub tested-false : b < m → false ≡ allWithin b xs
+  tested-false k = sym (allWithin-false b xs i (omega (arith, absolute)))
+
+pub tested-end : (b : ℕ) (xs : List ℤ) (i : ℕ) → Tested b xs i → length xs ≤ i → true ≡ allWithin b xs
+tested-end b xs i inv h = sym (rw (take-all i xs) at (inv .passed))
+
+-- ---- row 8
+
+pub coefficients-at : (xs : List ℤ) → coefficients xs ≡ true → (i : ℕ) → natAbs (getD xs i (pos 0)) ≤ 2147483598
+unfolding coefficients
+coefficients-at xs e i = allWithin-at 2147483598 xs e i
+
+pub coefficients-of : (xs : List ℤ) → ((i : ℕ) → i < length xs → natAbs (getD xs i (pos 0)) ≤ 2147483598) → coefficients xs ≡ true
+unfolding coefficients
+coefficients-of xs h = allWithin-of 2147483598 xs h
+
+-- an i32 holds each
+pub coefficients-fits : (xs : List ℤ) → coefficients xs ≡ true → (i : ℕ) → SFits w32 (getD xs i (pos 0))
+coefficients-fits xs e i =
+    omega (zarith, coefficients-at xs e i, natAbs-pn (getD xs i (pos 0)))
+
+pub coefficients-join : (xs ys : List ℤ) → coefficients xs ≡ true → coefficients ys ≡ true → coefficients (xs ++ ys) ≡ true
+unfolding coefficients
+coefficients-join xs ys e f = allWithin-join 2147483598 xs ys e f
+
+pub coefficients-part : (m n : ℕ) (xs : List ℤ) → coefficients xs ≡ true → coefficients (take n (drop m xs)) ≡ true
+unfolding coefficients
+coefficients-part m n xs e = allWithin-part 2147483598 m n xs e
+
+-- ---- row 9
+
+pub projections-at : (xs : List ℤ) → projections xs ≡ true → (i : ℕ) → natAbs (getD xs i (pos 0)) ≤ 1
+unfolding projections
+projections-at xs e i = allWithin-at 1 xs e i
+
+pub projections-part : (m n : ℕ) (xs : List ℤ) → projections xs ≡ true → projections (take n (drop m xs)) ≡ true
+unfolding projections
+projections-part m n xs e = allWithin-part 1 m n xs e
+
+-- ---- row 10
+
+-- the rule as two tests, the second on what 71 leaves
+pub challenge-tests : (xs : List ℤ) {small short : Bool} {margin : Margin} → small ≡ allWithin 2 xs → margin ≡ remaining 71 (normSq xs)
+    → short ≡ holds margin → small && short ≡ challenge xs
+unfolding challenge
+challenge-tests xs e m h = rw (e, h, m, holds-remaining) (both-and (allWithin 2 xs) (leb (normSq xs) 71))
+
+challenge-within : (xs : List ℤ) → challenge xs ≡ true → allWithin 2 xs ≡ true
+unfolding challenge
+challenge-within xs e = both-left (allWithin 2 xs) (leb (normSq xs) 71) e
+
+pub challenge-at : (xs : List ℤ) → challenge xs ≡ true → (i : ℕ) → natAbs (getD xs i (pos 0)) ≤ 2
+challenge-at xs e i = allWithin-at 2 xs (challenge-within xs e) i
+
+pub challenge-normSq : (xs : List ℤ) → challenge xs ≡ true → normSq xs ≤ 71
+unfolding challenge
+challenge-normSq xs e = leb-true (normSq xs) 71 (both-right (allWithin 2 xs) (leb (normSq xs) 71) e)
+
+n-square : (n : ℕ) → n ≤ n * n
+n-square zero = omega arith
+n-square (suc n) = omega arith
+
+pub natAbs-sq : (x : ℤ) → natAbs x ≤ sq x
+unfolding sq
+natAbs-sq x = n-square (natAbs x)
+
+-- the sum of the absolute values, which are at most their squares
+pub challenge-sum : (xs : List ℤ) → challenge xs ≡ true → total (length xs) (λ i. natAbs (getD xs i (pos 0))) ≤ 71
+challenge-sum xs e =
+    omega (
+      arith,
+      challenge-normSq xs e,
+      normSq-total xs,
+      total-mono (length xs) (λ i. natAbs (getD xs i (pos 0))) (λ i. sq (getD xs i (pos 0))) (λ i h. natAbs-sq (getD xs i (pos 0))),
+    )
+
+pub challenge-coefficients : (xs : List ℤ) → challenge xs ≡ true → coefficients xs ≡ true
+unfolding coefficients
+challenge-coefficients xs e = allWithin-mono 2 2147483598 xs (lit≤ tt) (challenge-within xs e)

@@ -1,0 +1,89 @@
+// Digits to a base: signed division and remainder.
+ghost use mathlib.Core.Path.{_≡_};
+ghost use Prim.Native.Nat.{ℕ, _+_, _*_, _-_, _<_, _≤_};
+ghost use lib.ListN.{length, drop, getD};
+ghost use lib.IntN.{pos, _+ℤ_, _*ℤ_};
+ghost use Rattle.residues.specs.Modulus.{centred};
+ghost use Rattle.residues.specs.Digits.{Base, low, rest, split, value};
+ghost use Rattle.residues.specs.DigitBlocks.{Peeled};
+use crate::modulus::centre;
+
+// The low digit of x: congruent to x modulo the base, at least -base/2 and below base/2.
+pub fn low_digit(base: usize, x: i32) -> i32
+    requires { ⌜ Base base ⌝ }
+    ensures { λ r. ⌜ r ≡ low base x ⌝ }
+{
+    let b = base as i64;
+    let half = b / 2;
+    let remainder = x as i64 % b;
+    let shifted = remainder + (b + half);
+    let digit = shifted % b;
+    (digit - half) as i32
+}
+
+// What is left of x after its low digit: their difference divided by the base.
+pub fn quotient(base: usize, x: i32) -> i32
+    requires { ⌜ Base base ⌝ }
+    ensures { λ r. ⌜ r ≡ rest base x ⌝ }
+{
+    let digit = low_digit(base, x);
+    let difference = x as i64 - digit as i64;
+    (difference / base as i64) as i32
+}
+
+// One digit of each number from `from` on, `width` of them: the low digits go to `to` on, what is left stays.
+fn peel(base: usize, width: usize, block: &mut [i32], to: usize, from: usize)
+    requires { ⌜ Base base ⌝ }
+    requires { ⌜ (to + width ≤ from) × (from + width ≤ length (now block)) ⌝ }
+    ensures { λ _. ⌜ Peeled base to from width (now (block .entry)) (now (block .exit)) ⌝ }
+{
+    let mut i = 0;
+    while i < width {
+        let place = from + i;
+        let x = block[place];
+        let low = low_digit(base, x);
+        let left = quotient(base, x);
+        block[to + i] = low;
+        block[place] = left;
+        i += 1;
+    }
+}
+
+// The digits of `width` numbers, digit by digit: the numbers stand in the last of `count` stretches of the block.
+pub fn split_digits(base: usize, count: usize, width: usize, block: &mut [i32])
+    requires { ⌜ Base base ⌝ }
+    requires { ⌜ (0 < count) × (length (now block) ≡ count * width) ⌝ }
+    ensures { λ _. ⌜ now (block .exit) ≡ split base count (drop ((count - 1) * width) (now (block .entry))) ⌝ }
+{
+    let last = (count - 1) * width;
+    let mut k = 0;
+    while k + 1 < count {
+        peel(base, width, block, k * width, last);
+        k += 1;
+    }
+}
+
+// One step of Horner's rule, modulo q.
+pub fn fold_digit(acc: i32, base: usize, x: i32) -> i32
+    requires { ⌜ Base base ⌝ }
+    ensures { λ r. ⌜ r ≡ centred (acc *ℤ pos base +ℤ x) ⌝ }
+{
+    let product = acc as i64 * base as i64;
+    let digit = x as i64;
+    centre(product + digit)
+}
+
+// The number modulo q whose digits stand `width` apart, the lowest at `at`.
+pub fn recompose_number(base: usize, count: usize, width: usize, digits: &[i32], at: usize) -> i32
+    requires { ⌜ Base base ⌝ }
+    requires { ⌜ (0 < count) × (at + (count - 1) * width < length (now digits)) ⌝ }
+    ensures { λ r. ⌜ r ≡ centred (value base count (λ e. getD (now (digits .entry)) (at + e * width) (pos 0))) ⌝ }
+{
+    let mut left = count;
+    let mut acc: i32 = 0;
+    while left > 0 {
+        left -= 1;
+        acc = fold_digit(acc, base, digits[at + left * width]);
+    }
+    acc
+}
