@@ -1,5 +1,6 @@
 -- What the work of messages 3 and 4 asks of its arguments: sizes, lengths, and that the projection entries were tested. Each record is a part of
 -- what is known after the tests of a call (CallFacts of crate fold), and the laws below it say so.
+--     PairFacts      message 3, the pairs
 --     ValueFacts     message 3, b''
 --     HFacts         message 4, h
 --     OuterFacts     message 4, u2
@@ -13,7 +14,11 @@ use Rattle.ring.specs.Element.{Degree}
 use Rattle.residues.specs.Digits.{Base}
 use Rattle.fold.specs.Sizes.{garbageSize}
 use Rattle.fold.specs.CallFacts as calls
-use Rattle.constraints.specs.Facts.{SecondFacts, AggregateFacts}
+use Rattle.constraints.specs.Facts.{TermFacts, SecondFacts, AggregateFacts}
+
+pub record PairFacts (d n r L : ℕ) (term ψ s : List ℤ) : Type 0 where
+  pub terms : TermFacts d n r L term ψ
+  pub s-length : length s ≡ r * n * d
 
 pub record ValueFacts (d n r L w : ℕ) (term rows ψ ω s : List ℤ) : Type 0 where
   pub seconds : SecondFacts d n r L w term rows ψ ω

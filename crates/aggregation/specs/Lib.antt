@@ -1,3 +1,4 @@
 pub mod Facts
+pub mod Rows
 pub mod Values
 pub mod Garbage

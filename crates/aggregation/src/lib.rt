@@ -2,4 +2,5 @@
 // Document 01, 'Messages, in order'.
 pub mod garbage;
 mod products;
+mod rows;
 pub mod second;

@@ -1,1 +1,5 @@
+pub mod CutSizes
 pub mod NextFacts
+pub mod Stages
+pub mod CountLaws
+pub mod Parts

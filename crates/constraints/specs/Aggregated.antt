@@ -17,7 +17,6 @@ use Rattle.fold.specs.Sizes.{pairs, functionSize}
 use Rattle.fold.specs.Statement.{wholeConstant}
 use Rattle.fold.specs.Messages.{five, aggregateConstant}
 use Rattle.fold.specs.Entries.{termEntry, projectionEntry, secondA, secondΦ, wholeEntry, aggregateA, aggregateΦ}
-use Rattle.constraints.specs.Running.{Summing, summing-end}
 
 unfoldable pub weightedA : (d n r L : ℕ) (term ψ δ : List ℤ) (e : ℕ) → ℕ → R d .Carrier
 weightedA d n r L term ψ δ e k = R d .mul (el d δ k) (secondA d n r L term ψ k e)
@@ -39,10 +38,6 @@ pub value-conjugate : (d : ℕ) → Degree d → (x : R d .Carrier) {a c : List 
 value-conjugate d degree x is e = e ∙ rw (is, lift-array d x (degree .small)) refl
 
 -- ---- the five second functions
-
-pub five-end : {d : ℕ} {F : ℕ → R d .Carrier} {j : ℕ} {acc : List ℤ} → Summing d F 5 j acc → 5 ≤ j → acc ≡ array d (sum (R d) five F)
-unfolding five
-five-end running h = summing-end running h
 
 pub δ-place : (d : ℕ) (δ : List ℤ) → length δ ≡ 5 * d → {k : ℕ} → k < 5 → k * d + d ≤ length δ
 δ-place d δ e {k} h = omega (arith, e, mul-le-mul-right d h)

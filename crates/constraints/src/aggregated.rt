@@ -1,23 +1,22 @@
 // The aggregated function, by place: document 01, message 4.
 ghost use mathlib.Core.Path.{_≡_};
 ghost use Prim.Native.Nat.{_*_, _<_, _≤_};
-ghost use lib.ListN.{length};
+ghost use mathlib.Core.List.{[]};
+ghost use lib.ListN.{length, getD};
 ghost use Rattle.algebra.specs.Sum.{sum};
-ghost use Rattle.ring.specs.Element.{Degree, R, lift, array};
+ghost use Rattle.ring.specs.Element.{Degree, R, lift, el, array};
 ghost use Rattle.fold.specs.Sizes.{pairs, functionSize};
 ghost use Rattle.fold.specs.Messages.{five, aggregateConstant};
 ghost use Rattle.fold.specs.Entries.{wholeEntry, aggregateA, aggregateΦ};
 ghost use Rattle.constraints.specs.Facts.{TermFacts, SecondFacts, WholeFacts, AggregateFacts};
 ghost use Rattle.constraints.specs.Aggregated.{weightedA, weightedΦ};
-use crate::second::second_a;
-use crate::second::second_phi;
+use crate::second::COUNT;
+use crate::second::second_row_a;
+use crate::second::second_row_phi;
 use crate::sizes;
 use fold::Shape;
 use ring::element::Element;
 use ring::product;
-
-// How many second functions there are.
-pub const COUNT: usize = 5;
 
 fn multiplied(d: usize, a: Element, b: Element) -> Element
     requires { ⌜ Degree d ⌝ }
@@ -54,6 +53,25 @@ pub fn whole_entry(shape: Shape, kc: usize, whole: &[i32], alpha: &[i32], e: usi
     sum
 }
 
+// Σ_k δ_k x_k, where the row holds the x_k.
+fn weighted_row(d: usize, delta: &[i32], row: [[i32; 64]; 5]) -> Element
+    requires { ⌜ Degree d ⌝ }
+    requires { ⌜ length (now delta) ≡ 5 * d ⌝ }
+    ensures { λ r. ⌜ r .coefficients ≡ array d (sum (R d) 5 (λ k. R d .mul (el d (now (delta .entry)) k) (lift d (getD row k [])))) ⌝ }
+{
+    let mut sum = Element::additive_identity();
+    let mut k = 0;
+    while k < COUNT {
+        let coefficients = row[k];
+        let entry = Element { coefficients };
+        let weight = Element::from_slice(d, delta, k);
+        let weighted = multiplied(d, weight, entry);
+        sum = sum.sum(d, weighted);
+        k += 1;
+    }
+    sum
+}
+
 // Σ_k δ_k f''_k at pair place e.
 fn weighted_a(shape: Shape, l: usize, term: &[i32], psi: &[i32], delta: &[i32], e: usize) -> Element
     requires { ⌜ TermFacts (shape .d) (shape .n) (shape .r) l (now term) (now psi) ⌝ }
@@ -62,16 +80,8 @@ fn weighted_a(shape: Shape, l: usize, term: &[i32], psi: &[i32], delta: &[i32], 
         (now (term .entry)) (now (psi .entry)) (now (delta .entry)) e)) ⌝ }
 {
     let d = shape.d;
-    let mut sum = Element::additive_identity();
-    let mut k = 0;
-    while k < COUNT {
-        let entry = second_a(shape, l, term, psi, k, e);
-        let weight = Element::from_slice(d, delta, k);
-        let weighted = multiplied(d, weight, entry);
-        sum = sum.sum(d, weighted);
-        k += 1;
-    }
-    sum
+    let row = second_row_a(shape, l, term, psi, e);
+    weighted_row(d, delta, row)
 }
 
 // Σ_k δ_k φ''_k at element e of the witness.
@@ -92,16 +102,8 @@ fn weighted_phi(
         (now (term .entry)) (now (rows .entry)) (now (psi .entry)) (now (omega .entry)) (now (delta .entry)) e)) ⌝ }
 {
     let d = shape.d;
-    let mut sum = Element::additive_identity();
-    let mut k = 0;
-    while k < COUNT {
-        let entry = second_phi(shape, l, w, term, rows, psi, omega, k, e);
-        let weight = Element::from_slice(d, delta, k);
-        let weighted = multiplied(d, weight, entry);
-        sum = sum.sum(d, weighted);
-        k += 1;
-    }
-    sum
+    let row = second_row_phi(shape, l, w, term, rows, psi, omega, e);
+    weighted_row(d, delta, row)
 }
 
 // The aggregate's a at pair place e.

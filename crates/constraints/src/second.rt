@@ -1,6 +1,7 @@
 // The five second functions f''_k, by place: document 01, message 3.
 ghost use mathlib.Core.Path.{_≡_};
 ghost use Prim.Native.Nat.{_*_, _<_};
+ghost use Rattle.integers.specs.Lists.{tab};
 ghost use Rattle.ring.specs.Element.{array};
 ghost use Rattle.fold.specs.Sizes.{pairs, functionSize};
 ghost use Rattle.fold.specs.Entries.{termEntry, secondA, secondΦ};
@@ -9,6 +10,9 @@ use crate::projected::projection_entry;
 use crate::sizes;
 use fold::Shape;
 use ring::element::Element;
+
+// How many second functions there are.
+pub const COUNT: usize = 5;
 
 // Σ_l ψ_kl f'_l at place e.
 pub fn term_entry(shape: Shape, l: usize, term: &[i32], psi: &[i32], k: usize, e: usize) -> Element
@@ -46,6 +50,24 @@ pub fn second_a(shape: Shape, l: usize, term: &[i32], psi: &[i32], k: usize, e: 
     term_entry(shape, l, term, psi, k, e)
 }
 
+// The a of the five second functions at pair place e.
+pub fn second_row_a(shape: Shape, l: usize, term: &[i32], psi: &[i32], e: usize) -> [[i32; 64]; 5]
+    requires { ⌜ TermFacts (shape .d) (shape .n) (shape .r) l (now term) (now psi) ⌝ }
+    requires { ⌜ e < pairs (shape .r) ⌝ }
+    ensures { λ r. ⌜ r ≡ tab 5 (λ k. array (shape .d) (secondA (shape .d) (shape .n) (shape .r) l (now (term .entry))
+        (now (psi .entry)) k e)) ⌝ }
+{
+    let mut row = [[0i32; 64]; 5];
+    let mut k = 0;
+    while k < COUNT {
+        let entry = second_a(shape, l, term, psi, k, e);
+        let coefficients = entry.coefficients;
+        row[k] = coefficients;
+        k += 1;
+    }
+    row
+}
+
 // The φ of f''_k at element e of the witness.
 pub fn second_phi(
     shape: Shape,
@@ -70,4 +92,31 @@ pub fn second_phi(
     let projected = projection_entry(shape, w, rows, omega, k, e);
     let conjugated = projected.conjugate(d);
     own.sum(d, conjugated)
+}
+
+// The φ of the five second functions at element e of the witness.
+pub fn second_row_phi(
+    shape: Shape,
+    l: usize,
+    w: usize,
+    term: &[i32],
+    rows: &[i32],
+    psi: &[i32],
+    omega: &[i32],
+    e: usize,
+) -> [[i32; 64]; 5]
+    requires { ⌜ SecondFacts (shape .d) (shape .n) (shape .r) l w (now term) (now rows) (now psi) (now omega) ⌝ }
+    requires { ⌜ e < shape .r * shape .n ⌝ }
+    ensures { λ r. ⌜ r ≡ tab 5 (λ k. array (shape .d) (secondΦ (shape .d) (shape .n) (shape .r) l w (now (term .entry))
+        (now (rows .entry)) (now (psi .entry)) (now (omega .entry)) k e)) ⌝ }
+{
+    let mut row = [[0i32; 64]; 5];
+    let mut k = 0;
+    while k < COUNT {
+        let entry = second_phi(shape, l, w, term, rows, psi, omega, k, e);
+        let coefficients = entry.coefficients;
+        row[k] = coefficients;
+        k += 1;
+    }
+    row
 }

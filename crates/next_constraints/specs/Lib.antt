@@ -1,2 +1,4 @@
 pub mod Tables
+pub mod TablePlaces
+pub mod TableLaws
 pub mod Facts

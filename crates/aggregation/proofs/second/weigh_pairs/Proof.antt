@@ -1,61 +1,57 @@
--- `aggregation::second::weigh_pairs` meets its contract. The loop has added the first e pairs.
-use Prim.Native.Nat.{_-_}
+-- `aggregation::second::weigh_pairs` meets its contract. The loop has added the pairs of the first i parts.
+use mathlib.Core.Path.{_≡_, sym}
+use Prim.Native.Nat.{_-_, _≤_}
 use native.Mathlib.Omega.{arith}
-use Rattle.constraints.specs.Running.{Summing, summing-start, summing-step}
-use Rattle.constraints.specs.Aggregated.{values-product}
-use Rattle.aggregation.specs.Values.{pairTerm, place-fits, sum-end}
+use Rattle.algebra.specs.Triangle.{pair, pair-zero}
+use Rattle.constraints.specs.SizeLaws.{pairs-small}
+use Rattle.aggregation.specs.Rows.{Sums, sums-start}
+use Rattle.aggregation.specs.Values.{pairTerm, pair-room, pair-after, pairs-all}
 use Rattle.aggregation.proofs.second.weigh_pairs.Statement.{statement}
 use Rattle.aggregation.proofs.second.weigh_pairs.Tie as tie
 
 abbrev Inv-loop : tie.InvT-loop
-Inv-loop shape l term psi products k d parts count sum₀ e₀ sum e =
-    Summing d (pairTerm d (shape .n) (shape .r) l term psi products k) count e (sum .coefficients)
+Inv-loop shape l term psi witness parts sums₀ at₀ i₀ sums at i =
+    (i ≤ parts) × (at ≡ pair parts i i) × Sums (shape .d) (pairTerm (shape .d) (shape .n) (shape .r) l term psi witness) at sums
 
 abbrev μ-loop : tie.MeasureT-loop
-μ-loop shape l term psi products k d parts count sum₀ e₀ sum e = count - e
-
-pairs-requires : tie.Need-pairs-requires Inv-loop μ-loop
-pairs-requires c κs = c .pre .0 .shaped .parts-small
-
-additive-identity-requires : tie.Need-additive-identity-requires Inv-loop μ-loop
-additive-identity-requires c κs = tt
+μ-loop shape l term psi witness parts sums₀ at₀ i₀ sums at i = parts - i
 
 loop-holds : tie.Need-loop-holds Inv-loop μ-loop
-loop-holds c = summing-start (c .additive-identity .ensures (c .before .before .args .shape .d))
+loop-holds c = (omega arith, sym (pair-zero (c .args .shape .r)), sums-start _ _)
 
-second-a-requires : tie.Need-second-a-requires Inv-loop μ-loop
-second-a-requires c κs =
-    let s = c .before .before .before .before in
-    (s .pre .0, (s .pre .1 .0, omega (arith, c .before .before .before .pairs .ensures, c .loop-test .taken)))
+add-part-pairs-requires : tie.Need-add-part-pairs-requires Inv-loop μ-loop
+add-part-pairs-requires c κs =
+    let s = c .before .before in
+    (s .pre, ((c .loop-test .taken, c .before .loop .inv .1), c .before .loop .inv .2))
 
-from-slice-requires : tie.Need-from-slice-requires Inv-loop μ-loop
-from-slice-requires c κs =
-    let s = c .before .before .before .before .before in
-    let within = c .before .before .before .before .pairs .ensures in
-    (s .pre .0 .shaped .degree, place-fits (s .args .shape .d) (c .before .loop-test .taken) (rw within (s .pre .1 .1)))
+sub-at : tie.Need-sub-at Inv-loop μ-loop
+sub-at c = omega (arith, c .before .loop-test .taken)
 
-product-requires : tie.Need-product-requires Inv-loop μ-loop
-product-requires c κs = c .before .before .before .before .before .before .pre .0 .shaped .degree
+add-at : tie.Need-add-at Inv-loop μ-loop
+add-at c =
+    let l = c .before .before in
+    let r = l .before .args .shape .r in
+    let room = pair-room r (l .loop .i) (l .loop .inv .1) (c .before .loop-test .taken) in
+    omega (arith, room, pairs-small (l .before .pre .terms .shaped .parts-small))
 
-sum-requires : tie.Need-sum-requires Inv-loop μ-loop
-sum-requires c κs = c .before .before .before .before .before .before .before .pre .0 .shaped .degree
-
-add-e : tie.Need-add-e Inv-loop μ-loop
-add-e c = omega arith
+add-i : tie.Need-add-i Inv-loop μ-loop
+add-i c = omega (arith, c .before .loop-test .taken)
 
 loop-less : tie.Need-loop-less Inv-loop μ-loop
-loop-less c = omega arith
+loop-less c = omega (arith, c .before .loop-test .taken)
 
 loop-again : tie.Need-loop-again Inv-loop μ-loop
-unfolding pairTerm
 loop-again c =
-    let l = c .before .before .before .before .before in
-    let degree = l .before .before .before .pre .0 .shaped .degree in
-    let weighted = values-product _ degree _ _ (c .before .before .before .second-a .ensures) (c .before .before .from-slice .ensures) (c .before .product .ensures) in
-    summing-step (l .loop .inv) (degree .small) (c .before .before .before .before .loop-test .taken) weighted (c .sum .ensures)
+    let l = c .before .before in
+    let taken = c .before .loop-test .taken in
+    (omega (arith, taken), pair-after (l .before .args .shape .r) (l .loop .i) (l .loop .inv .1) taken, c .add-part-pairs .ensures)
 
 returns : tie.Need-returns Inv-loop μ-loop
-returns c = sum-end (c .before .before .before .pairs .ensures) (c .before .loop .inv) (c .loop-test .left)
+returns c =
+    let l = c .before in
+    let s = l .before in
+    let all : l .loop .i ≡ s .args .shape .r = omega (arith, l .loop .inv .0, c .loop-test .left) in
+    pairs-all _ _ _ _ _ _ _ (l .loop .inv .1) all (l .loop .inv .2)
 
 pub weigh-pairs-spec : {M : Type 1} → statement M
 weigh-pairs-spec =
@@ -63,14 +59,11 @@ weigh-pairs-spec =
     (tie.spec
     Inv-loop
     μ-loop
-    pairs-requires
-    additive-identity-requires
     loop-holds
-    second-a-requires
-    from-slice-requires
-    product-requires
-    sum-requires
-    add-e
+    add-part-pairs-requires
+    sub-at
+    add-at
+    add-i
     loop-less
     loop-again
     returns)

@@ -1,44 +1,30 @@
--- `aggregation::second::write_b2` meets its contract: the products of pairs, and then the values.
+-- `aggregation::second::write_b2` meets its contract: the two parts of the five values, and their sums.
 use borrow.Author.Needs.{needs}
-use native.Mathlib.Omega.{arith}
-use Rattle.aggregation.specs.Values.{pairs-room, inners-written}
+use Rattle.aggregation.specs.Values.{values-end}
 use Rattle.aggregation.proofs.second.write_b2.Statement.{statement}
 use Rattle.aggregation.proofs.second.write_b2.Tie as tie
 
-slice-aggregate-write-pair-products : tie.Need-slice-aggregate-write-pair-products
-slice-aggregate-write-pair-products c = search needs
+weigh-pairs-requires : tie.Need-weigh-pairs-requires
+weigh-pairs-requires c κs = record { terms = c .pre .0 .seconds .terms; s-length = c .pre .0 .s-length }
 
-write-pair-products-requires : tie.Need-write-pair-products-requires
-write-pair-products-requires c κs =
-    let s = c .before in
-    let shaped = s .pre .0 .seconds .terms .shaped in
-    (shaped .degree, (shaped .rank-small, omega (arith, s .pre .0 .s-length), pairs-room shaped))
+weigh-witness-requires : tie.Need-weigh-witness-requires
+weigh-witness-requires c κs = c .before .pre .0
 
-slice-aggregate-write-values : tie.Need-slice-aggregate-write-values
-slice-aggregate-write-values c = search needs
-
-write-values-requires : tie.Need-write-values-requires
-write-values-requires c κs =
-    let s = c .before .before .before .before .before in
-    let z = s .args .shape in
-    let products = c .before .before .before .write-pair-products in
-    let fits = pairs-room (s .pre .0 .seconds .terms .shaped) in
-    let inners = inners-written (z .d) (z .n) (z .r) (s .args .witness .now) _ fits (omega (arith, fits, products .kept .1 .1 .1 .1 .0)) (products .ensures) in
-    (s .pre .0, (inners, s .pre .1))
+write-sums-requires : tie.Need-write-sums-requires
+write-sums-requires c κs =
+    let s = c .before .before .before in
+    (s .pre .0 .seconds .terms .shaped .degree, s .pre .1)
 
 same-length : tie.Need-same-length
 same-length c = search needs
 
 returns : tie.Need-returns
-returns c = c .before .write-values .ensures
+returns c =
+    let s = c .before .before .before .before .before in
+    values-end _ _ _ _ _ _ _ _ _ _ (s .pre .0 .seconds .terms .shaped .degree) (c .before .before .before .before .weigh-pairs .ensures)
+    (c .before .before .before .weigh-witness .ensures) (c .before .write-sums .ensures)
 
 pub write-b2-spec : {M : Type 1} → statement M
 write-b2-spec =
     tie.close
-    (tie.spec
-    slice-aggregate-write-pair-products
-    write-pair-products-requires
-    slice-aggregate-write-values
-    write-values-requires
-    same-length
-    returns)
+    (tie.spec weigh-pairs-requires weigh-witness-requires write-sums-requires same-length returns)

@@ -1,71 +1,26 @@
--- `constraints::aggregated::weighted_phi` meets its contract. The loop has added the first k of the five terms.
-use Prim.Native.Nat.{_-_}
-use native.Mathlib.Omega.{arith}
-use Rattle.constraints.specs.Running.{Summing, summing-start, summing-step}
-use Rattle.constraints.specs.Aggregated.{weightedΦ, values-product, five-end, δ-place}
+-- `constraints::aggregated::weighted_phi` meets its contract: the row of five, weighted.
+use mathlib.Core.Path.{ap, _∙_}
+use Rattle.ring.specs.Element.{array}
+use Rattle.constraints.specs.Rows.{row-weighted}
+use Rattle.constraints.specs.Aggregated.{weightedΦ}
 use Rattle.constraints.proofs.aggregated.weighted_phi.Statement.{statement}
 use Rattle.constraints.proofs.aggregated.weighted_phi.Tie as tie
 
-abbrev Inv-loop : tie.InvT-loop
-Inv-loop shape l w term rows psi omega delta e d sum₀ k₀ sum k =
-    Summing d (weightedΦ d (shape .n) (shape .r) l w term rows psi omega delta e) 5 k (sum .coefficients)
+second-row-phi-requires : tie.Need-second-row-phi-requires
+second-row-phi-requires c κs = (c .pre .0, c .pre .1 .1)
 
-abbrev μ-loop : tie.MeasureT-loop
-μ-loop shape l w term rows psi omega delta e d sum₀ k₀ sum k = 5 - k
+weighted-row-requires : tie.Need-weighted-row-requires
+weighted-row-requires c κs =
+    let s = c .before in
+    (s .pre .0 .terms .shaped .degree, s .pre .1 .0)
 
-additive-identity-requires : tie.Need-additive-identity-requires Inv-loop μ-loop
-additive-identity-requires c κs = tt
-
-loop-holds : tie.Need-loop-holds Inv-loop μ-loop
-loop-holds c = summing-start (c .additive-identity .ensures (c .before .args .shape .d))
-
-second-phi-requires : tie.Need-second-phi-requires Inv-loop μ-loop
-second-phi-requires c κs =
-    let s = c .before .before .before in
-    (s .pre .0, (omega arith, s .pre .1 .1))
-
-from-slice-requires : tie.Need-from-slice-requires Inv-loop μ-loop
-from-slice-requires c κs =
-    let s = c .before .before .before .before in
-    (s .pre .0 .terms .shaped .degree, δ-place (s .args .shape .d) (s .args .delta .now) (s .pre .1 .0) (omega arith))
-
-multiplied-requires : tie.Need-multiplied-requires Inv-loop μ-loop
-multiplied-requires c κs = c .before .before .before .before .before .pre .0 .terms .shaped .degree
-
-sum-requires : tie.Need-sum-requires Inv-loop μ-loop
-sum-requires c κs = c .before .before .before .before .before .before .pre .0 .terms .shaped .degree
-
-add-k : tie.Need-add-k Inv-loop μ-loop
-add-k c = omega arith
-
-loop-less : tie.Need-loop-less Inv-loop μ-loop
-loop-less c = omega arith
-
-loop-again : tie.Need-loop-again Inv-loop μ-loop
+returns : tie.Need-returns
 unfolding weightedΦ
-loop-again c =
-    let l = c .before .before .before .before .before in
-    let degree = l .before .before .pre .0 .terms .shaped .degree in
-    let weighted = values-product _ degree _ _ (c .before .before .from-slice .ensures) (c .before .before .before .second-phi .ensures)
-    (c .before .multiplied .ensures) in
-    summing-step (l .loop .inv) (degree .small) (omega arith) weighted (c .sum .ensures)
-
-returns : tie.Need-returns Inv-loop μ-loop
-returns c = five-end (c .before .loop .inv) (omega arith)
+returns c =
+    let s = c .before .before in
+    let d = s .args .shape .d in
+    c .weighted-row .ensures
+    ∙ ap (array d) (row-weighted d (s .args .delta .now) _ (s .pre .0 .terms .shaped .degree .small) (c .before .second-row-phi .ensures))
 
 pub weighted-phi-spec : {M : Type 1} → statement M
-weighted-phi-spec =
-    tie.close
-    (tie.spec
-    Inv-loop
-    μ-loop
-    additive-identity-requires
-    loop-holds
-    second-phi-requires
-    from-slice-requires
-    multiplied-requires
-    sum-requires
-    add-k
-    loop-less
-    loop-again
-    returns)
+weighted-phi-spec = tie.close (tie.spec second-row-phi-requires weighted-row-requires returns)

@@ -1,0 +1,78 @@
+-- `aggregation::rows::add_products` meets its contract. The loop has written the first k entries.
+use Prim.Native.Nat.{_-_}
+use native.Mathlib.Omega.{arith}
+use Rattle.ring.specs.Element.{lift}
+use Rattle.constraints.specs.Rows.{Filling, filling-start, filling-step, filling-end}
+use Rattle.aggregation.specs.Rows.{plusProduct, plus-product-end}
+use Rattle.aggregation.proofs.rows.add_products.Statement.{statement}
+use Rattle.aggregation.proofs.rows.add_products.Tie as tie
+
+abbrev Inv-loop : tie.InvT-loop
+Inv-loop d y sums row out₀ k₀ out k = Filling d (plusProduct d sums row (lift d y)) k out
+
+abbrev μ-loop : tie.MeasureT-loop
+μ-loop d y sums row out₀ k₀ out k = 5 - k
+
+loop-holds : tie.Need-loop-holds Inv-loop μ-loop
+loop-holds c = filling-start _ _
+
+mul-sum : tie.Need-mul-sum Inv-loop μ-loop
+mul-sum c = omega arith
+
+array-copy-out-sum : tie.Need-array-copy-out-sum Inv-loop μ-loop
+array-copy-out-sum c = omega arith
+
+mul-entry : tie.Need-mul-entry Inv-loop μ-loop
+mul-entry c = omega arith
+
+array-copy-out-entry : tie.Need-array-copy-out-entry Inv-loop μ-loop
+array-copy-out-entry c = omega arith
+
+multiply-requires : tie.Need-multiply-requires Inv-loop μ-loop
+multiply-requires c κs = c .before .before .before .before .pre
+
+added-requires : tie.Need-added-requires Inv-loop μ-loop
+added-requires c κs = c .before .before .before .before .before .pre
+
+mul-out : tie.Need-mul-out Inv-loop μ-loop
+mul-out c = omega arith
+
+array-set-from-out : tie.Need-array-set-from-out Inv-loop μ-loop
+array-set-from-out c = omega arith
+
+add-k : tie.Need-add-k Inv-loop μ-loop
+add-k c = omega arith
+
+loop-less : tie.Need-loop-less Inv-loop μ-loop
+loop-less c = omega arith
+
+loop-again : tie.Need-loop-again Inv-loop μ-loop
+loop-again c =
+    let l = c .before .before .before .before .before in
+    let s = l .before in
+    let more = plus-product-end (s .args .d) (s .args .t2) (s .args .t3) (s .args .y) (l .loop .k) (s .pre .small) (c .before .multiply .ensures)
+    (c .added .ensures) in
+    filling-step (l .loop .inv) (omega arith) more
+
+returns : tie.Need-returns Inv-loop μ-loop
+returns c = filling-end (c .before .loop .inv) (omega arith)
+
+pub add-products-spec : {M : Type 1} → statement M
+add-products-spec =
+    tie.close
+    (tie.spec
+    Inv-loop
+    μ-loop
+    loop-holds
+    mul-sum
+    array-copy-out-sum
+    mul-entry
+    array-copy-out-entry
+    multiply-requires
+    added-requires
+    mul-out
+    array-set-from-out
+    add-k
+    loop-less
+    loop-again
+    returns)

@@ -1,0 +1,65 @@
+-- `chunks::refusals::message_ranges` meets its contract: each list in turn. Assumes nothing.
+use mathlib.Core.Path.{refl}
+use Rattle.limits.specs.RowLaws.{end, _&_}
+use Rattle.limits.specs.StageLaws.{joined-tests}
+use Rattle.chunks.proofs.refusals.message_ranges.Statement.{statement}
+use Rattle.chunks.proofs.refusals.message_ranges.Tie as tie
+
+are-coefficients-requires : tie.Need-are-coefficients-requires
+are-coefficients-requires c κs = tt
+
+are-coefficients-requires-2 : tie.Need-are-coefficients-requires-2
+are-coefficients-requires-2 c κs = tt
+
+are-coefficients-requires-3 : tie.Need-are-coefficients-requires-3
+are-coefficients-requires-3 c κs = tt
+
+are-coefficients-requires-4 : tie.Need-are-coefficients-requires-4
+are-coefficients-requires-4 c κs = tt
+
+are-coefficients-requires-5 : tie.Need-are-coefficients-requires-5
+are-coefficients-requires-5 c κs = tt
+
+are-coefficients-requires-6 : tie.Need-are-coefficients-requires-6
+are-coefficients-requires-6 c κs = tt
+
+are-coefficients-requires-7 : tie.Need-are-coefficients-requires-7
+are-coefficients-requires-7 c κs = tt
+
+are-coefficients-requires-8 : tie.Need-are-coefficients-requires-8
+are-coefficients-requires-8 c κs = tt
+
+returns : tie.Need-returns
+returns c =
+    let c1 = c .before in
+    let c2 = c1 .before in
+    let c3 = c2 .before in
+    let c4 = c3 .before in
+    let c5 = c4 .before in
+    let c6 = c5 .before in
+    let c7 = c6 .before in
+    joined-tests
+    (c7 .are-coefficients .ensures
+    & c6 .are-coefficients2 .ensures
+    & c5 .are-coefficients3 .ensures
+    & c4 .are-coefficients4 .ensures
+    & c3 .are-coefficients5 .ensures
+    & c2 .are-coefficients6 .ensures
+    & c1 .are-coefficients7 .ensures
+    & c .are-coefficients8 .ensures
+    & end)
+    refl
+
+pub message-ranges-spec : {M : Type 1} → statement M
+message-ranges-spec =
+    tie.close
+    (tie.spec
+    are-coefficients-requires
+    are-coefficients-requires-2
+    are-coefficients-requires-3
+    are-coefficients-requires-4
+    are-coefficients-requires-5
+    are-coefficients-requires-6
+    are-coefficients-requires-7
+    are-coefficients-requires-8
+    returns)

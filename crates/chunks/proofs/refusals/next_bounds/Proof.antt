@@ -1,0 +1,139 @@
+-- `chunks::refusals::next_bounds` meets its contract: rows 1 to 6 in order. Assumes nothing.
+use Rattle.limits.specs.RowLaws.{end, _&_}
+use Rattle.limits.specs.StageLaws.{single, row, none}
+use Rattle.chunks.proofs.refusals.next_bounds.Statement.{statement}
+use Rattle.chunks.proofs.refusals.next_bounds.Tie as tie
+
+degree-requires : tie.Need-degree-requires
+degree-requires c κs = tt
+
+rank-requires : tie.Need-rank-requires
+rank-requires c κs = tt
+
+parts-requires : tie.Need-parts-requires
+parts-requires c κs = tt
+
+constraint-count-requires : tie.Need-constraint-count-requires
+constraint-count-requires c κs = tt
+
+constraint-count-requires-2 : tie.Need-constraint-count-requires-2
+constraint-count-requires-2 c κs = tt
+
+projection-count-requires : tie.Need-projection-count-requires
+projection-count-requires c κs = tt
+
+commitment-rank-requires : tie.Need-commitment-rank-requires
+commitment-rank-requires c κs = tt
+
+commitment-rank-requires-2 : tie.Need-commitment-rank-requires-2
+commitment-rank-requires-2 c κs = tt
+
+commitment-rank-requires-3 : tie.Need-commitment-rank-requires-3
+commitment-rank-requires-3 c κs = tt
+
+base-requires : tie.Need-base-requires
+base-requires c κs = tt
+
+base-requires-2 : tie.Need-base-requires-2
+base-requires-2 c κs = tt
+
+base-requires-3 : tie.Need-base-requires-3
+base-requires-3 c κs = tt
+
+digit-count-requires : tie.Need-digit-count-requires
+digit-count-requires c κs = tt
+
+digit-count-requires-2 : tie.Need-digit-count-requires-2
+digit-count-requires-2 c κs = tt
+
+chunk-counts-requires : tie.Need-chunk-counts-requires
+chunk-counts-requires c κs = tt
+
+length-bound-requires : tie.Need-length-bound-requires
+length-bound-requires c κs = tt
+
+length-bound-requires-2 : tie.Need-length-bound-requires-2
+length-bound-requires-2 c κs = tt
+
+first-requires : tie.Need-first-requires
+first-requires c κs = tt
+
+first-requires-2 : tie.Need-first-requires-2
+first-requires-2 c κs = tt
+
+first-requires-3 : tie.Need-first-requires-3
+first-requires-3 c κs = tt
+
+first-requires-4 : tie.Need-first-requires-4
+first-requires-4 c κs = tt
+
+first-requires-5 : tie.Need-first-requires-5
+first-requires-5 c κs = tt
+
+first-requires-6 : tie.Need-first-requires-6
+first-requires-6 c κs = tt
+
+returns : tie.Need-returns
+returns c =
+    let c1 = c .before in
+    let c2 = c1 .before in
+    let c3 = c2 .before in
+    let c4 = c3 .before in
+    let c5 = c4 .before in
+    let c6 = c5 .before in
+    let c7 = c6 .before in
+    let c8 = c7 .before in
+    let c9 = c8 .before in
+    let c10 = c9 .before in
+    let c11 = c10 .before in
+    let c12 = c11 .before in
+    let c13 = c12 .before in
+    let c14 = c13 .before in
+    let c15 = c14 .before in
+    let c16 = c15 .before in
+    let c17 = c16 .before in
+    let c18 = c17 .before in
+    let c19 = c18 .before in
+    let c20 = c19 .before in
+    let c21 = c20 .before in
+    let c22 = c21 .before in
+    single 1 _ (c22 .degree .ensures) (c .first6 .ensures)
+    (row 2 _
+    (c21 .rank .ensures & c20 .parts .ensures & c19 .constraint-count .ensures & c18 .constraint-count2 .ensures
+    & c17 .projection-count .ensures & end) (c1 .first5 .ensures)
+    (row 3 _ (c16 .commitment-rank .ensures & c15 .commitment-rank2 .ensures & c14 .commitment-rank3 .ensures & end) (c2 .first4 .ensures)
+    (row 4 _
+    (c13 .base .ensures & c12 .base2 .ensures & c11 .base3 .ensures & c10 .digit-count .ensures & c9 .digit-count2 .ensures
+    & end) (c3 .first3 .ensures)
+    (single 5 _ (c8 .chunk-counts .ensures) (c4 .first2 .ensures)
+    (row 6 _ (c7 .length-bound .ensures & c6 .length-bound2 .ensures & end) (c5 .first .ensures)
+    none)))))
+
+pub next-bounds-spec : {M : Type 1} → statement M
+next-bounds-spec =
+    tie.close
+    (tie.spec
+    degree-requires
+    rank-requires
+    parts-requires
+    constraint-count-requires
+    constraint-count-requires-2
+    projection-count-requires
+    commitment-rank-requires
+    commitment-rank-requires-2
+    commitment-rank-requires-3
+    base-requires
+    base-requires-2
+    base-requires-3
+    digit-count-requires
+    digit-count-requires-2
+    chunk-counts-requires
+    length-bound-requires
+    length-bound-requires-2
+    first-requires
+    first-requires-2
+    first-requires-3
+    first-requires-4
+    first-requires-5
+    first-requires-6
+    returns)

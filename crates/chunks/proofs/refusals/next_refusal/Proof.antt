@@ -1,0 +1,172 @@
+-- `chunks::refusals::next_refusal` meets its contract: the sizes, then row 7, then the rows after it. Assumes nothing.
+use mathlib.Core.Path.{refl, ap}
+use native.Mathlib.Omega.{arith}
+use lib.Dec.{leb}
+use Rattle.fold.specs.Refusals.{nextTests}
+use Rattle.fold.specs.RefusalLaws.{sized-iff}
+use Rattle.limits.specs.RowLaws.{end, _&_, joined-row}
+use Rattle.limits.specs.StageLaws.{stopped, unfit, fit, fitting, single, none, append-rows}
+use Rattle.limits.specs.StageLimits.{verify-constraints}
+use Rattle.chunks.specs.Stages.{nextBounds, next-sized, next-cut}
+use Rattle.chunks.proofs.refusals.next_refusal.Statement.{statement}
+use Rattle.chunks.proofs.refusals.next_refusal.Tie as tie
+
+next-bounds-requires : tie.Need-next-bounds-requires
+next-bounds-requires c κs = tt
+
+returns : tie.Need-returns
+unfolding nextTests
+returns c =
+    let a = c .before .before .args in
+    stopped (nextBounds (a .sizes) (a .nu) (a .mu)) _ (c .before .next-bounds .ensures) (c .if1 .taken)
+
+rank-of-requires : tie.Need-rank-of-requires
+rank-of-requires c κs =
+    let a = c .before .before .args in
+    let e = c .before .next-bounds .ensures in
+    (next-sized (a .sizes) (a .nu) (a .mu) e (c .if1 .left), next-cut (a .sizes) (a .nu) (a .mu) e (c .if1 .left))
+
+next-lengths-requires : tie.Need-next-lengths-requires
+next-lengths-requires c κs =
+    let c1 = c .before in
+    let a = c1 .before .before .args in
+    let e = c1 .before .next-bounds .ensures in
+    let z = c1 .if1 .left in
+    (next-sized (a .sizes) (a .nu) (a .mu) e z, (next-cut (a .sizes) (a .nu) (a .mu) e z, c .rank-of .ensures))
+
+matrix-lengths-requires : tie.Need-matrix-lengths-requires
+matrix-lengths-requires c κs =
+    let c1 = c .before in
+    let c2 = c1 .before in
+    let a = c2 .before .before .args in
+    next-sized (a .sizes) (a .nu) (a .mu) (c2 .before .next-bounds .ensures) (c2 .if1 .left)
+
+constraint-lengths-requires : tie.Need-constraint-lengths-requires
+constraint-lengths-requires c κs =
+    let c1 = c .before in
+    let c2 = c1 .before in
+    let c3 = c2 .before in
+    let a = c3 .before .before .args in
+    verify-constraints (a .sizes) (next-sized (a .sizes) (a .nu) (a .mu) (c3 .before .next-bounds .ensures) (c3 .if1 .left))
+
+list-fits-requires : tie.Need-list-fits-requires
+list-fits-requires c κs =
+    let c1 = c .before in
+    let c2 = c1 .before in
+    let c3 = c2 .before in
+    let c4 = c3 .before in
+    let a = c4 .before .before .args in
+    let l = next-sized (a .sizes) (a .nu) (a .mu) (c4 .before .next-bounds .ensures) (c4 .if1 .left) in
+    (omega (arith, l .shaped .parts-small), l .shaped .degree .small)
+
+returns-2 : tie.Need-returns-2
+unfolding nextTests
+returns-2 c =
+    let c1 = c .before in
+    let c2 = c1 .before in
+    let c3 = c2 .before in
+    let c4 = c3 .before in
+    let c5 = c4 .before in
+    let c6 = c5 .before in
+    let c7 = c6 .before in
+    let c8 = c7 .before in
+    let a = c8 .args in
+    let messages = append-rows _ _ (c4 .next-lengths .ensures) (c3 .matrix-lengths .ensures) in
+    let lists = append-rows _ _ messages (c2 .constraint-lengths .ensures) in
+    let fits = append-rows _ _ lists (joined-row (c1 .list-fits .ensures & end)) in
+    unfit (nextBounds (a .sizes) (a .nu) (a .mu)) 7 _ _ refl (c7 .next-bounds .ensures) (c6 .if1 .left) fits (c .if2 .taken)
+
+message-ranges-requires : tie.Need-message-ranges-requires
+message-ranges-requires c κs = tt
+
+constraint-ranges-requires : tie.Need-constraint-ranges-requires
+constraint-ranges-requires c κs = tt
+
+are-coefficients-requires : tie.Need-are-coefficients-requires
+are-coefficients-requires c κs = tt
+
+are-projection-entries-requires : tie.Need-are-projection-entries-requires
+are-projection-entries-requires c κs = tt
+
+challenges-requires : tie.Need-challenges-requires
+challenges-requires c κs =
+    let c1 = c .before in
+    let c2 = c1 .before in
+    let c3 = c2 .before in
+    let c4 = c3 .before in
+    let c5 = c4 .before in
+    let c6 = c5 .before in
+    let c7 = c6 .before in
+    let c8 = c7 .before in
+    let messages = append-rows _ _ (c8 .next-lengths .ensures) (c7 .matrix-lengths .ensures) in
+    let lists = append-rows _ _ messages (c6 .constraint-lengths .ensures) in
+    let fits = fitting _ (append-rows _ _ lists (joined-row (c5 .list-fits .ensures & end))) (c4 .if2 .left) in
+    sized-iff _ _ .0 (fits .1 .1 .1 .1 .1 .1 .1 .1 .1 .1 .1 .1 .1 .1 .1 .1 .0)
+
+first-requires : tie.Need-first-requires
+first-requires c κs = tt
+
+first-requires-2 : tie.Need-first-requires-2
+first-requires-2 c κs = tt
+
+first-requires-3 : tie.Need-first-requires-3
+first-requires-3 c κs = tt
+
+first-requires-4 : tie.Need-first-requires-4
+first-requires-4 c κs = tt
+
+returns-3 : tie.Need-returns-3
+unfolding nextTests
+returns-3 c =
+    let c1 = c .before in
+    let c2 = c1 .before in
+    let c3 = c2 .before in
+    let c4 = c3 .before in
+    let c5 = c4 .before in
+    let c6 = c5 .before in
+    let c7 = c6 .before in
+    let c8 = c7 .before in
+    let c9 = c8 .before in
+    let c10 = c9 .before in
+    let c11 = c10 .before in
+    let c12 = c11 .before in
+    let c13 = c12 .before in
+    let c14 = c13 .before in
+    let c15 = c14 .before in
+    let c16 = c15 .before in
+    let c17 = c16 .before in
+    let a = c17 .args in
+    let messages = append-rows _ _ (c13 .next-lengths .ensures) (c12 .matrix-lengths .ensures) in
+    let lists = append-rows _ _ messages (c11 .constraint-lengths .ensures) in
+    let fits = append-rows _ _ lists (joined-row (c10 .list-fits .ensures & end)) in
+    let read = append-rows _ _ (c8 .message-ranges .ensures) (c7 .constraint-ranges .ensures) in
+    let ranges = append-rows _ _ read (joined-row (c6 .are-coefficients .ensures & end)) in
+    let small = ap (λ x. leb x 256) (c14 .rank-of .ensures) in
+    fit (nextBounds (a .sizes) (a .nu) (a .mu)) 7 _ _ refl (c16 .next-bounds .ensures) (c15 .if1 .left) fits (c9 .if2 .left)
+    (single 8 _ ranges (c .first4 .ensures)
+    (single 9 _ (c5 .are-projection-entries .ensures) (c1 .first3 .ensures)
+    (single 10 _ (c4 .challenges .ensures) (c2 .first2 .ensures)
+    (single 11 _ small (c3 .first .ensures) none))))
+
+pub next-refusal-spec : {M : Type 1} → statement M
+next-refusal-spec =
+    tie.close
+    (tie.spec
+    next-bounds-requires
+    returns
+    rank-of-requires
+    next-lengths-requires
+    matrix-lengths-requires
+    constraint-lengths-requires
+    list-fits-requires
+    returns-2
+    message-ranges-requires
+    constraint-ranges-requires
+    are-coefficients-requires
+    are-projection-entries-requires
+    challenges-requires
+    first-requires
+    first-requires-2
+    first-requires-3
+    first-requires-4
+    returns-3)

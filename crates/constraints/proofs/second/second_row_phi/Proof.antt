@@ -1,0 +1,54 @@
+-- `constraints::second::second_row_phi` meets its contract. The loop has written the first k entries.
+use Prim.Native.Nat.{_-_}
+use native.Mathlib.Omega.{arith}
+use Rattle.fold.specs.Entries.{secondΦ}
+use Rattle.constraints.specs.Rows.{Filling, filling-start, filling-step, filling-end}
+use Rattle.constraints.proofs.second.second_row_phi.Statement.{statement}
+use Rattle.constraints.proofs.second.second_row_phi.Tie as tie
+
+abbrev Inv-loop : tie.InvT-loop
+Inv-loop shape l w term rows psi omega e row₀ k₀ row k = Filling (shape .d) (λ i. secondΦ (shape .d) (shape .n) (shape .r) l w term rows psi omega i e) k row
+
+abbrev μ-loop : tie.MeasureT-loop
+μ-loop shape l w term rows psi omega e row₀ k₀ row k = 5 - k
+
+loop-holds : tie.Need-loop-holds Inv-loop μ-loop
+loop-holds c = filling-start _ _
+
+second-phi-requires : tie.Need-second-phi-requires Inv-loop μ-loop
+second-phi-requires c κs =
+    let s = c .before .before in
+    (s .pre .0, (omega arith, s .pre .1))
+
+mul-row : tie.Need-mul-row Inv-loop μ-loop
+mul-row c = omega arith
+
+array-set-from-row : tie.Need-array-set-from-row Inv-loop μ-loop
+array-set-from-row c = omega arith
+
+add-k : tie.Need-add-k Inv-loop μ-loop
+add-k c = omega arith
+
+loop-less : tie.Need-loop-less Inv-loop μ-loop
+loop-less c = omega arith
+
+loop-again : tie.Need-loop-again Inv-loop μ-loop
+loop-again c = filling-step (c .before .before .before .loop .inv) (omega arith) (c .before .second-phi .ensures)
+
+returns : tie.Need-returns Inv-loop μ-loop
+returns c = filling-end (c .before .loop .inv) (omega arith)
+
+pub second-row-phi-spec : {M : Type 1} → statement M
+second-row-phi-spec =
+    tie.close
+    (tie.spec
+    Inv-loop
+    μ-loop
+    loop-holds
+    second-phi-requires
+    mul-row
+    array-set-from-row
+    add-k
+    loop-less
+    loop-again
+    returns)

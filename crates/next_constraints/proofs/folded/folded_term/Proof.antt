@@ -1,0 +1,54 @@
+-- `next_constraints::folded::folded_term` meets its contract.
+use native.Mathlib.Omega.{arith}
+use borrow.Author.Needs.{needs}
+use Rattle.integers.specs.Flat.{block-fits}
+use Rattle.constraints.specs.SizeLaws.{witness-small}
+use Rattle.next_constraints.specs.TablePlaces.{element-within}
+use Rattle.next_constraints.specs.TableLaws.{folded-term-end}
+use Rattle.next_constraints.proofs.folded.folded_term.Statement.{statement}
+use Rattle.next_constraints.proofs.folded.folded_term.Tie as tie
+
+mul-start : tie.Need-mul-start
+mul-start c =
+    let s = c .before in
+    let z = s .args .sizes in
+    omega (arith, witness-small (s .pre .0 .wholes .shaped), block-fits (z .r) (z .n) (s .args .i) (s .args .k) (s .pre .1 .2) (s .pre .1 .1))
+
+add-place : tie.Need-add-place
+add-place c =
+    let s = c .before in
+    let z = s .args .sizes in
+    omega (arith, witness-small (s .pre .0 .wholes .shaped), block-fits (z .r) (z .n) (s .args .i) (s .args .k) (s .pre .1 .2) (s .pre .1 .1))
+
+aggregate-phi-requires : tie.Need-aggregate-phi-requires
+aggregate-phi-requires c κs =
+    let s = c .before in
+    let z = s .args .sizes in
+    (s .pre .0, block-fits (z .r) (z .n) (s .args .i) (s .args .k) (s .pre .1 .2) (s .pre .1 .1))
+
+from-slice-requires : tie.Need-from-slice-requires
+from-slice-requires c κs =
+    let s = c .before .before in
+    (s .pre .0 .wholes .shaped .degree, element-within (s .args .sizes .d) (s .pre .1 .2) (s .pre .1 .0))
+
+product-requires : tie.Need-product-requires
+product-requires c κs = search needs
+
+returns : tie.Need-returns
+returns c =
+    let f = c .before in
+    let p = f .before in
+    let s = p .before .before in
+    folded-term-end _ _ _ _ _ _ _ _ _ _ _ _ _ _ (s .args .k) (s .args .i) (s .pre .0 .wholes .shaped .degree) (p .aggregate-phi .ensures)
+    (f .from-slice .ensures) (c .product .ensures)
+
+pub folded-term-spec : {M : Type 1} → statement M
+folded-term-spec =
+    tie.close
+    (tie.spec
+    mul-start
+    add-place
+    aggregate-phi-requires
+    from-slice-requires
+    product-requires
+    returns)

@@ -1,0 +1,64 @@
+-- `next_constraints::lists::write_tables` meets its contract: each list is written by one call.
+use borrow.Author.Needs.{needs}
+use Rattle.next_constraints.specs.TableLaws.{tables-of}
+use Rattle.next_constraints.proofs.lists.write_tables.Statement.{statement}
+use Rattle.next_constraints.proofs.lists.write_tables.Tie as tie
+
+write-folded-requires : tie.Need-write-folded-requires
+write-folded-requires c κs =
+    let s = c .before in
+    (s .pre .0, (s .pre .1 .0, s .pre .1 .1 .folded-length))
+
+write-products-requires : tie.Need-write-products-requires
+write-products-requires c κs =
+    let s = c .before .before .before .before in
+    (s .pre .0 .wholes .shaped .degree, (s .pre .1 .0, s .pre .1 .1 .products-length))
+
+write-relation-requires : tie.Need-write-relation-requires
+write-relation-requires c κs =
+    let s = c .before .before .before .before .before .before .before in
+    (s .pre .0 .wholes, (s .pre .0 .seconds .terms, (s .pre .0 .δ-length, s .pre .1 .1 .relation-length)))
+
+write-diagonal-requires : tie.Need-write-diagonal-requires
+write-diagonal-requires c κs =
+    let s = c .before .before .before .before .before .before .before .before .before .before in
+    (s .pre .0 .wholes .shaped .degree, s .pre .1 .1 .diagonal-length)
+
+same-length : tie.Need-same-length
+same-length c = search needs
+
+same-length-2 : tie.Need-same-length-2
+same-length-2 c = search needs
+
+same-length-3 : tie.Need-same-length-3
+same-length-3 c = search needs
+
+same-length-4 : tie.Need-same-length-4
+same-length-4 c = search needs
+
+returns : tie.Need-returns
+returns c =
+    let diagonal = c .before in
+    let relation = diagonal .before .before .before in
+    let products = relation .before .before .before in
+    let folded = products .before .before .before in
+    let s = folded .before .before in
+    let a = s .args in
+    let z = a .sizes in
+    tables-of (z .d) (z .n) (z .r) (z .k) (z .l) (z .w) _ _ _ _ _ _ _ _ (a .folded .now) (a .products .now) (a .relation .now)
+    (a .diagonal .now) (s .pre .1 .1) (folded .write-folded .ensures) (products .write-products .ensures)
+    (relation .write-relation .ensures) (diagonal .write-diagonal .ensures)
+
+pub write-tables-spec : {M : Type 1} → statement M
+write-tables-spec =
+    tie.close
+    (tie.spec
+    write-folded-requires
+    write-products-requires
+    write-relation-requires
+    write-diagonal-requires
+    same-length
+    same-length-2
+    same-length-3
+    same-length-4
+    returns)

@@ -1,0 +1,46 @@
+-- `next_constraints::tables::minus_product` meets its contract.
+use borrow.Author.Needs.{needs}
+use Rattle.next_constraints.specs.TableLaws.{product-end}
+use Rattle.next_constraints.proofs.tables.minus_product.Statement.{statement}
+use Rattle.next_constraints.proofs.tables.minus_product.Tie as tie
+
+from-slice-requires : tie.Need-from-slice-requires
+from-slice-requires c κs = search needs
+
+from-slice-requires-2 : tie.Need-from-slice-requires-2
+from-slice-requires-2 c κs = search needs
+
+product-requires : tie.Need-product-requires
+product-requires c κs = search needs
+
+pair-factor-requires : tie.Need-pair-factor-requires
+pair-factor-requires c κs = search needs
+
+scale-requires : tie.Need-scale-requires
+scale-requires c κs = search needs
+
+negation-requires : tie.Need-negation-requires
+negation-requires c κs = search needs
+
+returns : tie.Need-returns
+returns c =
+    let scaled = c .before in
+    let factor = scaled .before in
+    let product = factor .before in
+    let right = product .before in
+    let left = right .before in
+    let s = left .before in
+    product-end (s .args .d) _ (s .args .i) (s .args .j) _ (s .pre .0) (left .from-slice .ensures) (right .from-slice2 .ensures)
+    (product .product .ensures) (factor .pair-factor .ensures) (scaled .scale .ensures) (c .negation .ensures)
+
+pub minus-product-spec : {M : Type 1} → statement M
+minus-product-spec =
+    tie.close
+    (tie.spec
+    from-slice-requires
+    from-slice-requires-2
+    product-requires
+    pair-factor-requires
+    scale-requires
+    negation-requires
+    returns)

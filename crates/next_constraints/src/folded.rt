@@ -1,0 +1,122 @@
+// The element-wise sums Σ φ_i c_i of the aggregate's φ, from which check 7 of the next instance is written.
+ghost use mathlib.Core.Path.{_≡_};
+ghost use Prim.Native.Nat.{_+_, _*_, _<_, _≤_};
+ghost use lib.ListN.{length};
+ghost use Rattle.integers.specs.Over.{over};
+ghost use Rattle.ring.specs.Element.{array};
+ghost use Rattle.fold.specs.Messages.{elements};
+ghost use Rattle.constraints.specs.Facts.{AggregateFacts};
+ghost use Rattle.next_constraints.specs.TableLaws.{foldedTerm, foldedSum};
+use constraints::aggregated::aggregate_phi;
+use fold::Shape;
+use fold::Sizes;
+use ring::element::Element;
+
+// φ_i c_i at element k.
+fn folded_term(
+    sizes: Sizes,
+    whole: &[i32],
+    term: &[i32],
+    rows: &[i32],
+    psi: &[i32],
+    omega: &[i32],
+    alpha: &[i32],
+    delta: &[i32],
+    c: &[i32],
+    k: usize,
+    i: usize,
+) -> Element
+    requires { ⌜ AggregateFacts (sizes .d) (sizes .n) (sizes .r) (sizes .k) (sizes .l) (sizes .w) (now whole) (now term) (now rows) (now psi)
+        (now omega) (now alpha) (now delta) ⌝ }
+    requires { ⌜ (sizes .r * sizes .d ≤ length (now c)) × (k < sizes .n) × (i < sizes .r) ⌝ }
+    ensures { λ x. ⌜ x .coefficients ≡ array (sizes .d) (foldedTerm (sizes .d) (sizes .n) (sizes .r) (sizes .k) (sizes .l) (sizes .w)
+        (now (whole .entry)) (now (term .entry)) (now (rows .entry)) (now (psi .entry)) (now (omega .entry)) (now (alpha .entry))
+        (now (delta .entry)) (now (c .entry)) k i) ⌝ }
+{
+    let d = sizes.d;
+    let shape = Shape {
+        d: sizes.d,
+        n: sizes.n,
+        r: sizes.r,
+    };
+    let start = i * sizes.n;
+    let place = start + k;
+    let phi = aggregate_phi(
+        shape,
+        sizes.k,
+        sizes.l,
+        sizes.w,
+        whole,
+        term,
+        rows,
+        psi,
+        omega,
+        alpha,
+        delta,
+        place,
+    );
+    let challenge = Element::from_slice(d, c, i);
+    phi.product(d, challenge)
+}
+
+// Σ φ_i c_i at element k.
+fn folded_element(
+    sizes: Sizes,
+    whole: &[i32],
+    term: &[i32],
+    rows: &[i32],
+    psi: &[i32],
+    omega: &[i32],
+    alpha: &[i32],
+    delta: &[i32],
+    c: &[i32],
+    k: usize,
+) -> Element
+    requires { ⌜ AggregateFacts (sizes .d) (sizes .n) (sizes .r) (sizes .k) (sizes .l) (sizes .w) (now whole) (now term) (now rows) (now psi)
+        (now omega) (now alpha) (now delta) ⌝ }
+    requires { ⌜ (sizes .r * sizes .d ≤ length (now c)) × (k < sizes .n) ⌝ }
+    ensures { λ x. ⌜ x .coefficients ≡ array (sizes .d) (foldedSum (sizes .d) (sizes .n) (sizes .r) (sizes .k) (sizes .l) (sizes .w)
+        (now (whole .entry)) (now (term .entry)) (now (rows .entry)) (now (psi .entry)) (now (omega .entry)) (now (alpha .entry))
+        (now (delta .entry)) (now (c .entry)) k) ⌝ }
+{
+    let d = sizes.d;
+    let parts = sizes.r;
+    let mut sum = Element::additive_identity();
+    let mut i = 0;
+    while i < parts {
+        let weighted = folded_term(sizes, whole, term, rows, psi, omega, alpha, delta, c, k, i);
+        sum = sum.sum(d, weighted);
+        i += 1;
+    }
+    sum
+}
+
+// Σ φ_i c_i for every element of z, as the first elements of `out`.
+pub fn write_folded(
+    sizes: Sizes,
+    whole: &[i32],
+    term: &[i32],
+    rows: &[i32],
+    psi: &[i32],
+    omega: &[i32],
+    alpha: &[i32],
+    delta: &[i32],
+    c: &[i32],
+    out: &mut [i32],
+)
+    requires { ⌜ AggregateFacts (sizes .d) (sizes .n) (sizes .r) (sizes .k) (sizes .l) (sizes .w) (now whole) (now term) (now rows) (now psi)
+        (now omega) (now alpha) (now delta) ⌝ }
+    requires { ⌜ (sizes .r * sizes .d ≤ length (now c)) × (sizes .n * sizes .d ≤ length (now out)) ⌝ }
+    ensures { λ _. ⌜ now (out .exit) ≡ over (now (out .entry)) 0 (elements (sizes .d) (sizes .n) (foldedSum (sizes .d) (sizes .n) (sizes .r)
+        (sizes .k) (sizes .l) (sizes .w) (now (whole .entry)) (now (term .entry)) (now (rows .entry)) (now (psi .entry)) (now (omega .entry))
+        (now (alpha .entry)) (now (delta .entry)) (now (c .entry)))) ⌝ }
+{
+    let d = sizes.d;
+    let rank = sizes.n;
+    let mut k = 0;
+    while k < rank {
+        let element = folded_element(sizes, whole, term, rows, psi, omega, alpha, delta, c, k);
+        element.store(d, out, k);
+        k += 1;
+    }
+}

@@ -1,0 +1,81 @@
+-- `next_instance::next_instance` meets its contract: a refusal, a failed check, or all is written. Assumes nothing.
+use Rattle.next_instance.specs.CallLaws.{next-refused, call-facts, check-facts, next-judged, next-written}
+use borrow.Author.Needs.{needs}
+use Rattle.next_instance.proofs.next_instance.Statement.{statement}
+use Rattle.next_instance.proofs.next_instance.Tie as tie
+
+next-refusal-requires : tie.Need-next-refusal-requires
+next-refusal-requires c κs = tt
+
+same-length : tie.Need-same-length
+same-length c = search needs
+
+returns : tie.Need-returns
+returns c =
+    let a = c .before .before .before .args in
+    next-refused (a .sizes) _ _ _ _ _ _ _ _ _ _ _ _ _ _ _ _ _ _ _ (c .before .next-refusal .ensures) (c .if1 .taken)
+
+first-checks-requires : tie.Need-first-checks-requires
+first-checks-requires c κs =
+    let a = c .before .before .before .args in
+    let number = c .before .next-refusal .ensures in (
+      call-facts (a .sizes) _ _ _ _ _ _ _ _ _ _ _ _ _ _ _ _ _ _ _ number (c .if1 .left) .limits,
+      check-facts (a .sizes) _ _ _ _ _ _ _ _ _ _ _ _ _ _ _ _ _ _ _ number (c .if1 .left),
+    )
+
+is-accepted-requires : tie.Need-is-accepted-requires
+is-accepted-requires c κs = tt
+
+same-length-2 : tie.Need-same-length-2
+same-length-2 c = search needs
+
+returns-2 : tie.Need-returns-2
+returns-2 c =
+    let c1 = c .before in
+    let c2 = c1 .before in
+    let c3 = c2 .before in
+    let c4 = c3 .before in
+    let a = c4 .before .before .args in
+    next-judged (a .sizes) _ _ _ _ _ _ _ _ _ _ _ _ _ _ _ _ _ _ _ (c4 .next-refusal .ensures) (c3 .if1 .left) (c2 .first-checks .ensures)
+    (c1 .is-accepted .ensures) (c .if2 .taken)
+
+write-instance-requires : tie.Need-write-instance-requires
+write-instance-requires c κs =
+    let c1 = c .before in
+    let c2 = c1 .before in
+    let c3 = c2 .before in
+    let c4 = c3 .before in
+    let c5 = c4 .before in
+    let a = c5 .before .before .args in
+    call-facts (a .sizes) _ _ _ _ _ _ _ _ _ _ _ _ _ _ _ _ _ _ _ (c5 .next-refusal .ensures) (c4 .if1 .left)
+
+same-length-3 : tie.Need-same-length-3
+same-length-3 c = search needs
+
+returns-3 : tie.Need-returns-3
+returns-3 c =
+    let c1 = c .before in
+    let c2 = c1 .before in
+    let c3 = c2 .before in
+    let c4 = c3 .before in
+    let c5 = c4 .before in
+    let c6 = c5 .before in
+    let c7 = c6 .before in
+    let a = c7 .before .before .args in
+    next-written (a .sizes) _ _ _ _ _ _ _ _ _ _ _ _ _ _ _ _ _ _ _ (c7 .next-refusal .ensures) (c6 .if1 .left) (c5 .first-checks .ensures)
+    (c4 .is-accepted .ensures) (c3 .if2 .left) (c1 .write-instance .ensures)
+
+pub next-instance-spec : {M : Type 1} → statement M
+next-instance-spec =
+    tie.close
+    (tie.spec
+    next-refusal-requires
+    same-length
+    returns
+    first-checks-requires
+    is-accepted-requires
+    same-length-2
+    returns-2
+    write-instance-requires
+    same-length-3
+    returns-3)

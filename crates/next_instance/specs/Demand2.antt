@@ -1,0 +1,110 @@
+-- Demand 2 for the calls themselves, where `next_instance` answered `Written`: `verify` accepts an opening exactly if, padded, it solves the
+-- relation whose constraints are the numbers written; and a solution whose padding is zero is, with the padding cut off, accepted.
+-- Each hypothesis is a call's promise, not its code: `called` that of `next_instance`, `answer ≡ verification ..` that of `verify`.
+use mathlib.Core.Path.{_≡_, refl, sym, ap, subst, _∙_}
+use mathlib.Core.Logic.{_↔_, _≢_}
+use mathlib.Core.Bool.{true}
+use mathlib.Core.List.{List, []}
+use Prim.Native.Nat.{ℕ, zero, suc, _*_}
+use lib.ListN.{length}
+use lib.IntN.{ℤ}
+use Rattle.residues.specs.Range.{coefficients}
+use Rattle.fold.specs.declared.Answer.{Answer}
+use Rattle.fold.specs.declared.Answer.the-variants.{Refused, Judged, Written}
+use Rattle.fold.specs.declared.Verdict.{Verdict}
+use Rattle.fold.specs.declared.Verdict.the-variants.{Accepted}
+use Rattle.fold.specs.declared.Sizes.{Sizes}
+use Rattle.fold.specs.Answers.{answered, firstRefusal}
+use Rattle.fold.specs.Arguments.{statementOf, drawsOf, transcriptOf}
+use Rattle.fold.specs.Sizes.{restSize, nextRank, nextParts, nextCount}
+use Rattle.fold.specs.Statement.{Relation, Solves}
+use Rattle.fold.specs.Verdict.{Statement, Draws, Transcript, verdict}
+use Rattle.fold.specs.Refusals.{verifyTests}
+use Rattle.fold.specs.Verification.{verification}
+use Rattle.fold.specs.Chunks.{padded, unpadded, ZeroPadding}
+use Rattle.fold.specs.NextInstance.{nextWhole, nextRelation}
+use Rattle.fold.specs.NextInstanceTheorem.{solution-accepted}
+use Rattle.fold.specs.NextCall.{nextAnswer}
+use Rattle.fold.specs.NextCallLaws.{written-iff, written-out, next-instance-written}
+use Rattle.next_instance.specs.Calls.{NextCalled}
+
+-- an answer of `verify` that is no refusal is the judgement
+unrefused : (n : ℕ) (v : Verdict) → ((k : ℕ) → answered n (Judged v) ≢ Refused k) → n ≡ 0
+unfolding answered
+unrefused zero v h = refl
+unrefused (suc n) v h = absurd (h (suc n) refl)
+
+judged : (n : ℕ) (v w : Verdict) → n ≡ 0 → (answered n (Judged v) ≡ Judged w) ↔ (v ≡ w)
+unfolding answered
+judged n v w e = rw e (λ h. cc, λ h. ap Judged h)
+
+module _ (sizes : Sizes) (A B C D whole term rows ψ ω α δ c u₁ p b″ u₂ : List ℤ) (ν μ : ℕ) (out out′ : List ℤ) where
+  abbrev pub 𝓢 : Statement
+  𝓢 = statementOf sizes A B C D whole term
+
+  abbrev pub 𝓓 : Draws
+  𝓓 = drawsOf rows ψ ω α δ c
+
+  abbrev pub 𝓣 : Transcript
+  𝓣 = transcriptOf u₁ p b″ u₂
+
+  abbrev pub m : ℕ
+  m = restSize (sizes .r) (sizes .kappa) (sizes .t1) (sizes .t2)
+
+  abbrev pub n′ : ℕ
+  n′ = nextRank (sizes .n) ν m μ
+
+  abbrev pub r′ : ℕ
+  r′ = nextParts 2 ν μ
+
+  -- "K' = κ+κ1+κ2+3, L' = 0, bound β'²", with the numbers that `out` holds after the call
+  abbrev pub writtenRelation : Relation
+  writtenRelation =
+      record {
+        d = sizes .d;
+        n = n′;
+        r = r′;
+        K = nextCount (sizes .kappa) (sizes .kappa1) (sizes .kappa2);
+        L = 0;
+        bound = sizes .target;
+        whole = out′;
+        term = [];
+      }
+
+  module _ (called : NextCalled 𝓢 𝓓 𝓣 ν μ out Written out′) where
+    was-written : nextAnswer 𝓢 𝓓 𝓣 ν μ out ≡ Written
+    was-written = sym (called .answer-is)
+
+    pub relation-written : writtenRelation ≡ nextRelation 𝓢 𝓓 𝓣 ν μ
+    relation-written =
+        let numbers : out′ ≡ nextWhole 𝓢 𝓓 𝓣 ν μ = called .out-is ∙ written-out 𝓢 𝓓 𝓣 ν μ out was-written in
+        λ i. record {
+          d = sizes .d;
+          n = n′;
+          r = r′;
+          K = nextCount (sizes .kappa) (sizes .kappa1) (sizes .kappa2);
+          L = 0;
+          bound = sizes .target;
+          whole = numbers i;
+          term = [];
+        }
+
+    -- "an opening is accepted exactly if, padded, it solves the next instance": for an opening that `verify` does not refuse
+    pub accepted-exactly : (o : List ℤ) (answer : Answer) → answer ≡ verification 𝓢 𝓓 𝓣 o → ((k : ℕ) → answer ≢ Refused k)
+        → (answer ≡ Judged Accepted) ↔ Solves writtenRelation (padded (sizes .d) 2 (sizes .n) ν m μ o)
+    accepted-exactly o answer e some =
+        let none = unrefused (firstRefusal (verifyTests 𝓢 𝓓 𝓣 o)) (verdict 𝓢 𝓓 𝓣 o) (λ k h. some k (e ∙ h)) in
+        let judgement = judged (firstRefusal (verifyTests 𝓢 𝓓 𝓣 o)) (verdict 𝓢 𝓓 𝓣 o) Accepted none in
+        let theorem = next-instance-written 𝓢 𝓓 𝓣 ν μ out was-written o none in (
+          λ h. subst (λ R. Solves R (padded (sizes .d) 2 (sizes .n) ν m μ o)) (sym relation-written) (theorem .0 (judgement .0 (sym e ∙ h))),
+          λ h. e ∙ judgement .1 (theorem .1 (subst (λ R. Solves R (padded (sizes .d) 2 (sizes .n) ν m μ o)) relation-written h)),
+        )
+
+    -- "A solution of the next instance whose padding is zero is, with the padding cut off, an accepted opening": r' parts of n' elements,
+    -- with numbers in range
+    pub solution-accepts : (s : List ℤ) → length s ≡ r′ * n′ * sizes .d → ZeroPadding (sizes .d) 2 (sizes .n) ν m μ s
+        → coefficients s ≡ true → Solves writtenRelation s
+        → (answer : Answer) → answer ≡ verification 𝓢 𝓓 𝓣 (unpadded (sizes .d) 2 (sizes .n) ν m μ s) → answer ≡ Judged Accepted
+    solution-accepts s sized zeros range solves answer e =
+        let (none, pass) = written-iff 𝓢 𝓓 𝓣 ν μ out .0 was-written in
+        e ∙ solution-accepted 𝓢 𝓓 𝓣 ν μ out none pass s sized zeros range (subst (λ R. Solves R s) relation-written solves)
