@@ -4,13 +4,18 @@
 """
 
 import random
+import subprocess
+import sys
 import time
+from pathlib import Path
 
 import fold
 import ring
 import sheet
 import sizes
 from sizes import Sizes
+
+EXAMPLES = Path(__file__).parents[2] / "examples"
 
 WHOLE_CASE = (
     "2 1 1 1 0 0 1 1 1 4 8 4 2 2 1 1 5 13 / 1 0 / 1 0 / 0 0 / 1 0 / 0 0 / 1 0 / 1 0 / 1 0 / 0 0 / -3 4 / 2 2 / "
@@ -503,6 +508,52 @@ def test_sheet_round_trip():
             assert sheet.judge(text) == fold.answer("verify", s, y)
         else:
             assert sheet.judge(text) == ("refused", 12)
+
+
+def test_sheet_length():
+    """The count of bytes that docs/SHEET.md gives."""
+    rng = random.Random(10)
+    for _ in range(40):
+        s = random_sizes(rng)
+        d, n, r, K, L, w, kappa, kappa1, kappa2, _, _, _, t1, t2 = s[:14]
+        P = r * (r + 1) // 2
+        lines = kappa * n + kappa1 * (r * t1 * kappa + P * t2) + kappa2 * P * t1 + K * (P + r * n + 1) + L * (P + r * n)
+        lines += kappa1 + w * r * n + 5 + K + 5 + kappa2 + r + 2 * n + r * t1 * kappa + P * (t1 + t2)
+        text = sheet.write_sheet(s, {name: [0] * sizes.LENGTHS[name](s) for name in sizes.SHEET_LISTS})
+        assert len(text) == 289 + (16 * d + 1) * lines + 17 * 6 * (L + w)
+
+
+def test_examples():
+    paths = sorted(EXAMPLES.glob("*.sheet"))
+    assert len(paths) == len(list(EXAMPLES.glob("*.verdict"))) > 0
+    for path in paths:
+        assert sheet.output_line(sheet.judge(path.read_bytes())) == path.with_suffix(".verdict").read_bytes(), path
+
+
+def test_whole_case_as_text():
+    text = whole_case_text()
+    assert [len(line) for line in text.split(b"\n")] == [288] + [32] * 32 + [0]
+    assert text[:32] == b"               2               1" and text[256:289] == b"               5              13\n"
+    assert sheet.line_text([-3, 4]) == b"              -3               4\n" and sheet.line_text([-3, 4]) in text
+    s, x = whole_case()
+    assert s == Sizes(2, 1, 1, 1, 0, 0, 1, 1, 1, 4, 8, 4, 2, 2, 1, 1, 5, 13)
+    assert [x[name] for name in "A B C D".split()] == [[1, 0], [1, 0, 0, 0], [1, 0, 0, 0], [1, 0, 1, 0]]
+    assert x["whole"] == [1, 0, 0, 0, -3, 4] and x["u1"] == [2, 2] and x["u2"] == [0, 0] and x["c"] == [0, 1]
+    assert x["opening"] == [-2, 1, 0, 0, 1, 2, 0, 0, 1, 0, -1, 1, 0, 0, 0, 0]
+    # A byte less, a byte twice, another byte in its place: broken everywhere.
+    for place in range(len(text)):
+        before, byte, after = text[:place], text[place : place + 1], text[place + 1 :]
+        for other in (b"", byte + byte, b"a", b"\t", b"\0"):
+            assert sheet.judge(before + other + after) == ("refused", 12), (place, other)
+        if byte != b" ":
+            # "-3" and "13" without their first byte are numbers still.
+            shorter = text[place - 1 : place] == b" " and after[:1].isdigit()
+            assert (sheet.judge(before + b" " + after) == ("refused", 12)) == (not shorter), place
+    # The program itself.
+    program = [sys.executable, sheet.__file__]
+    for given, expected in ((text, [0, 0]), (b"", [2, 12]), (whole_case_text(12), [1, 9]), (text[:-1], [2, 12])):
+        run = subprocess.run(program, input=given, capture_output=True, check=True)
+        assert run.stdout == sheet.line_text(expected) and not run.stderr
 
 
 def test_broken_sheets():

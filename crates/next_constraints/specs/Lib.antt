@@ -2,3 +2,13 @@ pub mod Tables
 pub mod TablePlaces
 pub mod TableLaws
 pub mod Facts
+pub mod BlockPlaces
+pub mod Entries
+pub mod Order
+pub mod EntrySteps
+pub mod EntryTables
+pub mod Coefficients
+pub mod EntryLimits
+pub mod Powers
+pub mod EntryRoom
+pub mod Squares

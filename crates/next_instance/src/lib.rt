@@ -8,7 +8,10 @@ use fold::Answer;
 use fold::Sizes;
 use writer::write_instance;
 
+pub mod a_part;
 pub mod checks;
+pub mod cut;
+pub mod phi_part;
 pub mod writer;
 
 // Writes the constraints of the next instance to `out`, unless the call is refused or check 1 or 2 fails.

@@ -1,11 +1,96 @@
+-- `next_instance::writer::write_instance` meets its contract: the four lists, and then all constraints.
+use Prim.Native.Nat.{_*_, _≤_}
+use native.Mathlib.Nat.{le-refl}
+use native.Mathlib.Omega.{arith}
+use lib.ListN.{length}
+use Rattle.next_instance.specs.Instance.{table-room, entry-facts, constant-facts, aggregate-facts, out-room, written}
+use borrow.Author.Needs.{needs}
 use Rattle.next_instance.proofs.writer.write_instance.Statement.{statement}
 use Rattle.next_instance.proofs.writer.write_instance.Tie as tie
-use Rattle.next_instance.proofs.writer.write_instance.Reads as reads
-use Rattle.next_instance.proofs.writer.write_instance.Lts as lts
 
--- src/writer.rt:9:1
+cut-of-requires : tie.Need-cut-of-requires
+cut-of-requires c κs = search needs
+
+slice-aggregate-write-tables : tie.Need-slice-aggregate-write-tables
+slice-aggregate-write-tables c = search needs
+
+slice-aggregate-write-tables-2 : tie.Need-slice-aggregate-write-tables-2
+slice-aggregate-write-tables-2 c = search needs
+
+slice-aggregate-write-tables-3 : tie.Need-slice-aggregate-write-tables-3
+slice-aggregate-write-tables-3 c = search needs
+
+slice-aggregate-write-tables-4 : tie.Need-slice-aggregate-write-tables-4
+slice-aggregate-write-tables-4 c = search needs
+
+write-tables-requires : tie.Need-write-tables-requires
+write-tables-requires c κs =
+    let s = c .before .before .before .before .before in
+    let challenges : s .args .sizes .r * s .args .sizes .d ≤ length (s .args .c .now) = omega (arith, s .pre .c-length) in (
+      aggregate-facts _ _ _ _ _ _ _ _ _ _ _ _ _ _ _ _ _ _ _ _ (s .pre),
+      (
+        challenges,
+        table-room (s .args .sizes) (s .pre .limits) (le-refl 16384) (le-refl 8704) (le-refl 8704) (le-refl 8704),
+      ),
+    )
+
+slice-aggregate-write-constraints : tie.Need-slice-aggregate-write-constraints
+slice-aggregate-write-constraints c = search needs
+
+slice-aggregate-write-constraints-2 : tie.Need-slice-aggregate-write-constraints-2
+slice-aggregate-write-constraints-2 c = search needs
+
+slice-aggregate-write-constraints-3 : tie.Need-slice-aggregate-write-constraints-3
+slice-aggregate-write-constraints-3 c = search needs
+
+slice-aggregate-write-constraints-4 : tie.Need-slice-aggregate-write-constraints-4
+slice-aggregate-write-constraints-4 c = search needs
+
+write-constraints-requires : tie.Need-write-constraints-requires
+write-constraints-requires c κs =
+    let f = c .before .before .before .before .before .before .before .before .before in
+    let k = f .before .before .before .before .before in
+    let s = k .before in
+    let kept = f .write-tables .kept .1 .1 .1 .1 .1 .1 .1 .1 .1 in
+    let cut = k .cut-of .ensures in (
+      entry-facts _ _ _ _ _ _ _ _ _ _ _ _ _ _ _ _ _ _ _ _ (s .pre),
+      (
+        table-room (s .args .sizes) (s .pre .limits) (omega (arith, kept .0)) (omega (arith, kept .1 .0)) (omega (arith, kept .1 .1 .0))
+            (omega (arith, kept .1 .1 .1 .0)),
+        (
+          constant-facts _ _ _ _ _ _ _ _ _ _ _ _ _ _ _ _ _ _ _ _ (s .pre),
+          (cut .0, out-room _ _ _ _ _ _ _ _ _ _ _ _ _ _ _ _ _ _ _ _ (s .pre) _ (cut .0) (cut .1) (cut .2)),
+        ),
+      ),
+    )
+
+same-length : tie.Need-same-length
+same-length c = search needs
+
 returns : tie.Need-returns
-returns c = ?
+returns c =
+    let f = c .before .before .before .before .before .before .before .before .before .before .before in
+    let k = f .before .before .before .before .before in
+    let s = k .before in
+    let g = s .args in
+    let cut = k .cut-of .ensures in
+    written (g .sizes) _ _ _ _ _ _ _ _ _ _ _ _ _ _ _ _ (g .nu) (g .mu) (g .out .now) (k .cut-of .result) (cut .0) (cut .1) (cut .2)
+    (c .before .write-constraints .ensures (g .term .now) (g .rows .now) (g .psi .now) (g .omega .now) (g .p .now) (f .write-tables .ensures))
 
 pub write-instance-spec : {M : Type 1} → statement M
-write-instance-spec = tie.close (tie.spec returns)
+write-instance-spec =
+    tie.close
+    (tie.spec
+    cut-of-requires
+    slice-aggregate-write-tables
+    slice-aggregate-write-tables-2
+    slice-aggregate-write-tables-3
+    slice-aggregate-write-tables-4
+    write-tables-requires
+    slice-aggregate-write-constraints
+    slice-aggregate-write-constraints-2
+    slice-aggregate-write-constraints-3
+    slice-aggregate-write-constraints-4
+    write-constraints-requires
+    same-length
+    returns)

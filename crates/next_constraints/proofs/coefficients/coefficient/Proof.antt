@@ -1,0 +1,21 @@
+-- `next_constraints::coefficients::coefficient` meets its contract.
+use mathlib.Core.Path.{sym}
+use Rattle.next_constraints.specs.EntryRoom.{holds-as}
+use Rattle.next_constraints.specs.Coefficients.{coefficient-is}
+use borrow.Author.Needs.{needs}
+use Rattle.next_constraints.proofs.coefficients.coefficient.Statement.{statement}
+use Rattle.next_constraints.proofs.coefficients.coefficient.Tie as tie
+
+ordered-entry-requires : tie.Need-ordered-entry-requires
+ordered-entry-requires c κs = search needs
+
+returns : tie.Need-returns
+returns c =
+    let s = c .before in
+    let a = s .args in
+    λ whole term rows ψ ω α δ 𝓣 ν μ tables.
+    holds-as _ (sym (coefficient-is (a .sizes) (s .pre .0 .limits) (a .a .now) (a .b .now) (a .c-matrix .now) (a .d-matrix .now) _ whole term rows ψ ω α δ 𝓣 ν μ (a .x) (s .pre .1 .1 .0) (a .p)
+    (s .pre .1 .1 .1) tables)) (c .ordered-entry .ensures)
+
+pub coefficient-spec : {M : Type 1} → statement M
+coefficient-spec = tie.close (tie.spec ordered-entry-requires returns)

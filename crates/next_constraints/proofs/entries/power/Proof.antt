@@ -1,0 +1,45 @@
+-- `next_constraints::entries::power` meets its contract. The loop has formed base^i.
+use mathlib.Core.Path.{_≡_}
+use Prim.Native.Nat.{_-_, _^_, _≤_}
+use native.Mathlib.Omega.{arith}
+use lib.IntN.{pos}
+use mir.Syntax.{w32}
+use mir.Val.{ofZ}
+use Rattle.residues.specs.Modulus.{centred}
+use Rattle.next_constraints.specs.Powers.{power-start, power-turn, power-end}
+use Rattle.next_constraints.proofs.entries.power.Statement.{statement}
+use Rattle.next_constraints.proofs.entries.power.Tie as tie
+
+abbrev Inv-loop : tie.InvT-loop
+Inv-loop base e acc₀ i₀ acc i = (acc ≡ ofZ w32 (centred (pos (base ^ i)))) × (i ≤ e)
+
+abbrev μ-loop : tie.MeasureT-loop
+μ-loop base e acc₀ i₀ acc i = e - i
+
+loop-holds : tie.Need-loop-holds Inv-loop μ-loop
+loop-holds c = (power-start (c .args .base), omega arith)
+
+fold-digit-requires : tie.Need-fold-digit-requires Inv-loop μ-loop
+fold-digit-requires c κs = c .before .before .pre
+
+add-i : tie.Need-add-i Inv-loop μ-loop
+add-i c = omega arith
+
+loop-less : tie.Need-loop-less Inv-loop μ-loop
+loop-less c = omega arith
+
+loop-again : tie.Need-loop-again Inv-loop μ-loop
+loop-again c =
+    let l = c .before .before in
+    (power-turn (l .before .args .base) (l .loop .i) (l .loop .acc) _ (l .loop .inv .0) (c .fold-digit .ensures), omega arith)
+
+returns : tie.Need-returns Inv-loop μ-loop
+returns c =
+    let a = c .before .before .args in
+    let l = c .before .loop in
+    power-end (a .base) (l .i) (a .e) (l .acc) (omega arith) (l .inv .0)
+
+pub power-spec : {M : Type 1} → statement M
+power-spec =
+    tie.close
+    (tie.spec Inv-loop μ-loop loop-holds fold-digit-requires add-i loop-less loop-again returns)

@@ -1,0 +1,93 @@
+-- The coefficients of the next constraints by place p of the opening, from the lists that hold what they are made of:
+--     zEntry, tEntry, garbageEntry     at place p of the block of z, of t, and of g or h
+--     entry5 .. entry4                 at place p of the opening, for each check
+--     coefficientAt                    for constraint x, in the order 5, 6, 7, 8, 3, 4
+use mathlib.Core.Bool.{cond}
+use mathlib.Core.List.{List}
+use Prim.Native.Nat.{ℕ, _+_, _-_, _*_, _/_, _%_}
+use lib.Dec.{ltb, eqb}
+use lib.IntN.{ℤ}
+use Rattle.algebra.specs.CommRing.{CommRing}
+use Rattle.ring.specs.Element.{R, el}
+use Rattle.fold.specs.declared.Sizes.{Sizes}
+use Rattle.fold.specs.Sizes.{tSize, garbageSize}
+use Rattle.fold.specs.Verdict.{tPlace, gPlace, hPlace}
+use Rattle.fold.specs.NextInstance.{power}
+
+-- ---- the blocks
+
+module _ (d : ℕ) where
+  open CommRing (R d) using (Carrier as Rd, zero as 𝟘, mul as _⊗_, neg as ⊖_)
+
+  infixl 70 _⊗_
+  infix 75 ⊖_
+  unfoldable pub zEntry : (n b : ℕ) (xs : List ℤ) (from p : ℕ) → Rd
+  zEntry n b xs from p = power d b (p / n) ⊗ el d xs (from + p % n)
+
+  unfoldable pub partEntry : (κ b₁ t₁ : ℕ) (c : List ℤ) (p : ℕ) → Rd
+  partEntry κ b₁ t₁ c p = ⊖ (el d c (p / κ / t₁) ⊗ power d b₁ (p / κ % t₁))
+
+  unfoldable pub tEntry : (κ b₁ t₁ : ℕ) (c : List ℤ) (k p : ℕ) → Rd
+  tEntry κ b₁ t₁ c k p = cond (eqb (p % κ) k) (partEntry κ b₁ t₁ c p) 𝟘
+
+  unfoldable pub garbageEntry : (base t : ℕ) (xs : List ℤ) (p : ℕ) → Rd
+  garbageEntry base t xs p = el d xs (p / t) ⊗ power d base (p % t)
+
+-- ---- the checks
+
+module _ (s : Sizes) where
+  open CommRing (R (s .d)) using (Carrier as Rd, zero as 𝟘)
+
+  -- where the blocks of t, g and h start
+  abbrev pub tFrom : ℕ
+  tFrom = tPlace 2 (s .n)
+
+  abbrev pub gFrom : ℕ
+  gFrom = gPlace 2 (s .n) (s .r) (s .kappa) (s .t1)
+
+  abbrev pub hFrom : ℕ
+  hFrom = hPlace 2 (s .n) (s .r) (s .kappa) (s .t1) (s .t2)
+
+  unfoldable pub entry5 : (A c : List ℤ) (k p : ℕ) → Rd
+  entry5 A c k p =
+      cond (ltb p tFrom) (zEntry (s .d) (s .n) (s .b) A (k * s .n) p)
+      (cond (ltb p gFrom) (tEntry (s .d) (s .kappa) (s .b1) (s .t1) c k (p - tFrom)) 𝟘)
+
+  unfoldable pub entry6 : (products : List ℤ) (p : ℕ) → Rd
+  entry6 products p =
+      cond (ltb p gFrom) 𝟘 (cond (ltb p hFrom) (garbageEntry (s .d) (s .b2) (s .t2) products (p - gFrom)) 𝟘)
+
+  unfoldable pub entry7 : (folded products : List ℤ) (p : ℕ) → Rd
+  entry7 folded products p =
+      cond (ltb p tFrom) (zEntry (s .d) (s .n) (s .b) folded 0 p)
+      (cond (ltb p hFrom) 𝟘 (garbageEntry (s .d) (s .b1) (s .t1) products (p - hFrom)))
+
+  unfoldable pub entry8 : (relation diagonal : List ℤ) (p : ℕ) → Rd
+  entry8 relation diagonal p =
+      cond (ltb p gFrom) 𝟘
+      (cond (ltb p hFrom) (garbageEntry (s .d) (s .b2) (s .t2) relation (p - gFrom))
+      (garbageEntry (s .d) (s .b1) (s .t1) diagonal (p - hFrom)))
+
+  unfoldable pub entry3 : (B C : List ℤ) (k p : ℕ) → Rd
+  entry3 B C k p =
+      cond (ltb p tFrom) 𝟘
+      (cond (ltb p gFrom) (el (s .d) B (k * tSize (s .r) (s .kappa) (s .t1) + (p - tFrom)))
+      (cond (ltb p hFrom) (el (s .d) C (k * garbageSize (s .r) (s .t2) + (p - gFrom))) 𝟘))
+
+  unfoldable pub entry4 : (D : List ℤ) (k p : ℕ) → Rd
+  entry4 D k p = cond (ltb p hFrom) 𝟘 (el (s .d) D (k * garbageSize (s .r) (s .t1) + (p - hFrom)))
+
+  -- ---- the order of the constraints
+
+  unfoldable pub middleEntry : (folded products relation diagonal : List ℤ) (y p : ℕ) → Rd
+  middleEntry folded products relation diagonal y p =
+      cond (eqb y 0) (entry6 products p) (cond (eqb y 1) (entry7 folded products p) (entry8 relation diagonal p))
+
+  unfoldable pub outerEntry : (B C D : List ℤ) (y p : ℕ) → Rd
+  outerEntry B C D y p = cond (ltb y (s .kappa1)) (entry3 B C y p) (entry4 D (y - s .kappa1) p)
+
+  unfoldable pub coefficientAt : (A B C D c folded products relation diagonal : List ℤ) (x p : ℕ) → Rd
+  coefficientAt A B C D c folded products relation diagonal x p =
+      cond (ltb x (s .kappa)) (entry5 A c x p)
+      (cond (ltb x (s .kappa + 3)) (middleEntry folded products relation diagonal (x - s .kappa) p)
+      (outerEntry B C D (x - (s .kappa + 3)) p))

@@ -1,0 +1,80 @@
+-- `next_instance::a_part::write_a` meets its contract. The loop's invariant: the rows of the first s parts are written.
+use mathlib.Core.List.{List, []}
+use Prim.Native.Nat.{ℕ, _+_, _-_}
+use native.Mathlib.Omega.{arith}
+use lib.IntN.{ℤ}
+use Rattle.fold.specs.Arguments.{statementOf, drawsOf, transcriptOf}
+use Rattle.fold.specs.Verdict.{Transcript}
+use Rattle.fold.specs.NextInstance.{constraint}
+use Rattle.fold.specs.WriterLaws.{Rows, rows-start, rows-fit, rows-turn, rows-end}
+use Rattle.next_instance.specs.Places.{place-below}
+use Rattle.next_instance.proofs.a_part.write_a.Statement.{statement}
+use Rattle.next_instance.proofs.a_part.write_a.Tie as tie
+
+abbrev Inv-loop : tie.InvT-loop
+Inv-loop sizes nu parts x out₀ at₀ s₀ out at s =
+    (A B C D whole term rows ψ ω α δ c : List ℤ) (transcript : Transcript) (μ : ℕ)
+    → Rows (sizes .d) parts (constraint (statementOf sizes A B C D whole term) (drawsOf rows ψ ω α δ c) transcript nu μ x .a) out₀ s at out
+
+abbrev μ-loop : tie.MeasureT-loop
+μ-loop sizes nu parts x out₀ at₀ s₀ out at s = parts - s
+
+loop-holds : tie.Need-loop-holds Inv-loop μ-loop
+loop-holds c = λ A B C D whole term rows ψ ω α δ c′ transcript μ. rows-start _ _ _ _ (c .pre .1 .1)
+
+write-a-row-requires : tie.Need-write-a-row-requires Inv-loop μ-loop
+write-a-row-requires c κs =
+    let l = c .before .before in
+    let s = l .before in
+    let sofar = l .loop .inv [] [] [] [] [] [] [] [] [] [] [] [] (transcriptOf [] [] [] []) 0 in
+    let fits = rows-fit _ _ _ _ (s .pre .1 .1) sofar (c .before .loop-test .taken) in
+    (s .pre .0, ((s .pre .1 .0 .0, s .pre .1 .0 .1, s .pre .1 .0 .2, s .pre .1 .0 .3, omega (arith, sofar .within)), rw (sofar .same) fits))
+
+sub-at : tie.Need-sub-at Inv-loop μ-loop
+sub-at c = omega arith
+
+add-at : tie.Need-add-at Inv-loop μ-loop
+add-at c =
+    let l = c .before .before .before .before in
+    let s = l .before in
+    let a = s .args in
+    let sofar = l .loop .inv [] [] [] [] [] [] [] [] [] [] [] [] (transcriptOf [] [] [] []) 0 in
+    let fits = rows-fit _ _ _ _ (s .pre .1 .1) sofar (c .before .before .before .loop-test .taken) in
+    omega (arith, place-below (a .sizes .d) (l .loop .at + (a .parts - l .loop .s)) (s .pre .0 .shaped .degree .positive) fits)
+
+add-s : tie.Need-add-s Inv-loop μ-loop
+add-s c = omega arith
+
+loop-less : tie.Need-loop-less Inv-loop μ-loop
+loop-less c = omega arith
+
+loop-again : tie.Need-loop-again Inv-loop μ-loop
+loop-again c =
+    λ A B C D whole term rows ψ ω α δ c′ transcript μ.
+    let l = c .before .before .before .before in
+    rows-turn _ _ _ _ (l .before .pre .1 .1) (l .loop .inv A B C D whole term rows ψ ω α δ c′ transcript μ)
+    (c .before .before .before .loop-test .taken) (c .before .write-a-row .ensures A B C D whole term rows ψ ω α δ c′ transcript μ)
+
+same-length : tie.Need-same-length Inv-loop μ-loop
+same-length c = c .before .loop .inv [] [] [] [] [] [] [] [] [] [] [] [] (transcriptOf [] [] [] []) 0 .same
+
+returns : tie.Need-returns Inv-loop μ-loop
+returns c =
+    λ A B C D whole term rows ψ ω α δ c′ transcript μ.
+    rows-end _ _ _ _ (c .before .before .pre .1 .1) (c .before .loop .inv A B C D whole term rows ψ ω α δ c′ transcript μ) (c .loop-test .left)
+
+pub write-a-spec : {M : Type 1} → statement M
+write-a-spec =
+    tie.close
+    (tie.spec
+    Inv-loop
+    μ-loop
+    loop-holds
+    write-a-row-requires
+    sub-at
+    add-at
+    add-s
+    loop-less
+    loop-again
+    same-length
+    returns)

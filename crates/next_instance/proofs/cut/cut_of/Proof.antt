@@ -1,0 +1,83 @@
+-- `next_instance::cut::cut_of` meets its contract.
+use mathlib.Core.Path.{refl, ap}
+use Prim.Native.Nat.{ℕ, _+_, _*_, _≤_}
+use native.Mathlib.Nat.{mul-le-mul}
+use native.Mathlib.Omega.{arith}
+use Rattle.fold.specs.Sizes.{functionSize, nextParts}
+use Rattle.verifier.specs.SizeLaws.{pairs-bound}
+use Rattle.next_instance.specs.Places.{rest-small}
+use borrow.Author.Needs.{needs}
+use Rattle.next_instance.proofs.cut.cut_of.Statement.{statement}
+use Rattle.next_instance.proofs.cut.cut_of.Tie as tie
+
+rest-size-requires : tie.Need-rest-size-requires
+rest-size-requires c κs = search needs
+
+next-rank-requires : tie.Need-next-rank-requires
+next-rank-requires c κs =
+    let s = c .before in
+    let limits = s .pre .1 .0 in
+    record {
+      n-small = s .pre .0 .shaped .rank-small;
+      m-small = omega (arith, rest-small (s .args .sizes) (s .pre .0), c .rest-size .ensures);
+      ν-positive = limits .ν-positive;
+      μ-positive = limits .μ-positive;
+      parts-small = limits .parts-small;
+    }
+
+mul-parts : tie.Need-mul-parts
+mul-parts c = search needs
+
+add-parts : tie.Need-add-parts
+add-parts c = search needs
+
+pair-count-requires : tie.Need-pair-count-requires
+pair-count-requires c κs = search needs
+
+mul-size : tie.Need-mul-size
+mul-size c =
+    let s = c .before .before .before in
+    let rank : c .before .next-rank .result ≤ 256 = rw (c .before .next-rank .ensures, c .before .before .rest-size .ensures) (s .pre .1 .1) in
+    omega (arith, mul-le-mul (s .pre .1 .0 .parts-small) rank)
+
+add-size : tie.Need-add-size
+add-size c =
+    let s = c .before .before .before in
+    let rank : c .before .next-rank .result ≤ 256 = rw (c .before .next-rank .ensures, c .before .before .rest-size .ensures) (s .pre .1 .1) in
+    let few = s .pre .1 .0 .parts-small in
+    omega (arith, mul-le-mul few rank, pairs-bound (2 * s .args .nu + s .args .mu) few, c .pair-count .ensures)
+
+returns : tie.Need-returns
+unfolding nextParts functionSize
+returns c =
+    let s = c .before .before .before in
+    let limits = s .pre .1 .0 in
+    let m = c .before .before .rest-size .ensures in
+    let rank = c .before .next-rank .ensures in (
+      record {
+        ν-positive = limits .ν-positive;
+        μ-positive = limits .μ-positive;
+        parts-small = limits .parts-small;
+        rest-is = m;
+        rank-is = rank;
+        rank-small = rw (rank, m) (s .pre .1 .1);
+        parts-is = refl;
+        pairs-is = c .pair-count .ensures;
+        size-is = ap (λ (k : ℕ). k + (2 * s .args .nu + s .args .mu) * c .before .next-rank .result) (c .pair-count .ensures);
+      },
+      refl,
+      refl,
+    )
+
+pub cut-of-spec : {M : Type 1} → statement M
+cut-of-spec =
+    tie.close
+    (tie.spec
+    rest-size-requires
+    next-rank-requires
+    mul-parts
+    add-parts
+    pair-count-requires
+    mul-size
+    add-size
+    returns)

@@ -1,0 +1,188 @@
+// The φ of one constraint: for each part its chunk of the coefficients, and zero on the padding.
+ghost use mathlib.Core.Path.{_≡_};
+ghost use mathlib.Core.List.{List};
+ghost use Prim.Native.Nat.{ℕ, _+_, _*_, _<_, _≤_};
+ghost use lib.ListN.{length};
+ghost use lib.IntN.{ℤ};
+ghost use Rattle.integers.specs.Over.{over};
+ghost use Rattle.integers.specs.Flat.{flat};
+ghost use Rattle.ring.specs.Element.{array};
+ghost use Rattle.fold.specs.Sizes.{openingSize, nextCount};
+ghost use Rattle.fold.specs.Chunks.{width};
+ghost use Rattle.fold.specs.Messages.{elements};
+ghost use Rattle.fold.specs.Verdict.{Transcript};
+ghost use Rattle.fold.specs.NextInstance.{φ′};
+ghost use Rattle.next_constraints.specs.Facts.{EntryFacts};
+ghost use Rattle.next_constraints.specs.Tables.{TableRoom, Tables};
+ghost use Rattle.next_instance.specs.Facts.{CutFacts};
+ghost use Rattle.next_instance.specs.Written.{tableOf, chunkEntry};
+use crate::cut::Cut;
+use chunks::sizes::chunk_width;
+use fold::Sizes;
+use next_constraints::coefficients::coefficient;
+use ring::element::Element;
+
+// Element k of the chunk of `size` coefficients from coefficient `start` on; past its end, zero.
+fn chunk_entry(
+    sizes: Sizes,
+    a: &[i32],
+    b: &[i32],
+    c_matrix: &[i32],
+    d_matrix: &[i32],
+    c: &[i32],
+    folded: &[i32],
+    products: &[i32],
+    relation: &[i32],
+    diagonal: &[i32],
+    x: usize,
+    start: usize,
+    size: usize,
+    k: usize,
+) -> Element
+    requires { ⌜ EntryFacts sizes (now a) (now b) (now «c_matrix») (now «d_matrix») (now c) ⌝ }
+    requires { ⌜ TableRoom (sizes .d) (sizes .n) (sizes .r) (now folded) (now products) (now relation) (now diagonal) ⌝ }
+    requires { ⌜ (x < nextCount (sizes .kappa) (sizes .kappa1) (sizes .kappa2)) × (start + size ≤ openingSize 2 (sizes .n) (sizes .r) (sizes .kappa) (sizes .t1) (sizes .t2)) ⌝ }
+    ensures { λ e.
+        ⌜ ((whole term rows psi omega alpha delta : List ℤ) (transcript : Transcript) (ν μ : ℕ) →
+        Tables (sizes .d) (sizes .n) (sizes .r) (sizes .k) (sizes .l) (sizes .w) whole term rows psi omega alpha delta (now (c .entry))
+        (now (folded .entry)) (now (products .entry)) (now (relation .entry)) (now (diagonal .entry)) →
+        e .coefficients ≡ array (sizes .d) (chunkEntry (sizes .d)
+        (tableOf sizes (now (a .entry)) (now (b .entry)) (now («c_matrix» .entry)) (now («d_matrix» .entry)) (now (c .entry))
+        whole term rows psi omega alpha delta transcript ν μ x) start size k)) ⌝ }
+{
+    if k < size {
+        coefficient(
+            sizes,
+            a,
+            b,
+            c_matrix,
+            d_matrix,
+            c,
+            folded,
+            products,
+            relation,
+            diagonal,
+            x,
+            start + k,
+        )
+    } else {
+        Element::additive_identity()
+    }
+}
+
+// A chunk with its padding, written from element `at` on.
+fn write_chunk(
+    sizes: Sizes,
+    rank: usize,
+    a: &[i32],
+    b: &[i32],
+    c_matrix: &[i32],
+    d_matrix: &[i32],
+    c: &[i32],
+    folded: &[i32],
+    products: &[i32],
+    relation: &[i32],
+    diagonal: &[i32],
+    x: usize,
+    start: usize,
+    size: usize,
+    out: &mut [i32],
+    at: usize,
+)
+    requires { ⌜ EntryFacts sizes (now a) (now b) (now «c_matrix») (now «d_matrix») (now c) ⌝ }
+    requires { ⌜ TableRoom (sizes .d) (sizes .n) (sizes .r) (now folded) (now products) (now relation) (now diagonal) ⌝ }
+    requires { ⌜ (x < nextCount (sizes .kappa) (sizes .kappa1) (sizes .kappa2)) × (start + size ≤ openingSize 2 (sizes .n) (sizes .r) (sizes .kappa) (sizes .t1) (sizes .t2)) ⌝ }
+    requires { ⌜ (at + rank) * sizes .d ≤ length (now out) ⌝ }
+    ensures { λ _.
+        ⌜ ((whole term rows psi omega alpha delta : List ℤ) (transcript : Transcript) (ν μ : ℕ) →
+        Tables (sizes .d) (sizes .n) (sizes .r) (sizes .k) (sizes .l) (sizes .w) whole term rows psi omega alpha delta (now (c .entry))
+        (now (folded .entry)) (now (products .entry)) (now (relation .entry)) (now (diagonal .entry)) →
+        now (out .exit) ≡ over (now (out .entry)) (at * sizes .d) (elements (sizes .d) rank (chunkEntry (sizes .d)
+        (tableOf sizes (now (a .entry)) (now (b .entry)) (now («c_matrix» .entry)) (now («d_matrix» .entry)) (now (c .entry))
+        whole term rows psi omega alpha delta transcript ν μ x) start size))) ⌝ }
+{
+    let d = sizes.d;
+    let mut k = 0;
+    while k < rank {
+        let element = chunk_entry(
+            sizes,
+            a,
+            b,
+            c_matrix,
+            d_matrix,
+            c,
+            folded,
+            products,
+            relation,
+            diagonal,
+            x,
+            start,
+            size,
+            k,
+        );
+        element.store(d, out, at + k);
+        k += 1;
+    }
+}
+
+// The chunks of all parts, written from element `at` on.
+pub fn write_phi(
+    sizes: Sizes,
+    cut: Cut,
+    a: &[i32],
+    b: &[i32],
+    c_matrix: &[i32],
+    d_matrix: &[i32],
+    c: &[i32],
+    folded: &[i32],
+    products: &[i32],
+    relation: &[i32],
+    diagonal: &[i32],
+    x: usize,
+    out: &mut [i32],
+    at: usize,
+)
+    requires { ⌜ EntryFacts sizes (now a) (now b) (now «c_matrix») (now «d_matrix») (now c) ⌝ }
+    requires { ⌜ TableRoom (sizes .d) (sizes .n) (sizes .r) (now folded) (now products) (now relation) (now diagonal) ⌝ }
+    requires { ⌜ CutFacts sizes cut ⌝ }
+    requires { ⌜ (x < nextCount (sizes .kappa) (sizes .kappa1) (sizes .kappa2)) × ((at + cut .parts * cut .rank) * sizes .d ≤ length (now out)) ⌝ }
+    ensures { λ _.
+        ⌜ ((whole term rows psi omega alpha delta : List ℤ) (transcript : Transcript) (ν μ : ℕ) →
+        Tables (sizes .d) (sizes .n) (sizes .r) (sizes .k) (sizes .l) (sizes .w) whole term rows psi omega alpha delta (now (c .entry))
+        (now (folded .entry)) (now (products .entry)) (now (relation .entry)) (now (diagonal .entry)) →
+        now (out .exit) ≡ over (now (out .entry)) (at * sizes .d) (flat (cut .parts) (λ s. elements (sizes .d) (cut .rank) (φ′ (sizes .d)
+        (width 2 (sizes .n) (cut .nu) (cut .m) (cut .mu))
+        (tableOf sizes (now (a .entry)) (now (b .entry)) (now («c_matrix» .entry)) (now («d_matrix» .entry)) (now (c .entry))
+        whole term rows psi omega alpha delta transcript ν μ x) s)))) ⌝ }
+{
+    let n = sizes.n;
+    let rank = cut.rank;
+    let parts = cut.parts;
+    let mut start = 0;
+    let mut place = at;
+    let mut s = 0;
+    while s < parts {
+        let size = chunk_width(n, cut.nu, cut.m, cut.mu, s);
+        write_chunk(
+            sizes,
+            rank,
+            a,
+            b,
+            c_matrix,
+            d_matrix,
+            c,
+            folded,
+            products,
+            relation,
+            diagonal,
+            x,
+            start,
+            size,
+            out,
+            place,
+        );
+        start += size;
+        place += rank;
+        s += 1;
+    }
+}

@@ -1,0 +1,104 @@
+"""Sizes and lists for next_cases.py: honest runs, and pairs of folds in which the second is of the first's next instance."""
+
+import fold
+import ring
+import sizes
+from sizes import LARGEST_BOUND, LENGTHS, Sizes
+from test_reference import coefficient, random_lists
+
+# The smallest sizes of a statement with a constraint.
+FIRST = Sizes(
+    d=2, n=1, r=1, K=1, L=0, w=0, kappa=1, kappa1=1, kappa2=1, b=16, b1=65536, b2=256, t1=2, t2=2, nu=1, mu=1,
+    beta_squared=LARGEST_BOUND, target_beta_squared=LARGEST_BOUND,
+)
+
+ACCEPTED, WRITTEN = [0, 0], [3, 0]
+
+
+def honest_lists(rng, s, small=False):
+    """The verifier's lists of an honest run. `small` matrices and constraints keep a long line short."""
+    x = random_lists(rng, s, True)
+    if small:
+        for name in "A B C D whole".split():
+            x[name] = [rng.randint(-9, 9) for _ in x[name]]
+    return fold.honest(s, x)
+
+
+# Two folds
+
+def second_sizes(s, **free):
+    """The sizes of the next instance, with the sizes of its fold that are free."""
+    return s._replace(
+        n=sizes.next_rank(s), r=sizes.next_multiplicity(s), K=sizes.next_constraint_count(s), L=0, beta_squared=s.target_beta_squared,
+        target_beta_squared=LARGEST_BOUND,
+    )._replace(**free)
+
+
+def second_draws(rng, following):
+    """The matrices and draws of the second fold."""
+    x = {name: [coefficient(rng) for _ in range(LENGTHS[name](following))] for name in "A B C D omega alpha delta".split()}
+    x["rows"] = [rng.choice((0, 0, 0, 0, 0, 0, 0, 1, -1)) for _ in range(LENGTHS["rows"](following))]
+    x["c"] = [rng.randint(-2, 2) for _ in range(LENGTHS["c"](following))]
+    return x
+
+
+def second_lists(s, y, whole, draws):
+    """The lists of the second fold's prover: the constraints as they stand, the padded opening as witness."""
+    return draws | {"whole": whole, "constant_term": [], "psi": [], "witness": fold.flat(fold.flat(fold.next_witness(s, y)))}
+
+
+def second_fold(s, x, following, draws):
+    """The verifier's lists of the second fold, where the next instance is written."""
+    y = fold.honest(s, x)
+    kind, whole = fold.answer("next_instance", s, y)
+    assert kind == "written" and fold.solves(fold.next_statement(s, y), fold.next_witness(s, y))
+    return fold.honest(following, second_lists(s, y, whole, draws))
+
+
+def tight(s, x, following, draws):
+    """Both folds with the least target bounds under which check 9 holds, the first's no less than the second's check 1 needs."""
+    y = fold.honest(s, x)
+    least = sizes.rounded_up(2 * ring.squared_norm(y["p"]), s.w) if s.w else 0
+    s = s._replace(beta_squared=least, target_beta_squared=LARGEST_BOUND)
+    z = second_fold(s, x, following, draws)
+    needed = sizes.rounded_up(2 * ring.squared_norm(z["p"]), following.w) if following.w else 0
+    s = s._replace(target_beta_squared=max(ring.squared_norm(y["opening"]), needed))
+    return s, following._replace(beta_squared=s.target_beta_squared, target_beta_squared=ring.squared_norm(z["opening"]))
+
+
+def two_folds(rng):
+    """By name: first sizes, first lists, second sizes, second draws, and the three answers: verdict, next instance, verdict."""
+    cases = {}
+    for name, changes, free in (
+        ("d = 2, no rows", {"n": 2, "r": 2, "mu": 2}, {"b": 65536, "b2": 65536, "kappa1": 2}),
+        ("d = 2, rows", {"n": 3, "r": 2, "L": 1, "w": 2, "nu": 2}, {"w": 2, "b": 4096, "b2": 65535, "kappa": 2}),
+        ("n = 4 in 3", {"n": 4, "r": 1, "kappa": 2, "nu": 3, "mu": 2}, {"w": 1, "b": 255, "b1": 256, "t1": 4, "b2": 65536, "kappa2": 2}),
+        ("n = 1 in 4", {"L": 2, "nu": 4, "mu": 3}, {"b": 65536, "b2": 65536}),
+        ("n = 6, six in 4", {"n": 6, "mu": 4}, {"b": 65536, "b2": 65536, "kappa1": 2}),
+        ("six in 14", {"K": 0, "w": 1, "mu": 14}, {"b": 65536, "b2": 65536, "w": 1}),
+        ("d = 4", {"d": 4, "n": 2, "r": 2, "K": 2, "L": 1, "w": 3, "mu": 3}, {"w": 2, "b": 65536, "b2": 65536, "kappa": 2, "kappa1": 3}),
+        ("d = 8", {"d": 8, "n": 2, "r": 2, "K": 1, "w": 1, "kappa1": 2, "mu": 2}, {"b": 65536, "b2": 65536, "kappa2": 2}),
+    ):
+        s = FIRST._replace(**changes)
+        x = random_lists(rng, s, True)
+        following = second_sizes(s, **free)
+        draws = second_draws(rng, following)
+        s, following = tight(s, x, following, draws)
+        cases[name] = (s, x, following, draws, (ACCEPTED, WRITTEN, ACCEPTED))
+
+    s, x, following, draws, _ = cases["d = 2, rows"]
+    less = following._replace(target_beta_squared=following.target_beta_squared - 1)
+    cases["second too long"] = (s, x, less, draws, (ACCEPTED, WRITTEN, [1, 9]))
+    witness = fold.flat(fold.flat(fold.next_witness(s, fold.honest(s, x))))
+    signs = [(number > 0) - (number < 0) for number in witness]
+    cases["second projection too long"] = (s, x, following, draws | {"rows": signs * following.w}, (ACCEPTED, WRITTEN, [1, 1]))
+    moved = x | {"whole": x["whole"][:-1] + [ring.centred(x["whole"][-1] + 1)]}
+    cases["witness misses a constraint"] = (s, moved, following, draws, ([1, 8], WRITTEN, [1, 8]))
+    shorter = s._replace(beta_squared=s.beta_squared - 1)
+    cases["first projection too long, nothing written"] = (shorter, x, following, draws, ([1, 1], [1, 1], [1, 8]))
+
+    s, x, following, draws, _ = cases["d = 2, no rows"]
+    norm = ring.squared_norm(fold.honest(s, x)["opening"])
+    less = s._replace(target_beta_squared=norm - 1)
+    cases["first too long"] = (less, x, following._replace(beta_squared=norm - 1), draws, ([1, 9], WRITTEN, ACCEPTED))
+    return cases

@@ -1,0 +1,192 @@
+"""The cases of next_cases.py: kind, and then what its function there takes."""
+
+import ring
+import sizes
+from next_fixtures import FIRST, honest_lists, two_folds
+from sizes import LENGTHS, SHEET_LISTS
+from test_reference import whole_case
+
+NEXT_READS = [name for name in SHEET_LISTS if name != "opening"]
+
+
+# Cases of kind 1
+
+def whole_case_cut(rng):
+    """The whole case cut in several ways."""
+    s, x = whole_case()
+    for nu, mu in ((1, 1), (2, 1), (1, 2), (4, 8), (7, 2), (7, 1), (1, 14), (3, 5)):
+        yield (1, s._replace(nu=nu, mu=mu), x)
+
+
+def every_degree(rng):
+    """Sizes apart from one another at every degree; n and m are multiples of ν and μ or not."""
+    for d, n, r, nu, mu in (
+        (2, 3, 2, 2, 3), (2, 4, 2, 3, 2), (2, 1, 1, 4, 1), (2, 7, 1, 7, 2), (2, 2, 3, 5, 5), (4, 3, 2, 2, 2), (4, 4, 1, 3, 4),
+        (8, 2, 2, 1, 3), (2, 9, 1, 1, 2), (4, 8, 1, 1, 5), (16, 2, 1, 2, 1), (32, 1, 1, 1, 2), (64, 1, 1, 1, 1),
+    ):
+        s = FIRST._replace(
+            d=d, n=n, r=r, L=1, w=1, b=rng.choice((2, 3, 16, 65535)), b1=rng.choice((3, 256, 65536)),
+            b2=rng.choice((2, 255, 65536)), t2=rng.choice((2, 3)), nu=nu, mu=mu,
+        )
+        if d < 16:
+            s = s._replace(
+                K=rng.randint(0, 2), L=rng.randint(0, 2), w=rng.randint(0, 2), kappa=rng.randint(1, 3), kappa1=rng.randint(1, 2),
+                kappa2=rng.randint(1, 3),
+            )
+        yield (1, s, honest_lists(rng, s))
+
+
+def bases(rng):
+    """Powers of the bases modulo q; 65536² is 99."""
+    for b, b1, b2, t1, t2 in ((65536, 65536, 65536, 8, 8), (65535, 65536, 2, 8, 2), (2, 3, 65535, 2, 8), (46341, 255, 1626, 3, 5)):
+        s = FIRST._replace(n=2, r=2, b=b, b1=b1, b2=b2, t1=t1, t2=t2, nu=2, mu=3)
+        yield (1, s, honest_lists(rng, s))
+
+
+# n' = 256 by n, by m in one stretch, by m in two; n' = 257
+LARGE = {
+    "n = 256": FIRST._replace(n=256),
+    "n = 256 in two": FIRST._replace(n=256, nu=2),
+    "m = 256": FIRST._replace(n=2, r=4, kappa=3, t1=8, t2=8),
+    "m = 512 in two": FIRST._replace(r=8, kappa=7, t1=4, t2=4, mu=2),
+}
+TOO_LARGE = FIRST._replace(r=9, kappa=6, t1=2, t2=7, mu=2)
+
+
+def sides(rng):
+    """n' at 256 and 257; 11 comes after the other rows and before checks 1 and 2."""
+    for s in LARGE.values():
+        assert sizes.next_rank(s) in (128, 256)
+        yield (1, s, honest_lists(rng, s, small=True))
+    assert sizes.next_rank(TOO_LARGE) == 257
+    s = TOO_LARGE._replace(w=1)
+    y = honest_lists(rng, s, small=True)
+    for changes in (
+        {}, {"p": [ring.LARGEST]}, {"second_b": [1] + y["second_b"][1:]}, {"c": [3] + y["c"][1:]}, {"u2": [ring.LARGEST + 1, 0]},
+    ):
+        yield (1, s, y | changes)
+    yield (1, s, y, 0)
+    yield (1, s, y, LENGTHS["next_whole"](s) - 1)
+    yield (1, s._replace(nu=8), y, 0)
+    yield (1, s._replace(mu=3), y)
+
+
+def judged(rng):
+    """Failed 1 and failed 2, the list untouched; faults of the other checks do not matter, nor does a target bound that is too small."""
+    s = FIRST._replace(n=2, r=2, L=1, w=2, nu=1, mu=2)
+    y = honest_lists(rng, s)
+    least = sizes.rounded_up(2 * ring.squared_norm(y["p"]), s.w)
+    constants = list(y["constant_term"])
+    constants[-1] = ring.centred(constants[-1] + 1)
+    fifth = list(y["second_b"])
+    fifth[4 * s.d] = ring.centred(fifth[4 * s.d] + 1)
+    other = list(y["second_b"])
+    other[1] = ring.centred(other[1] + 1)
+    for changes in (
+        {}, {"constant_term": constants}, {"second_b": fifth}, {"second_b": other}, {"u1": [5, 5], "u2": [7, 7]}, {"p": [0, 0]},
+        {"p": [ring.LARGEST] * 2},
+    ):
+        for beta_squared in (least, least - 1):
+            yield (1, s._replace(beta_squared=beta_squared, target_beta_squared=rng.choice((0, 10, 10**14))), y | changes)
+
+
+def refused(rng):
+    """Rows 1 to 10, alone and two at once."""
+    s = FIRST._replace(n=1, r=2, L=1, w=1, nu=2, mu=1)
+    y = honest_lists(rng, s)
+    room = LENGTHS["next_whole"](s)
+    big = 2**64 - 1
+    for fault in (
+        {"d": 3}, {"d": 0}, {"d": 128}, {"d": 2**32 + 2}, {"n": 0}, {"n": 257}, {"r": 0}, {"r": 17}, {"K": 33}, {"L": 33},
+        {"w": 257}, {"w": big},
+        {"kappa": 0}, {"kappa": 9}, {"kappa1": 0}, {"kappa2": 9}, {"kappa1": big}, {"b": 1}, {"b": 65537}, {"b1": 0},
+        {"b2": 65537}, {"b": big}, {"t1": 1}, {"t1": 9},
+        {"t2": 9}, {"nu": 0}, {"mu": 0}, {"nu": 8, "mu": 1}, {"nu": 7, "mu": 3}, {"nu": 1, "mu": 15}, {"nu": big}, {"mu": big},
+        {"nu": 2**63, "mu": 1},
+        {"nu": 2**63, "mu": 0}, {"nu": big, "mu": 3}, {"nu": 2**63 - 1, "mu": 3}, {"beta_squared": 10**15},
+        {"target_beta_squared": 10**15},
+        {"beta_squared": 2**63 - 1}, {"target_beta_squared": 2**63 - 1}, {"d": 3, "n": 0}, {"n": 0, "kappa": 0},
+        {"kappa": 0, "b1": 1}, {"b": 1, "nu": 0},
+        {"nu": 0, "beta_squared": 10**15}, {"t1": 9, "target_beta_squared": 10**15},
+    ):
+        yield (1, s._replace(**fault), y, room)
+    for name in NEXT_READS:
+        yield (1, s, y | {name: y[name] + [0]})
+        yield (1, s, y | {name: y[name][:-1]})
+        yield (1, s, y | {name: [ring.LARGEST + 1] + y[name][1:]})
+        yield (1, s, y | {name: y[name][:-1] + [-ring.LARGEST - 1]})
+    for length in (0, room - 1, room + 1, room // 2):
+        yield (1, s, y, length)
+    yield (1, s, y | {"c": [3] + y["c"][1:]}, room + 1)
+    yield (1, s, y | {"rows": [2] + y["rows"][1:]})
+    yield (1, s, y | {"rows": y["rows"][:-1] + [-2]})
+    yield (1, s, y | {"c": y["c"][:-1] + [3]})
+    yield (1, s, y | {"c": [-3] + y["c"][1:]})
+    yield (1, s, y | {"rows": y["rows"][:-1] + [2], "c": [3] + y["c"][1:]})
+    yield (1, s, y | {"rows": y["rows"][:-1] + [2], "u2": y["u2"][:-1] + [ring.LARGEST + 1]})
+    yield (1, s, y | {"c": y["c"][:-1] + [3], "p": [ring.LARGEST]})
+    yield (1, s._replace(nu=8), y | {"c": y["c"] + [3]}, room)
+
+
+# Cases of kind 2
+
+def places(s):
+    """An opening whose numbers show where they stand."""
+    return [1000 + k for k in range(LENGTHS["opening"](s))]
+
+
+def all_parts(rng):
+    """Every part, and those outside."""
+    for changes in (
+        {}, {"n": 4, "nu": 3}, {"n": 1, "nu": 4}, {"nu": 7, "mu": 2}, {"n": 15, "nu": 7, "mu": 2}, {"mu": 14}, {"n": 9, "mu": 2},
+        {"n": 9, "nu": 2, "mu": 4}, {"n": 5, "r": 3, "kappa": 2, "t2": 3, "nu": 4, "mu": 3}, {"d": 4, "n": 3, "r": 2, "nu": 2, "mu": 5},
+        {"d": 8, "n": 2, "nu": 2, "mu": 1}, {"d": 64, "mu": 3}, {"n": 256, "nu": 1}, {"n": 256, "nu": 3},
+        TOO_LARGE._asdict(),
+    ):
+        s = FIRST._replace(**changes)
+        opening = places(s)
+        count = sizes.next_multiplicity(s)
+        wanted = range(count + 2) if len(opening) < 200 else (0, 1, s.nu, s.nu + 1, 2 * s.nu, 2 * s.nu + 1, count, count + 1)
+        for i in wanted:
+            yield (2, s, i, opening)
+
+
+def refused_parts(rng):
+    """Rows 1 to 5 and 7; sizes that are not taken and numbers are not looked at; r' as a whole number."""
+    s = FIRST._replace(n=3, r=2, nu=2, mu=2)
+    opening = places(s)
+    big = 2**64 - 1
+    for fault in (
+        {"d": 3}, {"d": 0}, {"d": big}, {"d": 2**32 + 2}, {"n": 0}, {"n": 257}, {"n": big}, {"r": 0}, {"r": 17},
+        {"r": 2**32 + 2}, {"kappa": 0}, {"kappa": 9}, {"kappa": big},
+        {"t1": 1}, {"t1": 9}, {"t2": 1}, {"t2": big}, {"nu": 0}, {"mu": 0}, {"nu": 8, "mu": 1}, {"nu": 1, "mu": 15},
+        {"nu": 7, "mu": 3},
+        {"n": 4}, {"r": 3}, {"d": 4}, {"t1": 3}, {"kappa": 2}, {"d": 3, "n": 0}, {"n": 0, "kappa": 0}, {"kappa": 0, "t1": 1},
+        {"t2": 9, "nu": 0},
+    ):
+        yield (2, s._replace(**fault), 1, opening)
+    for changed in ([], opening[:-1], opening + [0]):
+        for i in (0, 1, 6, 7):
+            yield (2, s, i, changed)
+    bad = s._replace(K=99, L=99, w=999, kappa1=0, kappa2=9, b=0, b1=1, b2=65537, beta_squared=10**15, target_beta_squared=2**63 - 1)
+    yield (2, bad, 3, opening)
+    yield (2, bad, 6, [2147483647] * 10 + [-2147483648] * (len(opening) - 10))
+    for nu, mu, parts in (
+        (8, 1, (0, 17, 18)), (0, 0, (0, 1)), (0, 3, (3, 4)), (3, 0, (6, 7)), (big, big, (0, 1, 2, 16, big)),
+        (big, 3, (0, 1, 2, big)), (1, big, (0, 1, 2, big)), (big, 1, (1, big)),
+        (2**63, 1, (0, 1, 2, big)), (2**63, 0, (0, 1, big)), (2**63 - 1, 2, (1, big)), (2**63 - 1, 3, (2, big)),
+        (2**62, 2**63, (1, big)), (2, 2, (big, 2**63, 2**32 + 1)),
+        (2**32 + 2, 2, (1, 7)), (2, 2**32 + 2, (1, 7)),
+    ):
+        for i in parts:
+            yield (2, s._replace(nu=nu, mu=mu), i, opening)
+
+
+# Cases of kind 3
+
+def folded_twice(rng):
+    for case in two_folds(rng).values():
+        yield (3, *case)
+
+
+GROUPS = (whole_case_cut, every_degree, bases, sides, judged, refused, all_parts, refused_parts, folded_twice)

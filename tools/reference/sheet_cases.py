@@ -1,0 +1,74 @@
+"""Stored input and output of the programs that judge sheets: `python3 tools/reference/sheet_cases.py crates` writes
+
+    crates/verdict/stdin, stdout          document 01's whole case and its line
+    crates/verdict_cases/stdin, stdout    all cases below
+
+The stream of cases, for each: a line with the count of the sheet's bytes as one field of 16 columns, these bytes, a line feed. The
+output: for each case the line that the program of verdicts prints. Both are the same every time. The script prints the count of
+cases by answer; with a second argument `names` one line a case: its number, its answer, its count of bytes, its group and name.
+
+Groups, in sheet_checks.py, sheet_numbers.py and sheet_faults.py; a case's name says what is changed.
+
+    whole_case             document 01's whole case
+    every_degree           honest sheets at every degree below 64, sizes apart from one another; bounds that just hold or just fail
+    largest_sizes          n = 256, w = 256, K = L = 32, all κ = 8 with t1 = t2 = 8, empty lists
+    long_witness           witnesses of any coefficients, bases 65536, so that b² is above q
+    failing_checks         each check fails alone; every two at once; some three at once
+    last_rows              faults in the last row of A, u1, u2, t, in each b'' and in the last p
+    fifth_aggregate        faults that are seen only in the fifth of the five second functions
+    wide_digits            digits far beyond their base, accepted since recomposition is modulo q, or failed 9
+    wrapped_lengths        squared lengths whose sums modulo 2^64 would hold
+    changed_numbers        one number of an honest sheet changed, in range
+    ends_of_the_range      ±2147483598 and ±2147483599 in every list; numbers that 32 bits would cut to a good one
+    order_of_numbers       8, 9, 10 by number and not by place; 12 before them
+    challenges             coefficients ±2 and ±3; squared length 71 and 72; honest sheets of degree 64
+    longest_texts          65536 and 65537 bytes; r = 16
+    field_faults           one field broken
+    line_faults            one line broken
+    end_faults             the text cut off, something before it or after it, other line ends, other padding
+    header_sides           each size on both sides of its limits, over a broken body
+    header_over_a_body     the same over a good body
+    header_order           two rows of the header at once; a row and the layout
+"""
+
+import random
+import sys
+from collections import Counter
+from pathlib import Path
+
+import sheet
+import sheet_checks
+import sheet_faults
+import sheet_numbers
+from test_reference import whole_case_text
+
+
+def all_cases():
+    """The cases as (group, name, answer, text). Where the script states an answer, the judgement is compared with it."""
+    rng = random.Random(12)
+    groups = [(group, rng) for group in sheet_checks.GROUPS + sheet_numbers.GROUPS] + [(group,) for group in sheet_faults.GROUPS]
+    for group, *arguments in groups:
+        for name, stated, text in group(*arguments):
+            answer = sheet.judge(text)
+            assert stated in (None, answer), (group, name, stated, answer)
+            yield group.__name__, name, answer, text
+
+
+def main():
+    crates = Path(sys.argv[1])
+    cases = list(all_cases())
+    stream = b"".join(sheet.line_text([len(text)]) + text + b"\n" for _, _, _, text in cases)
+    (crates / "verdict_cases" / "stdin").write_bytes(stream)
+    (crates / "verdict_cases" / "stdout").write_bytes(b"".join(sheet.output_line(answer) for _, _, answer, _ in cases))
+    (crates / "verdict" / "stdin").write_bytes(whole_case_text())
+    (crates / "verdict" / "stdout").write_bytes(sheet.output_line(("accepted", 0)))
+    if sys.argv[2:] == ["names"]:
+        for number, (group, name, answer, text) in enumerate(cases, start=1):
+            print(number, *answer, len(text), f"{group}: {name}")
+    for (kind, number), count in sorted(Counter(answer for _, _, answer, _ in cases).items()):
+        print(f"{count} {kind} {number}")
+    print(f"{len(cases)} cases, {len(stream)} bytes")
+
+
+if __name__ == "__main__":
+    main()
