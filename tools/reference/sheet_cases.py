@@ -3,8 +3,8 @@
     crates/verdict/stdin, stdout          document 01's whole case and its line
     crates/verdict_cases/stdin, stdout    all cases below
 
-The stream of cases, for each: a line with the count of the sheet's bytes as one field of 16 columns, these bytes, a line feed. The
-output: for each case the line that the program of verdicts prints. Both are the same every time. The script prints the count of
+The stream: a line with the count of cases, then for each a line with the count of the sheet's bytes, these bytes, a line feed. Each
+count is one field of 16 columns. The output: for each case the line that the program of verdicts prints. Both are the same every time. The script prints the count of
 cases by answer; with a second argument `names` one line a case: its number, its answer, its count of bytes, its group and name.
 
 Groups, in sheet_checks.py, sheet_numbers.py and sheet_faults.py; a case's name says what is changed.
@@ -57,7 +57,8 @@ def all_cases():
 def main():
     crates = Path(sys.argv[1])
     cases = list(all_cases())
-    stream = b"".join(sheet.line_text([len(text)]) + text + b"\n" for _, _, _, text in cases)
+    stream = sheet.line_text([len(cases)])
+    stream += b"".join(sheet.line_text([len(text)]) + text + b"\n" for _, _, _, text in cases)
     (crates / "verdict_cases" / "stdin").write_bytes(stream)
     (crates / "verdict_cases" / "stdout").write_bytes(b"".join(sheet.output_line(answer) for _, _, answer, _ in cases))
     (crates / "verdict" / "stdin").write_bytes(whole_case_text())

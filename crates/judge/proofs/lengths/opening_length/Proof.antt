@@ -1,0 +1,23 @@
+-- `judge::lengths::opening_length` meets its contract. Assumes nothing.
+use mathlib.Core.Path.{refl, _∙_}
+use native.Mathlib.Omega.{arith}
+use Rattle.limits.specs.SizeLaws.{opening-within}
+use borrow.Author.Needs.{needs}
+use Rattle.judge.proofs.lengths.opening_length.Statement.{statement}
+use Rattle.judge.proofs.lengths.opening_length.Tie as tie
+use Rattle.limits.proofs.sizes.list_length.Reads as list-length-reads
+use Rattle.limits.proofs.sizes.opening_size.Reads as opening-size-reads
+
+opening-size-requires : tie.Need-opening-size-requires
+opening-size-requires c κs = search needs
+
+list-length-requires : tie.Need-list-length-requires
+list-length-requires c κs =
+    let b = c .before .pre in
+    (opening-within _ _ _ _ _ (c .opening-size .ensures) (b .rank) (b .parts) (b .κ) (b .t₁) (b .t₂), omega arith)
+
+returns : tie.Need-returns
+returns c = c .list-length .ensures ∙ rw (c .before .opening-size .ensures) refl
+
+pub opening-length-spec : {M : Type 1} → statement M
+opening-length-spec = tie.close (tie.spec opening-size-requires list-length-requires returns)

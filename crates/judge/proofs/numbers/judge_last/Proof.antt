@@ -1,0 +1,113 @@
+-- `judge::numbers::judge_last` meets its contract. Assumes nothing.
+use Prim.Native.Nat.{_*_}
+use Rattle.fold.specs.Sizes.{openingSize}
+use Rattle.judge.specs.Stages.{cut, cut-last, last-stage}
+use borrow.Author.Needs.{needs}
+use Rattle.judge.proofs.numbers.judge_last.Statement.{statement}
+use Rattle.judge.proofs.numbers.judge_last.Tie as tie
+use Rattle.judge.proofs.lengths.opening_length.Reads as opening-length-reads
+use Rattle.judge.proofs.lists.front.Reads as front-reads
+use Rattle.judge.proofs.lists.rest.Reads as rest-reads
+use Rattle.judge.proofs.numbers.fold_sizes.Reads as fold-sizes-reads
+use Rattle.limits.proofs.sizes.list_length.Reads as list-length-reads
+use Rattle.verifier.proofs.verify.Reads as verify-reads
+
+list-length-requires : tie.Need-list-length-requires
+list-length-requires c κs = search needs
+
+list-length-requires-2 : tie.Need-list-length-requires-2
+list-length-requires-2 c κs = search needs
+
+list-length-requires-3 : tie.Need-list-length-requires-3
+list-length-requires-3 c κs = search needs
+
+list-length-requires-4 : tie.Need-list-length-requires-4
+list-length-requires-4 c κs = search needs
+
+opening-length-requires : tie.Need-opening-length-requires
+opening-length-requires c κs = search needs
+
+rest-requires : tie.Need-rest-requires
+rest-requires c κs = search needs
+
+rest-requires-2 : tie.Need-rest-requires-2
+rest-requires-2 c κs = search needs
+
+rest-requires-3 : tie.Need-rest-requires-3
+rest-requires-3 c κs = search needs
+
+rest-requires-4 : tie.Need-rest-requires-4
+rest-requires-4 c κs = search needs
+
+fold-sizes-requires : tie.Need-fold-sizes-requires
+fold-sizes-requires c κs = search needs
+
+front-requires : tie.Need-front-requires
+front-requires c κs = search needs
+
+front-requires-2 : tie.Need-front-requires-2
+front-requires-2 c κs = search needs
+
+front-requires-3 : tie.Need-front-requires-3
+front-requires-3 c κs = search needs
+
+front-requires-4 : tie.Need-front-requires-4
+front-requires-4 c κs = search needs
+
+front-requires-5 : tie.Need-front-requires-5
+front-requires-5 c κs = search needs
+
+verify-requires : tie.Need-verify-requires
+verify-requires c κs = search needs
+
+returns : tie.Need-returns
+returns c =
+    let c1 = c .before in
+    let c2 = c1 .before in
+    let c3 = c2 .before in
+    let c4 = c3 .before in
+    let c5 = c4 .before in
+    let c6 = c5 .before in
+    let c7 = c6 .before in
+    let c8 = c7 .before in
+    let c9 = c8 .before in
+    let c10 = c9 .before in
+    let c11 = c10 .before in
+    let c12 = c11 .before in
+    let c13 = c12 .before in
+    let c14 = c13 .before in
+    let c15 = c14 .before in
+    let c16 = c15 .before in
+    let x = c16 .args in
+    let s = x .s in
+    last-stage s (x .a .now) (x .b .now) (x .c-matrix .now) (x .d-matrix .now) (x .whole .now) (x .term .now) (x .u1 .now) (x .rows .now)
+    (x .p .now) (x .psi .now) (x .omega .now) (x .b2 .now)
+    (cut (c15 .list-length .ensures) (c5 .front .ensures) (c10 .rest .ensures))
+    (cut (c14 .list-length2 .ensures) (c4 .front2 .ensures) (c9 .rest2 .ensures))
+    (cut (c13 .list-length3 .ensures) (c3 .front3 .ensures) (c8 .rest3 .ensures))
+    (cut (c12 .list-length4 .ensures) (c2 .front4 .ensures) (c7 .rest4 .ensures))
+    (cut-last {m = openingSize 2 (s .n) (s .r) (s .kappa) (s .t1) (s .t2) * s .d} _ (c11 .opening-length .ensures) (c1 .front5 .ensures))
+    (c6 .fold-sizes .ensures)
+    (c .verify .ensures)
+
+pub judge-last-spec : {M : Type 1} → statement M
+judge-last-spec =
+    tie.close
+    (tie.spec
+    list-length-requires
+    list-length-requires-2
+    list-length-requires-3
+    list-length-requires-4
+    opening-length-requires
+    rest-requires
+    rest-requires-2
+    rest-requires-3
+    rest-requires-4
+    fold-sizes-requires
+    front-requires
+    front-requires-2
+    front-requires-3
+    front-requires-4
+    front-requires-5
+    verify-requires
+    returns)

@@ -1,0 +1,95 @@
+-- `judge::numbers::judge_sheet_numbers` meets its contract. Assumes nothing.
+use Prim.Native.Nat.{_*_}
+use Rattle.fold.specs.Sizes.{tSize}
+use Rattle.judge.specs.Stages.{cut, matrix-stage}
+use borrow.Author.Needs.{needs}
+use Rattle.judge.proofs.numbers.judge_sheet_numbers.Statement.{statement}
+use Rattle.judge.proofs.numbers.judge_sheet_numbers.Tie as tie
+use Rattle.judge.proofs.lengths.a_length.Reads as a-length-reads
+use Rattle.judge.proofs.lengths.b_length.Reads as b-length-reads
+use Rattle.judge.proofs.lengths.c_length.Reads as c-length-reads
+use Rattle.judge.proofs.lengths.d_length.Reads as d-length-reads
+use Rattle.judge.proofs.lists.front.Reads as front-reads
+use Rattle.judge.proofs.lists.rest.Reads as rest-reads
+use Rattle.judge.proofs.numbers.judge_constraints.Reads as judge-constraints-reads
+
+a-length-requires : tie.Need-a-length-requires
+a-length-requires c κs = search needs
+
+b-length-requires : tie.Need-b-length-requires
+b-length-requires c κs = search needs
+
+c-length-requires : tie.Need-c-length-requires
+c-length-requires c κs = search needs
+
+d-length-requires : tie.Need-d-length-requires
+d-length-requires c κs = search needs
+
+rest-requires : tie.Need-rest-requires
+rest-requires c κs = search needs
+
+rest-requires-2 : tie.Need-rest-requires-2
+rest-requires-2 c κs = search needs
+
+rest-requires-3 : tie.Need-rest-requires-3
+rest-requires-3 c κs = search needs
+
+rest-requires-4 : tie.Need-rest-requires-4
+rest-requires-4 c κs = search needs
+
+front-requires : tie.Need-front-requires
+front-requires c κs = search needs
+
+front-requires-2 : tie.Need-front-requires-2
+front-requires-2 c κs = search needs
+
+front-requires-3 : tie.Need-front-requires-3
+front-requires-3 c κs = search needs
+
+front-requires-4 : tie.Need-front-requires-4
+front-requires-4 c κs = search needs
+
+judge-constraints-requires : tie.Need-judge-constraints-requires
+judge-constraints-requires c κs = search needs
+
+returns : tie.Need-returns
+returns c =
+    let c1 = c .before in
+    let c2 = c1 .before in
+    let c3 = c2 .before in
+    let c4 = c3 .before in
+    let c5 = c4 .before in
+    let c6 = c5 .before in
+    let c7 = c6 .before in
+    let c8 = c7 .before in
+    let c9 = c8 .before in
+    let c10 = c9 .before in
+    let c11 = c10 .before in
+    let c12 = c11 .before in
+    let c13 = c12 .before in
+    let s = c13 .args .s in
+    matrix-stage s _ _ _ _
+    (cut (c12 .a-length .ensures) (c4 .front .ensures) (c8 .rest .ensures))
+    (cut {m = s .kappa1 * tSize (s .r) (s .kappa) (s .t1) * s .d} (c11 .b-length .ensures) (c3 .front2 .ensures) (c7 .rest2 .ensures))
+    (cut (c10 .c-length .ensures) (c2 .front3 .ensures) (c6 .rest3 .ensures))
+    (cut (c9 .d-length .ensures) (c1 .front4 .ensures) (c5 .rest4 .ensures))
+    (c .judge-constraints .ensures)
+
+pub judge-sheet-numbers-spec : {M : Type 1} → statement M
+judge-sheet-numbers-spec =
+    tie.close
+    (tie.spec
+    a-length-requires
+    b-length-requires
+    c-length-requires
+    d-length-requires
+    rest-requires
+    rest-requires-2
+    rest-requires-3
+    rest-requires-4
+    front-requires
+    front-requires-2
+    front-requires-3
+    front-requires-4
+    judge-constraints-requires
+    returns)

@@ -1,0 +1,117 @@
+-- Document 01, 'Sheet': the answer to a text, and the line that says it.
+--     listLengths s, listAt     the lists of a sheet, one after another, and list k of them
+--     foldSizes, sheetStatement, sheetDraws, sheetTranscript, sheetOpening    what the verifier takes from a sheet
+--     judgedText text           the answer to a text
+--     verdictLine answer        the line that the program prints
+use mathlib.Core.Bool.{cond}
+use mathlib.Core.List.{List, [], _∷_}
+use Prim.Native.Nat.{ℕ, zero, suc, _*_}
+use lib.Dec.{leb}
+use lib.ListN.{length, take, drop}
+use lib.IntN.{ℤ, pos}
+use Rattle.fold.specs.declared.Sizes.{Sizes}
+use Rattle.fold.specs.declared.Answer.{Answer}
+use Rattle.fold.specs.declared.Answer.the-variants as answer
+use Rattle.fold.specs.Sizes.{tSize, garbageSize, openingSize}
+use Rattle.fold.specs.Refusals.{wholeLength, termLength, projectionLength}
+use Rattle.fold.specs.Verdict.{Statement, Draws, Transcript}
+use Rattle.fold.specs.Arguments.{statementOf, drawsOf, transcriptOf}
+use Rattle.fold.specs.Answers.{kindOf, numberOf}
+use Rattle.fold.specs.Verification.{verification}
+use Rattle.sheet.specs.declared.sizes.SheetSizes.{SheetSizes}
+use Rattle.sheet.specs.declared.reader.SheetAnswer.{SheetAnswer}
+use Rattle.sheet.specs.declared.reader.SheetAnswer.the-variants.{Sheet, Refused}
+use Rattle.sheet.specs.Sections.{total}
+use Rattle.sheet.specs.Reading.{headerNumbers, sizesOf, bodyNumbers, reading}
+use Rattle.sheet.specs.Layout.{lineText}
+
+-- ---- the lists of a sheet
+
+-- "A, B, C, D by rows; each whole constraint ..; each constant-term one ..; u1; projection rows ..; p, ψ, ω ..; b''; α; δ; u2; c; the opening":
+-- how many numbers each has
+unfoldable pub listLengths : SheetSizes → List ℕ
+listLengths s =
+    s .kappa * s .n * s .d
+    ∷ s .kappa1 * tSize (s .r) (s .kappa) (s .t1) * s .d
+    ∷ s .kappa1 * garbageSize (s .r) (s .t2) * s .d
+    ∷ s .kappa2 * garbageSize (s .r) (s .t1) * s .d
+    ∷ wholeLength (s .d) (s .n) (s .r) (s .k)
+    ∷ termLength (s .d) (s .n) (s .r) (s .l)
+    ∷ s .kappa1 * s .d
+    ∷ projectionLength (s .d) (s .n) (s .r) (s .w)
+    ∷ s .w
+    ∷ 5 * s .l
+    ∷ 5 * s .w
+    ∷ 5 * s .d
+    ∷ s .k * s .d
+    ∷ 5 * s .d
+    ∷ s .kappa2 * s .d
+    ∷ s .r * s .d
+    ∷ openingSize 2 (s .n) (s .r) (s .kappa) (s .t1) (s .t2) * s .d
+    ∷ []
+
+-- list k, where lists of these lengths stand one after another
+unfoldable pub listAt : List ℕ → List ℤ → ℕ → List ℤ
+listAt [] xs k = []
+listAt (m ∷ ms) xs zero = take m xs
+listAt (m ∷ ms) xs (suc k) = listAt ms (drop m xs) k
+
+-- the verifier takes no ν and μ
+unfoldable pub foldSizes : SheetSizes → Sizes
+foldSizes s = record {
+  d = s .d;
+  n = s .n;
+  r = s .r;
+  k = s .k;
+  l = s .l;
+  w = s .w;
+  kappa = s .kappa;
+  kappa1 = s .kappa1;
+  kappa2 = s .kappa2;
+  b = s .b;
+  b1 = s .b1;
+  b2 = s .b2;
+  t1 = s .t1;
+  t2 = s .t2;
+  bound = s .bound;
+  target = s .target;
+}
+
+module _ (s : SheetSizes) (xs : List ℤ) where
+  abbrev pub list : ℕ → List ℤ
+  list k = listAt (listLengths s) xs k
+
+  abbrev pub sheetStatement : Statement
+  sheetStatement = statementOf (foldSizes s) (list 0) (list 1) (list 2) (list 3) (list 4) (list 5)
+
+  abbrev pub sheetDraws : Draws
+  sheetDraws = drawsOf (list 7) (list 9) (list 10) (list 12) (list 13) (list 15)
+
+  abbrev pub sheetTranscript : Transcript
+  sheetTranscript = transcriptOf (list 6) (list 8) (list 11) (list 14)
+
+  abbrev pub sheetOpening : List ℤ
+  sheetOpening = list 16
+
+  -- what the verifier answers to the numbers of a sheet
+  unfoldable pub judgedNumbers : Answer
+  judgedNumbers = verification sheetStatement sheetDraws sheetTranscript sheetOpening
+
+-- ---- the answer
+
+-- the reader's refusal, or what the verifier answers
+abbrev pub judgedBy : SheetAnswer → List ℕ → Answer
+judgedBy (Refused n) text = answer.Refused n
+judgedBy (Sheet s) text = judgedNumbers s (bodyNumbers s text)
+
+-- the room for the numbers is what the header's sizes ask for, so that row 7 refuses no text
+unfoldable pub judged : List ℕ → Answer
+judged text = judgedBy (reading (total (sizesOf (headerNumbers text))) text) text
+
+-- "at most 65536 bytes (longer: 12, before all else)"
+unfoldable pub judgedText : List ℕ → Answer
+judgedText text = cond (leb (length text) 65536) (judged text) (answer.Refused 12)
+
+-- "one line of two such fields of 16 columns: kind (0 accepted, 1 failed, 2 refused) and number (0 when accepted)"
+unfoldable pub verdictLine : Answer → List ℕ
+verdictLine a = lineText (pos (kindOf a) ∷ pos (numberOf a) ∷ [])

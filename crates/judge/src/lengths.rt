@@ -1,0 +1,68 @@
+// How many numbers some lists of a sheet have.
+ghost use mathlib.Core.Path.{_≡_};
+ghost use Prim.Native.Nat.{_*_};
+ghost use Rattle.fold.specs.Sizes.{tSize, garbageSize, openingSize};
+ghost use Rattle.fold.specs.Refusals.{wholeLength, termLength, projectionLength};
+ghost use Rattle.sheet.specs.Sections.{Bounded};
+use limits::sizes;
+use sheet::sizes::SheetSizes;
+
+pub fn a_length(s: SheetSizes) -> usize
+    requires { ⌜ Bounded s ⌝ }
+    ensures { λ m. ⌜ m ≡ s .kappa * s .n * s .d ⌝ }
+{
+    sizes::flat_length(s.kappa, s.n, s.d)
+}
+
+pub fn b_length(s: SheetSizes) -> usize
+    requires { ⌜ Bounded s ⌝ }
+    ensures { λ m. ⌜ m ≡ s .kappa1 * tSize (s .r) (s .kappa) (s .t1) * s .d ⌝ }
+{
+    let columns = sizes::t_size(s.r, s.kappa, s.t1);
+    sizes::flat_length(s.kappa1, columns, s.d)
+}
+
+pub fn c_length(s: SheetSizes) -> usize
+    requires { ⌜ Bounded s ⌝ }
+    ensures { λ m. ⌜ m ≡ s .kappa1 * garbageSize (s .r) (s .t2) * s .d ⌝ }
+{
+    let columns = sizes::garbage_size(s.r, s.t2);
+    sizes::flat_length(s.kappa1, columns, s.d)
+}
+
+pub fn d_length(s: SheetSizes) -> usize
+    requires { ⌜ Bounded s ⌝ }
+    ensures { λ m. ⌜ m ≡ s .kappa2 * garbageSize (s .r) (s .t1) * s .d ⌝ }
+{
+    let columns = sizes::garbage_size(s.r, s.t1);
+    sizes::flat_length(s.kappa2, columns, s.d)
+}
+
+pub fn whole_length(s: SheetSizes) -> usize
+    requires { ⌜ Bounded s ⌝ }
+    ensures { λ m. ⌜ m ≡ wholeLength (s .d) (s .n) (s .r) (s .k) ⌝ }
+{
+    sizes::whole_length(s.d, s.n, s.r, s.k)
+}
+
+pub fn term_length(s: SheetSizes) -> usize
+    requires { ⌜ Bounded s ⌝ }
+    ensures { λ m. ⌜ m ≡ termLength (s .d) (s .n) (s .r) (s .l) ⌝ }
+{
+    sizes::term_length(s.d, s.n, s.r, s.l)
+}
+
+pub fn rows_length(s: SheetSizes) -> usize
+    requires { ⌜ Bounded s ⌝ }
+    ensures { λ m. ⌜ m ≡ projectionLength (s .d) (s .n) (s .r) (s .w) ⌝ }
+{
+    sizes::projection_length(s.d, s.n, s.r, s.w)
+}
+
+pub fn opening_length(s: SheetSizes) -> usize
+    requires { ⌜ Bounded s ⌝ }
+    ensures { λ m. ⌜ m ≡ openingSize 2 (s .n) (s .r) (s .kappa) (s .t1) (s .t2) * s .d ⌝ }
+{
+    let elements = sizes::opening_size(s.n, s.r, s.kappa, s.t1, s.t2);
+    sizes::list_length(elements, s.d)
+}
