@@ -1,0 +1,106 @@
+/* Lizkarg for C: the calls of crates/capi, built by `rt staticlib capi` as target/staticlib/libcapi.a (x86-64, System V).
+ *
+ * Every call tests what it is given and refuses by the number of document 01, 'Where a call stops'; on a refusal nothing lent is changed.
+ * What no call can test is what C cannot say: each pointer must be valid, not null and aligned for as many numbers as the length after
+ * it says, also where that is 0, and a list that a call writes must overlap no other list of the same call.
+ *
+ * A list holds ring elements one after another, d numbers each, lowest power first, numbers from -2147483598 to 2147483598. Lengths are
+ * counts of numbers (bytes for a sheet). P below is r(r+1)/2, the number of pairs i <= j. No call needs more than a megabyte of stack. */
+#ifndef LIZKARG_H
+#define LIZKARG_H
+
+#include <stddef.h>
+#include <stdint.h>
+
+#ifdef __cplusplus
+extern "C" {
+#endif
+
+/* kind of an answer */
+enum { LIZKARG_ACCEPTED = 0, LIZKARG_FAILED = 1, LIZKARG_REFUSED = 2, LIZKARG_WRITTEN = 3 };
+
+/* An answer as the program prints it. number: the check that failed (1..9), the refusal (1..12), else 0. */
+typedef struct { uint8_t kind, number; } lizkarg_answer;
+
+/* Degree, rank, number of parts. */
+typedef struct { size_t d, n, r; } lizkarg_shape;
+
+/* The sizes of message 1. */
+typedef struct { size_t d, n, r, kappa, kappa1, b1, b2, t1, t2; } lizkarg_commit_sizes;
+
+/* The sizes of message 4. */
+typedef struct { size_t d, n, r, k, l, w, kappa2, b1, t1; } lizkarg_garbage_sizes;
+
+/* The sizes of the verifier; bound is beta^2, target is beta'^2. */
+typedef struct {
+    size_t d, n, r, k, l, w, kappa, kappa1, kappa2, b, b1, b2, t1, t2;
+    uint64_t bound, target;
+} lizkarg_sizes;
+
+/* The answer to a sheet, and its header in the header's order (all 0 where refused). */
+typedef struct {
+    uint8_t kind, number;
+    size_t d, n, r, k, l, w, kappa, kappa1, kappa2, b, b1, b2, t1, t2, nu, mu;
+    uint64_t bound, target;
+} lizkarg_sheet;
+
+/* A ring element by value: sixty-four numbers, those past d zero. */
+typedef struct { int32_t coefficients[64]; } lizkarg_element;
+
+/* The answer to a product, and the product (zero where refused). */
+typedef struct {
+    uint8_t kind, number;
+    lizkarg_element element;
+} lizkarg_product;
+
+/* x·y in Z_q[X]/(X^d+1), q = 2^32 - 99. Written; refused 1 (d not 2, 4, 8, 16, 32, 64), 8 (a number out of range or not 0 past d). */
+lizkarg_product lizkarg_multiply(size_t d, lizkarg_element x, lizkarg_element y);
+
+/* Message 1. Takes A (kappa·n elements), B (kappa1·r·t1·kappa), C (kappa1·P·t2) and the witness (r·n); writes the t digits
+ * (r·t1·kappa), the g digits (P·t2) and u1 (kappa1). Written, or refused 1 to 4, 7, 8. */
+lizkarg_answer lizkarg_commit(lizkarg_commit_sizes sizes,
+    const int32_t *a, size_t a_len, const int32_t *b, size_t b_len, const int32_t *c, size_t c_len,
+    const int32_t *witness, size_t witness_len,
+    int32_t *t, size_t t_len, int32_t *g, size_t g_len, int32_t *u1, size_t u1_len);
+
+/* Message 2. Takes w projection rows (w·r·n elements of -1, 0, 1) and the witness; writes p (w numbers). Written, or refused 1, 2, 7 to 9. */
+lizkarg_answer lizkarg_project(lizkarg_shape shape, size_t w,
+    const int32_t *rows, size_t rows_len, const int32_t *witness, size_t witness_len, int32_t *p, size_t p_len);
+
+/* Message 3. Takes l constant-term constraints ((P + r·n)·d + 1 numbers each: a, phi, b), the projection rows, psi (5·l numbers), omega
+ * (5·w numbers) and the witness; writes b'' (5 elements). Written, or refused 1, 2, 7 to 9. */
+lizkarg_answer lizkarg_aggregate(lizkarg_shape shape, size_t l, size_t w,
+    const int32_t *term, size_t term_len, const int32_t *rows, size_t rows_len, const int32_t *psi, size_t psi_len,
+    const int32_t *omega, size_t omega_len, const int32_t *witness, size_t witness_len, int32_t *b2, size_t b2_len);
+
+/* Message 4. Takes k whole constraints (P + r·n + 1 elements each: a, phi, b), the lists of message 3, alpha (k elements), delta (5), D
+ * (kappa2·P·t1) and the witness; writes the h digits (P·t1) and u2 (kappa2). Written, or refused 1 to 4, 7 to 9. */
+lizkarg_answer lizkarg_commit_garbage(lizkarg_garbage_sizes sizes,
+    const int32_t *whole, size_t whole_len, const int32_t *term, size_t term_len, const int32_t *rows, size_t rows_len,
+    const int32_t *psi, size_t psi_len, const int32_t *omega, size_t omega_len, const int32_t *alpha, size_t alpha_len,
+    const int32_t *delta, size_t delta_len, const int32_t *d_matrix, size_t d_matrix_len,
+    const int32_t *witness, size_t witness_len, int32_t *h, size_t h_len, int32_t *u2, size_t u2_len);
+
+/* Message 5. Takes the challenges c (r elements) and the witness; writes z low, then z high (n elements each). Written, or refused 1, 2,
+ * 4, 7, 8, 10. */
+lizkarg_answer lizkarg_amortize(lizkarg_shape shape, size_t b,
+    const int32_t *c, size_t c_len, const int32_t *witness, size_t witness_len, int32_t *z, size_t z_len);
+
+/* The verifier. opening: z low, z high, t, g and h digits, in this order in one list. Accepted; failed with the first check that fails;
+ * or refused 1 to 4, 6 to 10. */
+lizkarg_answer lizkarg_verify(lizkarg_sizes sizes,
+    const int32_t *a, size_t a_len, const int32_t *b, size_t b_len, const int32_t *c_matrix, size_t c_matrix_len,
+    const int32_t *d_matrix, size_t d_matrix_len, const int32_t *whole, size_t whole_len, const int32_t *term, size_t term_len,
+    const int32_t *u1, size_t u1_len, const int32_t *rows, size_t rows_len, const int32_t *p, size_t p_len,
+    const int32_t *psi, size_t psi_len, const int32_t *omega, size_t omega_len, const int32_t *b2, size_t b2_len,
+    const int32_t *alpha, size_t alpha_len, const int32_t *delta, size_t delta_len, const int32_t *u2, size_t u2_len,
+    const int32_t *c, size_t c_len, const int32_t *opening, size_t opening_len);
+
+/* Reads a sheet: its header is the result, and all numbers after the header are put at the start of numbers, in the sheet's order.
+ * Written, or refused 12, 1 to 6, 12, 7 (numbers has no room), 8 to 10. The text may be of any length. */
+lizkarg_sheet lizkarg_read_sheet(const uint8_t *text, size_t text_len, int32_t *numbers, size_t numbers_len);
+
+#ifdef __cplusplus
+}
+#endif
+#endif

@@ -1,0 +1,4 @@
+pub mod Codes
+pub mod Product
+-- Laws
+pub mod CodeLaws

@@ -1,0 +1,205 @@
+// The library for C: each call of the library under a name that begins with `lizkarg_`. A call's contract is the library's, with its
+// answer as two numbers. C's rules hold of what is lent: bindings/c/lizkarg.h.
+ghost use mathlib.Core.Path.{_≡_};
+ghost use lib.ListN.{length};
+ghost use Rattle.integers.specs.Over.{over};
+ghost use Rattle.fold.specs.Answers.{firstRefusal, written};
+ghost use Rattle.fold.specs.Arguments.{statementOf, drawsOf, transcriptOf};
+ghost use Rattle.fold.specs.Verification.{verification};
+ghost use Rattle.lizkarg.specs.Calls.{Committed, Projected, Aggregated, GarbageCommitted, Amortized};
+ghost use Rattle.sheet.specs.Reading as reader;
+ghost use Rattle.capi.specs.Codes.{Coded, shapeOf, commitSizesOf, garbageSizesOf, sizesOf, codeOf, sheetCode};
+use types::CAnswer;
+use types::CCommitSizes;
+use types::CGarbageSizes;
+use types::CShape;
+use types::CSheet;
+use types::CSizes;
+
+pub mod multiply;
+pub mod types;
+
+// Message 1: `lizkarg::commit`.
+#[no_mangle]
+pub extern "C" fn lizkarg_commit(
+    sizes: CCommitSizes,
+    a: &[i32],
+    b: &[i32],
+    c: &[i32],
+    witness: &[i32],
+    t: &mut [i32],
+    g: &mut [i32],
+    u1: &mut [i32],
+) -> CAnswer
+    ensures { λ x.
+        ⌜ Coded (λ answer. Committed (commitSizesOf sizes) (now (a .entry)) (now (b .entry)) (now (c .entry)) (now (witness .entry))
+        (now (t .entry)) (now (g .entry)) (now (u1 .entry)) answer (now (t .exit)) (now (g .exit)) (now (u1 .exit))) x ⌝ }
+{
+    let plain = types::commit_sizes(sizes);
+    let answer = lizkarg::commit(plain, a, b, c, witness, t, g, u1);
+    types::code(answer)
+}
+
+// Message 2: `lizkarg::project`.
+#[no_mangle]
+pub extern "C" fn lizkarg_project(
+    shape: CShape,
+    w: usize,
+    rows: &[i32],
+    witness: &[i32],
+    p: &mut [i32],
+) -> CAnswer
+    ensures { λ x.
+        ⌜ Coded (λ answer. Projected (shapeOf shape) w (now (rows .entry)) (now (witness .entry)) (now (p .entry)) answer
+        (now (p .exit))) x ⌝ }
+{
+    let plain = types::shape(shape);
+    let answer = lizkarg::project(plain, w, rows, witness, p);
+    types::code(answer)
+}
+
+// Message 3: `lizkarg::aggregate`.
+#[no_mangle]
+pub extern "C" fn lizkarg_aggregate(
+    shape: CShape,
+    l: usize,
+    w: usize,
+    term: &[i32],
+    rows: &[i32],
+    psi: &[i32],
+    omega: &[i32],
+    witness: &[i32],
+    b2: &mut [i32],
+) -> CAnswer
+    ensures { λ x.
+        ⌜ Coded (λ answer. Aggregated (shapeOf shape) l w (now (term .entry)) (now (rows .entry)) (now (psi .entry)) (now (omega .entry))
+        (now (witness .entry)) (now (b2 .entry)) answer (now (b2 .exit))) x ⌝ }
+{
+    let plain = types::shape(shape);
+    let answer = lizkarg::aggregate(plain, l, w, term, rows, psi, omega, witness, b2);
+    types::code(answer)
+}
+
+// Message 4: `lizkarg::commit_garbage`.
+#[no_mangle]
+pub extern "C" fn lizkarg_commit_garbage(
+    sizes: CGarbageSizes,
+    whole: &[i32],
+    term: &[i32],
+    rows: &[i32],
+    psi: &[i32],
+    omega: &[i32],
+    alpha: &[i32],
+    delta: &[i32],
+    d_matrix: &[i32],
+    witness: &[i32],
+    h: &mut [i32],
+    u2: &mut [i32],
+) -> CAnswer
+    ensures { λ x.
+        ⌜ Coded (λ answer. GarbageCommitted (garbageSizesOf sizes) (now (whole .entry)) (now (term .entry)) (now (rows .entry))
+        (now (psi .entry)) (now (omega .entry)) (now (alpha .entry)) (now (delta .entry)) (now («d_matrix» .entry))
+        (now (witness .entry)) (now (h .entry)) (now (u2 .entry)) answer (now (h .exit)) (now (u2 .exit))) x ⌝ }
+{
+    let plain = types::garbage_sizes(sizes);
+    let answer = lizkarg::commit_garbage(
+        plain,
+        whole,
+        term,
+        rows,
+        psi,
+        omega,
+        alpha,
+        delta,
+        d_matrix,
+        witness,
+        h,
+        u2,
+    );
+    types::code(answer)
+}
+
+// Message 5: `lizkarg::amortize`.
+#[no_mangle]
+pub extern "C" fn lizkarg_amortize(
+    shape: CShape,
+    b: usize,
+    c: &[i32],
+    witness: &[i32],
+    z: &mut [i32],
+) -> CAnswer
+    ensures { λ x.
+        ⌜ Coded (λ answer. Amortized (shapeOf shape) b (now (c .entry)) (now (witness .entry)) (now (z .entry)) answer
+        (now (z .exit))) x ⌝ }
+{
+    let plain = types::shape(shape);
+    let answer = lizkarg::amortize(plain, b, c, witness, z);
+    types::code(answer)
+}
+
+// The verifier: `lizkarg::verify`.
+#[no_mangle]
+pub extern "C" fn lizkarg_verify(
+    sizes: CSizes,
+    a: &[i32],
+    b: &[i32],
+    c_matrix: &[i32],
+    d_matrix: &[i32],
+    whole: &[i32],
+    term: &[i32],
+    u1: &[i32],
+    rows: &[i32],
+    p: &[i32],
+    psi: &[i32],
+    omega: &[i32],
+    b2: &[i32],
+    alpha: &[i32],
+    delta: &[i32],
+    u2: &[i32],
+    c: &[i32],
+    opening: &[i32],
+) -> CAnswer
+    ensures { λ x.
+        ⌜ x ≡ codeOf (verification (statementOf (sizesOf sizes) (now (a .entry)) (now (b .entry)) (now («c_matrix» .entry))
+        (now («d_matrix» .entry)) (now (whole .entry)) (now (term .entry)))
+        (drawsOf (now (rows .entry)) (now (psi .entry)) (now (omega .entry)) (now (alpha .entry)) (now (delta .entry))
+        (now (c .entry))) (transcriptOf (now (u1 .entry)) (now (p .entry)) (now (b2 .entry)) (now (u2 .entry)))
+        (now (opening .entry))) ⌝ }
+{
+    let plain = types::sizes(sizes);
+    let answer = lizkarg::verify(
+        plain,
+        a,
+        b,
+        c_matrix,
+        d_matrix,
+        whole,
+        term,
+        u1,
+        rows,
+        p,
+        psi,
+        omega,
+        b2,
+        alpha,
+        delta,
+        u2,
+        c,
+        opening,
+    );
+    types::code(answer)
+}
+
+// The reader: `sheet::reader::read_sheet`.
+#[no_mangle]
+pub extern "C" fn lizkarg_read_sheet(text: &[u8], numbers: &mut [i32]) -> CSheet
+    ensures { λ r. ⌜ (r ≡ sheetCode (reader.reading (length (now (numbers .entry))) (now (text .entry))))
+        × (now (numbers .exit)
+        ≡ written (firstRefusal (reader.readingTests (length (now (numbers .entry))) (now (text .entry))))
+        (over (now (numbers .entry)) 0
+        (reader.bodyNumbers (reader.sizesOf (reader.headerNumbers (now (text .entry)))) (now (text .entry))))
+        (now (numbers .entry))) ⌝ }
+{
+    let answer = sheet::reader::read_sheet(text, numbers);
+    types::sheet_code(answer)
+}

@@ -1,0 +1,38 @@
+//! Compares the library with the second implementation: `check [--seed N] [--small COUNT] [--medium COUNT] [--large 0|1]`.
+mod calls;
+mod case;
+mod large;
+mod plain;
+mod random;
+mod sides;
+mod small;
+
+fn argument(name: &str, default: u64) -> u64 {
+    let all: Vec<String> = std::env::args().collect();
+    match all.iter().position(|a| a == name) {
+        Some(at) => all[at + 1].parse().expect("a number"),
+        None => default,
+    }
+}
+
+fn main() {
+    let (seed, small, medium, large) =
+        (argument("--seed", 1), argument("--small", 100000), argument("--medium", 300), argument("--large", 1));
+    let mut tally = calls::Tally::default();
+    if large != 0 {
+        large::run(&mut tally, seed);
+    }
+    sides::run(&mut tally);
+    small::run(&mut tally, seed, medium, case::medium);
+    small::run(&mut tally, seed, small, case::small);
+    let kinds = ["accepted", "failed", "refused", "written"];
+    println!("{:<16}{:<10}{:>7}{:>12}", "call", "answer", "number", "times");
+    for ((call, kind, number), times) in &tally.seen {
+        println!("{call:<16}{:<10}{number:>7}{times:>12}", kinds[*kind as usize]);
+    }
+    if !tally.seen.keys().any(|k| k.0 == "next_instance") {
+        println!("next_instance: not compared, the C interface has no such call");
+    }
+    let calls: u64 = tally.seen.values().sum();
+    println!("all equal: {calls} calls, seed {seed}, {small} small and {medium} medium cases, large {}", if large != 0 { "yes" } else { "no" });
+}

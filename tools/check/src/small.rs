@@ -1,0 +1,231 @@
+//! Random cases: valid, damaged, refused.
+use crate::calls::*;
+use crate::case::{self, Lists, Sz};
+use crate::plain::{fold, next, ring, sheet};
+use crate::random::Random;
+use lizkarg::{Answer, Element};
+
+/// A value near a limit, or any.
+fn odd_size(rng: &mut Random) -> u64 {
+    let near = [0, 1, 2, 3, 4, 5, 8, 9, 15, 16, 17, 31, 32, 33, 63, 64, 65, 256, 257, 65535, 65536, 65537];
+    match rng.below(8) {
+        0 => 999999999999999,
+        1 => 1000000000000000,
+        2 => u64::MAX - rng.below(3),
+        3 => 1 << rng.below(64),
+        _ => near[rng.below(near.len() as u64) as usize],
+    }
+}
+
+fn odd_number(rng: &mut Random) -> i32 {
+    match rng.below(4) {
+        0 => rng.pick(&[2147483599, -2147483599, i32::MAX, i32::MIN, 2147483598, -2147483598]),
+        1 => rng.between(-3, 3) as i32,
+        _ => rng.between(-2147483598, 2147483598) as i32,
+    }
+}
+
+fn damage_list(rng: &mut Random, l: &mut Lists) {
+    let which = rng.below(Lists::COUNT as u64) as usize;
+    let list = l.each().into_iter().nth(which).unwrap();
+    match rng.below(8) {
+        0 => list.push(0),
+        1 => drop(list.pop()),
+        _ => {
+            if !list.is_empty() {
+                let at = rng.below(list.len() as u64) as usize;
+                list[at] = odd_number(rng);
+            }
+        }
+    }
+}
+
+fn damage_room(rng: &mut Random, room: &mut Room) {
+    let each = [
+        &mut room.t, &mut room.g, &mut room.u1, &mut room.p, &mut room.b2, &mut room.h, &mut room.u2, &mut room.z,
+    ];
+    let which = rng.below(8) as usize;
+    for (at, size) in each.into_iter().enumerate() {
+        if at == which {
+            *size = if rng.below(2) == 0 { *size + 1 } else { size.saturating_sub(1) };
+        }
+    }
+}
+
+fn all_calls(tally: &mut Tally, s: &Sz, l: &Lists, room: &Room) {
+    commit(tally, s, l, room);
+    project(tally, s, l, room);
+    aggregate(tally, s, l, room, None);
+    commit_garbage(tally, s, l, room, None);
+    amortize(tally, s, l, room);
+    verify(tally, s, l, None);
+}
+
+fn products(tally: &mut Tally, rng: &mut Random) {
+    let d = if rng.below(8) == 0 { odd_size(rng) as usize } else { 2 << rng.below(6) };
+    let mut draw = || {
+        let mut e = Element { coefficients: [0; 64] };
+        for v in e.coefficients.iter_mut().take(d.min(64)) {
+            *v = rng.between(-2147483598, 2147483598) as i32;
+        }
+        if rng.below(8) == 0 {
+            e.coefficients[rng.below(64) as usize] = odd_number(rng);
+        }
+        e
+    };
+    let (x, y) = (draw(), draw());
+    let bad = |e: &Element| e.coefficients.iter().enumerate().any(|(i, v)| (*v as i128).abs() > ring::MOST || i >= d && *v != 0);
+    let answer = lizkarg::multiply(d, x, y);
+    let should = if ![2, 4, 8, 16, 32, 64].contains(&d) {
+        Err(1)
+    } else if bad(&x) || bad(&y) {
+        Err(8)
+    } else {
+        let el = |e: &Element| ring::elements(d, &e.coefficients[..d]).remove(0);
+        let mut product = Element { coefficients: [0; 64] };
+        product.coefficients[..d].copy_from_slice(&ring::flat(&[ring::mul(&el(&x), &el(&y))]));
+        Ok(product)
+    };
+    assert_eq!(answer, should, "multiply at degree {d}");
+    tally.count("multiply", match answer { Ok(_) => Answer::Written, Err(number) => Answer::Refused(number) });
+}
+
+/// The sheet of a case, whole and damaged, read into a slice with some numbers too many or too few.
+fn sheets(tally: &mut Tally, rng: &mut Random, s: &Sz, l: &Lists) {
+    let (nu, mu) = (rng.between(1, 4) as usize, rng.between(1, 8) as usize);
+    let mut text = sheet::write(s, nu, mu, l);
+    match rng.below(10) {
+        0..=2 => (),
+        3 => drop(text.pop()),
+        4 => text.push(b" \n0"[rng.below(3) as usize]),
+        5 => drop(text.remove(rng.below(text.len() as u64) as usize)),
+        6 => text.insert(rng.below(text.len() as u64) as usize, b" -0\n"[rng.below(4) as usize]),
+        7 => {
+            // a header field
+            let field = rng.below(18) as usize * 16;
+            let v = odd_size(rng) as i128 % 10_000_000_000_000_000 * if rng.below(4) == 0 { -1 } else { 1 };
+            let as_text = format!("{v:>16}").into_bytes();
+            text[field..field + 16].copy_from_slice(&as_text[as_text.len() - 16..]);
+        }
+        8 => {
+            // a field after the header
+            let fields: Vec<usize> = (289..text.len() - 16).filter(|at| text[at + 15..at + 17].iter().all(|c| *c != b' ')).collect();
+            if !fields.is_empty() {
+                let at = fields[rng.below(fields.len() as u64) as usize];
+                let v = odd_number(rng);
+                if text[at..at + 16].iter().all(|c| *c != b'\n') {
+                    text[at..at + 16].copy_from_slice(format!("{v:>16}").as_bytes());
+                }
+            }
+        }
+        _ => {
+            let at = rng.below(text.len() as u64) as usize;
+            text[at] = b" -+0123456789a\n\r"[rng.below(16) as usize];
+        }
+    }
+    let exact = l.in_sheet_order().len();
+    let room = match rng.below(4) {
+        0 => exact,
+        1 => exact.saturating_sub(1),
+        _ => exact + 5,
+    };
+    let mut numbers = vec![1234567891; room];
+    let answer = lizkarg::read_sheet(&text, &mut numbers);
+    match sheet::read(&text, room) {
+        Ok((s, nu, mu, should)) => {
+            let h = answer.expect("a sheet");
+            let got: Vec<i128> = [h.d, h.n, h.r, h.k, h.l, h.w, h.kappa, h.kappa1, h.kappa2, h.b, h.b1, h.b2, h.t1, h.t2, h.nu, h.mu]
+                .iter().map(|v| *v as i128).chain([h.bound as i128, h.target as i128]).collect();
+            assert_eq!(got, sheet::header(&s, nu, mu));
+            assert!(numbers[..should.len()] == should && numbers[should.len()..].iter().all(|v| *v == 1234567891));
+            tally.count("read_sheet", Answer::Written);
+        }
+        Err(number) => {
+            assert_eq!(answer, Err(number), "read_sheet: {}", String::from_utf8_lossy(&text));
+            assert!(numbers.iter().all(|v| *v == 1234567891));
+            tally.count("read_sheet", Answer::Refused(number));
+        }
+    }
+}
+
+/// The next instance: accepted exactly if the padded opening solves it (the bound apart, which is check 9).
+fn next_of(tally: &mut Tally, rng: &mut Random, s: &Sz, l: &Lists, answer: Answer) {
+    let (nu, mu) = (rng.between(1, 4) as usize, rng.between(1, 8) as usize);
+    let after = next::sizes(s, nu, mu);
+    let room = after.k * (after.pairs() + after.r * after.n + 1) * s.d;
+    let off = if rng.below(8) == 0 { 1 } else { 0 };
+    next_instance(tally, s, nu, mu, l, room + off, None);
+    if let Ok(constraints) = next::instance(s, nu, mu, l, &fold::second(s, l)) {
+        assert_eq!(constraints.len(), room);
+        let solved = next::meets(&after, &constraints, &next::witness(s, nu, mu, &l.opening));
+        assert_eq!(solved, matches!(answer, Answer::Accepted | Answer::Failed(9)), "next instance");
+    }
+}
+
+pub fn run(tally: &mut Tally, seed: u64, count: u64, sizes: fn(&mut Random) -> Sz) {
+    for number in 0..count {
+        let mut rng = Random::new(seed.wrapping_mul(0x100000001b3).wrapping_add(number));
+        let s = sizes(&mut rng);
+        let short = rng.below(2) == 0;
+        let mut l = case::random(&mut rng, &s, short);
+        let mut size = room(&s);
+        // honest
+        let (t, g, u1) = commit(tally, &s, &l, &size);
+        l.p = project(tally, &s, &l, &size);
+        l.b2 = aggregate(tally, &s, &l, &size, None);
+        let (h, u2) = commit_garbage(tally, &s, &l, &size, None);
+        let z = amortize(tally, &s, &l, &size);
+        l.opening = [z, t, g, h].concat();
+        (l.u1, l.u2) = (u1, u2);
+        let answer = verify(tally, &s, &l, None);
+        assert!(matches!(answer, Answer::Accepted | Answer::Failed(1) | Answer::Failed(9)), "case {number}: an honest fold is {answer:?}");
+        next_of(tally, &mut rng, &s, &l, answer);
+        sheets(tally, &mut rng, &s, &l);
+        products(tally, &mut rng);
+        // damaged
+        for _ in 0..3 {
+            let (mut s, mut l) = (s, l.clone());
+            size = room(&s);
+            match rng.below(8) {
+                0 => s.set(rng.below(16) as usize, odd_size(&mut rng)),
+                1 => damage_room(&mut rng, &mut size),
+                2 => {
+                    damage_list(&mut rng, &mut l);
+                    damage_list(&mut rng, &mut l);
+                }
+                3 => {
+                    s.set(rng.below(16) as usize, odd_size(&mut rng));
+                    damage_list(&mut rng, &mut l);
+                }
+                _ => damage_list(&mut rng, &mut l),
+            }
+            all_calls(tally, &s, &l, &size);
+            let answer = judged(tally, &s, &l);
+            if !matches!(answer, Answer::Refused(_)) {
+                next_of(tally, &mut rng, &s, &l, answer);
+            }
+            sheets_of_damaged(tally, &mut rng, &s, &l);
+        }
+        if number % 10000 == 9999 {
+            println!("{} cases", number + 1);
+        }
+    }
+}
+
+/// The sheet of a damaged case, where its lists still have the lengths that its sizes give.
+fn sheets_of_damaged(tally: &mut Tally, rng: &mut Random, s: &Sz, l: &Lists) {
+    let small = s.n <= 256 && s.r <= 16 && s.k <= 32 && s.l <= 32 && s.w <= 256 && [2, 4, 8, 16, 32, 64].contains(&s.d);
+    let ranks = s.kappa <= 8 && s.kappa1 <= 8 && s.kappa2 <= 8 && s.t1 <= 8 && s.t2 <= 8;
+    let most = 10_000_000_000_000_000;
+    let bounds = s.bound < most && s.target < most && s.b < 1 << 50 && s.b1 < 1 << 50 && s.b2 < 1 << 50;
+    if small && ranks && bounds {
+        let should = case::empty(s);
+        let same = |x: &Lists| {
+            let mut x = x.clone();
+            x.each().map(|list| list.len())
+        };
+        if same(&should) == same(l) {
+            sheets(tally, rng, s, l);
+        }
+    }
+}
