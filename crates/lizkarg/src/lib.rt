@@ -1,9 +1,12 @@
-// The library's calls: document 01's messages and the verifier. None has a `requires`: what it cannot take it refuses by number.
+// The library's calls: document 01's messages, the verifier and the next instance. None has a `requires`: what it cannot take it refuses by number.
 ghost use Rattle.lizkarg.specs.Calls.{Committed, Projected, Aggregated, GarbageCommitted, Amortized};
+pub use chunks::part::next_part;
+pub use chunks::part::next_part_refusal;
 use fold::Answer;
 use fold::CommitSizes;
 use fold::GarbageSizes;
 use fold::Shape;
+pub use next_instance::next_instance;
 pub use verifier::verify;
 
 // Message 1: the inner commitments t and the products g, in digits, and the outer commitment u1.
