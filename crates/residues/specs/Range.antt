@@ -1,10 +1,19 @@
 -- The conditions of document 01's rows 8, 9 and 10 on the numbers of a slice.
-use mathlib.Core.Bool.{Bool, true, false, cond}
+use mathlib.Core.Bool.{Bool, true, false, cond, not, _&&_}
 use mathlib.Core.List.{List, [], _∷_}
 use Prim.Native.Nat.{ℕ}
 use lib.Dec.{leb}
 use lib.IntN.{ℤ, natAbs}
+use lib.Signed.{ltZ}
 use Rattle.integers.specs.Sums.{normSq}
+
+-- low ≤ x ≤ high
+unfoldable pub between : ℤ → ℤ → ℤ → Bool
+between low high x = not (ltZ x low) && not (ltZ high x)
+
+unfoldable pub allBetween : ℤ → ℤ → List ℤ → Bool
+allBetween low high [] = true
+allBetween low high (x ∷ xs) = cond (between low high x) (allBetween low high xs) false
 
 -- every number has an absolute value of at most b
 unfoldable pub allWithin : ℕ → List ℤ → Bool

@@ -5,28 +5,28 @@
 --     Tested                            the invariant of the loop of `all_within`, with its start, its step and its two ends
 --     coefficients-.., projections-..   the same at the bounds of rows 8 and 9
 --     challenge-..                      row 10: what the rule says of each number, of the squared length and of the sum of absolute values
-use mathlib.Core.Path.{_≡_, refl, sym, ap, _∙_, subst}
-use mathlib.Core.Bool.{Bool, true, false, cond, _&&_}
+use mathlib.Core.Path.{_≡_, refl, sym, ap, ap₂, _∙_, subst}
+use mathlib.Core.Bool.{Bool, true, false, cond, not, _&&_}
 use mathlib.Core.List.{List, [], _∷_, _++_}
 use Prim.Native.Nat.{ℕ, zero, suc, _+_, _*_, _^_, _≤_, _<_}
 use native.Mathlib.Nat.{le-trans}
 use native.Mathlib.Numerals.{add-one}
 use native.Mathlib.Omega.{arith}
-use lib.Dec.{T, leb, lit≤}
+use lib.Dec.{T, leb, ltb, lit≤}
 use lib.ListN.{length, getD, take, drop, take-append-drop}
 use lib.Seq.{take-suc, take-all}
-use lib.IntN.{ℤ, pos, natAbs}
+use lib.IntN.{ℤ, pos, negsuc, natAbs}
 use lib.Signed.{mag}
 use mir.Syntax.{w32}
 use mir.Val.{SFits, toZ, ofZ}
-use borrow.Author.Tests.{le-leb, lt-leb, leb-true}
+use borrow.Author.Tests.{le-leb, lt-leb, leb-true, ltb-true, ltb-false}
 use Rattle.integers.specs.Bridge.{zarith, natAbs-pn}
 use Rattle.integers.specs.Sums.{normSq, sq, total, total-mono, normSq-total}
 use Rattle.residues.specs.declared.length.Margin.{Margin}
 use Rattle.residues.specs.Length.{remaining, holds}
 use Rattle.residues.specs.LengthLaws.{holds-remaining}
 use Rattle.residues.specs.Words.{word}
-use Rattle.residues.specs.Range.{allWithin, coefficients, projections, challenge}
+use Rattle.residues.specs.Range.{between, allBetween, allWithin, coefficients, projections, challenge}
 
 -- ---- both tests of a conjunction
 
@@ -107,31 +107,76 @@ pub allWithin-take-suc : (b : ℕ) (xs : List ℤ) (i : ℕ) → i < length xs �
 allWithin-take-suc b xs i h e k =
     rw (take-suc xs i (pos 0)) (allWithin-join b (take i xs) (getD xs i (pos 0) ∷ []) e (single b (getD xs i (pos 0)) k))
 
--- ---- the loop of `all_within`: the first i numbers are within the bound, and m is the absolute value of the next
+-- ---- the loop of `all_within`: `all` says whether the first i numbers are within the bound
 
-pub record Tested (b : ℕ) (xs : List ℤ) (i : ℕ) : Type 0 where
+not-ltb : (m n : ℕ) → not (ltb m n) ≡ leb n m
+not-ltb m n = pick (ltb m n) refl
+  where
+    pick : (t : Bool) → ltb m n ≡ t → not t ≡ leb n m
+    pick true e = sym (lt-leb n m (ltb-true m n e))
+    pick false e = sym (le-leb n m (ltb-false m n e))
+
+between-within : (b : ℕ) (x : ℤ) → between (negsuc b) (pos (suc b)) x ≡ leb (natAbs x) (suc b)
+unfolding between
+between-within b (pos n) = not-ltb (suc b) n
+between-within b (negsuc n) = and-true (not (ltb b n)) ∙ not-ltb b n ∙ leb-suc
+  where
+    and-true : (t : Bool) → t && true ≡ t
+    and-true true = refl
+    and-true false = refl
+
+    leb-suc : leb n b ≡ leb (suc n) (suc b)
+    leb-suc = pick (ltb b n) refl
+      where
+        pick : (t : Bool) → ltb b n ≡ t → leb n b ≡ leb (suc n) (suc b)
+        pick true e = lt-leb n b (ltb-true b n e) ∙ sym (lt-leb (suc n) (suc b) (omega (arith, ltb-true b n e)))
+        pick false e = le-leb n b (ltb-false b n e) ∙ sym (le-leb (suc n) (suc b) (omega (arith, ltb-false b n e)))
+
+-- from -b to b is within b
+pub between-bound : (b : ℕ) (xs : List ℤ) → allBetween (negsuc b) (pos (suc b)) xs ≡ allWithin (suc b) xs
+unfolding allBetween allWithin
+between-bound b [] = refl
+between-bound b (x ∷ xs) = rw (between-within b x, between-bound b xs) refl
+
+between-append : (low high : ℤ) (xs ys : List ℤ) → allBetween low high (xs ++ ys) ≡ cond (allBetween low high xs) (allBetween low high ys) false
+unfolding allBetween
+between-append low high [] ys = refl
+between-append low high (x ∷ xs) ys = rw (between-append low high xs ys) (cond-assoc (between low high x))
+  where
+    cond-assoc : (s : Bool)
+        → cond s (cond (allBetween low high xs) (allBetween low high ys) false) false
+        ≡ cond (cond s (allBetween low high xs) false) (allBetween low high ys) false
+    cond-assoc true = refl
+    cond-assoc false = refl
+
+pub record Tested (low high : ℤ) (xs : List ℤ) (i : ℕ) (all : Bool) : Type 0 where
   pub below : i ≤ length xs
-  pub passed : allWithin b (take i xs) ≡ true
+  pub is : all ≡ allBetween low high (take i xs)
 
-pub tested-start : (b : ℕ) (xs : List ℤ) → Tested b xs 0
-unfolding allWithin
-tested-start b xs = record { below = omega arith; passed = refl }
+pub tested-start : (low high : ℤ) (xs : List ℤ) → Tested low high xs 0 true
+unfolding allBetween
+tested-start low high xs = record { below = omega arith; is = refl }
 
--- the answer of `magnitude`, which reads the element back from its bits
-module _ (b : ℕ) (xs : List ℤ) (i m : ℕ) (fits : mag (getD xs i (pos 0)) < 2 ^ 31)
-    (e : m ≡ natAbs (toZ w32 (ofZ w32 (getD xs i (pos 0))))) where
-  absolute : m ≡ natAbs (getD xs i (pos 0))
-  absolute = e ∙ ap natAbs (word (getD xs i (pos 0)) fits)
+pub tested-step : (low high : ℤ) (xs : List ℤ) (i : ℕ) {all inside : Bool} → Tested low high xs i all → i < length xs
+    → inside ≡ between low high (getD xs i (pos 0)) → Tested low high xs (i + 1) (all && inside)
+unfolding allBetween
+tested-step low high xs i {all} {inside} r h e =
+    let x = getD xs i (pos 0) in
+    record {
+      below = omega arith;
+      is =
+          both-and all inside
+          ∙ ap₂ (λ s t. cond s t false) (r .is) (e ∙ sym (cond-true (between low high x)))
+          ∙ sym (between-append low high (take i xs) (x ∷ []))
+          ∙ ap (allBetween low high) (sym (take-suc xs i (pos 0) h) ∙ ap (λ (k : ℕ). take k xs) (sym (add-one i)));
+    }
+  where
+    cond-true : (t : Bool) → cond t true false ≡ t
+    cond-true true = refl
+    cond-true false = refl
 
-  pub tested-step : Tested b xs i → i < length xs → m ≤ b → Tested b xs (i + 1)
-  tested-step inv h k =
-      record { below = omega arith; passed = rw add-one (allWithin-take-suc b xs i h (inv .passed) (omega (arith, absolute))) }
-
-  pub tested-false : b < m → false ≡ allWithin b xs
-  tested-false k = sym (allWithin-false b xs i (omega (arith, absolute)))
-
-pub tested-end : (b : ℕ) (xs : List ℤ) (i : ℕ) → Tested b xs i → length xs ≤ i → true ≡ allWithin b xs
-tested-end b xs i inv h = sym (rw (take-all i xs) at (inv .passed))
+pub tested-end : (low high : ℤ) (xs : List ℤ) (i : ℕ) {all : Bool} → Tested low high xs i all → length xs ≤ i → all ≡ allBetween low high xs
+tested-end low high xs i r h = r .is ∙ ap (allBetween low high) (take-all i xs h)
 
 -- ---- row 8
 

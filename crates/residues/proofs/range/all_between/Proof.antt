@@ -1,0 +1,66 @@
+-- `residues::range::all_between` meets its contract. The loop's invariant: `all` is the answer for the first i numbers.
+use mathlib.Core.Path.{ap, _∙_}
+use Prim.Native.Nat.{_-_}
+use native.Mathlib.Omega.{arith}
+use lib.ListN.{length, getD}
+use lib.IntN.{pos}
+use mir.Syntax.{w32}
+use mir.Val.{toZ, ofZ}
+use mir.Facts.{toZ-ofZ}
+use Rattle.residues.specs.Range.{between}
+use Rattle.residues.specs.RangeLaws.{Tested, tested-start, tested-step, tested-end}
+use Rattle.residues.specs.Words.{word}
+use Rattle.residues.proofs.range.all_between.Statement.{statement}
+use Rattle.residues.proofs.range.all_between.Tie as tie
+
+abbrev Inv-loop : tie.InvT-loop
+Inv-loop low high xs all₀ i₀ all i = Tested (toZ w32 low) (toZ w32 high) xs i all
+
+abbrev μ-loop : tie.MeasureT-loop
+μ-loop low high xs all₀ i₀ all i = length xs - i
+
+loop-holds : tie.Need-loop-holds Inv-loop μ-loop
+loop-holds c = tested-start _ _ _
+
+mul-x : tie.Need-mul-x Inv-loop μ-loop
+mul-x c = omega arith
+
+shared-slice-copy-out-x : tie.Need-shared-slice-copy-out-x Inv-loop μ-loop
+shared-slice-copy-out-x c = omega arith
+
+is-between-requires : tie.Need-is-between-requires Inv-loop μ-loop
+is-between-requires c κs = tt
+
+add-i : tie.Need-add-i Inv-loop μ-loop
+add-i c = omega arith
+
+loop-less : tie.Need-loop-less Inv-loop μ-loop
+loop-less c = omega arith
+
+loop-again : tie.Need-loop-again Inv-loop μ-loop
+loop-again c =
+    let l = c .before .before .before in
+    let x = getD (l .before .args .xs .now) (l .loop .i) (pos 0) in
+    tested-step _ _ _ _ (l .loop .inv) (c .before .before .loop-test .taken)
+    (c .is-between .ensures ∙ ap (between (toZ w32 (ofZ w32 (l .before .args .low))) (toZ w32 (ofZ w32 (l .before .args .high))))
+    (word x (c .before .x .given)))
+
+returns : tie.Need-returns Inv-loop μ-loop
+returns c =
+    let f = c .before .before .fits in
+    rw (toZ-ofZ (f .low), toZ-ofZ (f .high)) at (tested-end _ _ _ _ (c .before .loop .inv) (c .loop-test .left))
+
+pub all-between-spec : {M : Type 1} → statement M
+all-between-spec =
+    tie.close
+    (tie.spec
+    Inv-loop
+    μ-loop
+    loop-holds
+    mul-x
+    shared-slice-copy-out-x
+    is-between-requires
+    add-i
+    loop-less
+    loop-again
+    returns)
