@@ -142,26 +142,45 @@ static void fold(lizkarg_sizes s, int repetitions) {
     free_case(&l);
 }
 
+/* Ours step by step, and the whole prover and the verifier of some others as ratios. */
+static const implementation *grown[] = {&ours, &clang_tested, &rust_plain, &flint_based};
+enum { GROWN = sizeof grown / sizeof *grown };
+
+static void growth_heading(void) {
+    printf("|  |");
+    for (int x = 0; x < STEPS; x++) printf(" %s |", steps[x]);
+    printf(" prover |");
+    for (int i = 1; i < GROWN; i++) printf(" %s prover, verifier |", grown[i]->name);
+    printf("\n|---|");
+    for (int x = 0; x < STEPS + GROWN; x++) printf("---|");
+    printf("\n");
+}
+
 static void growth_line(const char *what, size_t v, lizkarg_sizes s, int repetitions) {
     lists l;
-    double least[STEPS], total = 0;
+    double least[GROWN][STEPS], whole[GROWN] = {0};
     make_case(&s, &l);
-    for (int x = 0; x < STEPS; x++) least[x] = 1e30;
+    for (int i = 0; i < GROWN; i++)
+        for (int x = 0; x < STEPS; x++) least[i][x] = 1e30;
     for (int round = 0; round < repetitions; round++)
-        for (int x = 0; x < STEPS; x++) {
-            double from = now();
-            if (step(&ours, x, &s, &l)) differ("verdict", "ours");
-            double ns = now() - from;
-            if (ns < least[x]) least[x] = ns;
-        }
+        for (int i = 0; i < GROWN; i++)
+            for (int x = 0; x < STEPS; x++) {
+                double from = now();
+                if (step(grown[i], x, &s, &l)) differ("verdict", grown[i]->name);
+                double ns = now() - from;
+                if (ns < least[i][x]) least[i][x] = ns;
+            }
+    for (int i = 0; i < GROWN; i++)
+        for (int x = 0; x < 5; x++) whole[i] += least[i][x];
     printf("| %s = %-4zu |", what, v);
     for (int x = 0; x < STEPS; x++) {
-        show(least[x]);
+        show(least[0][x]);
         printf(" |");
-        total += x < 5 ? least[x] : 0;
     }
-    show(total);
-    printf(" |\n");
+    show(whole[0]);
+    printf(" |");
+    for (int i = 1; i < GROWN; i++) printf(" %.2f, %.2f |", whole[i] / whole[0], least[i][5] / least[0][5]);
+    printf("\n");
     fflush(stdout);
     free_case(&l);
 }
@@ -183,10 +202,13 @@ static void sheet(void) {
         l.alpha, l.delta, l.u2, l.c, l.z};
     size_t sizes[] = {2 * d, 8 * d, 12 * d, 12 * d, size + d, size, 1, d, 8 * 4 * d, 8, 5, 40, 5 * d, d, 5 * d, d, 2 * d, opening_numbers(&s)};
     size_t widths[] = {d, d, d, d, d, d, 1, d, d, 1, 1, 1, d, d, d, d, d, d};
+    static int32_t written[4096];
+    size_t count = 0;
     for (int i = 0; i < 18; i++)
         for (size_t k = 0; k < sizes[i]; k++) {
             at += sprintf(text + at, "%16d", parts[i][k]);
             if ((k + 1) % widths[i] == 0) text[at++] = '\n';
+            written[count++] = parts[i][k];
         }
     for (int round = 0; round < 50; round++) {
         double from = now();
@@ -194,6 +216,7 @@ static void sheet(void) {
         double middle = now();
         if (h.kind != LIZKARG_WRITTEN || step(&ours, 5, &s, &l)) differ("sheet", "ours");
         double end = now();
+        if (memcmp(numbers, written, count * sizeof *numbers)) differ("sheet", "the reader");
         if (middle - from < read) read = middle - from;
         if (end - middle < judge) judge = end - middle;
     }
@@ -217,8 +240,8 @@ int main(int argc, char **argv) {
     inner_products();
     fold(s, (int)v[5]);
     sheet();
-    printf("\nGrowth of ours (r = 8, w = 64, K = L = 2, kappa = 4 for n; n = 64 for r)\n\n| | message 1 | message 2 | message 3 | message 4 | message 5 | verifier | prover |\n");
-    printf("|---|---|---|---|---|---|---|---|\n");
+    printf("\nGrowth with n (r = 8) and with r (n = 64); w = 64, K = L = 2, kappa = 4, best of 3; ours, then ratios to ours\n\n");
+    growth_heading();
     lizkarg_sizes small = {64, 64, 8, 2, 2, 64, 4, 4, 4, 16, 256, 256, 4, 4, 0, 0};
     for (size_t n = 16; n <= 256; n *= 2) {
         lizkarg_sizes x = small;

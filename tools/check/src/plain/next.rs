@@ -155,10 +155,6 @@ pub fn instance(s: &Sz, nu: usize, mu: usize, l: &Lists, second: &[Function]) ->
 
 /// Whether every whole constraint vanishes at a witness.
 pub fn meets(s: &Sz, wholes: &[i32], witness: &[i32]) -> bool {
-    let w = fold_parts(s, witness);
+    let w = parts(s, witness);
     whole(s, wholes).iter().all(|f| value(s, f, &w) == f.b)
-}
-
-fn fold_parts(s: &Sz, witness: &[i32]) -> Vec<Vec<El>> {
-    super::fold::parts(s, witness)
 }
