@@ -1,6 +1,7 @@
 // Numbers modulo q, held centred: -2147483598 to 2147483598.
 ghost use mathlib.Core.Path.{_≡_};
-ghost use lib.IntN.{pos, _+ℤ_, _*ℤ_};
+ghost use Prim.Native.Nat.{_≤_};
+ghost use lib.IntN.{pos, natAbs, _+ℤ_, _*ℤ_};
 ghost use Rattle.integers.specs.Remainder.{emod};
 ghost use Rattle.residues.specs.Modulus.{q, centred};
 
@@ -21,12 +22,22 @@ pub fn centre(x: i64) -> i32
     (low - LARGEST) as i32
 }
 
+// The same for x of at most 2^32 in absolute value, by one remainder.
+fn centre_small(x: i64) -> i32
+    requires { ⌜ natAbs x ≤ 4294967296 ⌝ }
+    ensures { λ r. ⌜ r ≡ centred x ⌝ }
+{
+    let shifted = x + (MODULUS + LARGEST);
+    let low = shifted % MODULUS;
+    (low - LARGEST) as i32
+}
+
 pub fn add(x: i32, y: i32) -> i32
     ensures { λ r. ⌜ r ≡ centred (x +ℤ y) ⌝ }
 {
     let a = x as i64;
     let b = y as i64;
-    centre(a + b)
+    centre_small(a + b)
 }
 
 pub fn multiply(x: i32, y: i32) -> i32
@@ -54,5 +65,5 @@ pub fn from_residue(x: u64) -> i32
 {
     let low = x % 4294967197;
     let wide = low as i64;
-    centre(wide)
+    centre_small(wide)
 }
