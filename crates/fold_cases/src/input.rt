@@ -1,9 +1,8 @@
-// The numbers of a case: the number of its call, its sizes, then its lists, each as its length and its numbers. What is missing counts
-// as 0, and a list that does not fit as an empty one.
+// The numbers of a case: the number of its call, its sizes, then its lists. What is missing counts as 0.
 ghost use mathlib.Core.Path.{_≡_};
 ghost use Prim.Native.Nat.{_≤_};
 ghost use lib.IntN.{pos};
-ghost use lib.ListN.{length, replicate, take, drop};
+ghost use lib.ListN.{length, replicate, take};
 use cases::numbers::natural;
 use cases::numbers::size;
 use fold::Sizes;
@@ -16,16 +15,6 @@ pub const ROOM: usize = 8192;
 
 // What fills such a list before the call.
 pub const FILL: i32 = 77;
-
-// The numbers from a place on.
-pub fn rest(wides: &[i64], at: usize) -> &[i64]
-    ensures { λ r. ⌜ now r ≡ drop at (now (wides .entry)) ⌝ }
-{
-    if wides.len() < at {
-        return &wides[0..0];
-    }
-    &wides[at..]
-}
 
 fn bound_at(wides: &[i64], place: usize) -> u64
     ensures { λ r. ⌜ r ≤ 9223372036854775807 ⌝ }
@@ -62,44 +51,6 @@ pub fn read_sizes(wides: &[i64]) -> Sizes
         bound: bound_at(wides, 15),
         target: bound_at(wides, 16),
     }
-}
-
-// The list at a place.
-pub fn list(xs: &[i32], at: usize) -> &[i32]
-    ensures { λ r. ⌜ length (now r) ≤ length (now (xs .entry)) ⌝ }
-{
-    let room = xs.len();
-    if room <= at {
-        return &xs[0..0];
-    }
-    let start = at + 1;
-    let count = size(xs, at, room - start);
-    let end = start + count;
-    &xs[start..end]
-}
-
-// The place after the list at a place; the end where there is none.
-pub fn after_list(xs: &[i32], at: usize) -> usize
-    ensures { λ r. ⌜ r ≤ length (now (xs .entry)) ⌝ }
-{
-    let room = xs.len();
-    if room <= at {
-        return room;
-    }
-    let start = at + 1;
-    let count = size(xs, at, room - start);
-    start + count
-}
-
-// The place after the number at a place; the end where there is none.
-pub fn after_number(xs: &[i32], at: usize) -> usize
-    ensures { λ r. ⌜ r ≤ length (now (xs .entry)) ⌝ }
-{
-    let room = xs.len();
-    if room <= at {
-        return room;
-    }
-    at + 1
 }
 
 // The length of a list to write, 0 where it is too long. The filled array has a part that long.

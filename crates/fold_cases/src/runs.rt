@@ -4,6 +4,7 @@ ghost use lib.ListN.{length};
 use crate::input;
 use crate::messages;
 use crate::verifier;
+use cases::lists;
 use cases::numbers;
 use cases::printing;
 use fold::Sizes;
@@ -27,7 +28,7 @@ fn run_all(words: &[i32], wides: &[i64]) {
     let mut at = 0;
     while at < words.len() {
         let call = words[at];
-        let sizes = input::read_sizes(input::rest(wides, at));
+        let sizes = input::read_sizes(lists::rest(wides, at));
         let used = run(call, sizes, &words[at..]);
         if used == 0 {
             return;

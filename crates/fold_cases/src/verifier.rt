@@ -2,9 +2,9 @@
 ghost use Prim.Native.Nat.{_≤_};
 ghost use lib.ListN.{length};
 use crate::input::LISTS;
-use crate::input::after_list;
-use crate::input::list;
 use crate::output;
+use cases::lists::after_list;
+use cases::lists::list;
 use fold::Sizes;
 
 // From alpha on: alpha, delta, u2, the challenges, the opening. The call, and its answer printed.

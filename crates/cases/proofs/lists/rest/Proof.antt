@@ -1,12 +1,12 @@
--- `fold_cases::input::rest` meets its contract: past the end nothing is left. Assumes nothing.
+-- `cases::lists::rest` meets its contract: past the end nothing is left. Assumes nothing.
 use mathlib.Core.Path.{sym}
 use native.Mathlib.Nat.{le-of-eq}
 use native.Mathlib.Omega.{arith}
 use lib.ListN.{drop, length-drop, drop-of-length-le}
 use lib.Seq.{take-all}
 use borrow.Author.Needs.{needs}
-use Rattle.fold_cases.proofs.input.rest.Statement.{statement}
-use Rattle.fold_cases.proofs.input.rest.Tie as tie
+use Rattle.cases.proofs.lists.rest.Statement.{statement}
+use Rattle.cases.proofs.lists.rest.Tie as tie
 
 sub-result : tie.Need-sub-result
 sub-result c = search needs

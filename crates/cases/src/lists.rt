@@ -1,0 +1,54 @@
+// Lists among the numbers of a text: each is its length and its numbers. What is missing counts as 0, and a list that does not fit as an
+// empty one.
+ghost use mathlib.Core.Path.{_≡_};
+ghost use Prim.Native.Nat.{_≤_};
+ghost use lib.ListN.{length, drop};
+use crate::numbers::size;
+
+// The numbers from a place on.
+pub fn rest(wides: &[i64], at: usize) -> &[i64]
+    ensures { λ r. ⌜ now r ≡ drop at (now (wides .entry)) ⌝ }
+{
+    if wides.len() < at {
+        return &wides[0..0];
+    }
+    &wides[at..]
+}
+
+// The list at a place.
+pub fn list(xs: &[i32], at: usize) -> &[i32]
+    ensures { λ r. ⌜ length (now r) ≤ length (now (xs .entry)) ⌝ }
+{
+    let room = xs.len();
+    if room <= at {
+        return &xs[0..0];
+    }
+    let start = at + 1;
+    let count = size(xs, at, room - start);
+    let end = start + count;
+    &xs[start..end]
+}
+
+// The place after the list at a place; the end where there is none.
+pub fn after_list(xs: &[i32], at: usize) -> usize
+    ensures { λ r. ⌜ r ≤ length (now (xs .entry)) ⌝ }
+{
+    let room = xs.len();
+    if room <= at {
+        return room;
+    }
+    let start = at + 1;
+    let count = size(xs, at, room - start);
+    start + count
+}
+
+// The place after the number at a place; the end where there is none.
+pub fn after_number(xs: &[i32], at: usize) -> usize
+    ensures { λ r. ⌜ r ≤ length (now (xs .entry)) ⌝ }
+{
+    let room = xs.len();
+    if room <= at {
+        return room;
+    }
+    at + 1
+}

@@ -1,0 +1,126 @@
+// The numbers of a case: its kind, its eighteen sizes, then its lists. What is missing counts as 0.
+ghost use mathlib.Core.Path.{_≡_};
+ghost use Prim.Native.Nat.{_≤_};
+ghost use lib.IntN.{pos};
+ghost use lib.ListN.{length, replicate, take};
+ghost use mir.Syntax.{w64};
+ghost use mir.Val.{ofZ};
+ghost use Rattle.next_cases.specs.Input.{sizeAt};
+use cases::numbers::size;
+use fold::Sizes;
+
+// Where the sizes of a case begin, and what follows them.
+pub const SIZES: usize = 1;
+
+pub const LISTS: usize = 19;
+
+// The longest list that is written here.
+pub const ROOM: usize = 32768;
+
+// What fills such a list before a call.
+pub const FILL: i32 = 77;
+
+// The number modulo 2^64.
+fn wrapped(x: i64) -> u64
+    ensures { λ r. ⌜ r ≡ ofZ w64 x ⌝ }
+{
+    if x < 0 {
+        let below = -1 - x;
+        return 18446744073709551615 - below as u64;
+    }
+    x as u64
+}
+
+fn bound_at(wides: &[i64], place: usize) -> u64
+    ensures { λ x. ⌜ x ≡ sizeAt (now (wides .entry)) place ⌝ }
+{
+    if wides.len() <= place {
+        return 0;
+    }
+    let x = wides[place];
+    wrapped(x)
+}
+
+// The size at a place: it may be any of 64 bits, so that the calls refuse it.
+pub fn size_at(wides: &[i64], place: usize) -> usize
+    ensures { λ x. ⌜ x ≡ sizeAt (now (wides .entry)) place ⌝ }
+{
+    bound_at(wides, place) as usize
+}
+
+// The sizes of a fold, from the first number on; ν and μ are left out.
+pub fn read_sizes(wides: &[i64]) -> Sizes
+    ensures { λ x.
+        ⌜ (x .d ≡ sizeAt (now (wides .entry)) 0) × (x .n ≡ sizeAt (now (wides .entry)) 1) ×
+        (x .r ≡ sizeAt (now (wides .entry)) 2) × (x .k ≡ sizeAt (now (wides .entry)) 3) ×
+        (x .l ≡ sizeAt (now (wides .entry)) 4) × (x .w ≡ sizeAt (now (wides .entry)) 5) ×
+        (x .kappa ≡ sizeAt (now (wides .entry)) 6) × (x .kappa1 ≡ sizeAt (now (wides .entry)) 7) ×
+        (x .kappa2 ≡ sizeAt (now (wides .entry)) 8) × (x .b ≡ sizeAt (now (wides .entry)) 9) ×
+        (x .b1 ≡ sizeAt (now (wides .entry)) 10) × (x .b2 ≡ sizeAt (now (wides .entry)) 11) ×
+        (x .t1 ≡ sizeAt (now (wides .entry)) 12) × (x .t2 ≡ sizeAt (now (wides .entry)) 13) ×
+        (x .bound ≡ sizeAt (now (wides .entry)) 16) × (x .target ≡ sizeAt (now (wides .entry)) 17) ⌝ }
+{
+    Sizes {
+        d: size_at(wides, 0),
+        n: size_at(wides, 1),
+        r: size_at(wides, 2),
+        k: size_at(wides, 3),
+        l: size_at(wides, 4),
+        w: size_at(wides, 5),
+        kappa: size_at(wides, 6),
+        kappa1: size_at(wides, 7),
+        kappa2: size_at(wides, 8),
+        b: size_at(wides, 9),
+        b1: size_at(wides, 10),
+        b2: size_at(wides, 11),
+        t1: size_at(wides, 12),
+        t2: size_at(wides, 13),
+        bound: bound_at(wides, 16),
+        target: bound_at(wides, 17),
+    }
+}
+
+// ν of these sizes.
+pub fn read_nu(wides: &[i64]) -> usize
+    ensures { λ x. ⌜ x ≡ sizeAt (now (wides .entry)) 14 ⌝ }
+{
+    size_at(wides, 14)
+}
+
+// μ of these sizes.
+pub fn read_mu(wides: &[i64]) -> usize
+    ensures { λ x. ⌜ x ≡ sizeAt (now (wides .entry)) 15 ⌝ }
+{
+    size_at(wides, 15)
+}
+
+// The place after the eighteen sizes at a place; the end where they are not all there.
+pub fn after_sizes(xs: &[i32], at: usize) -> usize
+    ensures { λ r. ⌜ r ≤ length (now (xs .entry)) ⌝ }
+{
+    let room = xs.len();
+    if room < 18 {
+        return room;
+    }
+    if room - 18 < at {
+        return room;
+    }
+    at + 18
+}
+
+// The length of a list to write, 0 where it is too long. The filled array has a part that long.
+pub fn fitting(count: usize) -> usize
+    ensures { λ r. ⌜ (r ≤ 32768) × (r ≡ length (take r (replicate 32768 (pos 77)))) ⌝ }
+{
+    if count > ROOM {
+        return 0;
+    }
+    count
+}
+
+// The length at a place, of a list to write.
+pub fn count_at(xs: &[i32], place: usize) -> usize
+    ensures { λ r. ⌜ (r ≤ 32768) × (r ≡ length (take r (replicate 32768 (pos 77)))) ⌝ }
+{
+    fitting(size(xs, place, ROOM))
+}
