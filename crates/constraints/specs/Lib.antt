@@ -4,4 +4,6 @@ pub mod Running
 pub mod Rows
 pub mod Terms
 pub mod Projected
+pub mod RowGroups
+pub mod ProjectedRows
 pub mod Aggregated

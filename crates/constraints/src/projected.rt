@@ -14,7 +14,7 @@ use fold::Shape;
 use residues::modulus;
 use ring::element::Element;
 
-fn add_signed(acc: i64, x: i32, y: i32) -> i64
+pub fn add_signed(acc: i64, x: i32, y: i32) -> i64
     requires { ⌜ natAbs acc < 4611686018427387904 ⌝ }
     ensures { λ r. ⌜ r ≡ acc +ℤ (x *ℤ y) ⌝ }
 {
