@@ -77,14 +77,16 @@ digit-natural x h = yes-nonNeg {z = x +ℤ pos 1} (omega (zarith, h, natAbs-pn x
 pub digit-value : (x : ℤ) → natAbs x ≤ 1 → (natAbs (x +ℤ pos 1) < 3) × (x ≡ pos (natAbs (x +ℤ pos 1)) -ℤ pos 1)
 digit-value x h =
     let z = x +ℤ pos 1 in
-    let n = natAbs z in
-    (
+    let n = natAbs z in (
       omega (zarith, h, natAbs-pn x, natAbs-pn z, pn-min z, add-pn x (pos 1)),
       omega (zarith, h, natAbs-pn x, natAbs-pn z, pn-min x, pn-min z, add-pn x (pos 1), pos-pn n, sub-pn (pos n) (pos 1)),
     )
 
 pub decode-fits : (c : ℕ) → SFits w32 (decode c)
 decode-fits c = omega (zarith, decode-small c, natAbs-pn (decode c))
+
+pub signed-fits : (a x y : ℤ) → natAbs a < 4611686018427387904 → SFits w32 x → SFits w32 y → SFits w64 (a +ℤ (x *ℤ y))
+signed-fits a x y g h k = omega (zarith, natAbs-pn a, add-pn a (x *ℤ y), mul-bnd x y (abs-bnd h) (abs-bnd k))
 
 -- an entry that was tested, read back from its bits
 pub entry-one : (rows : List ℤ) (i : ℕ) → projections rows ≡ true → mag (getD rows i (pos 0)) < 2 ^ 31
@@ -124,7 +126,7 @@ pub term-of : (ω : List ℤ) (at c : ℕ) (a x : ℤ) {r : ℤ} → mag (getD �
 term-of ω at c a x {r} read fits is ok e =
     let weight = getD ω at (pos 0) in
     let value : held r ≡ a +ℤ (weight *ℤ decode c) =
-        toZ-ofZ {w = w64} {z = r} (record { sfits = ok }) ∙ e ∙ rw (word weight read, word x fits, is) refl
+    toZ-ofZ {w = w64} {z = r} (record { sfits = ok }) ∙ e ∙ rw (word weight read, word x fits, is) refl
     in
     record {
       value = value;

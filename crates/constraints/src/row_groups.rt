@@ -4,10 +4,9 @@ ghost use mathlib.Core.Path.{_≡_};
 ghost use mathlib.Core.Bool.{true};
 ghost use Prim.Native.Nat.{_+_, _*_, _<_, _≤_};
 ghost use lib.ListN.{length, getD};
-ghost use lib.IntN.{pos, natAbs, _-ℤ_};
+ghost use lib.IntN.{pos, natAbs, _+ℤ_, _-ℤ_, _*ℤ_};
 ghost use Rattle.residues.specs.Range.{projections};
 ghost use Rattle.constraints.specs.RowGroups.{decode, Coded, Term, WeightedSum, SumsOf};
-use crate::projected::add_signed;
 
 // The digit x + 1 of an entry x.
 fn entry_digit(x: i32) -> usize
@@ -56,6 +55,16 @@ fn decoded(c: usize) -> i32
     let digit = c % 3;
     let wide = digit as i64;
     (wide - 1) as i32
+}
+
+fn add_signed(acc: i64, x: i32, y: i32) -> i64
+    requires { ⌜ natAbs acc < 4611686018427387904 ⌝ }
+    ensures { λ r. ⌜ r ≡ acc +ℤ (x *ℤ y) ⌝ }
+{
+    let a = x as i64;
+    let b = y as i64;
+    let product = a * b;
+    acc + product
 }
 
 // One more weighted entry: the number of omega at `at`, times the entry of the last digit of c.

@@ -7,7 +7,8 @@ use lib.IntN.{pos, _*ℤ_}
 use mir.Syntax.{w32}
 use mir.Val.{toZ}
 use mir.Facts.{toZ-ofZ}
-use Rattle.constraints.specs.ProjectedRows.{AddedFive, five-start, five-room, five-step, held-number, held-room, entry-term, weight-place}
+use Rattle.constraints.specs.Accumulator.{AddedFive, five-start, five-room, five-step, held-number, held-room, entry-term}
+use Rattle.constraints.specs.ProjectedRows.{weight-place}
 use Rattle.constraints.proofs.projected_rows.add_entry.Statement.{statement}
 use Rattle.constraints.proofs.projected_rows.add_entry.Tie as tie
 
@@ -61,8 +62,7 @@ plus-requires c κs =
     let signed = c .before .signed in
     let place = l .loop .k * s .args .w + s .args .j in
     let is = rw (toZ-ofZ (s .fits .x)) at (signed .ensures) in
-    let term = entry-term (s .args .omega .now) place (s .args .x) (c .before .before .weight .given) (s .pre .0) is in
-    (
+    let term = entry-term (s .args .omega .now) place (s .args .x) (c .before .before .weight .given) (s .pre .0) is in (
       five-room (l .loop .inv .1) (s .pre .1 .0) (c .before .before .before .loop-test .taken) (c .old .given),
       held-room (signed .result) {b = 2147483648} (signed .ok) (rw (term .0) (term .1)) (omega arith),
     )
@@ -89,8 +89,7 @@ loop-again c =
     let signed = c .before .before .signed in
     let place = l .loop .k * s .args .w + s .args .j in
     let is = rw (toZ-ofZ (s .fits .x)) at (signed .ensures) in
-    let term = entry-term (s .args .omega .now) place (s .args .x) (c .before .before .before .weight .given) (s .pre .0) is in
-    (
+    let term = entry-term (s .args .omega .now) place (s .args .x) (c .before .before .before .weight .given) (s .pre .0) is in (
       omega arith,
       five-step (l .loop .inv .1) (s .pre .1 .0) (c .before .before .before .before .loop-test .taken) (c .plus .ok) (c .before .old .given)
           (held-number (signed .result) (signed .ok) ∙ rw (toZ-ofZ (s .fits .x)) (term .0)) (rw (toZ-ofZ (s .fits .x)) (term .1))

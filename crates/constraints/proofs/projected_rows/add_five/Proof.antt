@@ -4,7 +4,7 @@ use Prim.Native.Nat.{_+_, _-_, _≤_}
 use native.Mathlib.Omega.{arith}
 use lib.ListN.{getD}
 use lib.IntN.{pos}
-use Rattle.constraints.specs.ProjectedRows.{AddedFive, five-start, five-room, five-step, held-number, held-room}
+use Rattle.constraints.specs.Accumulator.{AddedFive, five-start, five-room, five-step, held-number, held-room}
 use Rattle.constraints.proofs.projected_rows.add_five.Statement.{statement}
 use Rattle.constraints.proofs.projected_rows.add_five.Tie as tie
 
@@ -40,8 +40,7 @@ plus-requires c κs =
     let l = c .before .before .before in
     let s = l .before in
     let taken = c .before .before .loop-test .taken in
-    let sum = getD (s .args .sums .now) (s .args .from + l .loop .k) (pos 0) in
-    (
+    let sum = getD (s .args .sums .now) (s .args .from + l .loop .k) (pos 0) in (
       five-room (l .loop .inv .1) (s .pre .0) taken (c .before .old .given),
       held-room sum (c .sum .given) (s .pre .1 .1 .small _ taken) (omega arith),
     )
@@ -64,8 +63,7 @@ loop-less c = omega arith
 loop-again : tie.Need-loop-again Inv-loop μ-loop
 loop-again c =
     let l = c .before .before .before .before in
-    let taken = c .before .before .before .loop-test .taken in
-    (
+    let taken = c .before .before .before .loop-test .taken in (
       omega arith,
       five-step (l .loop .inv .1) (l .before .pre .0) taken (c .plus .ok) (c .before .before .old .given)
           (held-number _ (c .before .sum .given)) (l .before .pre .1 .1 .small _ taken) (c .plus .ensures),

@@ -2,7 +2,8 @@
 use Prim.Native.Nat.{_+_, _-_, _*_}
 use native.Mathlib.Omega.{arith}
 use Rattle.constraints.specs.SizeLaws.{witness-small}
-use Rattle.constraints.specs.ProjectedRows.{Turning, partial, turning-start, turning-room, turning-end, group-step}
+use Rattle.constraints.specs.Accumulator.{Turning, turning-room}
+use Rattle.constraints.specs.ProjectedRows.{partial, turning-start, turning-end, group-step}
 use Rattle.constraints.specs.ProjectedRows.{step-small, element-small, group-row, group-place, table-place}
 use Rattle.constraints.proofs.projected_rows.add_group.Statement.{statement}
 use Rattle.constraints.proofs.projected_rows.add_group.Tie as tie
@@ -66,8 +67,7 @@ add-five-requires : tie.Need-add-five-requires Inv-loop μ-loop
 add-five-requires c κs =
     let l = c .before .before .before in
     let s = l .before in
-    let facts = s .pre .0 in
-    (
+    let facts = s .pre .0 in (
       turning-room (l .loop .inv) (c .before .before .loop-test .taken) (facts .shaped .degree .small)
           (omega (arith, facts .row-count, s .pre .1 .1 .0 .1)),
       table-place (s .pre .1 .0) (facts .row-count) (s .pre .1 .1 .0 .1) (c .before .code-at .ensures .below),

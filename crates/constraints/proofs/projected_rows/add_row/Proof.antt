@@ -3,7 +3,8 @@ use Prim.Native.Nat.{_+_, _-_, _*_}
 use native.Mathlib.Omega.{arith}
 use Rattle.constraints.specs.SizeLaws.{witness-small}
 use Rattle.constraints.specs.RowGroups.{entry-one}
-use Rattle.constraints.specs.ProjectedRows.{Turning, partial, turning-start, turning-room, turning-end, row-step, element-small, element-place}
+use Rattle.constraints.specs.Accumulator.{Turning, turning-room}
+use Rattle.constraints.specs.ProjectedRows.{partial, turning-start, turning-end, row-step, element-small, element-place}
 use Rattle.constraints.proofs.projected_rows.add_row.Statement.{statement}
 use Rattle.constraints.proofs.projected_rows.add_row.Tie as tie
 
@@ -53,8 +54,7 @@ add-entry-requires : tie.Need-add-entry-requires Inv-loop μ-loop
 add-entry-requires c κs =
     let l = c .before .before .before in
     let s = l .before in
-    let facts = s .pre .0 in
-    (
+    let facts = s .pre .0 in (
       entry-one _ _ (facts .tested) (c .before .x .given),
       (
         turning-room (l .loop .inv) (c .before .before .loop-test .taken) (facts .shaped .degree .small)

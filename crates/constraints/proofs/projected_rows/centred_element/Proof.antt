@@ -6,7 +6,7 @@ use lib.ListN.{getD}
 use lib.IntN.{pos}
 use Rattle.integers.specs.Lists.{tab, upto, fill-start, fill-step}
 use Rattle.residues.specs.Modulus.{centred}
-use Rattle.constraints.specs.Projected.{stored-centre}
+use Rattle.constraints.specs.Accumulator.{stored-centre}
 use Rattle.constraints.proofs.projected_rows.centred_element.Statement.{statement}
 use Rattle.constraints.proofs.projected_rows.centred_element.Tie as tie
 

@@ -36,8 +36,7 @@ loop-less c = omega arith
 
 loop-again : tie.Need-loop-again Inv-loop μ-loop
 loop-again c =
-    let l = c .before .before in
-    (
+    let l = c .before .before in (
       omega arith,
       fill-step 5 (l .loop .k) _ (replicate 64 (pos 0)) _ (l .loop .out) (l .loop .inv .1) (omega arith) (c .centred-element .ensures),
     )

@@ -2,7 +2,7 @@
 use mir.Facts.{toZ-ofZ}
 use Rattle.residues.specs.Centring.{widen}
 use Rattle.residues.specs.Words.{wide, wide-opposite, opposite-fits}
-use Rattle.constraints.specs.ProjectedRows.{signed-positive, signed-negative, signed-zero}
+use Rattle.constraints.specs.Accumulator.{signed-positive, signed-negative, signed-zero}
 use Rattle.constraints.proofs.projected_rows.signed.Statement.{statement}
 use Rattle.constraints.proofs.projected_rows.signed.Tie as tie
 

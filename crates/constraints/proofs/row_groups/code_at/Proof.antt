@@ -43,8 +43,7 @@ code-requires c κs =
     let x₂ = c .before in
     let x₁ = x₂ .before in
     let x₀ = x₁ .before in
-    let tested = x₀ .before .pre .0 in
-    (
+    let tested = x₀ .before .pre .0 in (
       entry-one _ _ tested (x₀ .x0 .given),
       entry-one _ _ tested (x₁ .x1 .given),
       entry-one _ _ tested (x₂ .x2 .given),

@@ -20,8 +20,7 @@ add-add-term-2 c = search needs
 
 add-term-requires-3 : tie.Need-add-term-requires-3
 add-term-requires-3 c κs =
-    let one = rw (toZ-ofZ (record { sfits = c .before .add-term .ok })) at (c .add-term2 .ensures .small) in
-    (
+    let one = rw (toZ-ofZ (record { sfits = c .before .add-term .ok })) at (c .add-term2 .ensures .small) in (
       omega (arith, c .before .before .pre),
       rw (toZ-ofZ (record { sfits = c .add-term2 .ok })) (omega (arith, one, c .before .add-term .ensures .small)),
     )
@@ -33,8 +32,7 @@ add-term-requires-4 : tie.Need-add-term-requires-4
 add-term-requires-4 c κs =
     let f = c .before .before .add-term in
     let one = rw (toZ-ofZ (record { sfits = f .ok })) at (c .before .add-term2 .ensures .small) in
-    let two = rw (toZ-ofZ (record { sfits = c .before .add-term2 .ok })) at (c .add-term3 .ensures .small) in
-    (
+    let two = rw (toZ-ofZ (record { sfits = c .before .add-term2 .ok })) at (c .add-term3 .ensures .small) in (
       omega (arith, c .before .before .before .pre),
       rw (toZ-ofZ (record { sfits = c .add-term3 .ok })) (omega (arith, two, one, f .ensures .small)),
     )
