@@ -21,7 +21,7 @@ use Rattle.algebra.specs.Constant.{coeff-constant-mul}
 use Rattle.residues.specs.Modulus.{Zq, red, cent, centred}
 use Rattle.residues.specs.ModulusLaws.{red-zero, red-add, red-mul, cent-red}
 use Rattle.residues.specs.Words.{word}
-use Rattle.ring.specs.Element.{R, Degree, el, array, number}
+use Rattle.ring.specs.Element.{R, el, array, number}
 use Rattle.ring.specs.ElementPlaces.{coeff-el}
 use Rattle.ring.specs.ElementArrays.{array-fill}
 use Rattle.fold.specs.Refusals.{projectionLength}
@@ -29,7 +29,7 @@ use Rattle.fold.specs.Entries.{projectionEntry}
 use Rattle.constraints.specs.Facts.{ProjectionFacts}
 use Rattle.constraints.specs.SizeLaws.{witness-small}
 use Rattle.constraints.specs.Accumulator.{SmallFive, AddedFive, Cell, Turning, turning-step}
-use Rattle.constraints.specs.RowGroups.{decode, Coded, fourSum, WeightedSum, SumsOf}
+use Rattle.constraints.specs.RowGroups.{Coded, fourSum, WeightedSum, SumsOf}
 
 -- ---- the sums over the first rows
 

@@ -91,7 +91,20 @@ fn folded_element(
     let mut sum = Element::additive_identity();
     let mut i = 0;
     while i < parts {
-        let weighted = folded_term(sizes, whole, term, rows, psi, omega, table, alpha, delta, c, k, i);
+        let weighted = folded_term(
+            sizes,
+            whole,
+            term,
+            rows,
+            psi,
+            omega,
+            table,
+            alpha,
+            delta,
+            c,
+            k,
+            i,
+        );
         sum = sum.sum(d, weighted);
         i += 1;
     }
@@ -124,7 +137,19 @@ pub fn write_folded(
     let rank = sizes.n;
     let mut k = 0;
     while k < rank {
-        let element = folded_element(sizes, whole, term, rows, psi, omega, &table, alpha, delta, c, k);
+        let element = folded_element(
+            sizes,
+            whole,
+            term,
+            rows,
+            psi,
+            omega,
+            &table,
+            alpha,
+            delta,
+            c,
+            k,
+        );
         element.store(d, out, k);
         k += 1;
     }

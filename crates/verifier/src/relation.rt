@@ -150,7 +150,19 @@ fn linear_sum(
     let mut acc = Element::additive_identity();
     let mut i = 0;
     while i < count {
-        let product = phi_product(sizes, whole, term, rows, psi, omega, table, alpha, delta, z, i);
+        let product = phi_product(
+            sizes,
+            whole,
+            term,
+            rows,
+            psi,
+            omega,
+            table,
+            alpha,
+            delta,
+            z,
+            i,
+        );
         let challenge = Element::from_slice(d, c, i);
         let weighted = amortized::element_product(d, product, challenge);
         acc = acc.sum(d, weighted);
@@ -188,7 +200,19 @@ pub fn linear_part(
     let mut table = [0i64; 25920];
     row_groups::write_sums(sizes.w, omega, &mut table);
     let d = sizes.d;
-    let left = linear_sum(sizes, whole, term, rows, psi, omega, &table, alpha, delta, c, z);
+    let left = linear_sum(
+        sizes,
+        whole,
+        term,
+        rows,
+        psi,
+        omega,
+        &table,
+        alpha,
+        delta,
+        c,
+        z,
+    );
     let start = sizes::h_place(sizes);
     let right = amortized::mixed_sum(d, sizes.r, sizes.b1, sizes.t1, opening, start, c);
     left.equals(d, right)

@@ -25,8 +25,7 @@ loop-holds c = squares-start _ _ _ _
 write-row-requires : tie.Need-write-row-requires Inv-loop μ-loop
 write-row-requires c κs =
     let l = c .before .before .before in
-    let s = l .before .before .before in
-    (
+    let s = l .before .before .before in (
       s .pre .0,
       (l .before .write-sums .ensures, (s .pre .1 .0, c .before .before .loop-test .taken, rw (l .loop .inv .same) (s .pre .1 .1))),
     )

@@ -1,5 +1,4 @@
 -- `constraints::row_groups::decoded` meets its contract: the digit is below 3.
-use mathlib.Core.Path.{_≡_, ap, _∙_}
 use Prim.Native.Nat.{_%_, _^_, _<_}
 use native.Mathlib.Omega.{arith}
 use borrow.Author.Needs.{needs}

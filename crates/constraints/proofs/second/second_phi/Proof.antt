@@ -2,7 +2,6 @@
 use native.Mathlib.Omega.{arith}
 use Rattle.constraints.specs.SizeLaws.{pairs-small, witness-small, function-parts}
 use Rattle.constraints.specs.Aggregated.{second-φ-end}
-use borrow.Author.Needs.{needs}
 use Rattle.constraints.proofs.second.second_phi.Statement.{statement}
 use Rattle.constraints.proofs.second.second_phi.Tie as tie
 

@@ -54,9 +54,11 @@ phi-term-requires c κs =
         s .pre .1 .0,
         (
           s .pre .1 .1 .0,
-          (part-place (z .n) (z .r) (s .args .i) (l .loop .y) (s .pre .1 .1 .1)
-              (c .loop-test .taken),
-          c .loop-test .taken),
+          (
+            part-place (z .n) (z .r) (s .args .i) (l .loop .y) (s .pre .1 .1 .1)
+                (c .loop-test .taken),
+            c .loop-test .taken,
+          ),
         ),
       ),
     )
