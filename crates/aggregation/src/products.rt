@@ -6,13 +6,15 @@ ghost use Rattle.integers.specs.Over.{over};
 ghost use Rattle.ring.specs.Element.{Degree};
 ghost use Rattle.fold.specs.Messages.{elements};
 ghost use Rattle.constraints.specs.Facts.{AggregateFacts};
+ghost use Rattle.constraints.specs.RowGroups.{SumsOf};
 ghost use Rattle.aggregation.specs.Garbage.{aggregatePart, partProduct, cross, squareElements};
 use constraints::aggregated::aggregate_phi;
+use constraints::row_groups;
 use fold::Shape;
 use ring::element::Element;
 use ring::product::inner;
 
-// The φ_i of the aggregate for part i, as the first elements of `out`.
+// The φ_i of the aggregate for part i, as the first elements of `out`. `table` is the table of omega.
 fn write_phi_part(
     shape: Shape,
     kc: usize,
@@ -23,12 +25,14 @@ fn write_phi_part(
     rows: &[i32],
     psi: &[i32],
     omega: &[i32],
+    table: &[i64; 25920],
     alpha: &[i32],
     delta: &[i32],
     i: usize,
     out: &mut [i32],
 )
     requires { ⌜ AggregateFacts (shape .d) (shape .n) (shape .r) kc l w (now whole) (now term) (now rows) (now psi) (now omega) (now alpha) (now delta) ⌝ }
+    requires { ⌜ SumsOf w (now omega) (now table) ⌝ }
     requires { ⌜ (i < shape .r) × (shape .n * shape .d ≤ length (now out)) ⌝ }
     ensures { λ _. ⌜ now (out .exit) ≡ over (now (out .entry)) 0 (elements (shape .d) (shape .n) (aggregatePart (shape .d) (shape .n) (shape .r) kc l w (now (whole .entry)) (now (term .entry)) (now (rows .entry)) (now (psi .entry)) (now (omega .entry)) (now (alpha .entry)) (now (delta .entry)) i)) ⌝ }
 {
@@ -48,6 +52,7 @@ fn write_phi_part(
             rows,
             psi,
             omega,
+            table,
             alpha,
             delta,
             place,
@@ -93,6 +98,7 @@ fn write_row(
     rows: &[i32],
     psi: &[i32],
     omega: &[i32],
+    table: &[i64; 25920],
     alpha: &[i32],
     delta: &[i32],
     witness: &[i32],
@@ -100,6 +106,7 @@ fn write_row(
     out: &mut [i32],
 )
     requires { ⌜ AggregateFacts (shape .d) (shape .n) (shape .r) kc l w (now whole) (now term) (now rows) (now psi) (now omega) (now alpha) (now delta) ⌝ }
+    requires { ⌜ SumsOf w (now omega) (now table) ⌝ }
     requires { ⌜ (length (now witness) ≡ shape .r * shape .n * shape .d) × (i < shape .r) × (shape .r * shape .r * shape .d ≤ length (now out)) ⌝ }
     ensures { λ _. ⌜ now (out .exit) ≡ over (now (out .entry)) (i * shape .r * shape .d) (elements (shape .d) (shape .r) (cross (shape .d) (shape .n) (aggregatePart (shape .d) (shape .n) (shape .r) kc l w (now (whole .entry)) (now (term .entry)) (now (rows .entry)) (now (psi .entry)) (now (omega .entry)) (now (alpha .entry)) (now (delta .entry))) (now (witness .entry)) i)) ⌝ }
 {
@@ -117,6 +124,7 @@ fn write_row(
         rows,
         psi,
         omega,
+        table,
         alpha,
         delta,
         i,
@@ -146,6 +154,8 @@ pub fn write_products(
     requires { ⌜ (length (now witness) ≡ shape .r * shape .n * shape .d) × (shape .r * shape .r * shape .d ≤ length (now out)) ⌝ }
     ensures { λ _. ⌜ now (out .exit) ≡ over (now (out .entry)) 0 (squareElements (shape .d) (shape .r) (cross (shape .d) (shape .n) (aggregatePart (shape .d) (shape .n) (shape .r) kc l w (now (whole .entry)) (now (term .entry)) (now (rows .entry)) (now (psi .entry)) (now (omega .entry)) (now (alpha .entry)) (now (delta .entry))) (now (witness .entry)))) ⌝ }
 {
+    let mut table = [0i64; 25920];
+    row_groups::write_sums(w, omega, &mut table);
     let parts = shape.r;
     let mut i = 0;
     while i < parts {
@@ -159,6 +169,7 @@ pub fn write_products(
             rows,
             psi,
             omega,
+            &table,
             alpha,
             delta,
             witness,

@@ -6,10 +6,12 @@ ghost use lib.ListN.{length};
 ghost use Rattle.algebra.specs.Triangle.{pair};
 ghost use Rattle.fold.specs.Sizes.{pairs};
 ghost use Rattle.fold.specs.Messages.{b″};
+ghost use Rattle.constraints.specs.RowGroups.{SumsOf};
 ghost use Rattle.aggregation.specs.Facts.{PairFacts, ValueFacts};
 ghost use Rattle.aggregation.specs.Rows.{Sums};
 ghost use Rattle.aggregation.specs.Values.{pairTerm, witnessTerm};
 use crate::rows;
+use constraints::row_groups;
 use constraints::second::second_row_a;
 use constraints::second::second_row_phi;
 use fold::Shape;
@@ -68,7 +70,7 @@ fn weigh_pairs(shape: Shape, l: usize, term: &[i32], psi: &[i32], witness: &[i32
     sums
 }
 
-// The linear parts of the five values: the φ''_k, each times its element of the witness.
+// The linear parts of the five values: the φ''_k, each times its element of the witness. `table` is the table of omega.
 fn weigh_witness(
     shape: Shape,
     l: usize,
@@ -77,9 +79,11 @@ fn weigh_witness(
     rows: &[i32],
     psi: &[i32],
     omega: &[i32],
+    table: &[i64; 25920],
     witness: &[i32],
 ) -> [[i32; 64]; 5]
     requires { ⌜ ValueFacts (shape .d) (shape .n) (shape .r) l w (now term) (now rows) (now psi) (now omega) (now witness) ⌝ }
+    requires { ⌜ SumsOf w (now omega) (now table) ⌝ }
     ensures { λ x. ⌜ Sums (shape .d) (witnessTerm (shape .d) (shape .n) (shape .r) l w (now (term .entry)) (now (rows .entry))
         (now (psi .entry)) (now (omega .entry)) (now (witness .entry))) (shape .r * shape .n) x ⌝ }
 {
@@ -90,7 +94,7 @@ fn weigh_witness(
     let mut sums = [[0i32; 64]; 5];
     let mut e = 0;
     while e < count {
-        let row = second_row_phi(shape, l, w, term, rows, psi, omega, e);
+        let row = second_row_phi(shape, l, w, term, rows, psi, omega, table, e);
         let element = Element::from_slice(d, witness, e);
         let y = element.coefficients;
         let more = rows::add_products(d, sums, row, y);
@@ -116,8 +120,10 @@ pub fn write_b2(
     requires { ⌜ length (now b2) ≡ 5 * shape .d ⌝ }
     ensures { λ _. ⌜ now (b2 .exit) ≡ b″ (shape .d) (shape .n) (shape .r) l w (now (term .entry)) (now (rows .entry)) (now (psi .entry)) (now (omega .entry)) (now (witness .entry)) ⌝ }
 {
+    let mut table = [0i64; 25920];
+    row_groups::write_sums(w, omega, &mut table);
     let d = shape.d;
     let quadratic = weigh_pairs(shape, l, term, psi, witness);
-    let linear = weigh_witness(shape, l, w, term, rows, psi, omega, witness);
+    let linear = weigh_witness(shape, l, w, term, rows, psi, omega, &table, witness);
     rows::write_sums(d, quadratic, linear, b2);
 }

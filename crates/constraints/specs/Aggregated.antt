@@ -2,12 +2,13 @@
 --     weightedA, weightedΦ     δ_k f''_k at a place
 --     ..-end                   what a function returns, from what its calls return
 use mathlib.Core.Path.{_≡_, refl, ap, ap₂, _∙_}
-use mathlib.Core.List.{List}
+use mathlib.Core.List.{List, []}
 use Prim.Native.Nat.{ℕ, _+_, _*_, _≤_, _<_}
 use native.Mathlib.Nat.{zero-add, mul-le-mul-right}
 use native.Mathlib.Omega.{arith}
-use lib.ListN.{length}
+use lib.ListN.{length, getD}
 use lib.IntN.{ℤ}
+use Rattle.integers.specs.Lists.{tab}
 use Rattle.algebra.specs.Sum.{sum, sum-cong}
 use Rattle.algebra.specs.Conjugation.{conjugate}
 use Rattle.residues.specs.Modulus.{Zq}
@@ -17,6 +18,7 @@ use Rattle.fold.specs.Sizes.{pairs, functionSize}
 use Rattle.fold.specs.Statement.{wholeConstant}
 use Rattle.fold.specs.Messages.{five, aggregateConstant}
 use Rattle.fold.specs.Entries.{termEntry, projectionEntry, secondA, secondΦ, wholeEntry, aggregateA, aggregateΦ}
+use Rattle.constraints.specs.Rows.{row-entry}
 
 unfoldable pub weightedA : (d n r L : ℕ) (term ψ δ : List ℤ) (e : ℕ) → ℕ → R d .Carrier
 weightedA d n r L term ψ δ e k = R d .mul (el d δ k) (secondA d n r L term ψ k e)
@@ -33,21 +35,26 @@ module _ (d : ℕ) (degree : Degree d) (x y : R d .Carrier) {a b c : List ℤ} (
   pub values-product : c ≡ array d (R d .mul (lift d a) (lift d b)) → c ≡ array d (R d .mul x y)
   values-product e = e ∙ rw (is, by, lift-array d x (degree .small), lift-array d y (degree .small)) refl
 
-pub value-conjugate : (d : ℕ) → Degree d → (x : R d .Carrier) {a c : List ℤ} → a ≡ array d x → c ≡ array d (conjugate Zq (lift d a))
-    → c ≡ array d (conjugate Zq x)
-value-conjugate d degree x is e = e ∙ rw (is, lift-array d x (degree .small)) refl
-
 -- ---- the five second functions
 
 pub δ-place : (d : ℕ) (δ : List ℤ) → length δ ≡ 5 * d → {k : ℕ} → k < 5 → k * d + d ≤ length δ
 δ-place d δ e {k} h = omega (arith, e, mul-le-mul-right d h)
 
-pub second-φ-end : (d n r L w : ℕ) (term rows ψ ω : List ℤ) (k e : ℕ) {own turned out : List ℤ} → Degree d
+pub second-φ-end : (d n r L : ℕ) (term ψ : List ℤ) (k e : ℕ) (projected : List ℤ) {own turned out : List ℤ} → Degree d
     → own ≡ array d (termEntry d n r L term ψ k (pairs r + e))
-    → turned ≡ array d (conjugate Zq (projectionEntry d n r w rows ω k e))
-    → out ≡ array d (R d .add (lift d own) (lift d turned)) → out ≡ array d (secondΦ d n r L w term rows ψ ω k e)
+    → turned ≡ array d (conjugate Zq (lift d projected))
+    → out ≡ array d (R d .add (lift d own) (lift d turned))
+    → out ≡ array d (R d .add (termEntry d n r L term ψ k (pairs r + e)) (conjugate Zq (lift d projected)))
+second-φ-end d n r L term ψ k e projected degree is by sum = values-sum d degree _ _ is by sum
+
+-- with the projected part from a row
+pub second-φ-row : (d n r L w : ℕ) (term rows ψ ω : List ℤ) (k e : ℕ) {row : List (List ℤ)} {out : List ℤ} → Degree d → k < 5
+    → row ≡ tab 5 (λ i. array d (projectionEntry d n r w rows ω i e))
+    → out ≡ array d (R d .add (termEntry d n r L term ψ k (pairs r + e)) (conjugate Zq (lift d (getD row k []))))
+    → out ≡ array d (secondΦ d n r L w term rows ψ ω k e)
 unfolding secondΦ
-second-φ-end d n r L w term rows ψ ω k e degree is by sum = values-sum d degree _ _ is by sum
+second-φ-row d n r L w term rows ψ ω k e degree h held is =
+    is ∙ rw (row-entry d (λ i. projectionEntry d n r w rows ω i e) (degree .small) held k h) refl
 
 -- ---- the aggregate
 

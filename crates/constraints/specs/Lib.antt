@@ -3,5 +3,7 @@ pub mod SizeLaws
 pub mod Running
 pub mod Rows
 pub mod Terms
-pub mod Projected
+pub mod RowGroups
+pub mod Accumulator
+pub mod ProjectedRows
 pub mod Aggregated

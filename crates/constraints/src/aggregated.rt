@@ -9,6 +9,7 @@ ghost use Rattle.fold.specs.Sizes.{pairs, functionSize};
 ghost use Rattle.fold.specs.Messages.{five, aggregateConstant};
 ghost use Rattle.fold.specs.Entries.{wholeEntry, aggregateA, aggregateΦ};
 ghost use Rattle.constraints.specs.Facts.{TermFacts, SecondFacts, WholeFacts, AggregateFacts};
+ghost use Rattle.constraints.specs.RowGroups.{SumsOf};
 ghost use Rattle.constraints.specs.Aggregated.{weightedA, weightedΦ};
 use crate::second::COUNT;
 use crate::second::second_row_a;
@@ -93,16 +94,18 @@ fn weighted_phi(
     rows: &[i32],
     psi: &[i32],
     omega: &[i32],
+    sums: &[i64; 25920],
     delta: &[i32],
     e: usize,
 ) -> Element
     requires { ⌜ SecondFacts (shape .d) (shape .n) (shape .r) l w (now term) (now rows) (now psi) (now omega) ⌝ }
+    requires { ⌜ SumsOf w (now omega) (now sums) ⌝ }
     requires { ⌜ (length (now delta) ≡ 5 * shape .d) × (e < shape .r * shape .n) ⌝ }
     ensures { λ r. ⌜ r .coefficients ≡ array (shape .d) (sum (R (shape .d)) five (weightedΦ (shape .d) (shape .n) (shape .r) l w
         (now (term .entry)) (now (rows .entry)) (now (psi .entry)) (now (omega .entry)) (now (delta .entry)) e)) ⌝ }
 {
     let d = shape.d;
-    let row = second_row_phi(shape, l, w, term, rows, psi, omega, e);
+    let row = second_row_phi(shape, l, w, term, rows, psi, omega, sums, e);
     weighted_row(d, delta, row)
 }
 
@@ -130,7 +133,7 @@ pub fn aggregate_a(
     wholes.sum(d, seconds)
 }
 
-// The aggregate's φ at element e of the witness.
+// The aggregate's φ at element e of the witness. `sums` is the table of omega.
 pub fn aggregate_phi(
     shape: Shape,
     kc: usize,
@@ -141,12 +144,14 @@ pub fn aggregate_phi(
     rows: &[i32],
     psi: &[i32],
     omega: &[i32],
+    sums: &[i64; 25920],
     alpha: &[i32],
     delta: &[i32],
     e: usize,
 ) -> Element
     requires { ⌜ AggregateFacts (shape .d) (shape .n) (shape .r) kc l w (now whole) (now term) (now rows) (now psi) (now omega)
         (now alpha) (now delta) ⌝ }
+    requires { ⌜ SumsOf w (now omega) (now sums) ⌝ }
     requires { ⌜ e < shape .r * shape .n ⌝ }
     ensures { λ r. ⌜ r .coefficients ≡ array (shape .d) (aggregateΦ (shape .d) (shape .n) (shape .r) kc l w (now (whole .entry))
         (now (term .entry)) (now (rows .entry)) (now (psi .entry)) (now (omega .entry)) (now (alpha .entry))
@@ -156,7 +161,7 @@ pub fn aggregate_phi(
     let pairs = sizes::pair_count(shape.r);
     let place = pairs + e;
     let wholes = whole_entry(shape, kc, whole, alpha, place);
-    let seconds = weighted_phi(shape, l, w, term, rows, psi, omega, delta, e);
+    let seconds = weighted_phi(shape, l, w, term, rows, psi, omega, sums, delta, e);
     wholes.sum(d, seconds)
 }
 

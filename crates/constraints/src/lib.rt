@@ -1,5 +1,6 @@
 // The entries of the second and of the aggregated functions, formed as they are used: document 01, 'Messages, in order', 3 and 4.
 pub mod aggregated;
-pub mod projected;
+mod projected_rows;
+pub mod row_groups;
 pub mod second;
 mod sizes;

@@ -1,12 +1,15 @@
 // The five second functions f''_k, by place: document 01, message 3.
 ghost use mathlib.Core.Path.{_≡_};
-ghost use Prim.Native.Nat.{_*_, _<_};
+ghost use Prim.Native.Nat.{_+_, _*_, _<_};
 ghost use Rattle.integers.specs.Lists.{tab};
-ghost use Rattle.ring.specs.Element.{array};
+ghost use Rattle.algebra.specs.Conjugation.{conjugate};
+ghost use Rattle.residues.specs.Modulus.{Zq};
+ghost use Rattle.ring.specs.Element.{R, lift, array};
 ghost use Rattle.fold.specs.Sizes.{pairs, functionSize};
 ghost use Rattle.fold.specs.Entries.{termEntry, secondA, secondΦ};
 ghost use Rattle.constraints.specs.Facts.{TermFacts, SecondFacts};
-use crate::projected::projection_entry;
+ghost use Rattle.constraints.specs.RowGroups.{SumsOf};
+use crate::projected_rows::projection_row;
 use crate::sizes;
 use fold::Shape;
 use ring::element::Element;
@@ -68,33 +71,31 @@ pub fn second_row_a(shape: Shape, l: usize, term: &[i32], psi: &[i32], e: usize)
     row
 }
 
-// The φ of f''_k at element e of the witness.
-pub fn second_phi(
+// The φ of f''_k at element e of the witness, from its projected part.
+fn second_phi(
     shape: Shape,
     l: usize,
-    w: usize,
     term: &[i32],
-    rows: &[i32],
     psi: &[i32],
-    omega: &[i32],
+    projected: Element,
     k: usize,
     e: usize,
 ) -> Element
-    requires { ⌜ SecondFacts (shape .d) (shape .n) (shape .r) l w (now term) (now rows) (now psi) (now omega) ⌝ }
+    requires { ⌜ TermFacts (shape .d) (shape .n) (shape .r) l (now term) (now psi) ⌝ }
     requires { ⌜ (k < 5) × (e < shape .r * shape .n) ⌝ }
-    ensures { λ r. ⌜ r .coefficients ≡ array (shape .d) (secondΦ (shape .d) (shape .n) (shape .r) l w (now (term .entry))
-        (now (rows .entry)) (now (psi .entry)) (now (omega .entry)) k e) ⌝ }
+    ensures { λ r. ⌜ r .coefficients ≡ array (shape .d) (R (shape .d) .add
+        (termEntry (shape .d) (shape .n) (shape .r) l (now (term .entry)) (now (psi .entry)) k (pairs (shape .r) + e))
+        (conjugate Zq (lift (shape .d) (projected .coefficients)))) ⌝ }
 {
     let d = shape.d;
     let pairs = sizes::pair_count(shape.r);
     let place = pairs + e;
     let own = term_entry(shape, l, term, psi, k, place);
-    let projected = projection_entry(shape, w, rows, omega, k, e);
     let conjugated = projected.conjugate(d);
     own.sum(d, conjugated)
 }
 
-// The φ of the five second functions at element e of the witness.
+// The φ of the five second functions at element e of the witness. `sums` is the table of omega.
 pub fn second_row_phi(
     shape: Shape,
     l: usize,
@@ -103,19 +104,24 @@ pub fn second_row_phi(
     rows: &[i32],
     psi: &[i32],
     omega: &[i32],
+    sums: &[i64; 25920],
     e: usize,
 ) -> [[i32; 64]; 5]
     requires { ⌜ SecondFacts (shape .d) (shape .n) (shape .r) l w (now term) (now rows) (now psi) (now omega) ⌝ }
+    requires { ⌜ SumsOf w (now omega) (now sums) ⌝ }
     requires { ⌜ e < shape .r * shape .n ⌝ }
     ensures { λ r. ⌜ r ≡ tab 5 (λ k. array (shape .d) (secondΦ (shape .d) (shape .n) (shape .r) l w (now (term .entry))
         (now (rows .entry)) (now (psi .entry)) (now (omega .entry)) k e)) ⌝ }
 {
+    let projections = projection_row(shape, w, rows, omega, sums, e);
     let mut row = [[0i32; 64]; 5];
     let mut k = 0;
     while k < COUNT {
-        let entry = second_phi(shape, l, w, term, rows, psi, omega, k, e);
-        let coefficients = entry.coefficients;
-        row[k] = coefficients;
+        let coefficients = projections[k];
+        let projected = Element { coefficients };
+        let entry = second_phi(shape, l, term, psi, projected, k, e);
+        let phi = entry.coefficients;
+        row[k] = phi;
         k += 1;
     }
     row

@@ -6,13 +6,15 @@ ghost use Rattle.integers.specs.Over.{over};
 ghost use Rattle.ring.specs.Element.{array};
 ghost use Rattle.fold.specs.Messages.{elements};
 ghost use Rattle.constraints.specs.Facts.{AggregateFacts};
+ghost use Rattle.constraints.specs.RowGroups.{SumsOf};
 ghost use Rattle.next_constraints.specs.TableLaws.{foldedTerm, foldedSum};
 use constraints::aggregated::aggregate_phi;
+use constraints::row_groups;
 use fold::Shape;
 use fold::Sizes;
 use ring::element::Element;
 
-// φ_i c_i at element k.
+// φ_i c_i at element k. `table` is the table of omega.
 fn folded_term(
     sizes: Sizes,
     whole: &[i32],
@@ -20,6 +22,7 @@ fn folded_term(
     rows: &[i32],
     psi: &[i32],
     omega: &[i32],
+    table: &[i64; 25920],
     alpha: &[i32],
     delta: &[i32],
     c: &[i32],
@@ -28,6 +31,7 @@ fn folded_term(
 ) -> Element
     requires { ⌜ AggregateFacts (sizes .d) (sizes .n) (sizes .r) (sizes .k) (sizes .l) (sizes .w) (now whole) (now term) (now rows) (now psi)
         (now omega) (now alpha) (now delta) ⌝ }
+    requires { ⌜ SumsOf (sizes .w) (now omega) (now table) ⌝ }
     requires { ⌜ (sizes .r * sizes .d ≤ length (now c)) × (k < sizes .n) × (i < sizes .r) ⌝ }
     ensures { λ x. ⌜ x .coefficients ≡ array (sizes .d) (foldedTerm (sizes .d) (sizes .n) (sizes .r) (sizes .k) (sizes .l) (sizes .w)
         (now (whole .entry)) (now (term .entry)) (now (rows .entry)) (now (psi .entry)) (now (omega .entry)) (now (alpha .entry))
@@ -51,6 +55,7 @@ fn folded_term(
         rows,
         psi,
         omega,
+        table,
         alpha,
         delta,
         place,
@@ -67,6 +72,7 @@ fn folded_element(
     rows: &[i32],
     psi: &[i32],
     omega: &[i32],
+    table: &[i64; 25920],
     alpha: &[i32],
     delta: &[i32],
     c: &[i32],
@@ -74,6 +80,7 @@ fn folded_element(
 ) -> Element
     requires { ⌜ AggregateFacts (sizes .d) (sizes .n) (sizes .r) (sizes .k) (sizes .l) (sizes .w) (now whole) (now term) (now rows) (now psi)
         (now omega) (now alpha) (now delta) ⌝ }
+    requires { ⌜ SumsOf (sizes .w) (now omega) (now table) ⌝ }
     requires { ⌜ (sizes .r * sizes .d ≤ length (now c)) × (k < sizes .n) ⌝ }
     ensures { λ x. ⌜ x .coefficients ≡ array (sizes .d) (foldedSum (sizes .d) (sizes .n) (sizes .r) (sizes .k) (sizes .l) (sizes .w)
         (now (whole .entry)) (now (term .entry)) (now (rows .entry)) (now (psi .entry)) (now (omega .entry)) (now (alpha .entry))
@@ -84,7 +91,20 @@ fn folded_element(
     let mut sum = Element::additive_identity();
     let mut i = 0;
     while i < parts {
-        let weighted = folded_term(sizes, whole, term, rows, psi, omega, alpha, delta, c, k, i);
+        let weighted = folded_term(
+            sizes,
+            whole,
+            term,
+            rows,
+            psi,
+            omega,
+            table,
+            alpha,
+            delta,
+            c,
+            k,
+            i,
+        );
         sum = sum.sum(d, weighted);
         i += 1;
     }
@@ -111,11 +131,25 @@ pub fn write_folded(
         (sizes .k) (sizes .l) (sizes .w) (now (whole .entry)) (now (term .entry)) (now (rows .entry)) (now (psi .entry)) (now (omega .entry))
         (now (alpha .entry)) (now (delta .entry)) (now (c .entry)))) ⌝ }
 {
+    let mut table = [0i64; 25920];
+    row_groups::write_sums(sizes.w, omega, &mut table);
     let d = sizes.d;
     let rank = sizes.n;
     let mut k = 0;
     while k < rank {
-        let element = folded_element(sizes, whole, term, rows, psi, omega, alpha, delta, c, k);
+        let element = folded_element(
+            sizes,
+            whole,
+            term,
+            rows,
+            psi,
+            omega,
+            &table,
+            alpha,
+            delta,
+            c,
+            k,
+        );
         element.store(d, out, k);
         k += 1;
     }

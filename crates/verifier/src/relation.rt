@@ -10,6 +10,7 @@ ghost use Rattle.fold.specs.Sizes.{pairs};
 ghost use Rattle.fold.specs.Messages.{aggregate, aggregateConstant};
 ghost use Rattle.fold.specs.Verdict.{block, garbageOf, check₇, check₈};
 ghost use Rattle.constraints.specs.Facts.{TermFacts, WholeFacts, AggregateFacts};
+ghost use Rattle.constraints.specs.RowGroups.{SumsOf};
 ghost use Rattle.verifier.specs.Facts.{Fits, Holds, Opening, gValue, hValue};
 ghost use Rattle.verifier.specs.Mixed.{Garbage};
 ghost use Rattle.verifier.specs.Relation.{phiTerm, phiProduct, linearTerm, relationTerm};
@@ -17,11 +18,12 @@ use crate::amortized;
 use crate::recomposed;
 use crate::sizes;
 use constraints::aggregated;
+use constraints::row_groups;
 use fold::Shape;
 use fold::Sizes;
 use ring::element::Element;
 
-// Element y of φ_i times that of z, at element e = i n + y of the witness.
+// Element y of φ_i times that of z, at element e = i n + y of the witness. `table` is the table of omega.
 fn phi_term(
     sizes: Sizes,
     whole: &[i32],
@@ -29,6 +31,7 @@ fn phi_term(
     rows: &[i32],
     psi: &[i32],
     omega: &[i32],
+    table: &[i64; 25920],
     alpha: &[i32],
     delta: &[i32],
     z: &[i32],
@@ -37,6 +40,7 @@ fn phi_term(
 ) -> Element
     requires { ⌜ AggregateFacts (sizes .d) (sizes .n) (sizes .r) (sizes .k) (sizes .l) (sizes .w) (now whole) (now term) (now rows)
         (now psi) (now omega) (now alpha) (now delta) ⌝ }
+    requires { ⌜ SumsOf (sizes .w) (now omega) (now table) ⌝ }
     requires { ⌜ sizes .n * sizes .d ≤ length (now z) ⌝ }
     requires { ⌜ (e < sizes .r * sizes .n) × (y < sizes .n) ⌝ }
     ensures { λ x.
@@ -59,6 +63,7 @@ fn phi_term(
         rows,
         psi,
         omega,
+        table,
         alpha,
         delta,
         e,
@@ -75,6 +80,7 @@ fn phi_product(
     rows: &[i32],
     psi: &[i32],
     omega: &[i32],
+    table: &[i64; 25920],
     alpha: &[i32],
     delta: &[i32],
     z: &[i32],
@@ -82,6 +88,7 @@ fn phi_product(
 ) -> Element
     requires { ⌜ AggregateFacts (sizes .d) (sizes .n) (sizes .r) (sizes .k) (sizes .l) (sizes .w) (now whole) (now term) (now rows)
         (now psi) (now omega) (now alpha) (now delta) ⌝ }
+    requires { ⌜ SumsOf (sizes .w) (now omega) (now table) ⌝ }
     requires { ⌜ sizes .n * sizes .d ≤ length (now z) ⌝ }
     requires { ⌜ i < sizes .r ⌝ }
     ensures { λ x.
@@ -101,6 +108,7 @@ fn phi_product(
             rows,
             psi,
             omega,
+            table,
             alpha,
             delta,
             z,
@@ -121,6 +129,7 @@ fn linear_sum(
     rows: &[i32],
     psi: &[i32],
     omega: &[i32],
+    table: &[i64; 25920],
     alpha: &[i32],
     delta: &[i32],
     c: &[i32],
@@ -128,6 +137,7 @@ fn linear_sum(
 ) -> Element
     requires { ⌜ AggregateFacts (sizes .d) (sizes .n) (sizes .r) (sizes .k) (sizes .l) (sizes .w) (now whole) (now term) (now rows)
         (now psi) (now omega) (now alpha) (now delta) ⌝ }
+    requires { ⌜ SumsOf (sizes .w) (now omega) (now table) ⌝ }
     requires { ⌜ Holds (sizes .d) (sizes .r) (now c) ⌝ }
     requires { ⌜ sizes .n * sizes .d ≤ length (now z) ⌝ }
     ensures { λ x.
@@ -140,7 +150,19 @@ fn linear_sum(
     let mut acc = Element::additive_identity();
     let mut i = 0;
     while i < count {
-        let product = phi_product(sizes, whole, term, rows, psi, omega, alpha, delta, z, i);
+        let product = phi_product(
+            sizes,
+            whole,
+            term,
+            rows,
+            psi,
+            omega,
+            table,
+            alpha,
+            delta,
+            z,
+            i,
+        );
         let challenge = Element::from_slice(d, c, i);
         let weighted = amortized::element_product(d, product, challenge);
         acc = acc.sum(d, weighted);
@@ -175,8 +197,22 @@ pub fn linear_part(
         (now (rows .entry)) (now (psi .entry)) (now (omega .entry)) (now (alpha .entry)) (now (delta .entry)) .φ)
         (el (sizes .d) (now (z .entry))) (hValue sizes (now (opening .entry))) ⌝ }
 {
+    let mut table = [0i64; 25920];
+    row_groups::write_sums(sizes.w, omega, &mut table);
     let d = sizes.d;
-    let left = linear_sum(sizes, whole, term, rows, psi, omega, alpha, delta, c, z);
+    let left = linear_sum(
+        sizes,
+        whole,
+        term,
+        rows,
+        psi,
+        omega,
+        &table,
+        alpha,
+        delta,
+        c,
+        z,
+    );
     let start = sizes::h_place(sizes);
     let right = amortized::mixed_sum(d, sizes.r, sizes.b1, sizes.t1, opening, start, c);
     left.equals(d, right)

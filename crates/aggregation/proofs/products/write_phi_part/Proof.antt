@@ -13,16 +13,16 @@ use Rattle.aggregation.proofs.products.write_phi_part.Statement.{statem
 use Rattle.aggregation.proofs.products.write_phi_part.Tie as tie
 
 abbrev Inv-loop : tie.InvT-loop
-Inv-loop shape kc l w whole term rows psi omega alpha delta i out₀ d rank first y₀ out y =
+Inv-loop shape kc l w whole term rows psi omega table alpha delta i out₀ d rank first y₀ out y =
     (y ≤ rank) × Elements d 0 (aggregatePart d (shape .n) (shape .r) kc l w whole term rows psi omega alpha delta i) out₀ y out
 
 abbrev μ-loop : tie.MeasureT-loop
-μ-loop shape kc l w whole term rows psi omega alpha delta i out₀ d rank first y₀ out y = rank - y
+μ-loop shape kc l w whole term rows psi omega table alpha delta i out₀ d rank first y₀ out y = rank - y
 
 mul-first : tie.Need-mul-first Inv-loop μ-loop
 mul-first c =
     let z = c .args .shape in
-    omega (arith, witness-small (c .pre .0 .wholes .shaped), block-before (z .n) (c .args .i) (z .r) (c .pre .1 .0))
+    omega (arith, witness-small (c .pre .0 .wholes .shaped), block-before (z .n) (c .args .i) (z .r) (c .pre .1 .1 .0))
 
 loop-holds : tie.Need-loop-holds Inv-loop μ-loop
 loop-holds c = (omega arith, elements-start _ _ _ _)
@@ -31,19 +31,19 @@ add-place : tie.Need-add-place Inv-loop μ-loop
 add-place c =
     let s = c .before .before in
     let z = s .args .shape in
-    omega (arith, witness-small (s .pre .0 .wholes .shaped), block-fits (z .r) (z .n) (s .args .i) (c .before .loop .y) (s .pre .1 .0) (c .loop-test .taken))
+    omega (arith, witness-small (s .pre .0 .wholes .shaped), block-fits (z .r) (z .n) (s .args .i) (c .before .loop .y) (s .pre .1 .1 .0) (c .loop-test .taken))
 
 aggregate-phi-requires : tie.Need-aggregate-phi-requires Inv-loop μ-loop
 aggregate-phi-requires c κs =
     let s = c .before .before in
     let z = s .args .shape in
-    (s .pre .0, block-fits (z .r) (z .n) (s .args .i) (c .before .loop .y) (s .pre .1 .0) (c .loop-test .taken))
+    (s .pre .0, (s .pre .1 .0, block-fits (z .r) (z .n) (s .args .i) (c .before .loop .y) (s .pre .1 .1 .0) (c .loop-test .taken)))
 
 store-requires : tie.Need-store-requires Inv-loop μ-loop
 store-requires c κs =
     let l = c .before .before .before in
     let s = l .before in
-    let fits = place-fits (s .args .shape .d) (c .before .before .loop-test .taken) (s .pre .1 .1) in
+    let fits = place-fits (s .args .shape .d) (c .before .before .loop-test .taken) (s .pre .1 .1 .1) in
     (s .pre .0 .wholes .shaped .degree, rw (l .loop .inv .1 .same) fits)
 
 add-y : tie.Need-add-y Inv-loop μ-loop
@@ -59,7 +59,7 @@ loop-again c =
     let s = l .before in
     let taken = c .before .before .before .before .loop-test .taken in (
       omega (arith, taken),
-      elements-turn _ _ _ _ (s .pre .0 .wholes .shaped .degree .small) (sym (zero-add (l .loop .y))) (place-fits (s .args .shape .d) taken (s .pre .1 .1))
+      elements-turn _ _ _ _ (s .pre .0 .wholes .shaped .degree .small) (sym (zero-add (l .loop .y))) (place-fits (s .args .shape .d) taken (s .pre .1 .1 .1))
           (l .loop .inv .1) (c .before .before .before .aggregate-phi .ensures) (c .before .store .ensures),
     )
 

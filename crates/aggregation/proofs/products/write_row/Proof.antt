@@ -14,14 +14,14 @@ slice-aggregate-write-phi-part c = search needs
 write-phi-part-requires : tie.Need-write-phi-part-requires
 write-phi-part-requires c κs =
     let s = c .before in
-    (s .pre .0, (s .pre .1 .1, phi-room (s .pre .0 .wholes .shaped)))
+    (s .pre .0, (s .pre .1 .0, (s .pre .1 .1 .1, phi-room (s .pre .0 .wholes .shaped))))
 
 mul-at : tie.Need-mul-at
 mul-at c =
     let s = c .before .before .before in
     let z = s .args .shape in
     let few = s .pre .0 .wholes .shaped .parts-small in
-    omega (arith, block-before (z .r) (s .args .i) (z .r) (s .pre .1 .1), mul-le-mul few few)
+    omega (arith, block-before (z .r) (s .args .i) (z .r) (s .pre .1 .1 .1), mul-le-mul few few)
 
 slice-aggregate-write-part-products : tie.Need-slice-aggregate-write-part-products
 slice-aggregate-write-part-products c = search needs
@@ -31,13 +31,13 @@ write-part-products-requires c κs =
     let s = c .before .before .before .before .before in
     let z = s .args .shape in
     let shaped = s .pre .0 .wholes .shaped in
-    let kept = c .before .before .before .write-phi-part .kept .1 .1 .1 .1 .1 .1 .1 .1 .1 .1 .1 .1 .0 in (
+    let kept = c .before .before .before .write-phi-part .kept .1 .1 .1 .1 .1 .1 .1 .1 .1 .1 .1 .1 .1 .0 in (
       shaped .degree,
       (
         shaped .rank-small,
         omega (arith, phi-room shaped, kept),
-        omega (arith, s .pre .1 .0),
-        part-fits (z .d) (z .r) {i = s .args .i} (s .pre .1 .1) (s .pre .1 .2),
+        omega (arith, s .pre .1 .1 .0),
+        part-fits (z .d) (z .r) {i = s .args .i} (s .pre .1 .1 .1) (s .pre .1 .1 .2),
       ),
     )
 

@@ -9,31 +9,31 @@ use Rattle.aggregation.proofs.second.weigh_witness.Statement.{statement
 use Rattle.aggregation.proofs.second.weigh_witness.Tie as tie
 
 abbrev Inv-loop : tie.InvT-loop
-Inv-loop shape l w term rows psi omega witness d parts rank count sums₀ e₀ sums e =
+Inv-loop shape l w term rows psi omega table witness d parts rank count sums₀ e₀ sums e =
     (e ≤ count) × Sums d (witnessTerm d (shape .n) (shape .r) l w term rows psi omega witness) e sums
 
 abbrev μ-loop : tie.MeasureT-loop
-μ-loop shape l w term rows psi omega witness d parts rank count sums₀ e₀ sums e = count - e
+μ-loop shape l w term rows psi omega table witness d parts rank count sums₀ e₀ sums e = count - e
 
 mul-count : tie.Need-mul-count Inv-loop μ-loop
-mul-count c = omega (arith, witness-small (c .pre .seconds .terms .shaped))
+mul-count c = omega (arith, witness-small (c .pre .0 .seconds .terms .shaped))
 
 loop-holds : tie.Need-loop-holds Inv-loop μ-loop
 loop-holds c = (omega arith, sums-start _ _)
 
 second-row-phi-requires : tie.Need-second-row-phi-requires Inv-loop μ-loop
-second-row-phi-requires c κs = (c .before .before .pre .seconds, c .loop-test .taken)
+second-row-phi-requires c κs = (c .before .before .pre .0 .seconds, (c .before .before .pre .1, c .loop-test .taken))
 
 from-slice-requires : tie.Need-from-slice-requires Inv-loop μ-loop
 from-slice-requires c κs =
     let s = c .before .before .before in
-    (s .pre .seconds .terms .shaped .degree, place-fits (s .args .shape .d) (c .before .loop-test .taken) (omega (arith, s .pre .s-length)))
+    (s .pre .0 .seconds .terms .shaped .degree, place-fits (s .args .shape .d) (c .before .loop-test .taken) (omega (arith, s .pre .0 .s-length)))
 
 add-products-requires : tie.Need-add-products-requires Inv-loop μ-loop
-add-products-requires c κs = c .before .before .before .before .before .pre .seconds .terms .shaped .degree
+add-products-requires c κs = c .before .before .before .before .before .pre .0 .seconds .terms .shaped .degree
 
 add-e : tie.Need-add-e Inv-loop μ-loop
-add-e c = omega (arith, witness-small (c .before .before .before .before .before .before .pre .seconds .terms .shaped), c .before .before .before .before .loop-test .taken)
+add-e c = omega (arith, witness-small (c .before .before .before .before .before .before .pre .0 .seconds .terms .shaped), c .before .before .before .before .loop-test .taken)
 
 loop-less : tie.Need-loop-less Inv-loop μ-loop
 loop-less c = omega arith
@@ -44,7 +44,7 @@ loop-again c =
     let s = l .before in
     let taken = c .before .before .before .before .loop-test .taken in (
       omega (arith, taken),
-      witness-step _ _ _ _ _ _ _ _ _ _ (s .pre .seconds .terms .shaped .degree .small) (l .loop .inv .1) (c .before .before .before .second-row-phi .ensures)
+      witness-step _ _ _ _ _ _ _ _ _ _ (s .pre .0 .seconds .terms .shaped .degree .small) (l .loop .inv .1) (c .before .before .before .second-row-phi .ensures)
           (c .before .before .from-slice .ensures) (c .add-products .ensures),
     )
 

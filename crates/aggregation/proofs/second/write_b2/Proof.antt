@@ -1,18 +1,27 @@
 -- `aggregation::second::write_b2` meets its contract: the two parts of the five values, and their sums.
-use borrow.Author.Needs.{needs}
+use lib.ListN.{length-replicate}
+use lib.IntN.{pos}
 use Rattle.aggregation.specs.Values.{values-end}
+use borrow.Author.Needs.{needs}
 use Rattle.aggregation.proofs.second.write_b2.Statement.{statement}
 use Rattle.aggregation.proofs.second.write_b2.Tie as tie
 
-weigh-pairs-requires : tie.Need-weigh-pairs-requires
-weigh-pairs-requires c κs = record { terms = c .pre .0 .seconds .terms; s-length = c .pre .0 .s-length }
-
-weigh-witness-requires : tie.Need-weigh-witness-requires
-weigh-witness-requires c κs = c .before .pre .0
-
 write-sums-requires : tie.Need-write-sums-requires
 write-sums-requires c κs =
-    let s = c .before .before .before in
+    let projected = c .before .pre .0 .seconds .projected in
+    (projected .row-count, projected .ω-length, length-replicate 25920 (pos 0))
+
+weigh-pairs-requires : tie.Need-weigh-pairs-requires
+weigh-pairs-requires c κs =
+    let s = c .before .before in
+    record { terms = s .pre .0 .seconds .terms; s-length = s .pre .0 .s-length }
+
+weigh-witness-requires : tie.Need-weigh-witness-requires
+weigh-witness-requires c κs = (c .before .before .before .before .pre .0, c .before .before .write-sums .ensures)
+
+write-sums-requires-2 : tie.Need-write-sums-requires-2
+write-sums-requires-2 c κs =
+    let s = c .before .before .before .before .before .before in
     (s .pre .0 .seconds .terms .shaped .degree, s .pre .1)
 
 same-length : tie.Need-same-length
@@ -20,11 +29,19 @@ same-length c = search needs
 
 returns : tie.Need-returns
 returns c =
-    let s = c .before .before .before .before .before in
-    values-end _ _ _ _ _ _ _ _ _ _ (s .pre .0 .seconds .terms .shaped .degree) (c .before .before .before .before .weigh-pairs .ensures)
-    (c .before .before .before .weigh-witness .ensures) (c .before .write-sums .ensures)
+    let w = c .before .before .before in
+    let p = w .before .before in
+    let s = p .before .before .before in
+    values-end _ _ _ _ _ _ _ _ _ _ (s .pre .0 .seconds .terms .shaped .degree) (p .weigh-pairs .ensures) (w .weigh-witness .ensures)
+    (c .before .write-sums2 .ensures)
 
 pub write-b2-spec : {M : Type 1} → statement M
 write-b2-spec =
     tie.close
-    (tie.spec weigh-pairs-requires weigh-witness-requires write-sums-requires same-length returns)
+    (tie.spec
+    write-sums-requires
+    weigh-pairs-requires
+    weigh-witness-requires
+    write-sums-requires-2
+    same-length
+    returns)

@@ -11,18 +11,18 @@ pair-count-requires c κs = c .pre .0 .wholes .shaped .parts-small
 add-place : tie.Need-add-place
 add-place c =
     let shaped = c .before .pre .0 .wholes .shaped in
-    omega (arith, c .pair-count .ensures, pairs-small (shaped .parts-small), witness-small shaped, c .before .pre .1)
+    omega (arith, c .pair-count .ensures, pairs-small (shaped .parts-small), witness-small shaped, c .before .pre .1 .1)
 
 whole-entry-requires : tie.Need-whole-entry-requires
 whole-entry-requires c κs =
     let s = c .before in
     let size = function-parts (s .args .shape .n) (s .args .shape .r) in
-    (s .pre .0 .wholes, omega (arith, c .pair-count .ensures, size, s .pre .1))
+    (s .pre .0 .wholes, omega (arith, c .pair-count .ensures, size, s .pre .1 .1))
 
 weighted-phi-requires : tie.Need-weighted-phi-requires
 weighted-phi-requires c κs =
     let s = c .before .before in
-    (s .pre .0 .seconds, (s .pre .0 .δ-length, s .pre .1))
+    (s .pre .0 .seconds, (s .pre .1 .0, (s .pre .0 .δ-length, s .pre .1 .1)))
 
 sum-requires : tie.Need-sum-requires
 sum-requires c κs = c .before .before .before .pre .0 .wholes .shaped .degree

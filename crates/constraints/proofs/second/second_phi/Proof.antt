@@ -1,40 +1,35 @@
 -- `constraints::second::second_phi` meets its contract.
 use native.Mathlib.Omega.{arith}
 use Rattle.constraints.specs.SizeLaws.{pairs-small, witness-small, function-parts}
-use Rattle.constraints.specs.Aggregated.{value-conjugate, second-φ-end}
+use Rattle.constraints.specs.Aggregated.{second-φ-end}
 use Rattle.constraints.proofs.second.second_phi.Statement.{statement}
 use Rattle.constraints.proofs.second.second_phi.Tie as tie
 
 pair-count-requires : tie.Need-pair-count-requires
-pair-count-requires c κs = c .pre .0 .terms .shaped .parts-small
+pair-count-requires c κs = c .pre .0 .shaped .parts-small
 
 add-place : tie.Need-add-place
 add-place c =
-    let shaped = c .before .pre .0 .terms .shaped in
+    let shaped = c .before .pre .0 .shaped in
     omega (arith, c .pair-count .ensures, pairs-small (shaped .parts-small), witness-small shaped, c .before .pre .1 .1)
 
 term-entry-requires : tie.Need-term-entry-requires
 term-entry-requires c κs =
     let s = c .before in
     let size = function-parts (s .args .shape .n) (s .args .shape .r) in
-    (s .pre .0 .terms, (s .pre .1 .0, omega (arith, c .pair-count .ensures, size, s .pre .1 .1)))
-
-projection-entry-requires : tie.Need-projection-entry-requires
-projection-entry-requires c κs = (c .before .before .pre .0 .projected, c .before .before .pre .1)
+    (s .pre .0, (s .pre .1 .0, omega (arith, c .pair-count .ensures, size, s .pre .1 .1)))
 
 conjugate-requires : tie.Need-conjugate-requires
-conjugate-requires c κs = c .before .before .before .pre .0 .terms .shaped .degree
+conjugate-requires c κs = c .before .before .pre .0 .shaped .degree
 
 sum-requires : tie.Need-sum-requires
-sum-requires c κs = c .before .before .before .before .pre .0 .terms .shaped .degree
+sum-requires c κs = c .before .before .before .pre .0 .shaped .degree
 
 returns : tie.Need-returns
 returns c =
-    let f = c .before .before .before .before in
-    let degree = f .before .pre .0 .terms .shaped .degree in
-    let own = rw (f .pair-count .ensures) at (c .before .before .before .term-entry .ensures) in
-    let turned = value-conjugate _ degree _ (c .before .before .projection-entry .ensures) (c .before .conjugate .ensures) in
-    second-φ-end _ _ _ _ _ _ _ _ _ _ _ degree own turned (c .sum .ensures)
+    let f = c .before .before .before in
+    let own = rw (f .pair-count .ensures) at (c .before .before .term-entry .ensures) in
+    second-φ-end _ _ _ _ _ _ _ _ _ (f .before .pre .0 .shaped .degree) own (c .before .conjugate .ensures) (c .sum .ensures)
 
 pub second-phi-spec : {M : Type 1} → statement M
 second-phi-spec =
@@ -43,7 +38,6 @@ second-phi-spec =
     pair-count-requires
     add-place
     term-entry-requires
-    projection-entry-requires
     conjugate-requires
     sum-requires
     returns)

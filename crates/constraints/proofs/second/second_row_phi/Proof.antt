@@ -3,22 +3,33 @@ use Prim.Native.Nat.{_-_}
 use native.Mathlib.Omega.{arith}
 use Rattle.fold.specs.Entries.{secondΦ}
 use Rattle.constraints.specs.Rows.{Filling, filling-start, filling-step, filling-end}
+use Rattle.constraints.specs.Aggregated.{second-φ-row}
 use Rattle.constraints.proofs.second.second_row_phi.Statement.{statement}
 use Rattle.constraints.proofs.second.second_row_phi.Tie as tie
 
 abbrev Inv-loop : tie.InvT-loop
-Inv-loop shape l w term rows psi omega e row₀ k₀ row k = Filling (shape .d) (λ i. secondΦ (shape .d) (shape .n) (shape .r) l w term rows psi omega i e) k row
+Inv-loop shape l w term rows psi omega sums e projections row₀ k₀ row k =
+    Filling (shape .d) (λ i. secondΦ (shape .d) (shape .n) (shape .r) l w term rows psi omega i e) k row
 
 abbrev μ-loop : tie.MeasureT-loop
-μ-loop shape l w term rows psi omega e row₀ k₀ row k = 5 - k
+μ-loop shape l w term rows psi omega sums e projections row₀ k₀ row k = 5 - k
+
+projection-row-requires : tie.Need-projection-row-requires Inv-loop μ-loop
+projection-row-requires c κs = (c .pre .0 .projected, c .pre .1)
 
 loop-holds : tie.Need-loop-holds Inv-loop μ-loop
 loop-holds c = filling-start _ _
 
+mul-coefficients : tie.Need-mul-coefficients Inv-loop μ-loop
+mul-coefficients c = omega arith
+
+array-copy-out-coefficients : tie.Need-array-copy-out-coefficients Inv-loop μ-loop
+array-copy-out-coefficients c = omega arith
+
 second-phi-requires : tie.Need-second-phi-requires Inv-loop μ-loop
 second-phi-requires c κs =
-    let s = c .before .before in
-    (s .pre .0, (omega arith, s .pre .1))
+    let s = c .before .before .before .before in
+    (s .pre .0 .terms, (omega arith, s .pre .1 .1))
 
 mul-row : tie.Need-mul-row Inv-loop μ-loop
 mul-row c = omega arith
@@ -33,7 +44,13 @@ loop-less : tie.Need-loop-less Inv-loop μ-loop
 loop-less c = omega arith
 
 loop-again : tie.Need-loop-again Inv-loop μ-loop
-loop-again c = filling-step (c .before .before .before .loop .inv) (omega arith) (c .before .second-phi .ensures)
+loop-again c =
+    let l = c .before .before .before .before in
+    let s = l .before .before in
+    let entry = second-φ-row _ _ _ _ _ _ _ _ _ _ _ (s .pre .0 .terms .shaped .degree) (c .before .before .before .loop-test .taken)
+    (l .before .projection-row .ensures) (c .before .second-phi .ensures)
+    in
+    filling-step (l .loop .inv) (c .before .before .before .loop-test .taken) entry
 
 returns : tie.Need-returns Inv-loop μ-loop
 returns c = filling-end (c .before .loop .inv) (omega arith)
@@ -44,7 +61,10 @@ second-row-phi-spec =
     (tie.spec
     Inv-loop
     μ-loop
+    projection-row-requires
     loop-holds
+    mul-coefficients
+    array-copy-out-coefficients
     second-phi-requires
     mul-row
     array-set-from-row

@@ -7,12 +7,12 @@ use Rattle.next_constraints.proofs.folded.folded_element.Statement.{sta
 use Rattle.next_constraints.proofs.folded.folded_element.Tie as tie
 
 abbrev Inv-loop : tie.InvT-loop
-Inv-loop sizes whole term rows psi omega alpha delta c k d parts sum₀ i₀ sum i =
+Inv-loop sizes whole term rows psi omega table alpha delta c k d parts sum₀ i₀ sum i =
     Summing d (foldedTerm d (sizes .n) (sizes .r) (sizes .k) (sizes .l) (sizes .w) whole term rows psi omega alpha delta c k) parts i
     (sum .coefficients)
 
 abbrev μ-loop : tie.MeasureT-loop
-μ-loop sizes whole term rows psi omega alpha delta c k d parts sum₀ i₀ sum i = parts - i
+μ-loop sizes whole term rows psi omega table alpha delta c k d parts sum₀ i₀ sum i = parts - i
 
 additive-identity-requires : tie.Need-additive-identity-requires Inv-loop μ-loop
 additive-identity-requires c κs = tt
@@ -23,7 +23,7 @@ loop-holds c = summing-start (c .additive-identity .ensures (c .before .args .si
 folded-term-requires : tie.Need-folded-term-requires Inv-loop μ-loop
 folded-term-requires c κs =
     let s = c .before .before .before in
-    (s .pre .0, (s .pre .1 .0, s .pre .1 .1, c .loop-test .taken))
+    (s .pre .0, (s .pre .1 .0, (s .pre .1 .1 .0, s .pre .1 .1 .1, c .loop-test .taken)))
 
 sum-requires : tie.Need-sum-requires Inv-loop μ-loop
 sum-requires c κs = c .before .before .before .before .pre .0 .wholes .shaped .degree

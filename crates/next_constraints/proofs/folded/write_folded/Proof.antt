@@ -3,6 +3,8 @@ use mathlib.Core.Path.{_≡_, sym}
 use Prim.Native.Nat.{_-_, _≤_}
 use native.Mathlib.Nat.{zero-add, zero-mul}
 use native.Mathlib.Omega.{arith}
+use lib.ListN.{length-replicate}
+use lib.IntN.{pos}
 use Rattle.fold.specs.WriterLaws.{Elements, elements-start, elements-turn}
 use Rattle.next_constraints.specs.TablePlaces.{element-within}
 use Rattle.next_constraints.specs.TableLaws.{foldedSum}
@@ -10,41 +12,48 @@ use Rattle.next_constraints.proofs.folded.write_folded.Statement.{state
 use Rattle.next_constraints.proofs.folded.write_folded.Tie as tie
 
 abbrev Inv-loop : tie.InvT-loop
-Inv-loop sizes whole term rows psi omega alpha delta c out₀ d rank k₀ out k =
+Inv-loop sizes whole term rows psi omega alpha delta c out₀ table d rank k₀ out k =
     (k ≤ rank)
     × Elements d 0 (foldedSum d (sizes .n) (sizes .r) (sizes .k) (sizes .l) (sizes .w) whole term rows psi omega alpha delta c) out₀ k out
 
 abbrev μ-loop : tie.MeasureT-loop
-μ-loop sizes whole term rows psi omega alpha delta c out₀ d rank k₀ out k = rank - k
+μ-loop sizes whole term rows psi omega alpha delta c out₀ table d rank k₀ out k = rank - k
+
+write-sums-requires : tie.Need-write-sums-requires Inv-loop μ-loop
+write-sums-requires c κs =
+    let projected = c .before .pre .0 .seconds .projected in
+    (projected .row-count, projected .ω-length, length-replicate 25920 (pos 0))
 
 loop-holds : tie.Need-loop-holds Inv-loop μ-loop
 loop-holds c = (omega arith, elements-start _ _ _ _)
 
 folded-element-requires : tie.Need-folded-element-requires Inv-loop μ-loop
 folded-element-requires c κs =
-    let s = c .before .before in
-    (s .pre .0, (s .pre .1 .0, c .loop-test .taken))
+    let w = c .before .before .before in
+    let s = w .before .before in
+    (s .pre .0, (w .write-sums .ensures, (s .pre .1 .0, c .before .loop-test .taken)))
 
 store-requires : tie.Need-store-requires Inv-loop μ-loop
 store-requires c κs =
-    let l = c .before .before .before in
-    let s = l .before in
-    let fits = element-within (s .args .sizes .d) (c .before .before .loop-test .taken) (s .pre .1 .1) in
+    let l = c .before .before .before .before in
+    let s = l .before .before .before in
+    let fits = element-within (s .args .sizes .d) (c .before .before .before .loop-test .taken) (s .pre .1 .1) in
     (s .pre .0 .wholes .shaped .degree, rw (l .loop .inv .1 .same) fits)
 
 add-k : tie.Need-add-k Inv-loop μ-loop
 add-k c =
-    let s = c .before .before .before .before .before .before in
-    omega (arith, s .pre .0 .wholes .shaped .rank-small, c .before .before .before .before .loop-test .taken)
+    let l = c .before .before .before .before .before .before in
+    let s = l .before .before .before in
+    omega (arith, s .pre .0 .wholes .shaped .rank-small, c .before .before .before .before .before .loop-test .taken)
 
 loop-less : tie.Need-loop-less Inv-loop μ-loop
-loop-less c = omega (arith, c .before .before .before .before .loop-test .taken)
+loop-less c = omega (arith, c .before .before .before .before .before .loop-test .taken)
 
 loop-again : tie.Need-loop-again Inv-loop μ-loop
 loop-again c =
-    let l = c .before .before .before .before .before in
-    let s = l .before in
-    let taken = c .before .before .before .before .loop-test .taken in (
+    let l = c .before .before .before .before .before .before in
+    let s = l .before .before .before in
+    let taken = c .before .before .before .before .before .loop-test .taken in (
       omega (arith, taken),
       elements-turn _ _ _ _ (s .pre .0 .wholes .shaped .degree .small) (sym (zero-add (l .loop .k)))
           (element-within (s .args .sizes .d) taken (s .pre .1 .1))
@@ -57,7 +66,7 @@ same-length c = c .before .loop .inv .1 .same
 returns : tie.Need-returns Inv-loop μ-loop
 returns c =
     let l = c .before in
-    let z = l .before .args .sizes in
+    let z = l .before .before .before .args .sizes in
     let all : l .loop .k ≡ z .n = omega (arith, l .loop .inv .0, c .loop-test .left) in
     rw (all, zero-mul (z .d)) at (l .loop .inv .1 .is)
 
@@ -67,6 +76,7 @@ write-folded-spec =
     (tie.spec
     Inv-loop
     μ-loop
+    write-sums-requires
     loop-holds
     folded-element-requires
     store-requires

@@ -1,32 +1,50 @@
 -- `verifier::relation::linear_part` meets its contract.
+use lib.ListN.{length-replicate}
+use lib.IntN.{pos}
 use Rattle.verifier.specs.Mixed.{h-garbage}
 use Rattle.verifier.specs.Relation.{check-seven}
 use Rattle.verifier.proofs.relation.linear_part.Statement.{statement}
 use Rattle.verifier.proofs.relation.linear_part.Tie as tie
 
+write-sums-requires : tie.Need-write-sums-requires
+write-sums-requires c κs =
+    let projected = c .before .pre .1 .0 .seconds .projected in
+    (projected .row-count, projected .ω-length, length-replicate 25920 (pos 0))
+
 linear-sum-requires : tie.Need-linear-sum-requires
-linear-sum-requires c κs = (c .pre .1 .0, (c .pre .1 .1 .0, c .pre .1 .1 .1 .0))
+linear-sum-requires c κs =
+    let w = c .before in
+    let s = w .before .before in
+    (s .pre .1 .0, (w .write-sums .ensures, (s .pre .1 .1 .0, s .pre .1 .1 .1 .0)))
 
 h-place-requires : tie.Need-h-place-requires
-h-place-requires c κs = c .before .pre .0
+h-place-requires c κs = c .before .before .before .before .pre .0
 
 mixed-sum-requires : tie.Need-mixed-sum-requires
 mixed-sum-requires c κs =
-    let s = c .before .before in
+    let s = c .before .before .before .before .before in
     (h-garbage (s .args .sizes) (s .pre .0) _ (s .pre .1 .1 .1 .1) _ (c .h-place .ensures), s .pre .1 .1 .0)
 
 equals-requires : tie.Need-equals-requires
-equals-requires c κs = c .before .before .before .pre .0 .shaped .degree
+equals-requires c κs = c .before .before .before .before .before .before .pre .0 .shaped .degree
 
 returns : tie.Need-returns
 returns c =
     let right = c .before in
     let start = right .before in
     let left = start .before in
-    let s = left .before in
+    let s = left .before .before .before .before in
     check-seven (s .args .sizes) _ _ _ _ _ _ _ _ _ _ _ _ _ _ (s .pre .0 .shaped .degree .small) (left .linear-sum .ensures)
     (start .h-place .ensures)
     (right .mixed-sum .ensures) (c .equals .ensures)
 
 pub linear-part-spec : {M : Type 1} → statement M
-linear-part-spec = tie.close (tie.spec linear-sum-requires h-place-requires mixed-sum-requires equals-requires returns)
+linear-part-spec =
+    tie.close
+    (tie.spec
+    write-sums-requires
+    linear-sum-requires
+    h-place-requires
+    mixed-sum-requires
+    equals-requires
+    returns)

@@ -8,11 +8,11 @@ use Rattle.verifier.proofs.relation.linear_sum.Statement.{statement}
 use Rattle.verifier.proofs.relation.linear_sum.Tie as tie
 
 abbrev Inv-loop : tie.InvT-loop
-Inv-loop sizes whole term rows psi omega alpha delta c z d count acc₀ i₀ acc i = Summed (sizes .d) count
+Inv-loop sizes whole term rows psi omega table alpha delta c z d count acc₀ i₀ acc i = Summed (sizes .d) count
     (linearTerm sizes whole term rows psi omega alpha delta c z) i (acc .coefficients)
 
 abbrev μ-loop : tie.MeasureT-loop
-μ-loop sizes whole term rows psi omega alpha delta c z d count acc₀ i₀ acc i = count - i
+μ-loop sizes whole term rows psi omega table alpha delta c z d count acc₀ i₀ acc i = count - i
 
 additive-identity-requires : tie.Need-additive-identity-requires Inv-loop μ-loop
 additive-identity-requires c κs = tt
@@ -23,12 +23,12 @@ loop-holds c = summed-start _ _ _ (c .additive-identity .ensures _)
 phi-product-requires : tie.Need-phi-product-requires Inv-loop μ-loop
 phi-product-requires c κs =
     let s = c .before .before .before in
-    (s .pre .0, (s .pre .1 .1, c .loop-test .taken))
+    (s .pre .0, (s .pre .1 .0, (s .pre .1 .1 .1, c .loop-test .taken)))
 
 from-slice-requires : tie.Need-from-slice-requires Inv-loop μ-loop
 from-slice-requires c κs =
     let s = c .before .before .before .before in
-    (s .pre .0 .wholes .shaped .degree, element-fits _ _ (c .before .before .loop .i) _ (s .pre .1 .0) (c .before .loop-test .taken))
+    (s .pre .0 .wholes .shaped .degree, element-fits _ _ (c .before .before .loop .i) _ (s .pre .1 .1 .0) (c .before .loop-test .taken))
 
 element-product-requires : tie.Need-element-product-requires Inv-loop μ-loop
 element-product-requires c κs = c .before .before .before .before .before .pre .0 .wholes .shaped .degree

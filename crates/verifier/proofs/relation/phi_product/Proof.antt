@@ -10,18 +10,18 @@ use Rattle.verifier.proofs.relation.phi_product.Statement.{statement}
 use Rattle.verifier.proofs.relation.phi_product.Tie as tie
 
 abbrev Inv-loop : tie.InvT-loop
-Inv-loop sizes whole term rows psi omega alpha delta z i d rank first acc₀ y₀ acc y = Summed (sizes .d) rank
+Inv-loop sizes whole term rows psi omega table alpha delta z i d rank first acc₀ y₀ acc y = Summed (sizes .d) rank
     (λ y. phiTerm sizes whole term rows psi omega alpha delta z (i * sizes .n + y) y) y (acc .coefficients)
 
 abbrev μ-loop : tie.MeasureT-loop
-μ-loop sizes whole term rows psi omega alpha delta z i d rank first acc₀ y₀ acc y = rank - y
+μ-loop sizes whole term rows psi omega table alpha delta z i d rank first acc₀ y₀ acc y = rank - y
 
 mul-first : tie.Need-mul-first Inv-loop μ-loop
 mul-first c =
     let z = c .args .sizes in
     omega (
       arith,
-      part-place (z .n) (z .r) (c .args .i) 0 (c .pre .1 .1) (c .pre .0 .wholes .shaped .rank-positive),
+      part-place (z .n) (z .r) (c .args .i) 0 (c .pre .1 .1 .1) (c .pre .0 .wholes .shaped .rank-positive),
       parts-bound
           (c .pre .0 .wholes .shaped),
     )
@@ -39,7 +39,7 @@ add-phi-term c =
     let z = s .args .sizes in
     omega (
       arith,
-      part-place (z .n) (z .r) (s .args .i) (l .loop .y) (s .pre .1 .1) (c .loop-test .taken),
+      part-place (z .n) (z .r) (s .args .i) (l .loop .y) (s .pre .1 .1 .1) (c .loop-test .taken),
       parts-bound
           (s .pre .0 .wholes .shaped),
     )
@@ -53,9 +53,12 @@ phi-term-requires c κs =
       (
         s .pre .1 .0,
         (
-          part-place (z .n) (z .r) (s .args .i) (l .loop .y) (s .pre .1 .1)
-              (c .loop-test .taken),
-          c .loop-test .taken,
+          s .pre .1 .1 .0,
+          (
+            part-place (z .n) (z .r) (s .args .i) (l .loop .y) (s .pre .1 .1 .1)
+                (c .loop-test .taken),
+            c .loop-test .taken,
+          ),
         ),
       ),
     )

@@ -1,9 +1,9 @@
--- `constraints::projected::add_signed` meets its contract: the product of two 32-bit numbers leaves room for the sum.
+-- `constraints::row_groups::add_signed` meets its contract: the product of two 32-bit numbers leaves room for the sum.
 use mir.Facts.{toZ-ofZ}
 use Rattle.residues.specs.Centring.{widen, wide, product-fits}
-use Rattle.constraints.specs.Projected.{signed-fits}
-use Rattle.constraints.proofs.projected.add_signed.Statement.{statement}
-use Rattle.constraints.proofs.projected.add_signed.Tie as tie
+use Rattle.constraints.specs.RowGroups.{signed-fits}
+use Rattle.constraints.proofs.row_groups.add_signed.Statement.{statement}
+use Rattle.constraints.proofs.row_groups.add_signed.Tie as tie
 
 cast-a : tie.Need-cast-a
 cast-a c = rw (toZ-ofZ (c .fits .x)) (widen (c .fits .x))

@@ -1,0 +1,44 @@
+-- `constraints::projected_rows::add_groups` meets its contract. The loop has added the first groups.
+use mathlib.Core.Path.{_≡_}
+use Prim.Native.Nat.{_+_, _-_, _*_, _/_, _≤_}
+use native.Mathlib.Omega.{arith}
+use Rattle.constraints.specs.ProjectedRows.{Summed}
+use Rattle.constraints.proofs.projected_rows.add_groups.Statement.{statement}
+use Rattle.constraints.proofs.projected_rows.add_groups.Tie as tie
+
+abbrev Inv-loop : tie.InvT-loop
+Inv-loop shape w rows omega sums e acc₀ groups group₀ acc group = (group ≤ groups) × Summed (shape .d) (shape .r * shape .n) w rows omega e (group * 4) acc
+
+abbrev μ-loop : tie.MeasureT-loop
+μ-loop shape w rows omega sums e acc₀ groups group₀ acc group = groups - group
+
+loop-holds : tie.Need-loop-holds Inv-loop μ-loop
+loop-holds c = (omega arith, c .pre .1 .1 .1)
+
+add-group-requires : tie.Need-add-group-requires Inv-loop μ-loop
+add-group-requires c κs =
+    let l = c .before .before in
+    let s = l .before in
+    (s .pre .0, (s .pre .1 .0, ((s .pre .1 .1 .0, c .before .loop-test .taken), l .loop .inv .1)))
+
+add-group : tie.Need-add-group Inv-loop μ-loop
+add-group c = omega arith
+
+loop-less : tie.Need-loop-less Inv-loop μ-loop
+loop-less c = omega arith
+
+loop-again : tie.Need-loop-again Inv-loop μ-loop
+loop-again c =
+    let g = c .before .before .before .loop .group in
+    let next : g * 4 + 4 ≡ (g + 1) * 4 = omega arith in
+    (omega arith, rw next at (c .add-group .ensures))
+
+returns : tie.Need-returns Inv-loop μ-loop
+returns c =
+    let all : c .before .loop .group ≡ c .before .before .args .w / 4 = omega arith in
+    rw all at (c .before .loop .inv .1)
+
+pub add-groups-spec : {M : Type 1} → statement M
+add-groups-spec =
+    tie.close
+    (tie.spec Inv-loop μ-loop loop-holds add-group-requires add-group loop-less loop-again returns)

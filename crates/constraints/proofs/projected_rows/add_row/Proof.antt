@@ -1,0 +1,99 @@
+-- `constraints::projected_rows::add_row` meets its contract. The loop has added the row to the first y coefficients.
+use Prim.Native.Nat.{_+_, _-_, _*_}
+use native.Mathlib.Omega.{arith}
+use Rattle.constraints.specs.SizeLaws.{witness-small}
+use Rattle.constraints.specs.RowGroups.{entry-one}
+use Rattle.constraints.specs.Accumulator.{Turning, turning-room}
+use Rattle.constraints.specs.ProjectedRows.{partial, turning-start, turning-end, row-step, element-small, element-place}
+use Rattle.constraints.proofs.projected_rows.add_row.Statement.{statement}
+use Rattle.constraints.proofs.projected_rows.add_row.Tie as tie
+
+abbrev Inv-loop : tie.InvT-loop
+Inv-loop w rows omega e j acc₀ d parts rank count element at y₀ acc y =
+    Turning d (partial d (parts * rank) w rows omega e j) (partial d (parts * rank) w rows omega e (j + 1)) j 1 y acc
+
+abbrev μ-loop : tie.MeasureT-loop
+μ-loop w rows omega e j acc₀ d parts rank count element at y₀ acc y = d - y
+
+mul-count : tie.Need-mul-count Inv-loop μ-loop
+mul-count c = omega (arith, witness-small (c .pre .0 .shaped))
+
+mul-element : tie.Need-mul-element Inv-loop μ-loop
+mul-element c = omega (arith, element-small (c .pre .0) (c .pre .1 .0 .1) (c .pre .1 .0 .0))
+
+add-element : tie.Need-add-element Inv-loop μ-loop
+add-element c = omega (arith, element-small (c .pre .0) (c .pre .1 .0 .1) (c .pre .1 .0 .0))
+
+mul-at : tie.Need-mul-at Inv-loop μ-loop
+mul-at c = omega (arith, element-small (c .pre .0) (c .pre .1 .0 .1) (c .pre .1 .0 .0))
+
+loop-holds : tie.Need-loop-holds Inv-loop μ-loop
+loop-holds c = turning-start _ _ _ _ _ _ 1 (c .pre .1 .1)
+
+add-x : tie.Need-add-x Inv-loop μ-loop
+add-x c =
+    let s = c .before .before in
+    let small = element-small (s .pre .0) (s .pre .1 .0 .1) (s .pre .1 .0 .0) in
+    omega (arith, small, s .pre .0 .shaped .degree .small)
+
+mul-x : tie.Need-mul-x Inv-loop μ-loop
+mul-x c =
+    let s = c .before .before in
+    let small = element-small (s .pre .0) (s .pre .1 .0 .1) (s .pre .1 .0 .0) in
+    omega (arith, small, s .pre .0 .shaped .degree .small)
+
+shared-slice-copy-out-x : tie.Need-shared-slice-copy-out-x Inv-loop μ-loop
+shared-slice-copy-out-x c =
+    let s = c .before .before in
+    element-place (s .pre .0) (s .pre .1 .0 .1) (s .pre .1 .0 .0) (c .loop-test .taken)
+
+mul-add-entry : tie.Need-mul-add-entry Inv-loop μ-loop
+mul-add-entry c = omega (arith, c .before .before .before .before .pre .0 .shaped .degree .small)
+
+add-entry-requires : tie.Need-add-entry-requires Inv-loop μ-loop
+add-entry-requires c κs =
+    let l = c .before .before .before in
+    let s = l .before in
+    let facts = s .pre .0 in (
+      entry-one _ _ (facts .tested) (c .before .x .given),
+      (
+        turning-room (l .loop .inv) (c .before .before .loop-test .taken) (facts .shaped .degree .small)
+            (omega (arith, facts .row-count, s .pre .1 .0 .1)),
+        (facts .row-count, s .pre .1 .0 .1, facts .ω-length),
+      ),
+    )
+
+add-y : tie.Need-add-y Inv-loop μ-loop
+add-y c = omega arith
+
+loop-less : tie.Need-loop-less Inv-loop μ-loop
+loop-less c = omega arith
+
+loop-again : tie.Need-loop-again Inv-loop μ-loop
+loop-again c =
+    let l = c .before .before .before .before in
+    row-step _ _ _ _ _ _ (l .loop .inv) (c .before .before .before .loop-test .taken) (c .before .before .x .given) (c .add-entry .ensures)
+
+returns : tie.Need-returns Inv-loop μ-loop
+returns c = turning-end _ _ _ _ _ _ (c .before .loop .inv) (c .loop-test .left)
+
+pub add-row-spec : {M : Type 1} → statement M
+add-row-spec =
+    tie.close
+    (tie.spec
+    Inv-loop
+    μ-loop
+    mul-count
+    mul-element
+    add-element
+    mul-at
+    loop-holds
+    add-x
+    mul-x
+    shared-slice-copy-out-x
+    mul-add-entry
+    add-entry-requires
+    add-y
+    loop-less
+    loop-again
+    returns)

@@ -1,0 +1,76 @@
+-- `constraints::row_groups::code_at` meets its contract: entries that were tested are at most 1.
+use Rattle.residues.specs.Words.{word}
+use Rattle.constraints.specs.RowGroups.{entry-one}
+use borrow.Author.Needs.{needs}
+use Rattle.constraints.proofs.row_groups.code_at.Statement.{statement}
+use Rattle.constraints.proofs.row_groups.code_at.Tie as tie
+
+add-second : tie.Need-add-second
+add-second c = search needs
+
+add-third : tie.Need-add-third
+add-third c = search needs
+
+add-fourth : tie.Need-add-fourth
+add-fourth c = search needs
+
+mul-x0 : tie.Need-mul-x0
+mul-x0 c = search needs
+
+shared-slice-copy-out-x0 : tie.Need-shared-slice-copy-out-x0
+shared-slice-copy-out-x0 c = search needs
+
+mul-x1 : tie.Need-mul-x1
+mul-x1 c = search needs
+
+shared-slice-copy-out-x1 : tie.Need-shared-slice-copy-out-x1
+shared-slice-copy-out-x1 c = search needs
+
+mul-x2 : tie.Need-mul-x2
+mul-x2 c = search needs
+
+shared-slice-copy-out-x2 : tie.Need-shared-slice-copy-out-x2
+shared-slice-copy-out-x2 c = search needs
+
+mul-x3 : tie.Need-mul-x3
+mul-x3 c = search needs
+
+shared-slice-copy-out-x3 : tie.Need-shared-slice-copy-out-x3
+shared-slice-copy-out-x3 c = search needs
+
+code-requires : tie.Need-code-requires
+code-requires c κs =
+    let x₂ = c .before in
+    let x₁ = x₂ .before in
+    let x₀ = x₁ .before in
+    let tested = x₀ .before .pre .0 in (
+      entry-one _ _ tested (x₀ .x0 .given),
+      entry-one _ _ tested (x₁ .x1 .given),
+      entry-one _ _ tested (x₂ .x2 .given),
+      entry-one _ _ tested (c .x3 .given),
+    )
+
+returns : tie.Need-returns
+returns c =
+    let x₃ = c .before in
+    let x₂ = x₃ .before in
+    let x₁ = x₂ .before in
+    rw (word _ (x₁ .before .x0 .given), word _ (x₁ .x1 .given), word _ (x₂ .x2 .given), word _ (x₃ .x3 .given)) at (c .code .ensures)
+
+pub code-at-spec : {M : Type 1} → statement M
+code-at-spec =
+    tie.close
+    (tie.spec
+    add-second
+    add-third
+    add-fourth
+    mul-x0
+    shared-slice-copy-out-x0
+    mul-x1
+    shared-slice-copy-out-x1
+    mul-x2
+    shared-slice-copy-out-x2
+    mul-x3
+    shared-slice-copy-out-x3
+    code-requires
+    returns)

@@ -1,0 +1,109 @@
+// The projection rows, four at a time. Four entries have a code below 81, whose digits to base 3 are the entries plus 1. A table holds, for
+// each group of four rows, each code and each second function, the weighted sum of the four entries.
+ghost use mathlib.Core.Path.{_≡_};
+ghost use mathlib.Core.Bool.{true};
+ghost use Prim.Native.Nat.{_+_, _*_, _<_, _≤_};
+ghost use lib.ListN.{length, getD};
+ghost use lib.IntN.{pos, natAbs, _+ℤ_, _-ℤ_, _*ℤ_};
+ghost use Rattle.residues.specs.Range.{projections};
+ghost use Rattle.constraints.specs.RowGroups.{decode, Coded, Term, WeightedSum, SumsOf};
+
+// The digit x + 1 of an entry x.
+fn entry_digit(x: i32) -> usize
+    requires { ⌜ natAbs x ≤ 1 ⌝ }
+    ensures { λ r. ⌜ (r < 3) × (x ≡ pos r -ℤ pos 1) ⌝ }
+{
+    let wide = x as i64;
+    (wide + 1) as usize
+}
+
+// The code of four entries.
+fn code(x0: i32, x1: i32, x2: i32, x3: i32) -> usize
+    requires { ⌜ (natAbs x0 ≤ 1) × (natAbs x1 ≤ 1) × (natAbs x2 ≤ 1) × (natAbs x3 ≤ 1) ⌝ }
+    ensures { λ r. ⌜ Coded r x0 x1 x2 x3 ⌝ }
+{
+    let t0 = entry_digit(x0);
+    let t1 = entry_digit(x1);
+    let t2 = entry_digit(x2);
+    let t3 = entry_digit(x3);
+    let high = t3 + t3 + t3 + t2;
+    let middle = high + high + high + t1;
+    middle + middle + middle + t0
+}
+
+// The code of the entries of four rows, which stand `step` apart, the first at `at`.
+pub fn code_at(rows: &[i32], at: usize, step: usize) -> usize
+    requires { ⌜ projections (now rows) ≡ true ⌝ }
+    requires { ⌜ at + step + step + step < length (now rows) ⌝ }
+    ensures { λ r. ⌜ Coded r (getD (now (rows .entry)) at (pos 0)) (getD (now (rows .entry)) (at + step) (pos 0))
+        (getD (now (rows .entry)) (at + step + step) (pos 0)) (getD (now (rows .entry)) (at + step + step + step) (pos 0)) ⌝ }
+{
+    let second = at + step;
+    let third = second + step;
+    let fourth = third + step;
+    let x0 = rows[at];
+    let x1 = rows[second];
+    let x2 = rows[third];
+    let x3 = rows[fourth];
+    code(x0, x1, x2, x3)
+}
+
+// The entry of which the last digit of a code is the digit.
+fn decoded(c: usize) -> i32
+    ensures { λ r. ⌜ r ≡ decode c ⌝ }
+{
+    let digit = c % 3;
+    let wide = digit as i64;
+    (wide - 1) as i32
+}
+
+fn add_signed(acc: i64, x: i32, y: i32) -> i64
+    requires { ⌜ natAbs acc < 4611686018427387904 ⌝ }
+    ensures { λ r. ⌜ r ≡ acc +ℤ (x *ℤ y) ⌝ }
+{
+    let a = x as i64;
+    let b = y as i64;
+    let product = a * b;
+    acc + product
+}
+
+// One more weighted entry: the number of omega at `at`, times the entry of the last digit of c.
+fn add_term(sum: i64, omega: &[i32], at: usize, c: usize) -> i64
+    requires { ⌜ (at < length (now omega)) × (natAbs sum ≤ 6442450944) ⌝ }
+    ensures { λ r. ⌜ Term (now (omega .entry)) at c sum r ⌝ }
+{
+    let weight = omega[at];
+    let x = decoded(c);
+    add_signed(sum, weight, x)
+}
+
+// The sum of the four entries of code c, weighted by the numbers of omega from `at` on.
+fn weighted_sum(omega: &[i32], at: usize, c: usize) -> i64
+    requires { ⌜ at + 4 ≤ length (now omega) ⌝ }
+    ensures { λ r. ⌜ WeightedSum (now (omega .entry)) at c r ⌝ }
+{
+    let one = add_term(0, omega, at, c);
+    let two = add_term(one, omega, at + 1, c / 3);
+    let three = add_term(two, omega, at + 2, c / 9);
+    add_term(three, omega, at + 3, c / 27)
+}
+
+// The table: number (g * 81 + c) * 5 + k is the sum of the entries of code c, weighted by the numbers ω_k of group g.
+pub fn write_sums(w: usize, omega: &[i32], sums: &mut [i64; 25920])
+    requires { ⌜ (w ≤ 256) × (length (now omega) ≡ 5 * w) × (length (now sums) ≡ 25920) ⌝ }
+    ensures { λ _. ⌜ SumsOf w (now (omega .entry)) (now (sums .exit)) ⌝ }
+{
+    let groups = w / 4;
+    let count = groups * 405;
+    let mut i = 0;
+    while i < count {
+        let k = i % 5;
+        let number = i / 5;
+        let group = number / 81;
+        let c = number % 81;
+        let at = k * w + group * 4;
+        let sum = weighted_sum(omega, at, c);
+        sums[i] = sum;
+        i += 1;
+    }
+}
