@@ -37,6 +37,12 @@ typedef struct {
     uint64_t bound, target;
 } lizkarg_sizes;
 
+/* The sizes of an opening and of its cut into nu and mu chunks. */
+typedef struct { size_t d, n, r, kappa, t1, t2, nu, mu; } lizkarg_part_sizes;
+
+/* A part of the next witness within the opening: where it starts and how long it is, both in numbers. */
+typedef struct { size_t start, length; } lizkarg_part;
+
 /* The answer to a sheet, and its header in the header's order (all 0 where refused). */
 typedef struct {
     uint8_t kind, number;
@@ -95,6 +101,28 @@ lizkarg_answer lizkarg_verify(lizkarg_sizes sizes,
     const int32_t *psi, size_t psi_len, const int32_t *omega, size_t omega_len, const int32_t *b2, size_t b2_len,
     const int32_t *alpha, size_t alpha_len, const int32_t *delta, size_t delta_len, const int32_t *u2, size_t u2_len,
     const int32_t *c, size_t c_len, const int32_t *opening, size_t opening_len);
+
+/* The next instance. Takes the lists of the verifier but the opening, and nu and mu; writes kappa + kappa1 + kappa2 + 3 whole constraints
+ * on r' = 2·nu + mu parts of n' elements to out, (r'(r'+1)/2 + r'·n' + 1) elements each: a, phi, b; n' is the larger of n / nu and m / mu,
+ * both rounded up, where m = r·kappa·t1 + P·(t1 + t2). Written; failed 1 or 2, and then out is not changed; or refused 1 to 11. */
+lizkarg_answer lizkarg_next_instance(lizkarg_sizes sizes, size_t nu, size_t mu,
+    const int32_t *a, size_t a_len, const int32_t *b, size_t b_len, const int32_t *c_matrix, size_t c_matrix_len,
+    const int32_t *d_matrix, size_t d_matrix_len, const int32_t *whole, size_t whole_len, const int32_t *term, size_t term_len,
+    const int32_t *u1, size_t u1_len, const int32_t *rows, size_t rows_len, const int32_t *p, size_t p_len,
+    const int32_t *psi, size_t psi_len, const int32_t *omega, size_t omega_len, const int32_t *b2, size_t b2_len,
+    const int32_t *alpha, size_t alpha_len, const int32_t *delta, size_t delta_len, const int32_t *u2, size_t u2_len,
+    const int32_t *c, size_t c_len, int32_t *out, size_t out_len);
+
+/* The number with which lizkarg_next_part refuses: 1 to 5 or 7, 2 also for a part that is not 1 to 2·nu + mu; else 0. */
+uint8_t lizkarg_next_part_refusal(lizkarg_part_sizes sizes, size_t part, const int32_t *opening, size_t opening_len);
+
+/* Part number part, from 1, of the next witness, without the zeros that pad it to n' elements: the length numbers of opening from
+ * opening + start on. Both are 0 where lizkarg_next_part_refusal is not 0; the length can be 0 for the last parts also where it is. */
+lizkarg_part lizkarg_next_part(lizkarg_part_sizes sizes, size_t part, const int32_t *opening, size_t opening_len);
+
+/* Judges a sheet as the program does: accepted; failed with the first check that fails; or refused 12 (also where the text is longer
+ * than 65536 bytes), 1 to 6, 8 to 10. */
+lizkarg_answer lizkarg_judge_sheet(const uint8_t *text, size_t text_len);
 
 /* Reads a sheet: its header is the result, and all numbers after the header are put at the start of numbers, in the sheet's order.
  * Written, or refused 12, 1 to 6, 12, 7 (numbers has no room), 8 to 10. The text may be of any length. */

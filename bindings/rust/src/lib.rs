@@ -3,7 +3,7 @@
 
 mod raw;
 
-pub use raw::{CommitSizes, Element, GarbageSizes, Shape, Sheet, Sizes};
+pub use raw::{CommitSizes, Element, GarbageSizes, PartSizes, Shape, Sheet, Sizes};
 
 /// What a call answers.
 #[derive(Clone, Copy, Debug, PartialEq, Eq)]
@@ -205,6 +205,51 @@ pub fn verify(sizes: Sizes, proof: &Proof) -> Answer {
             v.opening.as_ptr(), v.opening.len(),
         )
     };
+    Answer::of(r.kind, r.number)
+}
+
+/// The constraints of the next instance, written to `out`; the opening of `proof` is not read. Failed 1 or 2 and refused: `out` is as it was.
+pub fn next_instance(sizes: Sizes, nu: usize, mu: usize, proof: &Proof, out: &mut [i32]) -> Answer {
+    let v = proof;
+    let r = unsafe {
+        raw::lizkarg_next_instance(
+            sizes, nu, mu,
+            v.a.as_ptr(), v.a.len(),
+            v.b.as_ptr(), v.b.len(),
+            v.c_matrix.as_ptr(), v.c_matrix.len(),
+            v.d_matrix.as_ptr(), v.d_matrix.len(),
+            v.whole.as_ptr(), v.whole.len(),
+            v.term.as_ptr(), v.term.len(),
+            v.u1.as_ptr(), v.u1.len(),
+            v.rows.as_ptr(), v.rows.len(),
+            v.p.as_ptr(), v.p.len(),
+            v.psi.as_ptr(), v.psi.len(),
+            v.omega.as_ptr(), v.omega.len(),
+            v.b2.as_ptr(), v.b2.len(),
+            v.alpha.as_ptr(), v.alpha.len(),
+            v.delta.as_ptr(), v.delta.len(),
+            v.u2.as_ptr(), v.u2.len(),
+            v.c.as_ptr(), v.c.len(),
+            out.as_mut_ptr(), out.len(),
+        )
+    };
+    Answer::of(r.kind, r.number)
+}
+
+/// The number with which part `part`, from 1, of the next witness is refused; 0 where it is not.
+pub fn next_part_refusal(sizes: PartSizes, part: usize, opening: &[i32]) -> u8 {
+    unsafe { raw::lizkarg_next_part_refusal(sizes, part, opening.as_ptr(), opening.len()) }
+}
+
+/// Part `part`, from 1, of the next witness without the zeros that pad it: that stretch of the opening. Empty where it is refused.
+pub fn next_part(sizes: PartSizes, part: usize, opening: &[i32]) -> &[i32] {
+    let r = unsafe { raw::lizkarg_next_part(sizes, part, opening.as_ptr(), opening.len()) };
+    &opening[r.start..r.start + r.length]
+}
+
+/// The verdict on a sheet, as the program prints it.
+pub fn judge_sheet(text: &[u8]) -> Answer {
+    let r = unsafe { raw::lizkarg_judge_sheet(text.as_ptr(), text.len()) };
     Answer::of(r.kind, r.number)
 }
 

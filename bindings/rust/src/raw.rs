@@ -67,6 +67,26 @@ pub struct Sizes {
     pub target: u64,
 }
 
+/// The sizes of an opening and of its cut into ν and μ chunks.
+#[repr(C)]
+#[derive(Clone, Copy, Debug, PartialEq, Eq)]
+pub struct PartSizes {
+    pub d: usize,
+    pub n: usize,
+    pub r: usize,
+    pub kappa: usize,
+    pub t1: usize,
+    pub t2: usize,
+    pub nu: usize,
+    pub mu: usize,
+}
+
+#[repr(C)]
+pub struct RawPart {
+    pub start: usize,
+    pub length: usize,
+}
+
 /// A sheet's header, after the answer.
 #[repr(C)]
 #[derive(Clone, Copy, Debug, PartialEq, Eq)]
@@ -177,5 +197,28 @@ extern "C" {
         c: In, c_len: usize,
         opening: In, opening_len: usize,
     ) -> RawAnswer;
+    pub fn lizkarg_next_instance(
+        sizes: Sizes, nu: usize, mu: usize,
+        a: In, a_len: usize,
+        b: In, b_len: usize,
+        c_matrix: In, c_matrix_len: usize,
+        d_matrix: In, d_matrix_len: usize,
+        whole: In, whole_len: usize,
+        term: In, term_len: usize,
+        u1: In, u1_len: usize,
+        rows: In, rows_len: usize,
+        p: In, p_len: usize,
+        psi: In, psi_len: usize,
+        omega: In, omega_len: usize,
+        b2: In, b2_len: usize,
+        alpha: In, alpha_len: usize,
+        delta: In, delta_len: usize,
+        u2: In, u2_len: usize,
+        c: In, c_len: usize,
+        out: Out, out_len: usize,
+    ) -> RawAnswer;
+    pub fn lizkarg_next_part_refusal(sizes: PartSizes, part: usize, opening: In, opening_len: usize) -> u8;
+    pub fn lizkarg_next_part(sizes: PartSizes, part: usize, opening: In, opening_len: usize) -> RawPart;
+    pub fn lizkarg_judge_sheet(text: *const u8, text_len: usize) -> RawAnswer;
     pub fn lizkarg_read_sheet(text: *const u8, text_len: usize, numbers: Out, numbers_len: usize) -> Sheet;
 }

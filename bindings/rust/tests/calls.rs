@@ -30,12 +30,10 @@ fn sheet(case: &str) -> Vec<u8> {
     text.into_bytes()
 }
 
-fn verdict(case: &str) -> Answer {
+/// The header, its sizes for the verifier, and the lists of a case, or the number of its refusal.
+fn read<T>(case: &str, then: impl Fn(Sheet, Sizes, Proof) -> T) -> Result<T, u8> {
     let mut numbers = [77; 100];
-    let h = match read_sheet(&sheet(case), &mut numbers) {
-        Ok(h) => h,
-        Err(number) => return Answer::Refused(number),
-    };
+    let h = read_sheet(&sheet(case), &mut numbers)?;
     let mut at = 0;
     let mut next = |count: usize| {
         let part = &numbers[at..at + count];
@@ -67,7 +65,14 @@ fn verdict(case: &str) -> Answer {
         c: next(r * d),
         opening: next((2 * n + r * h.t1 * h.kappa + pairs * (h.t1 + h.t2)) * d),
     };
-    verify(sizes, &proof)
+    Ok(then(h, sizes, proof))
+}
+
+/// The verdict by the reader and the verifier, which is the judge's.
+fn verdict(case: &str) -> Answer {
+    let answer = read(case, |_, sizes, proof| verify(sizes, &proof)).unwrap_or_else(Answer::Refused);
+    assert_eq!(judge_sheet(&sheet(case)), answer);
+    answer
 }
 
 #[test]
@@ -77,4 +82,67 @@ fn whole_case() {
     assert_eq!(verdict(&CASE.replace("2 1 1 1 0 0", "3 1 1 1 0 0")), Answer::Refused(1));
     assert_eq!(verdict(&CASE.replace("-3 4", "-3 a")), Answer::Refused(12));
     assert_eq!(verdict(CASE).code(), (0, 0));
+}
+
+#[test]
+fn long_sheet() {
+    let mut text = sheet(CASE);
+    text.resize(65537, b' ');
+    assert_eq!(judge_sheet(&text), Answer::Refused(12));
+    assert_eq!(judge_sheet(&[]), Answer::Refused(12));
+}
+
+/// n' = 6, r' = 3, K' = 6: the constraints of the whole case in the order 5, 6, 7, 8, 3, 4, each 25 elements: 6 of a, 18 of φ, b.
+#[test]
+fn next_instance_of_the_whole_case() {
+    let (z_low, z_high, rest, b) = (6, 12, 18, 24);
+    let nonzero: [&[(usize, [i32; 2])]; 6] = [
+        &[(z_low, [1, 0]), (z_high, [4, 0]), (rest, [0, -1]), (rest + 1, [0, -8])],
+        &[(0, [1, 0]), (1, [8, 0]), (3, [16, 0]), (rest + 2, [1, 0]), (rest + 3, [4, 0])],
+        &[(rest + 4, [1, 0]), (rest + 5, [8, 0])],
+        &[(rest + 2, [1, 0]), (rest + 3, [4, 0]), (rest + 4, [1, 0]), (rest + 5, [8, 0]), (b, [-3, 4])],
+        &[(rest, [1, 0]), (rest + 2, [1, 0]), (b, [2, 2])],
+        &[(rest + 4, [1, 0]), (rest + 5, [1, 0])],
+    ];
+    let mut should = vec![0; 6 * 25 * 2];
+    for (constraint, all) in nonzero.iter().enumerate() {
+        for (place, element) in *all {
+            let at = (constraint * 25 + place) * 2;
+            should[at..at + 2].copy_from_slice(element);
+        }
+    }
+    read(CASE, |h, sizes, proof| {
+        let mut out = vec![77; should.len()];
+        assert_eq!(next_instance(sizes, h.nu, h.mu, &proof, &mut out), Answer::Written);
+        assert_eq!(out, should);
+        // not written: a check fails, the length is not right, ν and μ are out of range
+        let old = vec![77; should.len() + 1];
+        let mut out = old.clone();
+        let bad = Proof { b2: &[1, 0, 0, 0, 0, 0, 0, 0, 0, 0], ..proof };
+        assert_eq!(next_instance(sizes, 1, 1, &bad, &mut out[1..]), Answer::Failed(2));
+        assert_eq!(next_instance(sizes, 1, 1, &proof, &mut out), Answer::Refused(7));
+        assert_eq!(next_instance(sizes, 8, 1, &proof, &mut out), Answer::Refused(5));
+        assert_eq!(next_instance(sizes, 1, usize::MAX, &proof, &mut out), Answer::Refused(5));
+        assert_eq!(out, old);
+    })
+    .unwrap();
+}
+
+#[test]
+fn parts_of_the_whole_case() {
+    read(CASE, |h, _, proof| {
+        let sizes = PartSizes { d: h.d, n: h.n, r: h.r, kappa: h.kappa, t1: h.t1, t2: h.t2, nu: h.nu, mu: h.mu };
+        let o = proof.opening;
+        for (part, stretch) in [(1, &o[..2]), (2, &o[2..4]), (3, &o[4..])] {
+            assert_eq!(next_part_refusal(sizes, part, o), 0);
+            let found = next_part(sizes, part, o);
+            assert_eq!((found.as_ptr(), found.len()), (stretch.as_ptr(), stretch.len()));
+        }
+        let wide = PartSizes { nu: 8, ..sizes };
+        for (sizes, part, opening, number) in [(sizes, 0, o, 2), (sizes, 4, o, 2), (wide, 17, o, 5), (wide, 18, o, 2), (sizes, 1, &o[1..], 7)] {
+            assert_eq!(next_part_refusal(sizes, part, opening), number);
+            assert!(next_part(sizes, part, opening).is_empty());
+        }
+    })
+    .unwrap();
 }

@@ -11,6 +11,8 @@ use Rattle.fold.specs.declared.Answer.{Answer}
 use Rattle.fold.specs.declared.CommitSizes.{CommitSizes}
 use Rattle.fold.specs.declared.GarbageSizes.{GarbageSizes}
 use Rattle.fold.specs.declared.Shape.{Shape}
+use Rattle.fold.specs.declared.Sizes.{Sizes}
+use Rattle.fold.specs.Arguments.{statementOf, drawsOf, transcriptOf}
 use Rattle.fold.specs.Answers.{kindOf, numberOf, firstRefusal}
 use Rattle.fold.specs.RefusalLaws.{degree-fits}
 use Rattle.fold.specs.Refusals.{allOf, degree}
@@ -19,6 +21,7 @@ use Rattle.residues.specs.Range.{allWithin, coefficients}
 use Rattle.limits.specs.RowLaws.{joined-row, end, _&_}
 use Rattle.limits.specs.StageLaws.{single, row, none}
 use Rattle.lizkarg.specs.Calls.{Committed, Projected, Aggregated, GarbageCommitted, Amortized}
+use Rattle.next_instance.specs.Calls.{NextCalled}
 use Rattle.capi.specs.declared.types.CAnswer.{CAnswer}
 use Rattle.capi.specs.declared.types.CProduct.{CProduct}
 use Rattle.capi.specs.Codes.{Coded, codeOf}
@@ -75,6 +78,20 @@ amortize-coded {b = b} {c} {s} {v} {v′} {answer} shape-is promised code-is =
       answer = answer;
       code-is = code-is;
       promised = subst (λ x. Amortized x b c s v answer v′) shape-is promised;
+    }
+
+pub next-coded : {plain sizes : Sizes} (A B C D whole term rows ψ ω α δ c u₁ p b″ u₂ : List ℤ) {ν μ : ℕ} {out out′ : List ℤ} {answer : Answer}
+    {code : CAnswer} → plain ≡ sizes
+    → NextCalled (statementOf plain A B C D whole term) (drawsOf rows ψ ω α δ c) (transcriptOf u₁ p b″ u₂) ν μ out answer out′
+    → code ≡ codeOf answer
+    → Coded (λ x. NextCalled (statementOf sizes A B C D whole term) (drawsOf rows ψ ω α δ c) (transcriptOf u₁ p b″ u₂) ν μ out x out′) code
+next-coded A B C D whole term rows ψ ω α δ c u₁ p b″ u₂ {ν} {μ} {out} {out′} {answer} sizes-are promised code-is =
+    record {
+      answer = answer;
+      code-is = code-is;
+      promised =
+          subst (λ x. NextCalled (statementOf x A B C D whole term) (drawsOf rows ψ ω α δ c) (transcriptOf u₁ p b″ u₂) ν μ out answer out′)
+          sizes-are promised;
     }
 
 -- ---- the product

@@ -6,6 +6,7 @@ use Rattle.fold.specs.declared.CommitSizes.{CommitSizes}
 use Rattle.fold.specs.declared.GarbageSizes.{GarbageSizes}
 use Rattle.fold.specs.declared.Sizes.{Sizes}
 use Rattle.fold.specs.Answers.{kindOf, numberOf}
+use Rattle.chunks.specs.declared.part.PartSizes.{PartSizes}
 use Rattle.sheet.specs.declared.reader.SheetAnswer.{SheetAnswer}
 use Rattle.sheet.specs.declared.reader.SheetAnswer.the-variants.{Sheet, Refused}
 use Rattle.capi.specs.declared.types.CAnswer.{CAnswer}
@@ -13,6 +14,7 @@ use Rattle.capi.specs.declared.types.CShape.{CShape}
 use Rattle.capi.specs.declared.types.CCommitSizes.{CCommitSizes}
 use Rattle.capi.specs.declared.types.CGarbageSizes.{CGarbageSizes}
 use Rattle.capi.specs.declared.types.CSizes.{CSizes}
+use Rattle.capi.specs.declared.types.CPartSizes.{CPartSizes}
 use Rattle.capi.specs.declared.types.CSheet.{CSheet}
 
 abbrev pub shapeOf : CShape → Shape
@@ -62,6 +64,18 @@ sizesOf s = record {
   t2 = s .t2;
   bound = s .bound;
   target = s .target;
+}
+
+abbrev pub partSizesOf : CPartSizes → PartSizes
+partSizesOf s = record {
+  d = s .d;
+  n = s .n;
+  r = s .r;
+  kappa = s .kappa;
+  t1 = s .t1;
+  t2 = s .t2;
+  nu = s .nu;
+  mu = s .mu;
 }
 
 abbrev pub codeOf : Answer → CAnswer

@@ -1,4 +1,6 @@
 pub mod Codes
 pub mod Product
+pub mod Places
 -- Laws
 pub mod CodeLaws
+pub mod PlaceLaws

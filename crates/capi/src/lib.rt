@@ -8,6 +8,7 @@ ghost use Rattle.fold.specs.Arguments.{statementOf, drawsOf, transcriptOf};
 ghost use Rattle.fold.specs.Verification.{verification};
 ghost use Rattle.lizkarg.specs.Calls.{Committed, Projected, Aggregated, GarbageCommitted, Amortized};
 ghost use Rattle.sheet.specs.Reading as reader;
+ghost use Rattle.judge.specs.Judging.{judgedText};
 ghost use Rattle.capi.specs.Codes.{Coded, shapeOf, commitSizesOf, garbageSizesOf, sizesOf, codeOf, sheetCode};
 use types::CAnswer;
 use types::CCommitSizes;
@@ -17,6 +18,7 @@ use types::CSheet;
 use types::CSizes;
 
 pub mod multiply;
+pub mod next;
 pub mod types;
 
 // Message 1: `lizkarg::commit`.
@@ -202,4 +204,13 @@ pub extern "C" fn lizkarg_read_sheet(text: &[u8], numbers: &mut [i32]) -> CSheet
 {
     let answer = sheet::reader::read_sheet(text, numbers);
     types::sheet_code(answer)
+}
+
+// The judge of a sheet: `judge::judge_sheet`.
+#[no_mangle]
+pub extern "C" fn lizkarg_judge_sheet(text: &[u8]) -> CAnswer
+    ensures { λ x. ⌜ x ≡ codeOf (judgedText (now (text .entry))) ⌝ }
+{
+    let answer = judge::judge_sheet(text);
+    types::code(answer)
 }

@@ -10,7 +10,7 @@ use crate::types::CElement;
 use crate::types::CProduct;
 use limits::rows::degree;
 use limits::rows::first;
-use residues::range::all_within;
+use residues::range::all_between;
 use residues::range::are_coefficients;
 
 // The numbers of xs from d on are zero.
@@ -20,7 +20,7 @@ fn vanishes_from(d: usize, xs: &[i32]) -> bool
     if xs.len() < d {
         return true;
     }
-    all_within(0, &xs[d..])
+    all_between(0, 0, &xs[d..])
 }
 
 // Every number is in range, and those past d are zero.

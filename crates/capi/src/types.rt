@@ -1,6 +1,7 @@
 // What passes between C and the library: the library's sizes and answers, laid out as C lays out structs.
 ghost use mathlib.Core.Path.{_≡_};
-ghost use Rattle.capi.specs.Codes.{shapeOf, commitSizesOf, garbageSizesOf, sizesOf, codeOf, sheetCode};
+ghost use Rattle.capi.specs.Codes.{shapeOf, commitSizesOf, garbageSizesOf, sizesOf, partSizesOf, codeOf, sheetCode};
+use chunks::part::PartSizes;
 use fold::Answer;
 use fold::CommitSizes;
 use fold::GarbageSizes;
@@ -70,6 +71,26 @@ pub struct CSizes {
     pub t2: usize,
     pub bound: u64,
     pub target: u64,
+}
+
+// The sizes of an opening and of its cut into ν and μ chunks.
+#[repr(C)]
+pub struct CPartSizes {
+    pub d: usize,
+    pub n: usize,
+    pub r: usize,
+    pub kappa: usize,
+    pub t1: usize,
+    pub t2: usize,
+    pub nu: usize,
+    pub mu: usize,
+}
+
+// Where a part of the next witness stands in the caller's opening: its first number and how many there are; 0 and 0 where it is refused.
+#[repr(C)]
+pub struct CPart {
+    pub start: usize,
+    pub length: usize,
 }
 
 // A sheet's header, in its order, after the answer; all sizes are 0 where the sheet is refused.
@@ -173,6 +194,21 @@ pub fn sizes(s: CSizes) -> Sizes
         t2: s.t2,
         bound: s.bound,
         target: s.target,
+    }
+}
+
+pub fn part_sizes(s: CPartSizes) -> PartSizes
+    ensures { λ r. ⌜ r ≡ partSizesOf s ⌝ }
+{
+    PartSizes {
+        d: s.d,
+        n: s.n,
+        r: s.r,
+        kappa: s.kappa,
+        t1: s.t1,
+        t2: s.t2,
+        nu: s.nu,
+        mu: s.mu,
     }
 }
 

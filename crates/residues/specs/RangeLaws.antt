@@ -19,7 +19,7 @@ use lib.IntN.{ℤ, pos, negsuc, natAbs}
 use lib.Signed.{mag}
 use mir.Syntax.{w32}
 use mir.Val.{SFits, toZ, ofZ}
-use borrow.Author.Tests.{le-leb, lt-leb, leb-true, ltb-true, ltb-false}
+use borrow.Author.Tests.{le-leb, lt-leb, leb-true, ltb-true, ltb-false, le-ltb}
 use Rattle.integers.specs.Bridge.{zarith, natAbs-pn}
 use Rattle.integers.specs.Sums.{normSq, sq, total, total-mono, normSq-total}
 use Rattle.residues.specs.declared.length.Margin.{Margin}
@@ -137,6 +137,16 @@ pub between-bound : (b : ℕ) (xs : List ℤ) → allBetween (negsuc b) (pos (su
 unfolding allBetween allWithin
 between-bound b [] = refl
 between-bound b (x ∷ xs) = rw (between-within b x, between-bound b xs) refl
+
+-- from 0 to 0 is zero
+pub between-zero : (xs : List ℤ) → allBetween (pos 0) (pos 0) xs ≡ allWithin 0 xs
+unfolding allBetween allWithin between
+between-zero [] = refl
+between-zero (x ∷ xs) = rw (zero-only x, between-zero xs) refl
+  where
+    zero-only : (x : ℤ) → between (pos 0) (pos 0) x ≡ leb (natAbs x) 0
+    zero-only (pos n) = ap (λ t. not t && not (ltb 0 n)) (le-ltb n 0 (omega arith)) ∙ not-ltb 0 n
+    zero-only (negsuc n) = sym (lt-leb (suc n) 0 (omega arith))
 
 between-append : (low high : ℤ) (xs ys : List ℤ) → allBetween low high (xs ++ ys) ≡ cond (allBetween low high xs) (allBetween low high ys) false
 unfolding allBetween

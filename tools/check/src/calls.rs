@@ -1,12 +1,12 @@
 //! Each call of the library on a case, held to the second implementation: the answer, and every lent number afterwards.
 use crate::case::{Lists, Sz};
 use crate::plain::fold::Function;
-use crate::plain::{fold, next, refusals};
+use crate::plain::{fold, refusals};
 use lizkarg::{Answer, CommitSizes, GarbageSizes, Proof, Shape, Sizes};
 use std::collections::BTreeMap;
 
 /// What a call's outputs hold before it.
-const POISON: i32 = 1234567891;
+pub const POISON: i32 = 1234567891;
 
 /// How often each call gave each answer.
 #[derive(Default)]
@@ -47,7 +47,7 @@ pub fn room(s: &Sz) -> Room {
     }
 }
 
-fn poison(size: usize) -> Vec<i32> {
+pub fn poison(size: usize) -> Vec<i32> {
     vec![POISON; size]
 }
 
@@ -155,49 +155,19 @@ pub fn judged(tally: &mut Tally, s: &Sz, l: &Lists) -> Answer {
 /// The answer, held to the second implementation's.
 pub fn verify(tally: &mut Tally, s: &Sz, l: &Lists, second: Option<&[Function]>) -> Answer {
     let answer = judged(tally, s, l);
-    let should = match refusals::verify(s, l) {
-        0 => {
-            let check = match second {
-                Some(second) => fold::verdict(s, l, second),
-                None => fold::verdict(s, l, &fold::second(s, l)),
-            };
-            if check == 0 { Answer::Accepted } else { Answer::Failed(check) }
-        }
-        number => Answer::Refused(number),
-    };
-    assert_eq!(answer, should, "verify");
+    assert_eq!(answer, plain_verify(s, l, second), "verify");
     answer
 }
 
-/// The library's next instance, into a slice of `room` numbers. None while crates/capi has no such call: then nothing is compared, and
-/// `main` says so.
-pub fn library_next(_s: &Sz, _nu: usize, _mu: usize, _l: &Lists, _room: usize) -> Option<(Answer, Vec<i32>)> {
-    None
-}
-
-/// The library's next instance, held to the second implementation's.
-pub fn next_instance(tally: &mut Tally, s: &Sz, nu: usize, mu: usize, l: &Lists, room: usize, second: Option<&[Function]>) {
-    let Some((answer, out)) = library_next(s, nu, mu, l, room) else { return };
-    let number = refusals::next(s, nu, mu, l, room);
-    let untouched = out.iter().all(|v| *v == POISON);
-    tally.count("next_instance", answer);
+/// The second implementation's answer.
+pub fn plain_verify(s: &Sz, l: &Lists, second: Option<&[Function]>) -> Answer {
+    let number = refusals::verify(s, l);
     if number != 0 {
-        assert_eq!(answer, Answer::Refused(number), "next_instance");
-        assert!(untouched);
-        return;
+        return Answer::Refused(number);
     }
-    let formed = match second {
-        Some(second) => next::instance(s, nu, mu, l, second),
-        None => next::instance(s, nu, mu, l, &fold::second(s, l)),
+    let check = match second {
+        Some(second) => fold::verdict(s, l, second),
+        None => fold::verdict(s, l, &fold::second(s, l)),
     };
-    match formed {
-        Ok(all) => {
-            assert_eq!(answer, Answer::Written, "next_instance");
-            assert!(out == all, "next_instance: output differs");
-        }
-        Err(check) => {
-            assert_eq!(answer, Answer::Failed(check), "next_instance");
-            assert!(untouched);
-        }
-    }
+    if check == 0 { Answer::Accepted } else { Answer::Failed(check) }
 }

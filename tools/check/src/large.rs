@@ -1,6 +1,7 @@
 //! Folds at product size and at the limits: all five messages, the verdict, each block damaged, the next instance, a second fold.
 use crate::calls::*;
 use crate::case::{self, Lists, Sz};
+use crate::next_calls::*;
 use crate::plain::ring::square_length;
 use crate::plain::{fold, next};
 use crate::random::Random;
@@ -24,20 +25,8 @@ fn sizes() -> Vec<(&'static str, Sz, usize, usize)> {
 }
 
 fn honest(tally: &mut Tally, s: &mut Sz, l: &mut Lists) -> Vec<fold::Function> {
-    let room = room(s);
-    let second = fold::second(s, l);
-    (l.opening, l.u1, l.u2) = (vec![], vec![], vec![]);
-    let (t, g, u1) = commit(tally, s, l, &room);
-    l.p = project(tally, s, l, &room);
-    l.b2 = aggregate(tally, s, l, &room, Some(&second));
-    let formed = fold::aggregate(s, l, &second);
-    let (h, u2) = commit_garbage(tally, s, l, &room, Some(&formed));
-    let z = amortize(tally, s, l, &room);
-    l.opening = [z, t, g, h].concat();
-    (l.u1, l.u2) = (u1, u2);
-    // the least bounds that accept
-    s.bound = (2 * square_length(&l.p) as u128).div_ceil(s.w.max(1) as u128) as u64;
-    s.target = square_length(&l.opening) as u64;
+    let second = fold_messages(tally, s, l);
+    (s.bound, s.target) = least_bounds(s, l);
     second
 }
 
@@ -103,33 +92,48 @@ fn commit_without_t(s: &Sz, l: &Lists) -> Vec<i32> {
     crate::plain::ring::flat(&rows.collect::<Vec<_>>())
 }
 
+/// The next instance, and nothing written where a check fails or the call is refused.
+fn next_calls(tally: &mut Tally, s: &Sz, nu: usize, mu: usize, l: &Lists, second: &[fold::Function]) -> Vec<i32> {
+    let size = instance_room(s, nu, mu);
+    let written = next_instance(tally, s, nu, mu, l, size, Some(second)).expect("checks 1 and 2 hold");
+    let mut none = |s: &Sz, nu: usize, mu: usize, size: usize, edit: &dyn Fn(&mut Lists)| {
+        let mut bad = l.clone();
+        edit(&mut bad);
+        assert!(next_instance(tally, s, nu, mu, &bad, size, Some(second)).is_none());
+    };
+    let wide = Sz { bound: 999999999999999, target: 999999999999999, ..*s };
+    if s.w > 0 {
+        none(&wide, nu, mu, size, &|x| x.p.iter_mut().for_each(|v| *v = 2147483598));
+        none(&wide, nu, mu, size, &|x| change(&mut x.p, 0));
+        none(&Sz { bound: s.bound - 1, ..*s }, nu, mu, size, &|_| ());
+    }
+    none(&wide, nu, mu, size, &|x| change(&mut x.b2, 3 * s.d));
+    none(s, nu, mu, size + 1, &|_| ());
+    none(s, nu, mu, size - 1, &|_| ());
+    none(s, 8, 1, size, &|_| ());
+    none(s, usize::MAX, 2, size, &|_| ());
+    none(s, nu, mu, size, &|x| x.u2[0] = 2147483599);
+    none(s, nu, mu, size, &|x| x.d_matrix[0] = -2147483599);
+    none(s, nu, mu, size, &|x| x.c[0] = 3);
+    none(&Sz { target: 1000000000000000, ..*s }, nu, mu, size, &|_| ());
+    parts(tally, s, nu, mu, &l.opening);
+    odd_parts(tally, s, &l.opening);
+    parts(tally, s, nu, mu, &l.opening[1..]);
+    written
+}
+
 /// The next witness solves the next instance, and is folded once more.
 fn again(tally: &mut Tally, rng: &mut Random, s: &Sz, nu: usize, mu: usize, l: &Lists, second: &[fold::Function]) {
     let after = next::sizes(s, nu, mu);
-    let constraints = next::instance(s, nu, mu, l, second).expect("checks 1 and 2 hold");
-    next_instance(tally, s, nu, mu, l, constraints.len(), Some(second));
+    let written = next_calls(tally, s, nu, mu, l, second);
     let witness = next::witness(s, nu, mu, &l.opening);
-    assert!(next::meets(&after, &constraints, &witness), "the next witness does not solve the next instance");
+    assert!(next::meets(&after, &written, &witness), "the next witness does not solve the next instance");
     let mut bad = witness.clone();
     change(&mut bad, 0);
-    assert!(!next::meets(&after, &constraints, &bad));
+    assert!(!next::meets(&after, &written, &bad));
     assert!(square_length(&witness) <= s.target as i128);
-    if after.n > 256 {
-        println!("    next instance: n' = {} is above 256, no second fold", after.n);
-        return;
-    }
-    let mut t = Sz { w: s.w.max(1), kappa: 2, kappa1: 2, kappa2: 2, b: 256, b1: 256, b2: 256, t1: 4, t2: 4, ..after };
-    let mut m = case::random(rng, &Sz { k: 0, ..t }, true);
-    (m.whole, m.alpha) = (constraints, vec![0; t.k * t.d]);
-    for v in &mut m.alpha {
-        *v = rng.between(-2147483598, 2147483598) as i32;
-    }
-    m.witness = witness;
-    let second = honest(tally, &mut t, &mut m);
-    t.bound = t.bound.min(999999999999999);
-    let answer = verify(tally, &t, &m, Some(&second));
-    let fits = t.bound as i128 * t.w as i128 >= 2 * square_length(&m.p) && t.target <= 999999999999999;
-    assert_eq!(answer == Answer::Accepted, fits, "second fold");
+    let free = Sz { w: s.w.max(1), kappa: 2, kappa1: 2, kappa2: 2, b: 256, b1: 256, b2: 256, t1: 4, t2: 4, ..after };
+    let (t, answer) = second_fold(tally, rng, s, nu, mu, l, &written, &free, true, true);
     println!("    second fold at n' = {}, r' = {}, K' = {}: {:?}", t.n, t.r, t.k, answer);
 }
 

@@ -2,6 +2,7 @@
 mod calls;
 mod case;
 mod large;
+mod next_calls;
 mod plain;
 mod random;
 mod sides;
@@ -29,9 +30,6 @@ fn main() {
     println!("{:<16}{:<10}{:>7}{:>12}", "call", "answer", "number", "times");
     for ((call, kind, number), times) in &tally.seen {
         println!("{call:<16}{:<10}{number:>7}{times:>12}", kinds[*kind as usize]);
-    }
-    if !tally.seen.keys().any(|k| k.0 == "next_instance") {
-        println!("next_instance: not compared, the C interface has no such call");
     }
     let calls: u64 = tally.seen.values().sum();
     println!("all equal: {calls} calls, seed {seed}, {small} small and {medium} medium cases, large {}", if large != 0 { "yes" } else { "no" });

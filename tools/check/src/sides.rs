@@ -1,8 +1,10 @@
 //! Both sides of limits that random cases rarely meet: document 01, 'Bench values', "Sides".
 use crate::calls::*;
 use crate::case::{self, Lists, Sz};
-use crate::plain::next;
+use crate::next_calls::*;
+use crate::plain::{next, sheet};
 use crate::random::Random;
+use crate::small::judge;
 use lizkarg::Answer;
 
 fn base() -> Sz {
@@ -71,11 +73,11 @@ fn ranks(tally: &mut Tally) {
         let (s, mu) = found.expect("sizes with this rank");
         let mut l = case::random(&mut Random::new(5), &s, true);
         assert_eq!(honest(tally, &s, &mut l), Answer::Accepted);
-        let after = next::sizes(&s, 1, mu);
-        let size = after.k * (after.pairs() + after.r * after.n + 1) * s.d;
-        for off in 0..2 {
-            next_instance(tally, &s, 1, mu, &l, size + off, None);
-        }
+        let size = instance_room(&s, 1, mu);
+        assert_eq!(next_instance(tally, &s, 1, mu, &l, size, None).is_some(), wanted == 256);
+        next_instance(tally, &s, 1, mu, &l, size + 1, None);
+        parts(tally, &s, 1, mu, &l.opening);
+        odd_parts(tally, &s, &l.opening);
         for (nu, mu) in [(0, 1), (1, 0), (8, 1), (7, 2), (7, 3), (usize::MAX, 1), (1, usize::MAX)] {
             next_instance(tally, &s, nu, mu, &l, size, None);
         }
@@ -106,6 +108,23 @@ fn whole_case(tally: &mut Tally) {
     assert_eq!((next::rest_size(&s), next::rank(&s, 1, 1)), (6, 6));
     let after = next::sizes(&s, 1, 1);
     assert_eq!((after.r, after.k), (3, 6));
+    assert!(next_instance(tally, &s, 1, 1, &l, instance_room(&s, 1, 1), None).is_some());
+    assert_eq!(judge(tally, &sheet::write(&s, 1, 1, &l)), Answer::Accepted);
+    assert_eq!(judge(tally, &sheet::write(&Sz { target: 12, ..s }, 1, 1, &l)), Answer::Failed(9));
+}
+
+/// Valid sheets of 65536 and of 65537 bytes.
+fn long_sheets(tally: &mut Tally) {
+    for wanted in [65536, 65537] {
+        let all = (1..=9).flat_map(|n| (0..=8).flat_map(move |l| (0..=32).flat_map(move |k| (1..=99).map(move |w| (n, k, l, w)))));
+        let mut all = all.map(|(n, k, l, w)| Sz { d: 4, n, k, l, w, ..base() });
+        let s = all.find(|s| sheet::bytes(s) == wanted).expect("sizes with this many bytes");
+        let mut l = case::random(&mut Random::new(6), &s, true);
+        assert_eq!(honest(tally, &s, &mut l), Answer::Accepted);
+        let text = sheet::write(&s, 1, 1, &l);
+        assert_eq!(text.len(), wanted);
+        assert_eq!(judge(tally, &text), if wanted == 65536 { Answer::Accepted } else { Answer::Refused(12) });
+    }
 }
 
 pub fn run(tally: &mut Tally) {
@@ -113,4 +132,5 @@ pub fn run(tally: &mut Tally) {
     challenges(tally);
     sizes(tally);
     ranks(tally);
+    long_sheets(tally);
 }

@@ -1,7 +1,8 @@
 //! Random cases: valid, damaged, refused.
 use crate::calls::*;
 use crate::case::{self, Lists, Sz};
-use crate::plain::{fold, next, ring, sheet};
+use crate::next_calls::*;
+use crate::plain::{next, ring, sheet};
 use crate::random::Random;
 use lizkarg::{Answer, Element};
 
@@ -90,7 +91,19 @@ fn products(tally: &mut Tally, rng: &mut Random) {
     tally.count("multiply", match answer { Ok(_) => Answer::Written, Err(number) => Answer::Refused(number) });
 }
 
-/// The sheet of a case, whole and damaged, read into a slice with some numbers too many or too few.
+/// The verdict on a sheet.
+pub fn judge(tally: &mut Tally, text: &[u8]) -> Answer {
+    let answer = lizkarg::judge_sheet(text);
+    tally.count("judge_sheet", answer);
+    let should = match sheet::judged(text) {
+        Ok((s, l)) => plain_verify(&s, &l, None),
+        Err(number) => Answer::Refused(number),
+    };
+    assert_eq!(answer, should, "judge_sheet: {}", String::from_utf8_lossy(text));
+    answer
+}
+
+/// The sheet of a case, whole and damaged, judged, and read into a slice with some numbers too many or too few.
 fn sheets(tally: &mut Tally, rng: &mut Random, s: &Sz, l: &Lists) {
     let (nu, mu) = (rng.between(1, 4) as usize, rng.between(1, 8) as usize);
     let mut text = sheet::write(s, nu, mu, l);
@@ -123,6 +136,7 @@ fn sheets(tally: &mut Tally, rng: &mut Random, s: &Sz, l: &Lists) {
             text[at] = b" -+0123456789a\n\r"[rng.below(16) as usize];
         }
     }
+    judge(tally, &text);
     let exact = l.in_sheet_order().len();
     let room = match rng.below(4) {
         0 => exact,
@@ -148,18 +162,43 @@ fn sheets(tally: &mut Tally, rng: &mut Random, s: &Sz, l: &Lists) {
     }
 }
 
-/// The next instance: accepted exactly if the padded opening solves it (the bound apart, which is check 9).
+/// The next instance: accepted exactly if the padded opening solves it (the bound apart, which is check 9). `answer` is the verifier's.
 fn next_of(tally: &mut Tally, rng: &mut Random, s: &Sz, l: &Lists, answer: Answer) {
-    let (nu, mu) = (rng.between(1, 4) as usize, rng.between(1, 8) as usize);
-    let after = next::sizes(s, nu, mu);
-    let room = after.k * (after.pairs() + after.r * after.n + 1) * s.d;
-    let off = if rng.below(8) == 0 { 1 } else { 0 };
-    next_instance(tally, s, nu, mu, l, room + off, None);
-    if let Ok(constraints) = next::instance(s, nu, mu, l, &fold::second(s, l)) {
-        assert_eq!(constraints.len(), room);
-        let solved = next::meets(&after, &constraints, &next::witness(s, nu, mu, &l.opening));
-        assert_eq!(solved, matches!(answer, Answer::Accepted | Answer::Failed(9)), "next instance");
+    let (nu, mu) = chunks(rng);
+    parts(tally, s, nu, mu, &l.opening);
+    let room = instance_room(s, nu, mu);
+    if room > 10_000_000 {
+        return;
     }
+    let off = if rng.below(8) == 0 { 1 } else { 0 };
+    let Some(written) = next_instance(tally, s, nu, mu, l, room + off, None) else { return };
+    let after = next::sizes(s, nu, mu);
+    let solved = next::meets(&after, &written, &next::witness(s, nu, mu, &l.opening));
+    assert_eq!(solved, matches!(answer, Answer::Accepted | Answer::Failed(9)), "next instance");
+    let free = case::small(rng);
+    if rng.below(4) == 0 && after.r * after.n * after.d * (after.k + free.w) < 200_000 {
+        let least = rng.below(2) == 0;
+        second_fold(tally, rng, s, nu, mu, l, &written, &free, least, solved);
+    }
+}
+
+/// ν and μ, mostly within their limits.
+fn chunks(rng: &mut Random) -> (usize, usize) {
+    let nu = rng.between(1, 7) as usize;
+    (nu, rng.between(1, 16 - 2 * nu as i64) as usize)
+}
+
+/// Calls that are refused, or whose ν and μ are. `whole` has the sizes before they were damaged: the slice is as long as they say.
+fn refused_next(tally: &mut Tally, rng: &mut Random, whole: &Sz, s: &Sz, l: &Lists) {
+    let (mut nu, mut mu) = chunks(rng);
+    let room = instance_room(whole, nu, mu).min(10_000_000);
+    match rng.below(8) {
+        0 => nu = odd_size(rng) as usize,
+        1 => mu = odd_size(rng) as usize,
+        _ => (),
+    }
+    next_instance(tally, s, nu, mu, l, room, None);
+    parts(tally, s, nu, mu, &l.opening);
 }
 
 pub fn run(tally: &mut Tally, seed: u64, count: u64, sizes: fn(&mut Random) -> Sz) {
@@ -180,11 +219,12 @@ pub fn run(tally: &mut Tally, seed: u64, count: u64, sizes: fn(&mut Random) -> S
         let answer = verify(tally, &s, &l, None);
         assert!(matches!(answer, Answer::Accepted | Answer::Failed(1) | Answer::Failed(9)), "case {number}: an honest fold is {answer:?}");
         next_of(tally, &mut rng, &s, &l, answer);
+        refused_next(tally, &mut rng, &s, &s, &l);
         sheets(tally, &mut rng, &s, &l);
         products(tally, &mut rng);
         // damaged
         for _ in 0..3 {
-            let (mut s, mut l) = (s, l.clone());
+            let (whole, mut s, mut l) = (s, s, l.clone());
             size = room(&s);
             match rng.below(8) {
                 0 => s.set(rng.below(16) as usize, odd_size(&mut rng)),
@@ -201,8 +241,9 @@ pub fn run(tally: &mut Tally, seed: u64, count: u64, sizes: fn(&mut Random) -> S
             }
             all_calls(tally, &s, &l, &size);
             let answer = judged(tally, &s, &l);
-            if !matches!(answer, Answer::Refused(_)) {
-                next_of(tally, &mut rng, &s, &l, answer);
+            match answer {
+                Answer::Refused(_) => refused_next(tally, &mut rng, &whole, &s, &l),
+                _ => next_of(tally, &mut rng, &s, &l, answer),
             }
             sheets_of_damaged(tally, &mut rng, &s, &l);
         }

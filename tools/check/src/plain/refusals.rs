@@ -192,14 +192,30 @@ pub fn verify(s: &Sz, l: &Lists) -> u8 {
     judged(s, l, true, &|| l.opening.len() == (2 * s.n + super::next::rest_size(s)) * s.d, &l.opening)
 }
 
+/// Row 5.
+fn chunks(nu: usize, mu: usize) -> bool {
+    nu >= 1 && mu >= 1 && 2 * nu as u128 + mu as u128 <= 16
+}
+
+/// One part of the next witness.
+pub fn part(s: &Sz, nu: usize, mu: usize, part: usize, opening: usize) -> u8 {
+    lowest(&[
+        (1, &|| listed(s.d)),
+        (2, &|| shape(s) && part >= 1 && part as u128 <= 2 * nu as u128 + mu as u128),
+        (3, &|| rank(s.kappa)),
+        (4, &|| digits(s.t1) && digits(s.t2)),
+        (5, &|| chunks(nu, mu)),
+        (7, &|| opening == (2 * s.n + super::next::rest_size(s)) * s.d),
+    ])
+}
+
 /// The next instance: it takes no opening; `out` is the length of the slice that it writes.
 pub fn next(s: &Sz, nu: usize, mu: usize, l: &Lists, out: usize) -> u8 {
-    let chunks = nu >= 1 && mu >= 1 && nu <= 16 && mu <= 16 && 2 * nu + mu <= 16;
     let length = || {
         let after = super::next::sizes(s, nu, mu);
         out == after.k * (after.pairs() + after.r * after.n + 1) * s.d
     };
-    let number = judged(s, l, chunks, &length, &[]);
+    let number = judged(s, l, chunks(nu, mu), &length, &[]);
     if number == 0 && super::next::rank(s, nu, mu) > 256 { 11 } else { number }
 }
 

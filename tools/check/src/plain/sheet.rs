@@ -24,6 +24,11 @@ fn line_widths(s: &Sz) -> Vec<usize> {
     w
 }
 
+/// The bytes of a sheet of these sizes.
+pub fn bytes(s: &Sz) -> usize {
+    18 * 16 + 1 + line_widths(s).iter().map(|width| 16 * width + 1).sum::<usize>()
+}
+
 pub fn header(s: &Sz, nu: usize, mu: usize) -> Vec<i128> {
     [s.d, s.n, s.r, s.k, s.l, s.w, s.kappa, s.kappa1, s.kappa2, s.b, s.b1, s.b2, s.t1, s.t2, nu, mu]
         .iter()
@@ -49,6 +54,16 @@ pub fn write(s: &Sz, nu: usize, mu: usize, l: &Lists) -> Vec<u8> {
     }
     assert_eq!(at, all.len());
     out
+}
+
+/// "At most 65536 bytes (longer: 12, before all else)": the sizes and lists of a sheet that the program judges, or the refusal.
+pub fn judged(text: &[u8]) -> Result<(Sz, Lists), u8> {
+    if text.len() > 65536 {
+        return Err(12);
+    }
+    let (s, _, _, numbers) = read(text, usize::MAX)?;
+    let lists = Lists::from_sheet_order(&s, &numbers);
+    Ok((s, lists))
 }
 
 /// One field: blanks, then a minus or none, then digits without a leading zero; no minus zero.

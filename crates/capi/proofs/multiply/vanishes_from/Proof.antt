@@ -1,5 +1,7 @@
 -- `capi::multiply::vanishes_from` meets its contract. Assumes nothing.
+use mathlib.Core.Path.{_∙_}
 use borrow.Author.Needs.{needs}
+use Rattle.residues.specs.RangeLaws.{between-zero}
 use Rattle.capi.specs.CodeLaws.{none-from, rest-from}
 use Rattle.capi.proofs.multiply.vanishes_from.Statement.{statement}
 use Rattle.capi.proofs.multiply.vanishes_from.Tie as tie
@@ -7,34 +9,34 @@ use Rattle.capi.proofs.multiply.vanishes_from.Tie as tie
 returns : tie.Need-returns
 returns c = none-from _ _ (c .if1 .taken)
 
-mul-all-within : tie.Need-mul-all-within
-mul-all-within c = search needs
+mul-all-between : tie.Need-mul-all-between
+mul-all-between c = search needs
 
-sub-all-within : tie.Need-sub-all-within
-sub-all-within c = search needs
+sub-all-between : tie.Need-sub-all-between
+sub-all-between c = search needs
 
-part-all-within-start : tie.Need-part-all-within-start
-part-all-within-start c = search needs
+part-all-between-start : tie.Need-part-all-between-start
+part-all-between-start c = search needs
 
-part-all-within-end : tie.Need-part-all-within-end
-part-all-within-end c = search needs
+part-all-between-end : tie.Need-part-all-between-end
+part-all-between-end c = search needs
 
-all-within-requires : tie.Need-all-within-requires
-all-within-requires c κs = search needs
+all-between-requires : tie.Need-all-between-requires
+all-between-requires c κs = search needs
 
 returns-2 : tie.Need-returns-2
 returns-2 c =
     let args = c .before .before .before .args in
-    rest-from (args .d) (args .xs .now) (c .all-within .ensures)
+    rest-from (args .d) (args .xs .now) (c .all-between .ensures ∙ between-zero _)
 
 pub vanishes-from-spec : {M : Type 1} → statement M
 vanishes-from-spec =
     tie.close
     (tie.spec
     returns
-    mul-all-within
-    sub-all-within
-    part-all-within-start
-    part-all-within-end
-    all-within-requires
+    mul-all-between
+    sub-all-between
+    part-all-between-start
+    part-all-between-end
+    all-between-requires
     returns-2)

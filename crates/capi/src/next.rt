@@ -1,0 +1,115 @@
+// The next instance for C: its constraints, and the parts of its witness.
+ghost use mathlib.Core.Path.{_≡_};
+ghost use Rattle.fold.specs.Arguments.{statementOf, drawsOf, transcriptOf};
+ghost use Rattle.chunks.specs.Parts.{partRefusalOf};
+ghost use Rattle.next_instance.specs.Calls.{NextCalled};
+ghost use Rattle.capi.specs.Codes.{Coded, sizesOf, partSizesOf};
+ghost use Rattle.capi.specs.Places.{Placed};
+use crate::types;
+use crate::types::CAnswer;
+use crate::types::CPart;
+use crate::types::CPartSizes;
+use crate::types::CSizes;
+use chunks::part::PartSizes;
+use chunks::part::next_part_refusal;
+use chunks::sizes::chunk_start;
+use chunks::sizes::chunk_width;
+use chunks::sizes::rest_size;
+
+// The next instance: `next_instance::next_instance`.
+#[no_mangle]
+pub extern "C" fn lizkarg_next_instance(
+    sizes: CSizes,
+    nu: usize,
+    mu: usize,
+    a: &[i32],
+    b: &[i32],
+    c_matrix: &[i32],
+    d_matrix: &[i32],
+    whole: &[i32],
+    term: &[i32],
+    u1: &[i32],
+    rows: &[i32],
+    p: &[i32],
+    psi: &[i32],
+    omega: &[i32],
+    b2: &[i32],
+    alpha: &[i32],
+    delta: &[i32],
+    u2: &[i32],
+    c: &[i32],
+    out: &mut [i32],
+) -> CAnswer
+    ensures { λ x.
+        ⌜ Coded (λ answer. NextCalled (statementOf (sizesOf sizes) (now (a .entry)) (now (b .entry)) (now («c_matrix» .entry))
+        (now («d_matrix» .entry)) (now (whole .entry)) (now (term .entry)))
+        (drawsOf (now (rows .entry)) (now (psi .entry)) (now (omega .entry)) (now (alpha .entry)) (now (delta .entry))
+        (now (c .entry))) (transcriptOf (now (u1 .entry)) (now (p .entry)) (now (b2 .entry)) (now (u2 .entry))) nu mu
+        (now (out .entry)) answer (now (out .exit))) x ⌝ }
+{
+    let plain = types::sizes(sizes);
+    let answer = next_instance::next_instance(
+        plain,
+        nu,
+        mu,
+        a,
+        b,
+        c_matrix,
+        d_matrix,
+        whole,
+        term,
+        u1,
+        rows,
+        p,
+        psi,
+        omega,
+        b2,
+        alpha,
+        delta,
+        u2,
+        c,
+        out,
+    );
+    types::code(answer)
+}
+
+// The number with which part `part`, from 1, is refused, else 0: `chunks::part::next_part_refusal`.
+#[no_mangle]
+pub extern "C" fn lizkarg_next_part_refusal(sizes: CPartSizes, part: usize, opening: &[i32]) -> u8
+    ensures { λ x. ⌜ x ≡ partRefusalOf (partSizesOf sizes) part (now (opening .entry)) ⌝ }
+{
+    let plain = types::part_sizes(sizes);
+    next_part_refusal(plain, part, opening)
+}
+
+// The place of part `part`, from 1, in the opening.
+fn place(sizes: PartSizes, part: usize, opening: &[i32]) -> CPart
+    ensures { λ x. ⌜ Placed sizes part (now (opening .entry)) x ⌝ }
+{
+    let refusal = next_part_refusal(sizes, part, opening);
+    if refusal != 0 {
+        return CPart {
+            start: 0,
+            length: 0,
+        };
+    }
+    let m = rest_size(sizes.r, sizes.kappa, sizes.t1, sizes.t2);
+    let s = part - 1;
+    let at = chunk_start(sizes.n, sizes.nu, m, sizes.mu, s);
+    let width = chunk_width(sizes.n, sizes.nu, m, sizes.mu, s);
+    let start = at * sizes.d;
+    let length = width * sizes.d;
+    CPart {
+        start: start,
+        length: length,
+    }
+}
+
+// The place of what `chunks::part::next_part` hands back.
+#[no_mangle]
+pub extern "C" fn lizkarg_next_part(sizes: CPartSizes, part: usize, opening: &[i32]) -> CPart
+    ensures { λ x. ⌜ Placed (partSizesOf sizes) part (now (opening .entry)) x ⌝ }
+{
+    let plain = types::part_sizes(sizes);
+    place(plain, part, opening)
+}
