@@ -93,9 +93,10 @@ fn commit_without_t(s: &Sz, l: &Lists) -> Vec<i32> {
 }
 
 /// The next instance, and nothing written where a check fails or the call is refused.
-fn next_calls(tally: &mut Tally, s: &Sz, nu: usize, mu: usize, l: &Lists, second: &[fold::Function]) -> Vec<i32> {
+fn next_calls(tally: &mut Tally, s: &Sz, nu: usize, mu: usize, l: &Lists, second: &[fold::Function]) -> Option<Vec<i32>> {
     let size = instance_room(s, nu, mu);
-    let written = next_instance(tally, s, nu, mu, l, size, Some(second)).expect("checks 1 and 2 hold");
+    let written = next_instance(tally, s, nu, mu, l, size, Some(second));
+    assert_eq!(written.is_some(), next::rank(s, nu, mu) <= 256, "checks 1 and 2 hold");
     let mut none = |s: &Sz, nu: usize, mu: usize, size: usize, edit: &dyn Fn(&mut Lists)| {
         let mut bad = l.clone();
         edit(&mut bad);
@@ -125,7 +126,10 @@ fn next_calls(tally: &mut Tally, s: &Sz, nu: usize, mu: usize, l: &Lists, second
 /// The next witness solves the next instance, and is folded once more.
 fn again(tally: &mut Tally, rng: &mut Random, s: &Sz, nu: usize, mu: usize, l: &Lists, second: &[fold::Function]) {
     let after = next::sizes(s, nu, mu);
-    let written = next_calls(tally, s, nu, mu, l, second);
+    let Some(written) = next_calls(tally, s, nu, mu, l, second) else {
+        println!("    next instance: n' = {} is above 256, refused", after.n);
+        return;
+    };
     let witness = next::witness(s, nu, mu, &l.opening);
     assert!(next::meets(&after, &written, &witness), "the next witness does not solve the next instance");
     let mut bad = witness.clone();
@@ -151,6 +155,9 @@ pub fn run(tally: &mut Tally, seed: u64) {
         println!("{what}: d {} n {} r {} K {} L {} w {}: accepted, {:.1} s", s.d, s.n, s.r, s.k, s.l, s.w, from.elapsed().as_secs_f64());
         damage(tally, &mut rng, &s, &l);
         again(tally, &mut rng, &s, nu, mu, &l, &second);
+        if next::rank(&s, nu, mu) > 256 {
+            again(tally, &mut rng, &s, 1, 14, &l, &second);
+        }
         println!("    {:.1} s", from.elapsed().as_secs_f64());
     }
 }
