@@ -1,5 +1,4 @@
 // Kind 1, the next instance: its lists are read in three steps, the setup and the statement, the messages up to b'', the rest.
-ghost use mathlib.Core.Path.{_≡_};
 ghost use Prim.Native.Nat.{_≤_};
 ghost use lib.ListN.{length};
 use crate::input::FILL;

@@ -1,5 +1,4 @@
 // The second fold of kind 3: its whole constraints are those of the next instance, its witness is the next witness.
-ghost use mathlib.Core.Path.{_≡_};
 ghost use Prim.Native.Nat.{_≤_};
 ghost use lib.ListN.{length};
 use crate::folds::run_fold;

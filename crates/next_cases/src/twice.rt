@@ -1,5 +1,4 @@
 // Kind 3, a fold and the fold of its next instance.
-ghost use mathlib.Core.Path.{_≡_};
 ghost use Prim.Native.Nat.{_≤_};
 ghost use lib.ListN.{length};
 use crate::folds::run_fold;

@@ -1,5 +1,4 @@
 // The opening and the next witness, put together from their parts.
-ghost use mathlib.Core.Path.{_≡_};
 ghost use Prim.Native.Nat.{_≤_};
 ghost use lib.ListN.{length};
 use chunks::part::PartSizes;

@@ -1,13 +1,13 @@
 -- `next_cases::input::wrapped` meets its contract. Assumes nothing.
 use mathlib.Core.Path.{_≡_, refl}
 use mathlib.Core.Bool.{true, false}
-use Prim.Native.Nat.{ℕ, _+_, _-_, _≤_}
+use Prim.Native.Nat.{_+_, _-_, _≤_}
 use native.Mathlib.Omega.{arith}
 use lib.Dec.{T}
 use lib.IntN.{ℤ, pos, negsuc, natAbs, _-ℤ_}
 use lib.Signed.{nonNeg, ltZ, yes-nonNeg}
 use mir.Syntax.{w64}
-use mir.Val.{SFits, Fits, ofZ}
+use mir.Val.{SFits, ofZ}
 use mir.Facts.{toZ-ofZ, fits-natAbs}
 use Rattle.integers.specs.Bridge.{N, zarith, pos-pn, sub-pn, natAbs-pn, pn-min, sfits-pn}
 use Rattle.next_cases.proofs.input.wrapped.Statement.{statement}
