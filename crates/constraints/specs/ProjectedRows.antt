@@ -173,20 +173,21 @@ module _ {d n r w : ℕ} {rows ω : List ℤ} (facts : ProjectionFacts d n r w r
       let at : (j * (r * n) + e) * d ≤ 1052672 * 64 = mul-le-mul element (facts .shaped .degree .small) in
       (omega (arith, before), element, omega (arith, at))
 
-  pub element-place : {j e y : ℕ} → j < w → e < r * n → y < d → (j * (r * n) + e) * d + y < length rows
+  pub element-fits : {j e : ℕ} → j < w → e < r * n → (j * (r * n) + e) * d + d ≤ length rows
   unfolding projectionLength
-  element-place {j} {e} {y} h l b =
-      omega (arith, facts .rows-length, b, mul-le-mul-right d l, mul-le-mul-right (r * n * d) h)
+  element-fits {j} {e} h l = omega (arith, facts .rows-length, mul-le-mul-right d l, mul-le-mul-right (r * n * d) h)
+
+  pub element-place : {j e y : ℕ} → j < w → e < r * n → y < d → (j * (r * n) + e) * d + y < length rows
+  element-place {j} {e} {y} h l b = omega (arith, b, element-fits {j = j} {e = e} h l)
 
   -- the rows of group g
   pub group-row : {g : ℕ} → g < w / 4 → g * 4 < w
   group-row h = omega (arith, h)
 
-  pub group-place : {g e y : ℕ} → g < w / 4 → e < r * n → y < d
-      → (g * 4 * (r * n) + e) * d + y + r * n * d + r * n * d + r * n * d < length rows
-  group-place {g} {e} {y} h l b =
+  pub group-place : {g e : ℕ} → g < w / 4 → e < r * n → (g * 4 * (r * n) + e) * d + d + r * n * d + r * n * d + r * n * d ≤ length rows
+  group-place {g} {e} h l =
       let row : g * 4 + 3 < w = omega (arith, h) in
-      omega (arith, element-place {j = g * 4 + 3} row l b)
+      omega (arith, element-fits {j = g * 4 + 3} row l)
 
 -- ---- what the turns of the loops ask and give
 

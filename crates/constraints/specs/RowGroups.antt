@@ -1,6 +1,7 @@
 -- The projection rows, four at a time.
 --     decode         the entry of which the last digit of a code to base 3 is the digit
 --     Coded          a code of four entries
+--     Codes, CodesOf    the codes of one group, and of the first groups
 --     fourSum        the sum of four entries, each times its weight
 --     Term           one product more in such a sum, with its bound
 --     WeightedSum    such a sum at a code, with its bound
@@ -21,7 +22,7 @@ use borrow.Author.Tests.{ltb-true, ltb-false}
 use mir.Syntax.{w32, w64}
 use mir.Val.{SFits, toZ, ofZ}
 use mir.Facts.{toZ-ofZ}
-use Rattle.integers.specs.Bridge.{P, N, zarith, natAbs-pn, pn-min, pos-pn, add-pn, sub-pn, bnd, abs-bnd, mul-bnd}
+use Rattle.integers.specs.Bridge.{P, N, zarith, natAbs-pn, pn-min, pos-pn, add-pn, sub-pn, abs-bnd, mul-bnd}
 use Rattle.residues.specs.Centring.{held}
 use Rattle.residues.specs.Range.{projections}
 use Rattle.residues.specs.RangeLaws.{allWithin-at}
@@ -65,10 +66,68 @@ coded-by t₀ t₁ t₂ t₃ c (h₀, e₀) (h₁, e₁) (h₂, e₂) (h₃, e�
       fourth = rw g (sym e₃);
     }
 
+-- the first m codes of entries of four rows, from place `from` on
+pub record Codes (rows : List ℤ) (at step from : ℕ) (old : List ℕ) (m : ℕ) (new : List ℕ) : Type 0 where
+  pub size : length new ≡ 4096
+  pub code : (y : ℕ) → y < m
+      → Coded (getD new (from + y) 0) (getD rows (at + y) (pos 0)) (getD rows (at + y + step) (pos 0)) (getD rows (at + y + step + step) (pos 0))
+      (getD rows (at + y + step + step + step) (pos 0))
+  pub before : (i : ℕ) → i < from → getD new i 0 ≡ getD old i 0
+
+pub codes-start : (rows : List ℤ) (at step from : ℕ) (codes : List ℕ) → length codes ≡ 4096 → Codes rows at step from codes 0 codes
+codes-start rows at step from codes e =
+    record { size = e; code = λ y h. let no : ⊥ = omega arith in absurd no; before = λ i h. refl }
+
+pub codes-step : {rows : List ℤ} {at step from : ℕ} {old : List ℕ} {m : ℕ} {new : List ℕ} {c : ℕ} → Codes rows at step from old m new → from + m < 4096
+    → Coded c (getD rows (at + m) (pos 0)) (getD rows (at + m + step) (pos 0)) (getD rows (at + m + step + step) (pos 0))
+    (getD rows (at + m + step + step + step) (pos 0))
+    → Codes rows at step from old (m + 1) (set new (from + m) c)
+codes-step {rows} {at} {step} {from} {m} {new} {c} sofar inside coded =
+    record {
+      size = length-set new (from + m) c ∙ sofar .size;
+      code = λ y h. place y h (ltb y m) refl;
+      before = λ i h. getD-set-other new (from + m) i c 0 (λ e. omega arith) ∙ sofar .before i h;
+    }
+  where
+    place : (y : ℕ) → y < m + 1 → (t : Bool) → ltb y m ≡ t
+        → Coded (getD (set new (from + m) c) (from + y) 0) (getD rows (at + y) (pos 0)) (getD rows (at + y + step) (pos 0))
+        (getD rows (at + y + step + step) (pos 0)) (getD rows (at + y + step + step + step) (pos 0))
+    place y h true e =
+        let less : y < m = ltb-true y m e in
+        rw (getD-set-other new (from + m) (from + y) c 0 (λ e. omega arith)) (sofar .code y less)
+    place y h false e =
+        let same : y ≡ m = omega (arith, h, ltb-false y m e) in
+        rw (same, getD-set-same new (from + m) c 0 (omega (arith, inside, sofar .size))) coded
+
+-- the codes of the first groups at element e
+pub record CodesOf (d m : ℕ) (rows : List ℤ) (e groups : ℕ) (codes : List ℕ) : Type 0 where
+  pub size : length codes ≡ 4096
+  pub code : (g y : ℕ) → g < groups → y < d
+      → Coded (getD codes (g * 64 + y) 0) (getD rows ((g * 4 * m + e) * d + y) (pos 0)) (getD rows ((g * 4 * m + e) * d + y + m * d) (pos 0))
+      (getD rows ((g * 4 * m + e) * d + y + m * d + m * d) (pos 0)) (getD rows ((g * 4 * m + e) * d + y + m * d + m * d + m * d) (pos 0))
+
+pub groups-start : (d m : ℕ) (rows : List ℤ) (e : ℕ) (codes : List ℕ) → length codes ≡ 4096 → CodesOf d m rows e 0 codes
+groups-start d m rows e codes h = record { size = h; code = λ g y l b. let no : ⊥ = omega arith in absurd no }
+
+pub groups-step : {d m : ℕ} {rows : List ℤ} {e g : ℕ} {codes new : List ℕ} → d ≤ 64 → CodesOf d m rows e g codes
+    → Codes rows ((g * 4 * m + e) * d) (m * d) (g * 64) codes d new → CodesOf d m rows e (g + 1) new
+groups-step {d} {m} {rows} {e} {g} {codes} {new} small sofar written =
+    record { size = written .size; code = λ h y l b. place h y l b (ltb h g) refl }
+  where
+    place : (h y : ℕ) → h < g + 1 → y < d → (t : Bool) → ltb h g ≡ t
+        → Coded (getD new (h * 64 + y) 0) (getD rows ((h * 4 * m + e) * d + y) (pos 0)) (getD rows ((h * 4 * m + e) * d + y + m * d) (pos 0))
+        (getD rows ((h * 4 * m + e) * d + y + m * d + m * d) (pos 0)) (getD rows ((h * 4 * m + e) * d + y + m * d + m * d + m * d) (pos 0))
+    place h y l b true q =
+        let less : h < g = ltb-true h g q in
+        rw (written .before (h * 64 + y) (omega (arith, less, b, small))) (sofar .code h y less b)
+    place h y l b false q =
+        let same : h ≡ g = omega (arith, l, ltb-false h g q) in
+        rw same (written .code y b)
+
 -- ---- the leaves
 
-pub digit-fits : {x : ℤ} → SFits w32 x → SFits w64 (x +ℤ pos 1)
-digit-fits {x} h = omega (zarith, bnd x, add-pn x (pos 1))
+pub digit-fits : (x : ℤ) → natAbs x ≤ 1 → SFits w32 (x +ℤ pos 1)
+digit-fits x h = omega (zarith, h, natAbs-pn x, add-pn x (pos 1))
 
 pub digit-natural : (x : ℤ) → natAbs x ≤ 1 → T (nonNeg (x +ℤ pos 1))
 digit-natural x h = yes-nonNeg {z = x +ℤ pos 1} (omega (zarith, h, natAbs-pn x, add-pn x (pos 1)))

@@ -9,10 +9,10 @@ ghost use Rattle.residues.specs.Modulus.{centred};
 ghost use Rattle.ring.specs.Element.{Degree, array};
 ghost use Rattle.fold.specs.Entries.{projectionEntry};
 ghost use Rattle.constraints.specs.Facts.{ProjectionFacts};
-ghost use Rattle.constraints.specs.RowGroups.{SumsOf};
+ghost use Rattle.constraints.specs.RowGroups.{CodesOf, SumsOf};
 ghost use Rattle.constraints.specs.Accumulator.{FiveRoom, SmallFive, AddedFive};
 ghost use Rattle.constraints.specs.ProjectedRows.{Summed};
-use crate::row_groups::code_at;
+use crate::row_groups::group_codes;
 use fold::Shape;
 use residues::modulus;
 
@@ -73,36 +73,30 @@ fn add_entry(acc: &mut [i64; 320], at: usize, w: usize, omega: &[i32], j: usize,
     }
 }
 
-// Adds four rows, by their codes.
+// Adds four rows, by their codes; a row has `count` elements.
 fn add_group(
-    shape: Shape,
+    d: usize,
+    count: usize,
     w: usize,
     rows: &[i32],
     omega: &[i32],
     sums: &[i64; 25920],
     e: usize,
+    codes: &[u32; 4096],
     group: usize,
     acc: &mut [i64; 320],
 )
-    requires { ⌜ ProjectionFacts (shape .d) (shape .n) (shape .r) w (now rows) (now omega) ⌝ }
+    requires { ⌜ (Degree d) × (w ≤ 256) × (group < w / 4) ⌝ }
     requires { ⌜ SumsOf w (now omega) (now sums) ⌝ }
-    requires { ⌜ (e < shape .r * shape .n) × (group < w / 4) ⌝ }
-    requires { ⌜ Summed (shape .d) (shape .r * shape .n) w (now rows) (now omega) e (group * 4) (now acc) ⌝ }
-    ensures { λ _. ⌜ Summed (shape .d) (shape .r * shape .n) w (now (rows .entry)) (now (omega .entry)) e (group * 4 + 4)
-        (now (acc .exit)) ⌝ }
+    requires { ⌜ CodesOf d count (now rows) e (w / 4) (now codes) ⌝ }
+    requires { ⌜ Summed d count w (now rows) (now omega) e (group * 4) (now acc) ⌝ }
+    ensures { λ _. ⌜ Summed d count w (now (rows .entry)) (now (omega .entry)) e (group * 4 + 4) (now (acc .exit)) ⌝ }
 {
-    let d = shape.d;
-    let parts = shape.r;
-    let rank = shape.n;
-    let count = parts * rank;
-    let step = count * d;
-    let row = group * 4;
-    let element = row * count + e;
-    let at = element * d;
+    let place = group * 64;
     let first = group * 81;
     let mut y = 0;
     while y < d {
-        let c = code_at(rows, at + y, step);
+        let c = codes[place + y] as usize;
         let number = first + c;
         add_five(acc, y * 5, sums, number * 5);
         y += 1;
@@ -140,25 +134,26 @@ fn add_row(
 
 // Adds the groups of four rows.
 fn add_groups(
-    shape: Shape,
+    d: usize,
+    count: usize,
     w: usize,
     rows: &[i32],
     omega: &[i32],
     sums: &[i64; 25920],
     e: usize,
+    codes: &[u32; 4096],
     acc: &mut [i64; 320],
 )
-    requires { ⌜ ProjectionFacts (shape .d) (shape .n) (shape .r) w (now rows) (now omega) ⌝ }
+    requires { ⌜ (Degree d) × (w ≤ 256) ⌝ }
     requires { ⌜ SumsOf w (now omega) (now sums) ⌝ }
-    requires { ⌜ e < shape .r * shape .n ⌝ }
-    requires { ⌜ Summed (shape .d) (shape .r * shape .n) w (now rows) (now omega) e 0 (now acc) ⌝ }
-    ensures { λ _. ⌜ Summed (shape .d) (shape .r * shape .n) w (now (rows .entry)) (now (omega .entry)) e (w / 4 * 4)
-        (now (acc .exit)) ⌝ }
+    requires { ⌜ CodesOf d count (now rows) e (w / 4) (now codes) ⌝ }
+    requires { ⌜ Summed d count w (now rows) (now omega) e 0 (now acc) ⌝ }
+    ensures { λ _. ⌜ Summed d count w (now (rows .entry)) (now (omega .entry)) e (w / 4 * 4) (now (acc .exit)) ⌝ }
 {
     let groups = w / 4;
     let mut group = 0;
     while group < groups {
-        add_group(shape, w, rows, omega, sums, e, group, acc);
+        add_group(d, count, w, rows, omega, sums, e, codes, group, acc);
         group += 1;
     }
 }
@@ -225,8 +220,14 @@ pub fn projection_row(
     ensures { λ r. ⌜ r ≡ tab 5 (λ k. array (shape .d) (projectionEntry (shape .d) (shape .n) (shape .r) w (now (rows .entry))
         (now (omega .entry)) k e)) ⌝ }
 {
+    let d = shape.d;
+    let parts = shape.r;
+    let rank = shape.n;
+    let count = parts * rank;
+    let mut codes = [0u32; 4096];
+    group_codes(shape, w, rows, omega, e, &mut codes);
     let mut acc = [0i64; 320];
-    add_groups(shape, w, rows, omega, sums, e, &mut acc);
+    add_groups(d, count, w, rows, omega, sums, e, &codes, &mut acc);
     add_rest(shape, w, rows, omega, e, &mut acc);
-    centred_row(shape.d, &acc)
+    centred_row(d, &acc)
 }

@@ -2,23 +2,24 @@
 // each group of four rows, each code and each second function, the weighted sum of the four entries.
 ghost use mathlib.Core.Path.{_≡_};
 ghost use mathlib.Core.Bool.{true};
-ghost use Prim.Native.Nat.{_+_, _*_, _<_, _≤_};
+ghost use Prim.Native.Nat.{_+_, _*_, _/_, _<_, _≤_};
 ghost use lib.ListN.{length, getD};
 ghost use lib.IntN.{pos, natAbs, _+ℤ_, _-ℤ_, _*ℤ_};
 ghost use Rattle.residues.specs.Range.{projections};
-ghost use Rattle.constraints.specs.RowGroups.{decode, Coded, Term, WeightedSum, SumsOf};
+ghost use Rattle.constraints.specs.Facts.{ProjectionFacts};
+ghost use Rattle.constraints.specs.RowGroups.{decode, Coded, Codes, CodesOf, Term, WeightedSum, SumsOf};
+use fold::Shape;
 
 // The digit x + 1 of an entry x.
-fn entry_digit(x: i32) -> usize
+fn entry_digit(x: i32) -> u32
     requires { ⌜ natAbs x ≤ 1 ⌝ }
     ensures { λ r. ⌜ (r < 3) × (x ≡ pos r -ℤ pos 1) ⌝ }
 {
-    let wide = x as i64;
-    (wide + 1) as usize
+    (x + 1) as u32
 }
 
 // The code of four entries.
-fn code(x0: i32, x1: i32, x2: i32, x3: i32) -> usize
+fn code(x0: i32, x1: i32, x2: i32, x3: i32) -> u32
     requires { ⌜ (natAbs x0 ≤ 1) × (natAbs x1 ≤ 1) × (natAbs x2 ≤ 1) × (natAbs x3 ≤ 1) ⌝ }
     ensures { λ r. ⌜ Coded r x0 x1 x2 x3 ⌝ }
 {
@@ -32,7 +33,7 @@ fn code(x0: i32, x1: i32, x2: i32, x3: i32) -> usize
 }
 
 // The code of the entries of four rows, which stand `step` apart, the first at `at`.
-pub fn code_at(rows: &[i32], at: usize, step: usize) -> usize
+fn code_at(rows: &[i32], at: usize, step: usize) -> u32
     requires { ⌜ projections (now rows) ≡ true ⌝ }
     requires { ⌜ at + step + step + step < length (now rows) ⌝ }
     ensures { λ r. ⌜ Coded r (getD (now (rows .entry)) at (pos 0)) (getD (now (rows .entry)) (at + step) (pos 0))
@@ -46,6 +47,51 @@ pub fn code_at(rows: &[i32], at: usize, step: usize) -> usize
     let x2 = rows[third];
     let x3 = rows[fourth];
     code(x0, x1, x2, x3)
+}
+
+// The codes of d neighbouring entries of four rows, from place `from` on.
+fn write_codes(d: usize, rows: &[i32], at: usize, step: usize, codes: &mut [u32; 4096], from: usize)
+    requires { ⌜ projections (now rows) ≡ true ⌝ }
+    requires { ⌜ at + d + step + step + step ≤ length (now rows) ⌝ }
+    requires { ⌜ (from + d ≤ 4096) × (length (now codes) ≡ 4096) ⌝ }
+    ensures { λ _. ⌜ Codes (now (rows .entry)) at step from (now (codes .entry)) d (now (codes .exit)) ⌝ }
+{
+    let mut y = 0;
+    while y < d {
+        let c = code_at(rows, at + y, step);
+        codes[from + y] = c;
+        y += 1;
+    }
+}
+
+// The codes at element e of the witness: number g * 64 + y is that of group g and coefficient y. They are formed before the sums, so that
+// the rows, which stand far apart, are read without waiting.
+pub fn group_codes(
+    shape: Shape,
+    w: usize,
+    rows: &[i32],
+    omega: &[i32],
+    e: usize,
+    codes: &mut [u32; 4096],
+)
+    requires { ⌜ ProjectionFacts (shape .d) (shape .n) (shape .r) w (now rows) (now omega) ⌝ }
+    requires { ⌜ (e < shape .r * shape .n) × (length (now codes) ≡ 4096) ⌝ }
+    ensures { λ _. ⌜ CodesOf (shape .d) (shape .r * shape .n) (now (rows .entry)) e (w / 4) (now (codes .exit)) ⌝ }
+{
+    let d = shape.d;
+    let parts = shape.r;
+    let rank = shape.n;
+    let count = parts * rank;
+    let step = count * d;
+    let groups = w / 4;
+    let mut g = 0;
+    while g < groups {
+        let row = g * 4;
+        let element = row * count + e;
+        let at = element * d;
+        write_codes(d, rows, at, step, codes, g * 64);
+        g += 1;
+    }
 }
 
 // The entry of which the last digit of a code is the digit.

@@ -7,10 +7,10 @@ use Rattle.constraints.proofs.projected_rows.add_groups.Statement.{stat
 use Rattle.constraints.proofs.projected_rows.add_groups.Tie as tie
 
 abbrev Inv-loop : tie.InvT-loop
-Inv-loop shape w rows omega sums e acc₀ groups group₀ acc group = (group ≤ groups) × Summed (shape .d) (shape .r * shape .n) w rows omega e (group * 4) acc
+Inv-loop d count w rows omega sums e codes acc₀ groups group₀ acc group = (group ≤ groups) × Summed d count w rows omega e (group * 4) acc
 
 abbrev μ-loop : tie.MeasureT-loop
-μ-loop shape w rows omega sums e acc₀ groups group₀ acc group = groups - group
+μ-loop d count w rows omega sums e codes acc₀ groups group₀ acc group = groups - group
 
 loop-holds : tie.Need-loop-holds Inv-loop μ-loop
 loop-holds c = (omega arith, c .pre .1 .1 .1)
@@ -19,7 +19,7 @@ add-group-requires : tie.Need-add-group-requires Inv-loop μ-loop
 add-group-requires c κs =
     let l = c .before .before in
     let s = l .before in
-    (s .pre .0, (s .pre .1 .0, ((s .pre .1 .1 .0, c .before .loop-test .taken), l .loop .inv .1)))
+    ((s .pre .0 .0, s .pre .0 .1, c .before .loop-test .taken), (s .pre .1 .0, (s .pre .1 .1 .0, l .loop .inv .1)))
 
 add-group : tie.Need-add-group Inv-loop μ-loop
 add-group c = omega arith

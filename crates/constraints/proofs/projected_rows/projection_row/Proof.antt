@@ -1,14 +1,28 @@
 -- `constraints::projected_rows::projection_row` meets its contract.
+use Prim.Native.Nat.{ℕ}
 use mathlib.Core.Path.{_∙_}
+use native.Mathlib.Omega.{arith}
+use lib.ListN.{length-replicate}
+use Rattle.constraints.specs.SizeLaws.{witness-small}
 use Rattle.constraints.specs.ProjectedRows.{summed-start, row-end}
 use borrow.Author.Needs.{needs}
 use Rattle.constraints.proofs.projected_rows.projection_row.Statement.{statement}
 use Rattle.constraints.proofs.projected_rows.projection_row.Tie as tie
 
+mul-count : tie.Need-mul-count
+mul-count c = omega (arith, witness-small (c .pre .0 .shaped))
+
+group-codes-requires : tie.Need-group-codes-requires
+group-codes-requires c κs = (c .before .pre .0, (c .before .pre .1 .1, length-replicate {A = ℕ} 4096 0))
+
 add-groups-requires : tie.Need-add-groups-requires
 add-groups-requires c κs =
-    let s = c .before in
-    (s .pre .0, (s .pre .1 .0, (s .pre .1 .1, summed-start _ _ _ _ _ _ (s .pre .0 .shaped .degree .small))))
+    let f = c .before .before in
+    let s = f .before .before in
+    let facts = s .pre .0 in (
+      (facts .shaped .degree, facts .row-count),
+      (s .pre .1 .0, (f .group-codes .ensures, summed-start _ _ _ _ _ _ (facts .shaped .degree .small))),
+    )
 
 add-rest-requires : tie.Need-add-rest-requires
 add-rest-requires c κs = search needs
@@ -21,4 +35,11 @@ returns c = c .centred-row .ensures ∙ row-end _ _ _ _ _ _ _ (c .before .before
 
 pub projection-row-spec : {M : Type 1} → statement M
 projection-row-spec =
-    tie.close (tie.spec add-groups-requires add-rest-requires centred-row-requires returns)
+    tie.close
+    (tie.spec
+    mul-count
+    group-codes-requires
+    add-groups-requires
+    add-rest-requires
+    centred-row-requires
+    returns)

@@ -1,0 +1,92 @@
+-- `constraints::row_groups::group_codes` meets its contract. The loop has written the codes of the first groups.
+use mathlib.Core.Path.{_≡_}
+use Prim.Native.Nat.{_-_, _*_, _/_, _≤_}
+use native.Mathlib.Omega.{arith}
+use Rattle.constraints.specs.SizeLaws.{witness-small}
+use Rattle.constraints.specs.RowGroups.{CodesOf, groups-start, groups-step}
+use Rattle.constraints.specs.ProjectedRows.{step-small, element-small, group-row, group-place}
+use Rattle.constraints.proofs.row_groups.group_codes.Statement.{statement}
+use Rattle.constraints.proofs.row_groups.group_codes.Tie as tie
+
+abbrev Inv-loop : tie.InvT-loop
+Inv-loop w rows omega e codes₀ d parts rank count step groups g₀ codes g = (g ≤ groups) × CodesOf d (parts * rank) rows e g codes
+
+abbrev μ-loop : tie.MeasureT-loop
+μ-loop w rows omega e codes₀ d parts rank count step groups g₀ codes g = groups - g
+
+mul-count : tie.Need-mul-count Inv-loop μ-loop
+mul-count c = omega (arith, witness-small (c .pre .0 .shaped))
+
+mul-step : tie.Need-mul-step Inv-loop μ-loop
+mul-step c = omega (arith, step-small (c .pre .0))
+
+loop-holds : tie.Need-loop-holds Inv-loop μ-loop
+loop-holds c = (omega arith, groups-start _ _ _ _ _ (c .pre .1 .1))
+
+mul-row : tie.Need-mul-row Inv-loop μ-loop
+mul-row c = omega (arith, c .before .before .pre .0 .row-count)
+
+mul-element : tie.Need-mul-element Inv-loop μ-loop
+mul-element c =
+    let s = c .before .before in
+    omega (arith, element-small (s .pre .0) (group-row (s .pre .0) (c .loop-test .taken)) (s .pre .1 .0))
+
+add-element : tie.Need-add-element Inv-loop μ-loop
+add-element c =
+    let s = c .before .before in
+    omega (arith, element-small (s .pre .0) (group-row (s .pre .0) (c .loop-test .taken)) (s .pre .1 .0))
+
+mul-at : tie.Need-mul-at Inv-loop μ-loop
+mul-at c =
+    let s = c .before .before in
+    omega (arith, element-small (s .pre .0) (group-row (s .pre .0) (c .loop-test .taken)) (s .pre .1 .0))
+
+mul-write-codes : tie.Need-mul-write-codes Inv-loop μ-loop
+mul-write-codes c = omega (arith, c .before .before .before .pre .0 .row-count)
+
+write-codes-requires : tie.Need-write-codes-requires Inv-loop μ-loop
+write-codes-requires c κs =
+    let l = c .before .before in
+    let facts = l .before .pre .0 in (
+      facts .tested,
+      (
+        group-place facts (c .before .loop-test .taken) (l .before .pre .1 .0),
+        (omega (arith, facts .row-count, facts .shaped .degree .small, c .before .loop-test .taken), l .loop .inv .1 .size),
+      ),
+    )
+
+add-g : tie.Need-add-g Inv-loop μ-loop
+add-g c = omega arith
+
+loop-less : tie.Need-loop-less Inv-loop μ-loop
+loop-less c = omega arith
+
+loop-again : tie.Need-loop-again Inv-loop μ-loop
+loop-again c =
+    let l = c .before .before .before in
+    (omega arith, groups-step (l .before .pre .0 .shaped .degree .small) (l .loop .inv .1) (c .write-codes .ensures))
+
+returns : tie.Need-returns Inv-loop μ-loop
+returns c =
+    let all : c .before .loop .g ≡ c .before .before .args .w / 4 = omega arith in
+    rw all at (c .before .loop .inv .1)
+
+pub group-codes-spec : {M : Type 1} → statement M
+group-codes-spec =
+    tie.close
+    (tie.spec
+    Inv-loop
+    μ-loop
+    mul-count
+    mul-step
+    loop-holds
+    mul-row
+    mul-element
+    add-element
+    mul-at
+    mul-write-codes
+    write-codes-requires
+    add-g
+    loop-less
+    loop-again
+    returns)
