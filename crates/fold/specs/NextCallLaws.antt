@@ -9,20 +9,21 @@ use lib.ListN.{length, take, drop, replicate}
 use lib.IntN.{ℤ, pos}
 use Rattle.fold.specs.declared.Verdict.{Verdict}
 use Rattle.fold.specs.declared.Verdict.the-variants.{Accepted, Failed}
-use Rattle.fold.specs.declared.Answer.the-variants.{Written}
+use Rattle.fold.specs.declared.Answer.the-variants.{Judged, Written}
 use Rattle.fold.specs.Answers.{firstFailed, firstRefusal, answered, written}
 use Rattle.fold.specs.Sizes.{restSize, openingSize, nextRank, nextParts, nextCount}
-use Rattle.fold.specs.Verdict.{Statement, Draws, Transcript, verdict}
+use Rattle.fold.specs.Verdict.{Statement, Draws, Transcript}
+use Rattle.fold.specs.Verification.{verification}
 use Rattle.fold.specs.Statement.{Solves}
 use Rattle.fold.specs.Accepted.{accepted-step, step-accepted}
-use Rattle.fold.specs.Refusals.{wholeLength, verifyTests, nextTests, partTests}
+use Rattle.fold.specs.Refusals.{wholeLength, nextTests, partTests}
 use Rattle.fold.specs.RefusalLaws.{refusal-passes, allOf-all, between-iff, chunks-iff, sized-iff}
 use Rattle.fold.specs.Chunks.{width, padded}
 use Rattle.fold.specs.PaddingLaws.{stretch-padded}
 use Rattle.fold.specs.NextInstance.{n′, r′, constraint, nextWhole, nextWitness, nextRelation}
 use Rattle.fold.specs.LaidOut.{length-written}
 use Rattle.fold.specs.NextSolves.{FirstChecks}
-use Rattle.fold.specs.NextInstanceTheorem.{next-instance}
+use Rattle.fold.specs.NextInstanceTheorem.{next-instance-judged}
 use Rattle.fold.specs.NextCall.{orWritten, unlessFailed, firstChecks, nextAnswer, nextOut, partRefusal, nextPart}
 
 both-accepted : (k : ℕ) (v : Verdict) → answered k (orWritten v) ≡ Written → (k ≡ 0) × (v ≡ Accepted)
@@ -67,9 +68,10 @@ module _ (𝓢 : Statement) (𝓓 : Draws) (𝓣 : Transcript) (ν μ : ℕ) (ou
   length-nextWhole = length-written _ _ _ _ _ (constraint 𝓢 𝓓 𝓣 ν μ)
 
   -- demand 2 over the answer of the call
-  pub next-instance-written : nextAnswer 𝓢 𝓓 𝓣 ν μ out ≡ Written → (o : List ℤ) → firstRefusal (verifyTests 𝓢 𝓓 𝓣 o) ≡ 0
-      → (verdict 𝓢 𝓓 𝓣 o ≡ Accepted) ↔ Solves (nextRelation 𝓢 𝓓 𝓣 ν μ) (nextWitness 𝓢 𝓓 𝓣 ν μ o)
-  next-instance-written e = let (none, pass) = written-iff .0 e in next-instance 𝓢 𝓓 𝓣 ν μ out none pass
+  pub next-instance-written : nextAnswer 𝓢 𝓓 𝓣 ν μ out ≡ Written → (o : List ℤ)
+      → length o ≡ openingSize (𝓢 .tz) (𝓢 .relation .n) (𝓢 .relation .r) (𝓢 .κ) (𝓢 .t₁) (𝓢 .t₂) * 𝓢 .relation .d
+      → (verification 𝓢 𝓓 𝓣 o ≡ Judged Accepted) ↔ Solves (nextRelation 𝓢 𝓓 𝓣 ν μ) (nextWitness 𝓢 𝓓 𝓣 ν μ o)
+  next-instance-written e = let (none, pass) = written-iff .0 e in next-instance-judged 𝓢 𝓓 𝓣 ν μ out none pass
 
 -- a part that is not refused, with zeros after it, is that part of the padded opening
 pub part-of-padded : (d n r κ t₁ t₂ tz ν μ i : ℕ) (o : List ℤ) → partRefusal d n r κ t₁ t₂ tz ν μ i o ≡ 0

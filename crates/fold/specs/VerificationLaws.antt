@@ -19,7 +19,7 @@ use Rattle.fold.specs.RefusalLaws.{refusal-passes, allOf-head, sized-iff
 use Rattle.fold.specs.Verification.{verification}
 use Rattle.fold.specs.Accepted.{Accepts, accepts}
 
-judged-accepted : (k : ℕ) (v : Verdict) → answered k (Judged v) ≡ Judged Accepted → (k ≡ 0) × (v ≡ Accepted)
+pub judged-accepted : (k : ℕ) (v : Verdict) → answered k (Judged v) ≡ Judged Accepted → (k ≡ 0) × (v ≡ Accepted)
 unfolding answered
 judged-accepted zero v e = (refl, cc)
 judged-accepted (suc k) v e = let z : _≡_ {A = ℕ} 0 1 = cc in absurd (omega arith)

@@ -123,6 +123,35 @@ by-length P text longer other = step (leb (length text) 65536) refl
     step true e = let h = leb-true (length text) 65536 e in subst P (sym (text-answer text h)) (other h)
     step false e = subst P (sym (refused-longer text (leb-false (length text) 65536 e))) longer
 
+-- a text that is judged is a sheet: that of the numbers read from it
+pub record Sheet (text : List ℕ) (v : Verdict) : Type 0 where
+  pub text-is : text ≡ sheetText (headerNumbers text) (bodyNumbers (sizesOf (headerNumbers text)) text)
+  pub numbers : SheetNumbers (headerNumbers text) (bodyNumbers (sizesOf (headerNumbers text)) text)
+  pub verdict-is : v ≡ sheetVerdict (sizesOf (headerNumbers text)) (bodyNumbers (sizesOf (headerNumbers text)) text)
+
+judgement-of : (n : ℕ) (v w : Verdict) → answered n (Judged w) ≡ Judged v → (n ≡ 0) × (v ≡ w)
+unfolding answered
+judgement-of zero v w e = (refl, sym cc)
+judgement-of (suc n) v w e = let f : _≡_ {A = ℕ} 0 1 = cc in absurd (omega arith)
+
+pub judged-sheet : (text : List ℕ) (v : Verdict) → judgedText text ≡ Judged v → Sheet text v
+unfolding reading
+judged-sheet text v = by-length (λ (a : Answer). a ≡ Judged v → Sheet text v) text longer within
+  where
+    longer : Refused 12 ≡ Judged v → Sheet text v
+    longer e = let f : _≡_ {A = ℕ} 0 1 = cc in absurd (omega arith)
+
+    within : length text ≤ 65536
+        → answered (firstRefusal (readingTests (roomOf text) text))
+        (Judged (sheetVerdict (sizesOf (headerNumbers text)) (bodyNumbers (sizesOf (headerNumbers text)) text))) ≡ Judged v
+        → Sheet text v
+    within h e =
+        let (none, same) = judgement-of (firstRefusal (readingTests (roomOf text) text)) v _ e in
+        let answer : reading (roomOf text) text ≡ reader.the-variants.Sheet (sizesOf (headerNumbers text)) = rw none refl in
+        let exactly = sheet-exactly (roomOf text) text (headerNumbers text) (bodyNumbers (sizesOf (headerNumbers text)) text) .0
+        (record { answer = answer; header = refl; numbers = refl }) in
+        record { text-is = exactly .0; numbers = exactly .1; verdict-is = same }
+
 pub kind-printed : (text : List ℕ) → kindOf (judgedText text) ≤ 2
 kind-printed text = by-length (λ (a : Answer). kindOf a ≤ 2) text (omega arith) (λ h. judgement-kind _ _)
 

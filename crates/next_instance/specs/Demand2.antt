@@ -1,25 +1,20 @@
 -- Demand 2 for the calls themselves, where `next_instance` answered `Written`: `verify` accepts an opening exactly if, padded, it solves the
 -- relation whose constraints are the numbers written; and a solution whose padding is zero is, with the padding cut off, accepted.
 -- Each hypothesis is a call's promise, not its code: `called` that of `next_instance`, `answer ≡ verification ..` that of `verify`.
-use mathlib.Core.Path.{_≡_, refl, sym, ap, subst, _∙_}
-use mathlib.Core.Logic.{_↔_, _≢_}
-use mathlib.Core.Bool.{true}
+use mathlib.Core.Path.{_≡_, sym, subst, _∙_}
+use mathlib.Core.Logic.{_↔_}
 use mathlib.Core.List.{List, []}
-use Prim.Native.Nat.{ℕ, zero, suc, _*_}
+use Prim.Native.Nat.{ℕ, _*_}
 use lib.ListN.{length}
 use lib.IntN.{ℤ}
-use Rattle.residues.specs.Range.{coefficients}
 use Rattle.fold.specs.declared.Answer.{Answer}
-use Rattle.fold.specs.declared.Answer.the-variants.{Refused, Judged, Written}
-use Rattle.fold.specs.declared.Verdict.{Verdict}
+use Rattle.fold.specs.declared.Answer.the-variants.{Judged, Written}
 use Rattle.fold.specs.declared.Verdict.the-variants.{Accepted}
 use Rattle.fold.specs.declared.Sizes.{Sizes}
-use Rattle.fold.specs.Answers.{answered, firstRefusal}
 use Rattle.fold.specs.Arguments.{statementOf, drawsOf, transcriptOf}
-use Rattle.fold.specs.Sizes.{restSize, nextRank, nextParts, nextCount}
+use Rattle.fold.specs.Sizes.{restSize, openingSize, nextRank, nextParts, nextCount}
 use Rattle.fold.specs.Statement.{Relation, Solves}
-use Rattle.fold.specs.Verdict.{Statement, Draws, Transcript, verdict}
-use Rattle.fold.specs.Refusals.{verifyTests}
+use Rattle.fold.specs.Verdict.{Statement, Draws, Transcript}
 use Rattle.fold.specs.Verification.{verification}
 use Rattle.fold.specs.Chunks.{padded, unpadded, ZeroPadding}
 use Rattle.fold.specs.NextInstance.{nextWhole, nextRelation}
@@ -27,16 +22,6 @@ use Rattle.fold.specs.NextInstanceTheorem.{solution-accepted}
 use Rattle.fold.specs.NextCall.{nextAnswer}
 use Rattle.fold.specs.NextCallLaws.{written-iff, written-out, next-instance-written}
 use Rattle.next_instance.specs.Calls.{NextCalled}
-
--- an answer of `verify` that is no refusal is the judgement
-unrefused : (n : ℕ) (v : Verdict) → ((k : ℕ) → answered n (Judged v) ≢ Refused k) → n ≡ 0
-unfolding answered
-unrefused zero v h = refl
-unrefused (suc n) v h = absurd (h (suc n) refl)
-
-judged : (n : ℕ) (v w : Verdict) → n ≡ 0 → (answered n (Judged v) ≡ Judged w) ↔ (v ≡ w)
-unfolding answered
-judged n v w e = rw e (λ h. cc, λ h. ap Judged h)
 
 module _ (sizes : Sizes) (A B C D whole term rows ψ ω α δ c u₁ p b″ u₂ : List ℤ) (ν μ : ℕ) (out out′ : List ℤ) where
   abbrev pub 𝓢 : Statement
@@ -89,22 +74,19 @@ module _ (sizes : Sizes) (A B C D whole term rows ψ ω α δ c u₁ p b″ u₂
           term = [];
         }
 
-    -- "an opening is accepted exactly if, padded, it solves the next instance": for an opening that `verify` does not refuse
-    pub accepted-exactly : (o : List ℤ) (answer : Answer) → answer ≡ verification 𝓢 𝓓 𝓣 o → ((k : ℕ) → answer ≢ Refused k)
+    -- "an opening is accepted exactly if, padded, it solves the next instance": an opening has the length that the sizes give
+    pub accepted-exactly : (o : List ℤ) (answer : Answer) → answer ≡ verification 𝓢 𝓓 𝓣 o
+        → length o ≡ openingSize 2 (sizes .n) (sizes .r) (sizes .kappa) (sizes .t1) (sizes .t2) * sizes .d
         → (answer ≡ Judged Accepted) ↔ Solves writtenRelation (padded (sizes .d) 2 (sizes .n) ν m μ o)
-    accepted-exactly o answer e some =
-        let none = unrefused (firstRefusal (verifyTests 𝓢 𝓓 𝓣 o)) (verdict 𝓢 𝓓 𝓣 o) (λ k h. some k (e ∙ h)) in
-        let judgement = judged (firstRefusal (verifyTests 𝓢 𝓓 𝓣 o)) (verdict 𝓢 𝓓 𝓣 o) Accepted none in
-        let theorem = next-instance-written 𝓢 𝓓 𝓣 ν μ out was-written o none in (
-          λ h. subst (λ R. Solves R (padded (sizes .d) 2 (sizes .n) ν m μ o)) (sym relation-written) (theorem .0 (judgement .0 (sym e ∙ h))),
-          λ h. e ∙ judgement .1 (theorem .1 (subst (λ R. Solves R (padded (sizes .d) 2 (sizes .n) ν m μ o)) relation-written h)),
+    accepted-exactly o answer e size =
+        let theorem = next-instance-written 𝓢 𝓓 𝓣 ν μ out was-written o size in (
+          λ h. subst (λ R. Solves R (padded (sizes .d) 2 (sizes .n) ν m μ o)) (sym relation-written) (theorem .0 (sym e ∙ h)),
+          λ h. e ∙ theorem .1 (subst (λ R. Solves R (padded (sizes .d) 2 (sizes .n) ν m μ o)) relation-written h),
         )
 
-    -- "A solution of the next instance whose padding is zero is, with the padding cut off, an accepted opening": r' parts of n' elements,
-    -- with numbers in range
-    pub solution-accepts : (s : List ℤ) → length s ≡ r′ * n′ * sizes .d → ZeroPadding (sizes .d) 2 (sizes .n) ν m μ s
-        → coefficients s ≡ true → Solves writtenRelation s
+    -- "A solution of the next instance whose padding is zero is, with the padding cut off, an accepted opening": r' parts of n' elements
+    pub solution-accepts : (s : List ℤ) → length s ≡ r′ * n′ * sizes .d → ZeroPadding (sizes .d) 2 (sizes .n) ν m μ s → Solves writtenRelation s
         → (answer : Answer) → answer ≡ verification 𝓢 𝓓 𝓣 (unpadded (sizes .d) 2 (sizes .n) ν m μ s) → answer ≡ Judged Accepted
-    solution-accepts s sized zeros range solves answer e =
+    solution-accepts s sized zeros solves answer e =
         let (none, pass) = written-iff 𝓢 𝓓 𝓣 ν μ out .0 was-written in
-        e ∙ solution-accepted 𝓢 𝓓 𝓣 ν μ out none pass s sized zeros range (subst (λ R. Solves R s) relation-written solves)
+        e ∙ solution-accepted 𝓢 𝓓 𝓣 ν μ out none pass s sized zeros (subst (λ R. Solves R s) relation-written solves)
