@@ -19,7 +19,7 @@ extern "C" {
 /* kind of an answer */
 enum { LIZKARG_ACCEPTED = 0, LIZKARG_FAILED = 1, LIZKARG_REFUSED = 2, LIZKARG_WRITTEN = 3 };
 
-/* An answer as the program prints it. number: the check that failed (1..9), the refusal (1..12), else 0. */
+/* An answer as two numbers. number: the check that failed (1..9), the refusal (1..12), else 0. */
 typedef struct { uint8_t kind, number; } lizkarg_answer;
 
 /* Degree, rank, number of parts. */
@@ -117,7 +117,7 @@ lizkarg_answer lizkarg_next_instance(lizkarg_sizes sizes, size_t nu, size_t mu,
 uint8_t lizkarg_next_part_refusal(lizkarg_part_sizes sizes, size_t part, const int32_t *opening, size_t opening_len);
 
 /* Part number part, from 1, of the next witness, without the zeros that pad it to n' elements: the length numbers of opening from
- * opening + start on. Both are 0 where lizkarg_next_part_refusal is not 0; the length can be 0 for the last parts also where it is. */
+ * opening + start on. Both are 0 where lizkarg_next_part_refusal is not 0. A last chunk can be empty: then the length alone is 0. */
 lizkarg_part lizkarg_next_part(lizkarg_part_sizes sizes, size_t part, const int32_t *opening, size_t opening_len);
 
 /* Judges a sheet as the program does: accepted; failed with the first check that fails; or refused 12 (also where the text is longer
@@ -125,7 +125,8 @@ lizkarg_part lizkarg_next_part(lizkarg_part_sizes sizes, size_t part, const int3
 lizkarg_answer lizkarg_judge_sheet(const uint8_t *text, size_t text_len);
 
 /* Reads a sheet: its header is the result, and all numbers after the header are put at the start of numbers, in the sheet's order.
- * Written, or refused 12, 1 to 6, 12, 7 (numbers has no room), 8 to 10. The text may be of any length. */
+ * Written, or refused, in this order: 12 (header), 1 to 6, 12 (other lines), 7 (numbers has no room), 8 to 10. The text may be of any
+ * length; what numbers holds past those of the sheet is not changed. */
 lizkarg_sheet lizkarg_read_sheet(const uint8_t *text, size_t text_len, int32_t *numbers, size_t numbers_len);
 
 #ifdef __cplusplus

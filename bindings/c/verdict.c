@@ -1,5 +1,5 @@
 /* Example: reads a sheet from standard input and prints the verdict as document 01 says, kind and number in 16 columns each.
- *     cc -O2 bindings/c/verdict.c target/staticlib/libcapi.a -o verdict */
+ *     cc -O2 bindings/c/verdict.c target/staticlib/libcapi.a -o target/verdict_c */
 #include "lizkarg.h"
 #include <stdio.h>
 
