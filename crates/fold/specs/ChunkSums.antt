@@ -1,7 +1,6 @@
 -- Sums over a vector x that is cut into chunks, in any commutative ring: part s, of rank n′, is chunk s of w s entries and then zeros.
 --     chunk-products     a table of coefficients that is cut in the same way: the parts' inner products add up to Σ table_p x_p
 --     chunk-inner        the inner product of two parts of one width
---     grid-squares       check 6: the inner products of the parts of z's digits add up to <z, z>
 use mathlib.Core.Path.{_≡_, sym, ap, ap₂, _∙_}
 use mathlib.Core.Logic.{_≢_}
 use mathlib.Core.Bool.{Bool, cond}

@@ -33,7 +33,7 @@ ceiling a b = (a + (b - 1)) / b
 unfoldable pub nextRank : (n ν m μ : ℕ) → ℕ
 nextRank n ν m μ = max (ceiling n ν) (ceiling m μ)
 
--- "r' = 2ν+μ", with tz stretches of each of the ν
+-- "r' = 2ν+μ": ν parts of each of the tz digits of z, and μ of the rest
 unfoldable pub nextParts : (tz ν μ : ℕ) → ℕ
 nextParts tz ν μ = tz * ν + μ
 

@@ -1,7 +1,8 @@
 -- The answer to a text: document 01, 'Sheet'.
 --     text-answer       the reader's refusal, or the verdict on the numbers: the verifier refuses nothing after the reader
 --     sheet-judged      the text of a sheet is judged, by the verdict on its numbers
---     refused-text      every other text of at most 65536 bytes is refused, by the reader's number; `refused-longer` for a longer one
+--     judged-sheet      and a text that is judged is the text of a sheet
+--     refused-text      a text of at most 65536 bytes that the reader refuses is refused by its number; `refused-longer` for a longer one
 --     kind-printed      the kind is 0, 1 or 2: never "written"
 --     never-seven       no text is refused by row 7: the room for the numbers is enough for every text
 use mathlib.Core.Path.{_≡_, refl, sym, ap, _∙_, subst}

@@ -1,5 +1,5 @@
 -- Laws of products with one short operand.
---     Counting, Filling, Totalling, Sized     the loops of src/short.rt: is_short, raise, raised_weight, columns
+--     Counting, raised-.., Totalling, Sized   the loops of src/short.rt: is_short, raise, raised_weight, columns
 --     short-value                  a column is a coefficient of the product
 use mathlib.Core.Path.{_≡_, refl, sym, ap, ap₂, _∙_}
 use mathlib.Core.Logic.{_⊎_, inl, inr}

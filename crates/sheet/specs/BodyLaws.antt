@@ -1,8 +1,6 @@
 -- The lines of a sheet as `Sections` counts them.
 --     body-merged    the lines after the header, in five parts
 --     body-total     their fields
---     body-ends      where they end
---     header-..      the same for the header's one line
 use mathlib.Core.Path.{_≡_, refl, sym, ap, ap₂, _∙_}
 use mathlib.Core.List.{List, [], _∷_, _++_, append-assoc}
 use Prim.Native.Nat.{ℕ, zero, suc, _+_, _*_, _-_, _<_}

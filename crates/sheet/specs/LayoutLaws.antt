@@ -1,7 +1,6 @@
 -- Laws of lines: where they end, by the place of a number, and their text field by field.
 --     endsOf ws i            number i is the last of its line, where lines have the widths ws
 --     text-fields            the text of numbers on lines, field by field
---     body-total, body-ends  the lines after the header in numbers, as `Sections` counts them
 use mathlib.Core.Path.{_≡_, refl, sym, ap, ap₂, _∙_}
 use mathlib.Core.Bool.{Bool, true, false, cond}
 use mathlib.Core.List.{List, [], _∷_, _++_, append-assoc, append-nil}

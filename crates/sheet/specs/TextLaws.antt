@@ -1,7 +1,7 @@
 -- Laws that join a text and the numbers on its lines, by place.
 --     lineFields ends xs n       the text of the first n numbers of xs, with a line feed where a line ends
 --     laid-text                  fields that are laid are the text of their numbers
---     text-laid, text-numbers    and the text of numbers that fit is laid, and gives them back
+--     text-held, text-number     and the text of numbers that fit is laid, and gives them back
 use mathlib.Core.Path.{_≡_, refl, sym, ap, _∙_}
 use mathlib.Core.Bool.{Bool, true, false, cond}
 use mathlib.Core.Logic.{_⊎_, inl, inr}
