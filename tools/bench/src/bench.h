@@ -22,5 +22,5 @@ typedef struct {
     int (*next)(const lizkarg_sizes *s, const lists *l); /* the same; 0 where it is missing */
 } implementation;
 
-extern const implementation ours, gcc_tuned, gcc_plain, clang_tuned, clang_tested, clang_plain, flint_based, rust_plain;
+extern const implementation ours, gcc_tuned, gcc_plain, clang_tuned, clang_tested, clang_centred, clang_plain, flint_based, rust_plain;
 #endif

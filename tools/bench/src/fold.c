@@ -3,7 +3,7 @@
  *   -DKERNEL=0  one % per term of a product        -DKERNEL=2  FLINT's nmod_poly
  * and -DNAME=.. for the implementation's name; 0 and 2 sum the projection rows one by one, by multiplications, and form all <s_i, s_j> in
  * message 3. It tests no sizes and no lengths. With -DTESTS=1 it looks through what it is lent as the library does (rows 8 to 10), and its
- * product takes elements by value and tests them. */
+ * product takes elements by value and tests them. -DCENTRED=1: ring.h. */
 #include "next.h"
 
 /* ---- squared lengths */
@@ -88,7 +88,7 @@ static void pair_products(const lizkarg_sizes *s, const int32_t *w, int32_t *out
 
 static void digits_of(size_t d, int32_t base, size_t t, size_t count, const int32_t *values, int32_t *out) {
     for (size_t e = 0; e < count; e++, values += d, out += t * d) {
-        memcpy(out + (t - 1) * d, values, d * sizeof(int32_t));
+        store(d, load_element(d, values), out + (t - 1) * d);
         split(base, t, d, out);
     }
 }
@@ -176,7 +176,7 @@ static void amortize(const lizkarg_sizes *s, const lists *l) {
     test_witness(s, l), test_challenges(s, l);
     for (size_t k = 0; k < n; k++) {
         element sum = {{0}};
-        for (size_t i = 0; i < s->r; i++) sum = add(d, sum, inner(d, 1, l->c + i * d, l->witness + (i * n + k) * d));
+        for (size_t i = 0; i < s->r; i++) sum = add(d, sum, mul(d, load_element(d, l->c + i * d), load_element(d, l->witness + (i * n + k) * d)));
         store(d, sum, l->z + (n + k) * d);
     }
     split((int32_t)s->b, 2, n * d, l->z);
@@ -189,7 +189,7 @@ static element mixed(const lizkarg_sizes *s, const lists *l, const int32_t *digi
     element sum = {{0}};
     for (size_t i = 0; i < s->r; i++)
         for (size_t j = i; j < s->r; j++, digits += t * d) {
-            element x = mul(d, recompose(d, base, t, digits, 1), inner(d, 1, l->c + i * d, l->c + j * d));
+            element x = mul(d, recompose(d, base, t, digits, 1), mul(d, load_element(d, l->c + i * d), load_element(d, l->c + j * d)));
             sum = add(d, sum, i == j ? x : add(d, x, x));
         }
     return sum;

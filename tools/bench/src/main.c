@@ -6,7 +6,7 @@
 #include <string.h>
 #include <time.h>
 
-static const implementation *all[] = {&ours, &gcc_tuned, &clang_tuned, &clang_tested, &gcc_plain, &clang_plain, &rust_plain, &flint_based};
+static const implementation *all[] = {&ours, &gcc_tuned, &clang_tuned, &clang_tested, &clang_centred, &gcc_plain, &clang_plain, &rust_plain, &flint_based};
 enum { COUNT = sizeof all / sizeof *all, STEPS = 7 };
 static const char *steps[] = {"message 1", "message 2", "message 3", "message 4", "message 5", "verifier", "next instance"};
 
@@ -190,7 +190,7 @@ static void linear(lizkarg_sizes s, int repetitions) {
 }
 
 /* Ours step by step, and the whole prover, the verifier and the next instance of some others as ratios. */
-static const implementation *grown[] = {&ours, &clang_tested, &rust_plain, &flint_based};
+static const implementation *grown[] = {&ours, &clang_tuned, &clang_tested, &clang_centred, &rust_plain, &flint_based};
 enum { GROWN = sizeof grown / sizeof *grown };
 
 static void growth_heading(void) {

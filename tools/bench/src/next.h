@@ -18,7 +18,7 @@ static void write_next_lists(const lizkarg_sizes *s, const lists *l, next_lists 
     for (size_t i = 0, q = 0; i < r; i++)
         for (size_t j = i; j < r; j++, q++) {
             element one = {{i == j}};
-            store(d, scale(d, -1, scale(d, i == j ? 1 : 2, inner(d, 1, l->c + i * d, l->c + j * d))), x->products + q * d);
+            store(d, scale(d, -1, scale(d, i == j ? 1 : 2, mul(d, load_element(d, l->c + i * d), load_element(d, l->c + j * d)))), x->products + q * d);
             store(d, aggregate_a(s, l, q), x->relation + q * d);
             store(d, one, x->diagonal + q * d);
         }

@@ -151,11 +151,24 @@ static element inner(size_t d, size_t n, const int32_t *u, const int32_t *v) {
 
 /* ---- elements */
 
+/* With -DCENTRED=1 elements are centred where they are read or turned, as in the library. */
+#if CENTRED
+static inline int32_t minus(int32_t x) { return centre(-(int64_t)x); }
+
+static element load_element(size_t d, const int32_t *xs) {
+    element x = {{0}};
+    for (size_t i = 0; i < d; i++) x.v[i] = centre_sum(xs[i]);
+    return x;
+}
+#else
+static inline int32_t minus(int32_t x) { return -x; }
+
 static element load_element(size_t d, const int32_t *xs) {
     element x = {{0}};
     memcpy(x.v, xs, d * sizeof(int32_t));
     return x;
 }
+#endif
 
 static void store(size_t d, element x, int32_t *out) { memcpy(out, x.v, d * sizeof(int32_t)); }
 
@@ -184,9 +197,14 @@ static void split(int32_t base, size_t t, size_t width, int32_t *block) {
     int32_t *rest = block + (t - 1) * width;
     for (size_t k = 0; k + 1 < t; k++)
         for (size_t i = 0; i < width; i++) {
-            int64_t x = rest[i], low = x % base;
+            int64_t x = rest[i];
+#if KERNEL == 1
+            int64_t low = (x % base + (base + base / 2)) % base - base / 2;
+#else
+            int64_t low = x % base;
             if (low < 0) low += base;
             if (2 * low >= base) low -= base;
+#endif
             block[k * width + i] = (int32_t)low;
             rest[i] = (int32_t)((x - low) / base);
         }

@@ -16,7 +16,7 @@ static element with_terms(const lizkarg_sizes *s, const lists *l, size_t k, size
     size_t d = s->d;
     element turned = {{0}};
     turned.v[0] = projected.v[0];
-    for (size_t y = 1; y < d; y++) turned.v[y] = -projected.v[d - y];
+    for (size_t y = 1; y < d; y++) turned.v[y] = minus(projected.v[d - y]);
     return add(d, term_entry(s, l, k, pairs(s->r) + e), turned);
 }
 
@@ -87,7 +87,7 @@ static int is_zero(size_t d, const five *row) {
 
 static element weighted_row(size_t d, const lists *l, const five *row) {
     element sum = {{0}};
-    for (size_t k = 0; k < 5; k++) sum = add(d, sum, inner(d, 1, l->delta + k * d, row->v[k].v));
+    for (size_t k = 0; k < 5; k++) sum = add(d, sum, mul(d, load_element(d, l->delta + k * d), row->v[k]));
     return sum;
 }
 
@@ -134,7 +134,7 @@ static element seconds_phi(const lizkarg_sizes *s, const lists *l, const table *
 static element whole_entry(const lizkarg_sizes *s, const lists *l, size_t e) {
     size_t d = s->d, step = (pairs(s->r) + s->r * s->n + 1) * d;
     element sum = {{0}};
-    for (size_t k = 0; k < s->k; k++) sum = add(d, sum, inner(d, 1, l->alpha + k * d, l->whole + k * step + e * d));
+    for (size_t k = 0; k < s->k; k++) sum = add(d, sum, mul(d, load_element(d, l->alpha + k * d), load_element(d, l->whole + k * step + e * d)));
     return sum;
 }
 
