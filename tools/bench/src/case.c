@@ -1,4 +1,4 @@
-/* A random statement with a short witness that solves it, and draws. */
+/* A random statement with a witness that solves it, and draws. The next instance is cut into 2·2 + 12 parts. */
 #include "case.h"
 #include <stdlib.h>
 #include <string.h>
@@ -35,12 +35,12 @@ static void sum_products(size_t d, size_t n, const int32_t *x, const int32_t *y,
     }
 }
 
-void make_case(lizkarg_sizes *s, lists *l) {
+void make_case(lizkarg_sizes *s, lists *l, int32_t largest) {
     size_t d = s->d, n = s->n, r = s->r, pairs = r * (r + 1) / 2, size = (pairs + r * n) * d;
     size_t t = r * s->t1 * s->kappa, g = pairs * s->t2, h = pairs * s->t1;
     const int32_t most = 2147483598;
     state = 1;
-    int32_t *witness = filled(r * n * d, 1), *whole = filled(s->k * (size + d), most), *term = filled(s->l * (size + 1), most);
+    int32_t *witness = filled(r * n * d, largest), *whole = filled(s->k * (size + d), most), *term = filled(s->l * (size + 1), most);
     int32_t *products = calloc(pairs * d, sizeof *products), *c = filled(r * d, 1);
     for (size_t i = 0, at = 0; i < r; i++)
         for (size_t j = i; j < r; j++, at++) sum_products(d, n, witness + i * n * d, witness + j * n * d, products + at * d);
@@ -61,11 +61,16 @@ void make_case(lizkarg_sizes *s, lists *l) {
     l->g = l->t + t * d;
     l->h = l->g + g * d;
     s->bound = s->target = 999999999999999;
+    l->nu = 2, l->mu = 12;
+    size_t m = t + g + h, parts = 2 * l->nu + l->mu, of_z = (n + l->nu - 1) / l->nu, of_rest = (m + l->mu - 1) / l->mu;
+    size_t rank = of_z > of_rest ? of_z : of_rest;
+    l->next_len = (s->kappa + s->kappa1 + s->kappa2 + 3) * (parts * (parts + 1) / 2 + parts * rank + 1) * d;
+    l->next = malloc(l->next_len * sizeof *l->next);
 }
 
 void free_case(lists *l) {
     const void *all[] = {l->a, l->b, l->c_matrix, l->d_matrix, l->whole, l->term, l->rows, l->psi, l->omega, l->alpha, l->delta, l->c,
-        l->witness, l->u1, l->p, l->b2, l->u2, l->z};
+        l->witness, l->u1, l->p, l->b2, l->u2, l->z, l->next};
     for (size_t i = 0; i < sizeof all / sizeof *all; i++) free((void *)all[i]);
 }
 

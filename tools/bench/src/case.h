@@ -1,7 +1,7 @@
 #ifndef CASE_H
 #define CASE_H
 #include "bench.h"
-void make_case(lizkarg_sizes *s, lists *l); /* sets the bounds, too */
+void make_case(lizkarg_sizes *s, lists *l, int32_t most); /* a witness of numbers up to most; sets the bounds, too */
 void free_case(lists *l);
 size_t opening_numbers(const lizkarg_sizes *s);
 #endif

@@ -6,9 +6,9 @@
 #include <string.h>
 #include <time.h>
 
-static const implementation *all[] = {&ours, &gcc_tuned, &clang_tuned, &clang_tested, &gcc_plain, &clang_plain, &rust_plain, &flint_based};
-enum { COUNT = sizeof all / sizeof *all, STEPS = 6 };
-static const char *steps[] = {"message 1", "message 2", "message 3", "message 4", "message 5", "verifier"};
+static const implementation *all[] = {&ours, &gcc_tuned, &clang_tuned, &clang_tested, &clang_centred, &gcc_plain, &clang_plain, &rust_plain, &flint_based};
+enum { COUNT = sizeof all / sizeof *all, STEPS = 7 };
+static const char *steps[] = {"message 1", "message 2", "message 3", "message 4", "message 5", "verifier", "next instance"};
 
 static double now(void) {
     struct timespec t;
@@ -30,7 +30,9 @@ static void show(double ns) {
 static void line(const char *what, const double *ns) {
     printf("| %-26s |", what);
     show(ns[0]);
-    for (int i = 1; i < COUNT; i++) printf(" | %12.2f", ns[i] / ns[0]);
+    for (int i = 1; i < COUNT; i++)
+        if (ns[i] < 1e30) printf(" | %12.2f", ns[i] / ns[0]);
+        else printf(" | %12s", "");
     printf(" |\n");
     fflush(stdout);
 }
@@ -43,15 +45,13 @@ static void heading(void) {
     printf("\n");
 }
 
-static void products(void) {
+static void products(const char *what, int32_t most) {
     enum { ELEMENTS = 64, ROUNDS = 40 };
     static int32_t x[ELEMENTS * 64], y[ELEMENTS * 64], first[64], other[64];
     double least[COUNT];
     for (int i = 0; i < ELEMENTS * 64; i++) {
-        x[i] = (int32_t)(((uint64_t)i * 0x9e3779b97f4a7c15 >> 33) % 4294967197u - 2147483598);
-        y[i] = (int32_t)(((uint64_t)(i + 7777) * 0xbf58476d1ce4e5b9 >> 33) % 4294967197u - 2147483598);
-        if (x[i] < -2147483598) x[i] = 5;
-        if (y[i] < -2147483598) y[i] = 5;
+        x[i] = (int32_t)((uint64_t)i * 0x9e3779b97f4a7c15 % 4294967197u - 2147483598);
+        y[i] = (int32_t)((uint64_t)(i + 7777) * 0xbf58476d1ce4e5b9 % (2 * (uint64_t)most + 1) - most);
     }
     for (int i = 0; i < COUNT; i++) least[i] = 1e30;
     for (int round = 0; round < ROUNDS; round++)
@@ -62,25 +62,28 @@ static void products(void) {
             if (ns < least[i]) least[i] = ns;
             if (i && memcmp(first, other, sizeof first)) differ("product", all[i]->name);
         }
-    line("ring product", least);
+    line(what, least);
 }
 
 /* Message 1 with one part and one row is two inner products of n pairs and four products more. */
-static void inner_products(void) {
+static void inner_products(const char *what, int32_t most) {
     lizkarg_sizes s = {64, 256, 1, 0, 0, 0, 1, 1, 1, 16, 256, 256, 2, 2, 0, 0};
     lists l;
     double least[COUNT];
-    make_case(&s, &l);
+    int32_t first[64];
+    make_case(&s, &l, most);
     for (int i = 0; i < COUNT; i++) least[i] = 1e30;
-    for (int round = 0; round < 10; round++)
+    for (int round = 0; round < 20; round++)
         for (int i = 0; i < COUNT; i++) {
             double from = now();
             all[i]->commit(&s, &l);
             double ns = (now() - from) / (2 * s.n + 4);
             if (ns < least[i]) least[i] = ns;
+            if (i == 0) memcpy(first, l.u1, sizeof first);
+            else if (memcmp(first, l.u1, sizeof first)) differ("inner product", all[i]->name);
         }
     free_case(&l);
-    line("inner product, per pair", least);
+    line(what, least);
 }
 
 static int step(const implementation *x, int which, const lizkarg_sizes *s, const lists *l) {
@@ -90,67 +93,111 @@ static int step(const implementation *x, int which, const lizkarg_sizes *s, cons
     case 2: x->aggregate(s, l); return 0;
     case 3: x->garbage(s, l); return 0;
     case 4: x->amortize(s, l); return 0;
-    default: return x->verify(s, l);
+    case 5: return x->verify(s, l);
+    default: return x->next(s, l) ^ 256 * LIZKARG_WRITTEN;
     }
 }
 
-typedef struct { int32_t *numbers; size_t count; } copy;
+/* what the calls write */
+enum { OUTPUTS = 6 };
+typedef struct { int32_t *numbers; size_t count; } output;
+typedef struct { output of[OUTPUTS]; } outputs;
 
-static copy outputs(const lizkarg_sizes *s, const lists *l) {
-    size_t o = opening_numbers(s), d = s->d, at = 0;
-    copy c = {malloc((o + (s->kappa1 + 5 + s->kappa2) * d + s->w) * sizeof(int32_t)), 0};
-    const int32_t *parts[] = {l->z, l->u1, l->b2, l->u2, l->p};
-    size_t sizes[] = {o, s->kappa1 * d, 5 * d, s->kappa2 * d, s->w};
-    for (int i = 0; i < 5; i++) {
-        memcpy(c.numbers + at, parts[i], sizes[i] * sizeof(int32_t));
-        at += sizes[i];
+static outputs outputs_of(const lizkarg_sizes *s, const lists *l) {
+    size_t d = s->d;
+    return (outputs){{{l->z, opening_numbers(s)}, {l->u1, s->kappa1 * d}, {l->b2, 5 * d}, {l->u2, s->kappa2 * d}, {l->p, s->w},
+        {l->next, l->next_len}}};
+}
+
+static void spoil(outputs x) {
+    for (int i = 0; i < OUTPUTS; i++) memset(x.of[i].numbers, 0x55, x.of[i].count * sizeof(int32_t));
+}
+
+static outputs kept(outputs x) {
+    for (int i = 0; i < OUTPUTS; i++) {
+        size_t bytes = x.of[i].count * sizeof(int32_t);
+        x.of[i].numbers = memcpy(malloc(bytes + 1), x.of[i].numbers, bytes);
     }
-    c.count = at;
-    return c;
+    return x;
+}
+
+static void compare(outputs x, outputs first, const implementation *who) {
+    for (int i = 0; i < (who->next ? OUTPUTS : OUTPUTS - 1); i++)
+        if (memcmp(x.of[i].numbers, first.of[i].numbers, x.of[i].count * sizeof(int32_t))) differ("message or instance", who->name);
+}
+
+static void release(outputs x) {
+    for (int i = 0; i < OUTPUTS; i++) free(x.of[i].numbers);
+}
+
+/* all steps of one implementation; the least times are kept */
+static void steps_of(const implementation *who, const lizkarg_sizes *s, const lists *l, double *least, int stride) {
+    for (int x = 0; x < (who->next ? STEPS : STEPS - 1); x++) {
+        double from = now();
+        int code = step(who, x, s, l);
+        double ns = now() - from;
+        if (ns < least[x * stride]) least[x * stride] = ns;
+        if (code) differ("verdict", who->name);
+    }
 }
 
 static void fold(lizkarg_sizes s, int repetitions) {
     lists l;
     static double least[STEPS][COUNT];
     double whole[COUNT] = {0};
-    copy first = {0, 0};
-    make_case(&s, &l);
+    outputs first = {0};
+    make_case(&s, &l, 1);
+    outputs written = outputs_of(&s, &l);
     for (int x = 0; x < STEPS; x++)
         for (int i = 0; i < COUNT; i++) least[x][i] = 1e30;
     for (int round = 0; round < repetitions; round++)
         for (int i = 0; i < COUNT; i++) {
-            for (int x = 0; x < STEPS; x++) {
-                double from = now();
-                int code = step(all[i], x, &s, &l);
-                double ns = now() - from;
-                if (ns < least[x][i]) least[x][i] = ns;
-                if (code) differ("verdict", all[i]->name);
-            }
-            copy c = outputs(&s, &l);
-            if (!first.numbers) first = c;
-            else {
-                if (memcmp(first.numbers, c.numbers, c.count * sizeof(int32_t))) differ("message", all[i]->name);
-                free(c.numbers);
-            }
+            spoil(written);
+            steps_of(all[i], &s, &l, &least[0][i], COUNT);
+            if (round == 0 && i == 0) first = kept(written);
+            compare(written, first, all[i]);
         }
     for (int x = 0; x < STEPS; x++) {
         line(steps[x], least[x]);
         for (int i = 0; i < COUNT && x < 5; i++) whole[i] += least[x][i];
     }
     line("prover, all messages", whole);
-    free(first.numbers);
+    release(first);
     free_case(&l);
 }
 
-/* Ours step by step, and the whole prover and the verifier of some others as ratios. */
-static const implementation *grown[] = {&ours, &clang_tested, &rust_plain, &flint_based};
+/* Message 3 where the constant-term constraints are linear: all a' are zero, and no <s_i, s_j> is needed. */
+static void linear(lizkarg_sizes s, int repetitions) {
+    lists l;
+    double least[COUNT];
+    int32_t first[5 * 64];
+    make_case(&s, &l, 1);
+    size_t pairs = s.r * (s.r + 1) / 2;
+    for (size_t k = 0; k < s.l; k++) memset((int32_t *)l.term + k * ((pairs + s.r * s.n) * s.d + 1), 0, pairs * s.d * sizeof(int32_t));
+    for (int i = 0; i < COUNT; i++) least[i] = 1e30;
+    for (int round = 0; round < repetitions; round++)
+        for (int i = 0; i < COUNT; i++) {
+            memset(l.b2, 0x55, sizeof first);
+            double from = now();
+            all[i]->aggregate(&s, &l);
+            double ns = now() - from;
+            if (ns < least[i]) least[i] = ns;
+            if (i == 0) memcpy(first, l.b2, sizeof first);
+            else if (memcmp(first, l.b2, sizeof first)) differ("message 3", all[i]->name);
+        }
+    free_case(&l);
+    line("message 3, linear f'", least);
+}
+
+/* Ours step by step, and the whole prover, the verifier and the next instance of some others as ratios. */
+static const implementation *grown[] = {&ours, &clang_tuned, &clang_tested, &clang_centred, &rust_plain, &flint_based};
 enum { GROWN = sizeof grown / sizeof *grown };
 
 static void growth_heading(void) {
     printf("|  |");
     for (int x = 0; x < STEPS; x++) printf(" %s |", steps[x]);
     printf(" prover |");
-    for (int i = 1; i < GROWN; i++) printf(" %s prover, verifier |", grown[i]->name);
+    for (int i = 1; i < GROWN; i++) printf(" %s: prover, verifier%s |", grown[i]->name, grown[i]->next ? ", next" : "");
     printf("\n|---|");
     for (int x = 0; x < STEPS + GROWN; x++) printf("---|");
     printf("\n");
@@ -159,17 +206,18 @@ static void growth_heading(void) {
 static void growth_line(const char *what, size_t v, lizkarg_sizes s, int repetitions) {
     lists l;
     double least[GROWN][STEPS], whole[GROWN] = {0};
-    make_case(&s, &l);
+    outputs first = {0};
+    make_case(&s, &l, 1);
+    outputs written = outputs_of(&s, &l);
     for (int i = 0; i < GROWN; i++)
         for (int x = 0; x < STEPS; x++) least[i][x] = 1e30;
     for (int round = 0; round < repetitions; round++)
-        for (int i = 0; i < GROWN; i++)
-            for (int x = 0; x < STEPS; x++) {
-                double from = now();
-                if (step(grown[i], x, &s, &l)) differ("verdict", grown[i]->name);
-                double ns = now() - from;
-                if (ns < least[i][x]) least[i][x] = ns;
-            }
+        for (int i = 0; i < GROWN; i++) {
+            spoil(written);
+            steps_of(grown[i], &s, &l, least[i], 1);
+            if (round == 0 && i == 0) first = kept(written);
+            compare(written, first, grown[i]);
+        }
     for (int i = 0; i < GROWN; i++)
         for (int x = 0; x < 5; x++) whole[i] += least[i][x];
     printf("| %s = %-4zu |", what, v);
@@ -179,53 +227,85 @@ static void growth_line(const char *what, size_t v, lizkarg_sizes s, int repetit
     }
     show(whole[0]);
     printf(" |");
-    for (int i = 1; i < GROWN; i++) printf(" %.2f, %.2f |", whole[i] / whole[0], least[i][5] / least[0][5]);
+    for (int i = 1; i < GROWN; i++) {
+        printf(" %.2f, %.2f", whole[i] / whole[0], least[i][5] / least[0][5]);
+        if (grown[i]->next) printf(", %.2f", least[i][6] / least[0][6]);
+        printf(" |");
+    }
     printf("\n");
     fflush(stdout);
+    release(first);
     free_case(&l);
 }
 
-/* The reader and the verifier on one sheet, as the program of verdicts uses them. */
-static void sheet(void) {
-    lizkarg_sizes s = {8, 2, 2, 1, 1, 8, 1, 1, 1, 16, 256, 256, 4, 4, 0, 0};
-    lists l;
-    static char text[70000];
-    static int32_t numbers[4096];
-    size_t at = 0, d = s.d, size = (3 + 4) * d;
+/* A sheet as the program of verdicts reads it: read, and judged as a whole by the call that the program makes. */
+static void sheet_line(const char *what, const char *text, size_t length, lizkarg_answer expected) {
+    static int32_t numbers[8192];
     double read = 1e30, judge = 1e30;
-    make_case(&s, &l);
-    for (int x = 0; x < 5; x++) step(&ours, x, &s, &l);
-    uint64_t header[] = {s.d, s.n, s.r, s.k, s.l, s.w, s.kappa, s.kappa1, s.kappa2, s.b, s.b1, s.b2, s.t1, s.t2, 1, 1, s.bound, s.target};
-    for (int i = 0; i < 18; i++) at += sprintf(text + at, "%16llu", (unsigned long long)header[i]);
-    text[at++] = '\n';
-    const int32_t *parts[] = {l.a, l.b, l.c_matrix, l.d_matrix, l.whole, l.term, l.term + size, l.u1, l.rows, l.p, l.psi, l.omega, l.b2,
-        l.alpha, l.delta, l.u2, l.c, l.z};
-    size_t sizes[] = {2 * d, 8 * d, 12 * d, 12 * d, size + d, size, 1, d, 8 * 4 * d, 8, 5, 40, 5 * d, d, 5 * d, d, 2 * d, opening_numbers(&s)};
-    size_t widths[] = {d, d, d, d, d, d, 1, d, d, 1, 1, 1, d, d, d, d, d, d};
-    static int32_t written[4096];
-    size_t count = 0;
-    for (int i = 0; i < 18; i++)
-        for (size_t k = 0; k < sizes[i]; k++) {
-            at += sprintf(text + at, "%16d", parts[i][k]);
-            if ((k + 1) % widths[i] == 0) text[at++] = '\n';
-            written[count++] = parts[i][k];
-        }
-    for (int round = 0; round < 50; round++) {
+    for (int round = 0; round < 100; round++) {
         double from = now();
-        lizkarg_sheet h = lizkarg_read_sheet((const uint8_t *)text, at, numbers, 4096);
+        lizkarg_sheet h = lizkarg_read_sheet((const uint8_t *)text, length, numbers, 8192);
         double middle = now();
-        if (h.kind != LIZKARG_WRITTEN || step(&ours, 5, &s, &l)) differ("sheet", "ours");
+        lizkarg_answer x = lizkarg_judge_sheet((const uint8_t *)text, length);
         double end = now();
-        if (memcmp(numbers, written, count * sizeof *numbers)) differ("sheet", "the reader");
+        if (h.kind != LIZKARG_WRITTEN || x.kind != expected.kind || x.number != expected.number) differ("sheet", "ours");
         if (middle - from < read) read = middle - from;
         if (end - middle < judge) judge = end - middle;
     }
-    printf("\nSheet of %zu bytes: reading", at);
+    printf("| %s | %zu |", what, length);
     show(read);
-    printf(" (%.1f ns a byte), verdict", read / at);
+    printf(" | %.1f ns |", read / length);
     show(judge);
-    printf("\n");
-    free_case(&l);
+    printf(" |\n");
+}
+
+static size_t put_line(char *text, const int32_t *xs, size_t n) {
+    size_t at = 0;
+    for (size_t k = 0; k < n; k++) at += sprintf(text + at, "%16d", xs[k]);
+    text[at++] = '\n';
+    return at;
+}
+
+/* The whole case of document 01. */
+static size_t whole_case(char *text) {
+    static const int32_t header[] = {2, 1, 1, 1, 0, 0, 1, 1, 1, 4, 8, 4, 2, 2, 1, 1, 5, 13};
+    static const int32_t lines[][2] = {{1, 0}, {1, 0}, {0, 0}, {1, 0}, {0, 0}, {1, 0}, {1, 0}, {1, 0}, {0, 0}, {-3, 4}, {2, 2}, {0, 0}, {0, 0},
+        {0, 0}, {0, 0}, {0, 0}, {1, 0}, {0, 0}, {0, 0}, {0, 0}, {0, 0}, {0, 0}, {0, 0}, {0, 1}, {-2, 1}, {0, 0}, {1, 2}, {0, 0}, {1, 0},
+        {-1, 1}, {0, 0}, {0, 0}};
+    size_t at = put_line(text, header, 18);
+    for (size_t i = 0; i < sizeof lines / sizeof *lines; i++) at += put_line(text + at, lines[i], 2);
+    return at;
+}
+
+static size_t write_sheet(const lizkarg_sizes *s, const lists *l, char *text) {
+    size_t at = 0, d = s->d, n = s->n, r = s->r, pairs = r * (r + 1) / 2, size = (pairs + r * n) * d;
+    uint64_t header[] = {d, n, r, s->k, s->l, s->w, s->kappa, s->kappa1, s->kappa2, s->b, s->b1, s->b2, s->t1, s->t2, 1, 1, s->bound, s->target};
+    for (int i = 0; i < 18; i++) at += sprintf(text + at, "%16llu", (unsigned long long)header[i]);
+    text[at++] = '\n';
+    struct { const int32_t *numbers; size_t count, width; } parts[] = {{l->a, s->kappa * n * d, d}, {l->b, s->kappa1 * r * s->t1 * s->kappa * d, d},
+        {l->c_matrix, s->kappa1 * pairs * s->t2 * d, d}, {l->d_matrix, s->kappa2 * pairs * s->t1 * d, d}, {l->whole, s->k * (size + d), d},
+        {l->term, size, d}, {l->term + size, 1, 1}, {l->u1, s->kappa1 * d, d}, {l->rows, s->w * r * n * d, d}, {l->p, s->w, 1},
+        {l->psi, 5, 1}, {l->omega, 5 * s->w, 1}, {l->b2, 5 * d, d}, {l->alpha, s->k * d, d}, {l->delta, 5 * d, d}, {l->u2, s->kappa2 * d, d},
+        {l->c, r * d, d}, {l->z, opening_numbers(s), d}};
+    for (size_t i = 0; i < sizeof parts / sizeof *parts; i++)
+        for (size_t k = 0; k < parts[i].count; k += parts[i].width) at += put_line(text + at, parts[i].numbers + k, parts[i].width);
+    return at;
+}
+
+static void sheets(void) {
+    static char text[70000];
+    lizkarg_answer accepted = {LIZKARG_ACCEPTED, 0};
+    lizkarg_sizes both[] = {{8, 2, 2, 1, 1, 8, 1, 1, 1, 16, 256, 256, 4, 4, 0, 0}, {32, 2, 2, 1, 1, 10, 2, 1, 2, 16, 65536, 65536, 2, 2, 0, 0}};
+    printf("\nSheets through the C interface: lizkarg_read_sheet, and lizkarg_judge_sheet, which reads and judges\n\n");
+    printf("| | bytes | reading | a byte | verdict, reading included |\n|---|---|---|---|---|\n");
+    sheet_line("whole case of document 01", text, whole_case(text), accepted);
+    for (int i = 0; i < 2; i++) {
+        lists l;
+        make_case(&both[i], &l, 1);
+        for (int x = 0; x < 5; x++) step(&ours, x, &both[i], &l);
+        sheet_line(i ? "d = 32, n = 2, r = 2, w = 10" : "d = 8, n = 2, r = 2, w = 8", text, write_sheet(&both[i], &l, text), accepted);
+        free_case(&l);
+    }
 }
 
 int main(int argc, char **argv) {
@@ -234,12 +314,16 @@ int main(int argc, char **argv) {
     lizkarg_sizes s = {64, v[0], v[1], v[3], v[3], v[2], v[4], v[4], v[4], 16, 256, 256, 4, 4, 0, 0};
     printf("d = 64, n = %zu, r = %zu, w = %zu, K = L = %zu, kappa = kappa1 = kappa2 = %zu, t1 = t2 = 4, best of %zu, interleaved\n", v[0], v[1],
         v[2], v[3], v[4], v[5]);
-    printf("ours: time; the others: their time divided by ours (above 1: ours is faster)\n\n");
+    printf("ours: time; the others: their time divided by ours (above 1: ours is faster); short: the second operand's numbers are below 2^22\n");
+    printf("next instance: nu = 2, mu = 12\n\n");
     heading();
-    products();
-    inner_products();
+    products("ring product", 2147483598);
+    products("ring product, short", 4194303);
+    inner_products("inner product, per pair", 2147483598);
+    inner_products("inner product, short", 4194303);
     fold(s, (int)v[5]);
-    sheet();
+    linear(s, (int)v[5]);
+    sheets();
     printf("\nGrowth with n (r = 8) and with r (n = 64); w = 64, K = L = 2, kappa = 4, best of 3; ours, then ratios to ours\n\n");
     growth_heading();
     lizkarg_sizes small = {64, 64, 8, 2, 2, 64, 4, 4, 4, 16, 256, 256, 4, 4, 0, 0};

@@ -57,4 +57,11 @@ static int verify(const lizkarg_sizes *s, const lists *l) {
     return 256 * x.kind + x.number;
 }
 
-const implementation ours = {"ours", multiply, commit, project, aggregate, garbage, amortize, verify};
+static int next(const lizkarg_sizes *s, const lists *l) {
+    lizkarg_answer x = lizkarg_next_instance(*s, l->nu, l->mu, l->a, s->kappa * s->n * D, l->b, s->kappa1 * T, l->c_matrix,
+        s->kappa1 * G, l->d_matrix, s->kappa2 * H, WHOLE, TERM, l->u1, s->kappa1 * D, ROWS, l->p, s->w, l->psi, 5 * s->l, l->omega,
+        5 * s->w, l->b2, 5 * D, l->alpha, s->k * D, l->delta, 5 * D, l->u2, s->kappa2 * D, l->c, s->r * D, l->next, l->next_len);
+    return 256 * x.kind + x.number;
+}
+
+const implementation ours = {"ours", multiply, commit, project, aggregate, garbage, amortize, verify, next};

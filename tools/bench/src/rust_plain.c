@@ -8,4 +8,4 @@ void plain_garbage(const lizkarg_sizes *s, const lists *l);
 void plain_amortize(const lizkarg_sizes *s, const lists *l);
 int plain_verify(const lizkarg_sizes *s, const lists *l);
 const implementation rust_plain = {"rust_plain", plain_multiply, plain_commit, plain_project, plain_aggregate, plain_garbage,
-    plain_amortize, plain_verify};
+    plain_amortize, plain_verify, 0};
