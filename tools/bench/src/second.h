@@ -37,18 +37,28 @@ static void write_table(const lizkarg_sizes *s, const lists *l, table *sums) {
     }
 }
 
-static inline size_t code_at(const int32_t *row, size_t step) {
-    size_t t0 = (size_t)(row[0] + 1), t1 = (size_t)(row[step] + 1), t2 = (size_t)(row[2 * step] + 1), t3 = (size_t)(row[3 * step] + 1);
+static inline uint32_t code_at(const int32_t *row, size_t step) {
+    uint32_t t0 = (uint32_t)(row[0] + 1), t1 = (uint32_t)(row[step] + 1), t2 = (uint32_t)(row[2 * step] + 1), t3 = (uint32_t)(row[3 * step] + 1);
     return ((t3 * 3 + t2) * 3 + t1) * 3 + t0;
+}
+
+/* The codes at element e: number g * 64 + y is that of group g and coefficient y. All are formed before the sums, so that the rows, which
+ * stand far apart, are read without waiting. */
+static void group_codes(const lizkarg_sizes *s, const lists *l, size_t e, uint32_t codes[4096]) {
+    size_t d = s->d, step = s->r * s->n * d;
+    for (size_t g = 0; g < s->w / 4; g++)
+        for (size_t y = 0; y < d; y++) codes[g * 64 + y] = code_at(l->rows + g * 4 * step + e * d + y, step);
 }
 
 static five second_row_phi(const lizkarg_sizes *s, const lists *l, const table *sums, size_t e) {
     size_t d = s->d, w = s->w, step = s->r * s->n * d;
+    uint32_t codes[4096] = {0};
     int64_t acc[320] = {0};
     five row;
+    group_codes(s, l, e, codes);
     for (size_t g = 0; g < w / 4; g++)
         for (size_t y = 0; y < d; y++) {
-            const int64_t *from = sums->v + (g * 81 + code_at(l->rows + g * 4 * step + e * d + y, step)) * 5;
+            const int64_t *from = sums->v + (g * 81 + codes[g * 64 + y]) * 5;
             for (size_t k = 0; k < 5; k++) acc[y * 5 + k] += from[k];
         }
     for (size_t j = w / 4 * 4; j < w; j++)

@@ -19,6 +19,12 @@ impl Tally {
         let (kind, number) = answer.code();
         *self.seen.entry((call, kind, number)).or_insert(0) += 1;
     }
+
+    pub fn add(&mut self, other: &Tally) {
+        for (answer, times) in &other.seen {
+            *self.seen.entry(*answer).or_insert(0) += times;
+        }
+    }
 }
 
 /// The lengths of the output slices.

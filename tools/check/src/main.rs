@@ -32,5 +32,6 @@ fn main() {
         println!("{call:<16}{:<10}{number:>7}{times:>12}", kinds[*kind as usize]);
     }
     let calls: u64 = tally.seen.values().sum();
-    println!("all equal: {calls} calls, seed {seed}, {small} small and {medium} medium cases, large {}", if large != 0 { "yes" } else { "no" });
+    let folds = 4 * (small + medium);
+    println!("all equal: {calls} calls, seed {seed}, {folds} folds of {small} small and {medium} medium statements, large {}", if large != 0 { "yes" } else { "no" });
 }

@@ -201,56 +201,76 @@ fn refused_next(tally: &mut Tally, rng: &mut Random, whole: &Sz, s: &Sz, l: &Lis
     parts(tally, s, nu, mu, &l.opening);
 }
 
-pub fn run(tally: &mut Tally, seed: u64, count: u64, sizes: fn(&mut Random) -> Sz) {
-    for number in 0..count {
-        let mut rng = Random::new(seed.wrapping_mul(0x100000001b3).wrapping_add(number));
-        let s = sizes(&mut rng);
-        let short = rng.below(2) == 0;
-        let mut l = case::random(&mut rng, &s, short);
-        let mut size = room(&s);
-        // honest
-        let (t, g, u1) = commit(tally, &s, &l, &size);
-        l.p = project(tally, &s, &l, &size);
-        l.b2 = aggregate(tally, &s, &l, &size, None);
-        let (h, u2) = commit_garbage(tally, &s, &l, &size, None);
-        let z = amortize(tally, &s, &l, &size);
-        l.opening = [z, t, g, h].concat();
-        (l.u1, l.u2) = (u1, u2);
-        let answer = verify(tally, &s, &l, None);
-        assert!(matches!(answer, Answer::Accepted | Answer::Failed(1) | Answer::Failed(9)), "case {number}: an honest fold is {answer:?}");
-        next_of(tally, &mut rng, &s, &l, answer);
-        refused_next(tally, &mut rng, &s, &s, &l);
-        sheets(tally, &mut rng, &s, &l);
-        products(tally, &mut rng);
-        // damaged
-        for _ in 0..3 {
-            let (whole, mut s, mut l) = (s, s, l.clone());
-            size = room(&s);
-            match rng.below(8) {
-                0 => s.set(rng.below(16) as usize, odd_size(&mut rng)),
-                1 => damage_room(&mut rng, &mut size),
-                2 => {
-                    damage_list(&mut rng, &mut l);
-                    damage_list(&mut rng, &mut l);
-                }
-                3 => {
-                    s.set(rng.below(16) as usize, odd_size(&mut rng));
-                    damage_list(&mut rng, &mut l);
-                }
-                _ => damage_list(&mut rng, &mut l),
+/// A random statement: one honest fold and three damaged ones.
+fn statement(tally: &mut Tally, seed: u64, number: u64, sizes: fn(&mut Random) -> Sz) {
+    let mut rng = Random::new(seed.wrapping_mul(0x100000001b3).wrapping_add(number));
+    let s = sizes(&mut rng);
+    let short = rng.below(2) == 0;
+    let mut l = case::random(&mut rng, &s, short);
+    let mut size = room(&s);
+    // honest
+    let (t, g, u1) = commit(tally, &s, &l, &size);
+    l.p = project(tally, &s, &l, &size);
+    l.b2 = aggregate(tally, &s, &l, &size, None);
+    let (h, u2) = commit_garbage(tally, &s, &l, &size, None);
+    let z = amortize(tally, &s, &l, &size);
+    l.opening = [z, t, g, h].concat();
+    (l.u1, l.u2) = (u1, u2);
+    let answer = verify(tally, &s, &l, None);
+    assert!(matches!(answer, Answer::Accepted | Answer::Failed(1) | Answer::Failed(9)), "case {number}: an honest fold is {answer:?}");
+    next_of(tally, &mut rng, &s, &l, answer);
+    refused_next(tally, &mut rng, &s, &s, &l);
+    sheets(tally, &mut rng, &s, &l);
+    products(tally, &mut rng);
+    // damaged
+    for _ in 0..3 {
+        let (whole, mut s, mut l) = (s, s, l.clone());
+        size = room(&s);
+        match rng.below(8) {
+            0 => s.set(rng.below(16) as usize, odd_size(&mut rng)),
+            1 => damage_room(&mut rng, &mut size),
+            2 => {
+                damage_list(&mut rng, &mut l);
+                damage_list(&mut rng, &mut l);
             }
-            all_calls(tally, &s, &l, &size);
-            let answer = judged(tally, &s, &l);
-            match answer {
-                Answer::Refused(_) => refused_next(tally, &mut rng, &whole, &s, &l),
-                _ => next_of(tally, &mut rng, &s, &l, answer),
+            3 => {
+                s.set(rng.below(16) as usize, odd_size(&mut rng));
+                damage_list(&mut rng, &mut l);
             }
-            sheets_of_damaged(tally, &mut rng, &s, &l);
+            _ => damage_list(&mut rng, &mut l),
         }
-        if number % 10000 == 9999 {
-            println!("{} cases", number + 1);
+        all_calls(tally, &s, &l, &size);
+        let answer = judged(tally, &s, &l);
+        match answer {
+            Answer::Refused(_) => refused_next(tally, &mut rng, &whole, &s, &l),
+            _ => next_of(tally, &mut rng, &s, &l, answer),
         }
+        sheets_of_damaged(tally, &mut rng, &s, &l);
     }
+}
+
+/// `count` statements, shared out among the processors. The same seed and number give the same statement whatever their number.
+pub fn run(tally: &mut Tally, seed: u64, count: u64, sizes: fn(&mut Random) -> Sz) {
+    let threads = std::thread::available_parallelism().map_or(1, |n| n.get() as u64);
+    let work = |first: u64| {
+        let mut own = Tally::default();
+        for number in (first..count).step_by(threads as usize) {
+            statement(&mut own, seed, number, sizes);
+            if number % 100000 == 99999 {
+                println!("statement {}", number + 1);
+            }
+        }
+        own
+    };
+    std::thread::scope(|scope| {
+        let running: Vec<_> = (0..threads).map(|first| scope.spawn(move || work(first))).collect();
+        for thread in running {
+            match thread.join() {
+                Ok(own) => tally.add(&own),
+                Err(difference) => std::panic::resume_unwind(difference),
+            }
+        }
+    });
 }
 
 /// The sheet of a damaged case, where its lists still have the lengths that its sizes give.
