@@ -17,6 +17,7 @@ use Rattle.fold.specs.Refusals.{nextTests}
 use Rattle.fold.specs.NextInstance.{nextWhole}
 use Rattle.fold.specs.NextCall.{orWritten, unlessFailed, firstChecks, nextAnswer, nextOut}
 use Rattle.verifier.specs.ConstantTerms.{Terms}
+use Rattle.verifier.specs.ListFacts.{terms-known}
 use Rattle.chunks.specs.NextFacts.{NextFacts, next-facts}
 use Rattle.next_instance.specs.Calls.{NextCalled, firstChecksOf, accepts}
 
@@ -58,14 +59,7 @@ module _ (sizes : Sizes) (A B C D whole term rows ψ ω α δ c u₁ p b″ u₂
       call-facts = next-facts 𝓢 𝓓 𝓣 ν μ out (sym number ∙ none)
 
       pub check-facts : Terms sizes term ψ ω p b″
-      check-facts =
-          record {
-            terms = call-facts .term-length;
-            psi = call-facts .ψ-length;
-            omega-length = call-facts .ω-length;
-            projections = call-facts .p-length;
-            second = record { sized = call-facts .b″-length };
-          }
+      check-facts = terms-known sizes A B C D whole term rows ψ ω α δ c u₁ p b″ u₂ (call-facts .lists)
 
       module _ {v : Verdict} {t : Bool} (checked : v ≡ firstChecksOf sizes term p ψ ω b″) (told : t ≡ accepts v) where
         first-is : firstChecks 𝓢 𝓓 𝓣 ν μ out ≡ v

@@ -15,8 +15,9 @@ use Rattle.fold.specs.Sizes.{nextCount}
 use Rattle.fold.specs.Chunks.{width}
 use Rattle.fold.specs.Refusals.{wholeLength}
 use Rattle.fold.specs.NextInstance.{laidOut, nextWhole}
-use Rattle.constraints.specs.Facts.{WholeFacts, AggregateFacts}
+use Rattle.constraints.specs.Facts.{AggregateFacts}
 use Rattle.verifier.specs.SizeLaws.{pairs-bound}
+use Rattle.verifier.specs.ListFacts.{wholes-known, aggregate-known}
 use Rattle.chunks.specs.NextFacts.{NextFacts}
 use Rattle.next_constraints.specs.Facts.{EntryFacts}
 use Rattle.next_constraints.specs.Tables.{TableRoom}
@@ -45,57 +46,26 @@ module _ (s : Sizes) (A B C D whole term rows ψ ω α δ c u₁ p b″ u₂ : L
     entry-facts =
         record {
           limits = facts .limits;
-          A-length = facts .A-length;
-          B-length = facts .B-length;
-          C-length = facts .C-length;
-          D-length = facts .D-length;
-          c-length = facts .c-length;
-        }
-
-    whole-facts : WholeFacts (s .d) (s .n) (s .r) (s .k) whole α
-    whole-facts =
-        record {
-          shaped = facts .limits .shaped;
-          whole-count = facts .limits .K-small;
-          whole-length = facts .whole-length;
-          α-length = facts .α-length;
+          A-length = facts .lists .A-length;
+          B-length = facts .lists .B-length;
+          C-length = facts .lists .C-length;
+          D-length = facts .lists .D-length;
+          c-length = facts .lists .c-length;
         }
 
     pub constant-facts : ConstantFacts s whole α δ b″ u₁ u₂
     constant-facts =
         record {
           limits = facts .limits;
-          wholes = whole-facts;
-          δ-length = facts .δ-length;
-          b″-length = facts .b″-length;
-          u₁-length = facts .u₁-length;
-          u₂-length = facts .u₂-length;
+          wholes = wholes-known s A B C D whole term rows ψ ω α δ c u₁ p b″ u₂ (facts .lists) (facts .limits);
+          δ-length = facts .lists .δ-length;
+          b″-length = facts .lists .b″-length;
+          u₁-length = facts .lists .u₁-length;
+          u₂-length = facts .lists .u₂-length;
         }
 
     pub aggregate-facts : AggregateFacts (s .d) (s .n) (s .r) (s .k) (s .l) (s .w) whole term rows ψ ω α δ
-    aggregate-facts =
-        record {
-          wholes = whole-facts;
-          seconds =
-              record {
-                terms =
-                    record {
-                      shaped = facts .limits .shaped;
-                      term-count = facts .limits .L-small;
-                      term-length = facts .term-length;
-                      ψ-length = facts .ψ-length;
-                    };
-                projected =
-                    record {
-                      shaped = facts .limits .shaped;
-                      row-count = facts .limits .w-small;
-                      rows-length = facts .rows-length;
-                      ω-length = facts .ω-length;
-                      tested = facts .rows-entries;
-                    };
-              };
-          δ-length = facts .δ-length;
-        }
+    aggregate-facts = aggregate-known s A B C D whole term rows ψ ω α δ c u₁ p b″ u₂ (facts .lists) (facts .limits) (facts .rows-entries)
 
     pub out-room : (cut : Cut) → CutFacts s cut → cut .nu ≡ ν → cut .mu ≡ μ
         → length out ≡ wholeLength (s .d) (cut .rank) (cut .parts) (nextCount (s .kappa) (s .kappa1) (s .kappa2))

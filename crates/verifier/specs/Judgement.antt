@@ -18,9 +18,10 @@ use Rattle.fold.specs.Messages.{elements, aggregate, aggregateConstant}
 use Rattle.fold.specs.Verdict.{verdict, check₁, check₂, check₃, check₄, check₅, check₆, check₇, check₈, check₉}
 use Rattle.fold.specs.Arguments.{statementOf, drawsOf, transcriptOf}
 use Rattle.fold.specs.CallFacts.{VerifyFacts}
-use Rattle.constraints.specs.Facts.{TermFacts, ProjectionFacts, SecondFacts, WholeFacts, AggregateFacts}
+use Rattle.constraints.specs.Facts.{AggregateFacts}
 use Rattle.verifier.specs.Facts.{Fits, Holds, Opening, tBlockOf, gBlockOf, hBlockOf, zValue, tValue, gValue, hValue}
 use Rattle.verifier.specs.ConstantTerms.{Terms}
+use Rattle.verifier.specs.ListFacts.{terms-known, aggregate-known}
 use Rattle.verifier.specs.Places.{el-written}
 use Rattle.verifier.specs.SizeLaws.{product-bound}
 
@@ -89,45 +90,17 @@ module _ (s : Sizes) (A B C D whole term projections ψ ω α δ c u₁ p b″ u
 
   module _ (facts : VerifyFacts (statementOf s A B C D whole term) (drawsOf projections ψ ω α δ c) (transcriptOf u₁ p b″ u₂) o) where
     pub term-facts : Terms s term ψ ω p b″
-    term-facts = record {
-      terms = facts .term-length;
-      psi = facts .ψ-length;
-      omega-length = facts .ω-length;
-      projections = facts .p-length;
-      second = record { sized = facts .b″-length };
-    }
+    term-facts = terms-known s A B C D whole term projections ψ ω α δ c u₁ p b″ u₂ (facts .lists)
 
     pub opening-facts : OpeningFacts s A whole term projections ψ ω b″ α δ c o
     opening-facts = record {
       fits = facts .limits;
-      matrix = record { sized = facts .A-length };
-      aggregated = record {
-        wholes = record {
-          shaped = facts .limits .shaped;
-          whole-count = facts .limits .K-small;
-          whole-length = facts .whole-length;
-          α-length = facts .α-length;
-        };
-        seconds = record {
-          terms = record {
-            shaped = facts .limits .shaped;
-            term-count = facts .limits .L-small;
-            term-length = facts .term-length;
-            ψ-length = facts .ψ-length;
-          };
-          projected = record {
-            shaped = facts .limits .shaped;
-            row-count = facts .limits .w-small;
-            rows-length = facts .rows-length;
-            ω-length = facts .ω-length;
-            tested = facts .rows-entries;
-          };
-        };
-        δ-length = facts .δ-length;
-      };
-      weights = record { sized = facts .δ-length };
-      second = record { sized = facts .b″-length };
-      challenges = record { sized = facts .c-length };
+      matrix = record { sized = facts .lists .A-length };
+      aggregated =
+          aggregate-known s A B C D whole term projections ψ ω α δ c u₁ p b″ u₂ (facts .lists) (facts .limits) (facts .rows-entries);
+      weights = record { sized = facts .lists .δ-length };
+      second = record { sized = facts .lists .b″-length };
+      challenges = record { sized = facts .lists .c-length };
       opening = record { sized = facts .o-length };
     }
 

@@ -7,4 +7,5 @@ pub mod Norms
 pub mod Mixed
 pub mod ConstantTerms
 pub mod Relation
+pub mod ListFacts
 pub mod Judgement

@@ -26,7 +26,7 @@ slice-aggregate-write-tables-4 c = search needs
 write-tables-requires : tie.Need-write-tables-requires
 write-tables-requires c κs =
     let s = c .before .before .before .before .before in
-    let challenges : s .args .sizes .r * s .args .sizes .d ≤ length (s .args .c .now) = omega (arith, s .pre .c-length) in (
+    let challenges : s .args .sizes .r * s .args .sizes .d ≤ length (s .args .c .now) = omega (arith, s .pre .lists .c-length) in (
       aggregate-facts _ _ _ _ _ _ _ _ _ _ _ _ _ _ _ _ _ _ _ _ (s .pre),
       (
         challenges,

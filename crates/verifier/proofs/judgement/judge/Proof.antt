@@ -34,10 +34,10 @@ first-outer-requires c κs =
     let f = s .pre in (
       f .limits,
       (
-        record { sized = f .B-length },
+        record { sized = f .lists .B-length },
         (
-          record { sized = f .C-length },
-          (record { sized = f .u₁-length }, record { sized = f .o-length }),
+          record { sized = f .lists .C-length },
+          (record { sized = f .lists .u₁-length }, record { sized = f .o-length }),
         ),
       ),
     )
@@ -58,7 +58,7 @@ second-outer-requires : tie.Need-second-outer-requires
 second-outer-requires c κs =
     let s = c .before .before .before .before .before .before in
     let f = s .pre in
-    (f .limits, (record { sized = f .D-length }, (record { sized = f .u₂-length }, record { sized = f .o-length })))
+    (f .limits, (record { sized = f .lists .D-length }, (record { sized = f .lists .u₂-length }, record { sized = f .o-length })))
 
 returns-4 : tie.Need-returns-4
 returns-4 c =
