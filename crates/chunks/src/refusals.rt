@@ -212,10 +212,10 @@ pub fn next_refusal(
     if !fits {
         return 7;
     }
-    let ranges = message_ranges(u1, p, b2, u2, a, b, c_matrix, d_matrix)
-        & constraint_ranges(whole, term, rows, psi, omega, alpha, delta)
-        & are_coefficients(c);
     let entries = are_projection_entries(rows);
+    let ranges = message_ranges(u1, p, b2, u2, a, b, c_matrix, d_matrix)
+        & constraint_ranges(whole, term, rows, entries, psi, omega, alpha, delta)
+        & are_coefficients(c);
     let rule = challenges(sizes.d, sizes.r, c);
     let small = rank <= 256;
     first(

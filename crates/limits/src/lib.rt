@@ -30,6 +30,7 @@ use lengths::message_lengths;
 use lengths::project_lengths;
 use ranges::constraint_ranges;
 use ranges::message_ranges;
+use ranges::rows_in_range;
 use residues::range::are_coefficients;
 use residues::range::are_projection_entries;
 use rows::challenges;
@@ -77,8 +78,8 @@ pub fn project_refusal(shape: Shape, w: usize, rows: &[i32], witness: &[i32], p:
     if !fits {
         return 7;
     }
-    let ranges = are_coefficients(rows) & are_coefficients(witness);
     let entries = are_projection_entries(rows);
+    let ranges = rows_in_range(rows, entries) & are_coefficients(witness);
     first(ranges, 8, first(entries, 9, 0))
 }
 
@@ -106,12 +107,12 @@ pub fn aggregate_refusal(
     if !fits {
         return 7;
     }
+    let entries = are_projection_entries(rows);
     let ranges = are_coefficients(term)
-        & are_coefficients(rows)
+        & rows_in_range(rows, entries)
         & are_coefficients(psi)
         & are_coefficients(omega)
         & are_coefficients(witness);
-    let entries = are_projection_entries(rows);
     first(ranges, 8, first(entries, 9, 0))
 }
 
@@ -161,9 +162,9 @@ pub fn garbage_refusal(
     if !fits {
         return 7;
     }
-    let lent = are_coefficients(d_matrix) & are_coefficients(witness);
-    let ranges = constraint_ranges(whole, term, rows, psi, omega, alpha, delta) & lent;
     let entries = are_projection_entries(rows);
+    let own = are_coefficients(d_matrix) & are_coefficients(witness);
+    let ranges = constraint_ranges(whole, term, rows, entries, psi, omega, alpha, delta) & own;
     first(ranges, 8, first(entries, 9, 0))
 }
 
@@ -239,10 +240,10 @@ pub fn verify_refusal(
     if !fits {
         return 7;
     }
-    let ranges = message_ranges(opening, u1, p, b2, u2, a, b, c_matrix, d_matrix)
-        & constraint_ranges(whole, term, rows, psi, omega, alpha, delta)
-        & are_coefficients(c);
     let entries = are_projection_entries(rows);
+    let ranges = message_ranges(opening, u1, p, b2, u2, a, b, c_matrix, d_matrix)
+        & constraint_ranges(whole, term, rows, entries, psi, omega, alpha, delta)
+        & are_coefficients(c);
     let rule = challenges(sizes.d, sizes.r, c);
     first(ranges, 8, first(entries, 9, first(rule, 10, 0)))
 }

@@ -71,17 +71,17 @@ returns-2 c =
     let fits = append-rows _ _ lists (joined-row (c1 .list-fits .ensures & end)) in
     unfit (verifyBounds m) 7 _ _ refl (c6 .verify-bounds .ensures) (c5 .if1 .left) fits (c .if2 .taken)
 
+are-projection-entries-requires : tie.Need-are-projection-entries-requires
+are-projection-entries-requires c κs = tt
+
 message-ranges-requires : tie.Need-message-ranges-requires
 message-ranges-requires c κs = tt
 
 constraint-ranges-requires : tie.Need-constraint-ranges-requires
-constraint-ranges-requires c κs = tt
+constraint-ranges-requires c κs = c .before .are-projection-entries .ensures
 
 are-coefficients-requires : tie.Need-are-coefficients-requires
 are-coefficients-requires c κs = tt
-
-are-projection-entries-requires : tie.Need-are-projection-entries-requires
-are-projection-entries-requires c κs = tt
 
 challenges-requires : tie.Need-challenges-requires
 challenges-requires c κs =
@@ -130,11 +130,11 @@ returns-3 c =
     let messages = append-rows _ _ (c12 .message-lengths .ensures) (c11 .matrix-lengths .ensures) in
     let lists = append-rows _ _ messages (c10 .constraint-lengths .ensures) in
     let fits = append-rows _ _ lists (joined-row (c9 .list-fits .ensures & end)) in
-    let read = append-rows _ _ (c7 .message-ranges .ensures) (c6 .constraint-ranges .ensures) in
-    let ranges = append-rows _ _ read (joined-row (c5 .are-coefficients .ensures & end)) in
+    let read = append-rows _ _ (c6 .message-ranges .ensures) (c5 .constraint-ranges .ensures) in
+    let ranges = append-rows _ _ read (joined-row (c4 .are-coefficients .ensures & end)) in
     fit (verifyBounds m) 7 _ _ refl (c14 .verify-bounds .ensures) (c13 .if1 .left) fits (c8 .if2 .left)
     (single 8 _ ranges (c .first3 .ensures)
-    (single 9 _ (c4 .are-projection-entries .ensures) (c1 .first2 .ensures)
+    (single 9 _ (c7 .are-projection-entries .ensures) (c1 .first2 .ensures)
     (single 10 _ (c3 .challenges .ensures) (c2 .first .ensures) none)))
 
 pub verify-refusal-spec : {M : Type 1} → statement M
@@ -148,10 +148,10 @@ verify-refusal-spec =
     constraint-lengths-requires
     list-fits-requires
     returns-2
+    are-projection-entries-requires
     message-ranges-requires
     constraint-ranges-requires
     are-coefficients-requires
-    are-projection-entries-requires
     challenges-requires
     first-requires
     first-requires-2

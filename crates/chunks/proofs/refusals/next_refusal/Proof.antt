@@ -76,17 +76,17 @@ returns-2 c =
     let fits = append-rows _ _ lists (joined-row (c1 .list-fits .ensures & end)) in
     unfit (nextBounds (a .sizes) (a .nu) (a .mu)) 7 _ _ refl (c7 .next-bounds .ensures) (c6 .if1 .left) fits (c .if2 .taken)
 
+are-projection-entries-requires : tie.Need-are-projection-entries-requires
+are-projection-entries-requires c κs = tt
+
 message-ranges-requires : tie.Need-message-ranges-requires
 message-ranges-requires c κs = tt
 
 constraint-ranges-requires : tie.Need-constraint-ranges-requires
-constraint-ranges-requires c κs = tt
+constraint-ranges-requires c κs = c .before .are-projection-entries .ensures
 
 are-coefficients-requires : tie.Need-are-coefficients-requires
 are-coefficients-requires c κs = tt
-
-are-projection-entries-requires : tie.Need-are-projection-entries-requires
-are-projection-entries-requires c κs = tt
 
 challenges-requires : tie.Need-challenges-requires
 challenges-requires c κs =
@@ -139,12 +139,12 @@ returns-3 c =
     let messages = append-rows _ _ (c13 .next-lengths .ensures) (c12 .matrix-lengths .ensures) in
     let lists = append-rows _ _ messages (c11 .constraint-lengths .ensures) in
     let fits = append-rows _ _ lists (joined-row (c10 .list-fits .ensures & end)) in
-    let read = append-rows _ _ (c8 .message-ranges .ensures) (c7 .constraint-ranges .ensures) in
-    let ranges = append-rows _ _ read (joined-row (c6 .are-coefficients .ensures & end)) in
+    let read = append-rows _ _ (c7 .message-ranges .ensures) (c6 .constraint-ranges .ensures) in
+    let ranges = append-rows _ _ read (joined-row (c5 .are-coefficients .ensures & end)) in
     let small = ap (λ x. leb x 256) (c14 .rank-of .ensures) in
     fit (nextBounds (a .sizes) (a .nu) (a .mu)) 7 _ _ refl (c16 .next-bounds .ensures) (c15 .if1 .left) fits (c9 .if2 .left)
     (single 8 _ ranges (c .first4 .ensures)
-    (single 9 _ (c5 .are-projection-entries .ensures) (c1 .first3 .ensures)
+    (single 9 _ (c8 .are-projection-entries .ensures) (c1 .first3 .ensures)
     (single 10 _ (c4 .challenges .ensures) (c2 .first2 .ensures)
     (single 11 _ small (c3 .first .ensures) none))))
 
@@ -160,10 +160,10 @@ next-refusal-spec =
     constraint-lengths-requires
     list-fits-requires
     returns-2
+    are-projection-entries-requires
     message-ranges-requires
     constraint-ranges-requires
     are-coefficients-requires
-    are-projection-entries-requires
     challenges-requires
     first-requires
     first-requires-2
