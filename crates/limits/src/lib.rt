@@ -163,8 +163,8 @@ pub fn garbage_refusal(
         return 7;
     }
     let entries = are_projection_entries(rows);
-    let own = are_coefficients(d_matrix) & are_coefficients(witness);
-    let ranges = constraint_ranges(whole, term, rows, entries, psi, omega, alpha, delta) & own;
+    let others = are_coefficients(d_matrix) & are_coefficients(witness);
+    let ranges = constraint_ranges(whole, term, rows, entries, psi, omega, alpha, delta) & others;
     first(ranges, 8, first(entries, 9, 0))
 }
 
