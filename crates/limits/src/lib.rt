@@ -1,6 +1,7 @@
 // The number with which each call refuses, 0 where it does not: document 01, 'Where a call stops'. Sizes are tested before lengths, which
 // are products of them, and lengths before what the lists hold.
 pub mod bounds;
+pub mod draws;
 pub mod lengths;
 pub mod ranges;
 pub mod rows;
@@ -15,6 +16,7 @@ use bounds::commit_bounds;
 use bounds::garbage_bounds;
 use bounds::project_bounds;
 use bounds::verify_bounds;
+use draws::draw_lengths;
 use fold::CommitSizes;
 use fold::GarbageSizes;
 use fold::Shape;
@@ -24,7 +26,6 @@ use lengths::amortize_lengths;
 use lengths::commit_lengths;
 use lengths::constraint_lengths;
 use lengths::garbage_lengths;
-use lengths::list_fits;
 use lengths::matrix_lengths;
 use lengths::message_lengths;
 use lengths::project_lengths;
@@ -216,27 +217,9 @@ pub fn verify_refusal(
     if size != 0 {
         return size;
     }
-    let shape = Shape {
-        d: sizes.d,
-        n: sizes.n,
-        r: sizes.r,
-    };
     let fits = message_lengths(sizes, opening, u1, p, b2, u2)
         & matrix_lengths(sizes, a, b, c_matrix, d_matrix)
-        & constraint_lengths(
-            shape,
-            sizes.k,
-            sizes.l,
-            sizes.w,
-            whole,
-            term,
-            rows,
-            psi,
-            omega,
-            alpha,
-            delta,
-        )
-        & list_fits(c, sizes.r, sizes.d);
+        & draw_lengths(sizes, whole, term, rows, psi, omega, alpha, delta, c);
     if !fits {
         return 7;
     }
