@@ -10,9 +10,8 @@ ghost use Rattle.chunks.specs.NextFacts.{ChunkLimits};
 ghost use Rattle.chunks.specs.Stages as spec;
 use crate::sizes::next_rank;
 use crate::sizes::rest_size;
-use fold::Shape;
 use fold::Sizes;
-use limits::lengths::constraint_lengths;
+use limits::draws::draw_lengths;
 use limits::lengths::five_fit;
 use limits::lengths::list_fits;
 use limits::lengths::matrix_lengths;
@@ -187,35 +186,17 @@ pub fn next_refusal(
     if size != 0 {
         return size;
     }
-    let shape = Shape {
-        d: sizes.d,
-        n: sizes.n,
-        r: sizes.r,
-    };
     let rank = rank_of(sizes, nu, mu);
     let fits = next_lengths(sizes, nu, mu, rank, out, u1, p, b2, u2)
         & matrix_lengths(sizes, a, b, c_matrix, d_matrix)
-        & constraint_lengths(
-            shape,
-            sizes.k,
-            sizes.l,
-            sizes.w,
-            whole,
-            term,
-            rows,
-            psi,
-            omega,
-            alpha,
-            delta,
-        )
-        & list_fits(c, sizes.r, sizes.d);
+        & draw_lengths(sizes, whole, term, rows, psi, omega, alpha, delta, c);
     if !fits {
         return 7;
     }
-    let ranges = message_ranges(u1, p, b2, u2, a, b, c_matrix, d_matrix)
-        & constraint_ranges(whole, term, rows, psi, omega, alpha, delta)
-        & are_coefficients(c);
     let entries = are_projection_entries(rows);
+    let ranges = message_ranges(u1, p, b2, u2, a, b, c_matrix, d_matrix)
+        & constraint_ranges(whole, term, rows, entries, psi, omega, alpha, delta)
+        & are_coefficients(c);
     let rule = challenges(sizes.d, sizes.r, c);
     let small = rank <= 256;
     first(

@@ -4,11 +4,12 @@ use mathlib.Core.Bool.{Bool, true, false, cond, _&&_, _||_}
 use mathlib.Core.List.{List, [], _∷_, _++_}
 use Prim.Native.Nat.{ℕ, _+_, _-_, _*_, _<_, _≤_}
 use native.Mathlib.Omega.{arith}
-use lib.Dec.{leb, eqb}
+use lib.Dec.{leb, eqb, lit≤}
 use lib.ListN.{take, drop}
 use lib.IntN.{ℤ, pos}
 use borrow.Author.Tests.{le-leb}
-use Rattle.residues.specs.Range.{challenge}
+use Rattle.residues.specs.Range.{coefficients, projections, challenge}
+use Rattle.residues.specs.RangeLaws.{allWithin-mono}
 use Rattle.ring.specs.ElementEquality.{every-zero, every-next}
 use Rattle.fold.specs.Refusals.{allOf, anyOf, between, degree, challenges}
 
@@ -73,6 +74,11 @@ between-test high n = rw (le-leb 0 n (omega arith)) refl
 pub degree-tests : (d : ℕ) → eqb d 2 || eqb d 4 || eqb d 8 || eqb d 16 || eqb d 32 || eqb d 64 ≡ degree (pos d)
 unfolding degree
 degree-tests d = either-anyOf (eqb d 2) (eqb d 4 ∷ eqb d 8 ∷ eqb d 16 ∷ eqb d 32 ∷ eqb d 64 ∷ [])
+
+-- -1, 0 and 1 are in coefficient range: row 9 gives row 8
+pub projections-coefficients : (xs : List ℤ) → projections xs ≡ true → coefficients xs ≡ true
+unfolding projections coefficients
+projections-coefficients xs e = allWithin-mono 1 2147483598 xs (lit≤ tt) e
 
 -- ---- the loop of `challenges`: all says that the first i elements keep the rule, and one is the test of the next
 

@@ -1,7 +1,7 @@
 -- The tests of each call in stages: those of its sizes, which come first, and those of its lengths.
 use mathlib.Core.Path.{_≡_}
 use mathlib.Core.Bool.{Bool}
-use mathlib.Core.List.{List, [], _∷_}
+use mathlib.Core.List.{List, [], _∷_, _++_}
 use Prim.Native.Nat.{ℕ, _+_, _*_, _≤_}
 use lib.IntN.{ℤ, pos}
 use Rattle.residues.specs.Range.{coefficients}
@@ -138,6 +138,11 @@ matrixLengths m A B C D =
     ∷ sized C (m .kappa1 * garbageSize (m .r) (m .t2) * m .d)
     ∷ sized D (m .kappa2 * garbageSize (m .r) (m .t1) * m .d)
     ∷ []
+
+-- both kinds of constraints and all draws
+abbrev pub drawLengths : Sizes → (whole term rows ψ ω α δ c : List ℤ) → List Bool
+drawLengths m whole term rows ψ ω α δ c =
+    constraintLengths (m .d) (m .n) (m .r) (m .k) (m .l) (m .w) whole term rows ψ ω α δ ++ (sized c (m .r * m .d) ∷ [])
 
 -- the limits of the sizes of both kinds of constraints
 pub record ConstraintLimits (d n r K L w : ℕ) : Type 0 where

@@ -1,6 +1,7 @@
 // The number with which each call refuses, 0 where it does not: document 01, 'Where a call stops'. Sizes are tested before lengths, which
 // are products of them, and lengths before what the lists hold.
 pub mod bounds;
+pub mod draws;
 pub mod lengths;
 pub mod ranges;
 pub mod rows;
@@ -15,6 +16,7 @@ use bounds::commit_bounds;
 use bounds::garbage_bounds;
 use bounds::project_bounds;
 use bounds::verify_bounds;
+use draws::draw_lengths;
 use fold::CommitSizes;
 use fold::GarbageSizes;
 use fold::Shape;
@@ -24,12 +26,12 @@ use lengths::amortize_lengths;
 use lengths::commit_lengths;
 use lengths::constraint_lengths;
 use lengths::garbage_lengths;
-use lengths::list_fits;
 use lengths::matrix_lengths;
 use lengths::message_lengths;
 use lengths::project_lengths;
 use ranges::constraint_ranges;
 use ranges::message_ranges;
+use ranges::rows_in_range;
 use residues::range::are_coefficients;
 use residues::range::are_projection_entries;
 use rows::challenges;
@@ -77,8 +79,8 @@ pub fn project_refusal(shape: Shape, w: usize, rows: &[i32], witness: &[i32], p:
     if !fits {
         return 7;
     }
-    let ranges = are_coefficients(rows) & are_coefficients(witness);
     let entries = are_projection_entries(rows);
+    let ranges = rows_in_range(rows, entries) & are_coefficients(witness);
     first(ranges, 8, first(entries, 9, 0))
 }
 
@@ -106,12 +108,12 @@ pub fn aggregate_refusal(
     if !fits {
         return 7;
     }
+    let entries = are_projection_entries(rows);
     let ranges = are_coefficients(term)
-        & are_coefficients(rows)
+        & rows_in_range(rows, entries)
         & are_coefficients(psi)
         & are_coefficients(omega)
         & are_coefficients(witness);
-    let entries = are_projection_entries(rows);
     first(ranges, 8, first(entries, 9, 0))
 }
 
@@ -161,9 +163,9 @@ pub fn garbage_refusal(
     if !fits {
         return 7;
     }
-    let lent = are_coefficients(d_matrix) & are_coefficients(witness);
-    let ranges = constraint_ranges(whole, term, rows, psi, omega, alpha, delta) & lent;
     let entries = are_projection_entries(rows);
+    let others = are_coefficients(d_matrix) & are_coefficients(witness);
+    let ranges = constraint_ranges(whole, term, rows, entries, psi, omega, alpha, delta) & others;
     first(ranges, 8, first(entries, 9, 0))
 }
 
@@ -215,34 +217,16 @@ pub fn verify_refusal(
     if size != 0 {
         return size;
     }
-    let shape = Shape {
-        d: sizes.d,
-        n: sizes.n,
-        r: sizes.r,
-    };
     let fits = message_lengths(sizes, opening, u1, p, b2, u2)
         & matrix_lengths(sizes, a, b, c_matrix, d_matrix)
-        & constraint_lengths(
-            shape,
-            sizes.k,
-            sizes.l,
-            sizes.w,
-            whole,
-            term,
-            rows,
-            psi,
-            omega,
-            alpha,
-            delta,
-        )
-        & list_fits(c, sizes.r, sizes.d);
+        & draw_lengths(sizes, whole, term, rows, psi, omega, alpha, delta, c);
     if !fits {
         return 7;
     }
-    let ranges = message_ranges(opening, u1, p, b2, u2, a, b, c_matrix, d_matrix)
-        & constraint_ranges(whole, term, rows, psi, omega, alpha, delta)
-        & are_coefficients(c);
     let entries = are_projection_entries(rows);
+    let ranges = message_ranges(opening, u1, p, b2, u2, a, b, c_matrix, d_matrix)
+        & constraint_ranges(whole, term, rows, entries, psi, omega, alpha, delta)
+        & are_coefficients(c);
     let rule = challenges(sizes.d, sizes.r, c);
     first(ranges, 8, first(entries, 9, first(rule, 10, 0)))
 }

@@ -1,26 +1,41 @@
-// Row 8 of document 01's table for the lists that two calls share.
+// Row 8 of document 01's table for the projection rows and for the lists that two calls share.
 ghost use mathlib.Core.Path.{_≡_};
+ghost use Rattle.residues.specs.Range.{coefficients, projections};
 ghost use Rattle.fold.specs.Refusals.{allOf};
 ghost use Rattle.limits.specs.Stages as spec;
 use residues::range::are_coefficients;
+
+// The projection rows, where `entries` says whether row 9 holds. Entries of -1, 0 and 1 are in coefficient range, so that the rows are
+// looked at once where it does.
+pub fn rows_in_range(rows: &[i32], entries: bool) -> bool
+    requires { ⌜ entries ≡ projections (now rows) ⌝ }
+    ensures { λ x. ⌜ x ≡ coefficients (now (rows .entry)) ⌝ }
+{
+    if entries {
+        return true;
+    }
+    are_coefficients(rows)
+}
 
 // Both kinds of constraints and what is lent to aggregate them.
 pub fn constraint_ranges(
     whole: &[i32],
     term: &[i32],
     rows: &[i32],
+    entries: bool,
     psi: &[i32],
     omega: &[i32],
     alpha: &[i32],
     delta: &[i32],
 ) -> bool
+    requires { ⌜ entries ≡ projections (now rows) ⌝ }
     ensures { λ x.
         ⌜ x ≡ allOf (spec.constraintRanges (now (whole .entry)) (now (term .entry)) (now (rows .entry))
         (now (psi .entry)) (now (omega .entry)) (now (alpha .entry)) (now (delta .entry))) ⌝ }
 {
     are_coefficients(whole)
         & are_coefficients(term)
-        & are_coefficients(rows)
+        & rows_in_range(rows, entries)
         & are_coefficients(psi)
         & are_coefficients(omega)
         & are_coefficients(alpha)

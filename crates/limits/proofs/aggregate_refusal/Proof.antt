@@ -37,8 +37,14 @@ returns-2 c =
     let bounds = aggregateBounds (m .d) (m .n) (m .r) (a .l) (a .w) in
     unfit bounds 7 _ _ refl (c3 .aggregate-bounds .ensures) (c2 .if1 .left) fits (c .if2 .taken)
 
+are-projection-entries-requires : tie.Need-are-projection-entries-requires
+are-projection-entries-requires c κs = tt
+
 are-coefficients-requires : tie.Need-are-coefficients-requires
 are-coefficients-requires c κs = tt
+
+rows-in-range-requires : tie.Need-rows-in-range-requires
+rows-in-range-requires c κs = c .before .are-projection-entries .ensures
 
 are-coefficients-requires-2 : tie.Need-are-coefficients-requires-2
 are-coefficients-requires-2 c κs = tt
@@ -48,12 +54,6 @@ are-coefficients-requires-3 c κs = tt
 
 are-coefficients-requires-4 : tie.Need-are-coefficients-requires-4
 are-coefficients-requires-4 c κs = tt
-
-are-coefficients-requires-5 : tie.Need-are-coefficients-requires-5
-are-coefficients-requires-5 c κs = tt
-
-are-projection-entries-requires : tie.Need-are-projection-entries-requires
-are-projection-entries-requires c κs = tt
 
 first-requires : tie.Need-first-requires
 first-requires c κs = tt
@@ -82,9 +82,9 @@ returns-3 c =
     let bounds = aggregateBounds (m .d) (m .n) (m .r) (a .l) (a .w) in
     fit bounds 7 _ _ refl (c11 .aggregate-bounds .ensures) (c10 .if1 .left) fits (c8 .if2 .left)
     (row 8 _
-    (c7 .are-coefficients .ensures & c6 .are-coefficients2 .ensures & c5 .are-coefficients3 .ensures
-    & c4 .are-coefficients4 .ensures & c3 .are-coefficients5 .ensures & end) (c .first2 .ensures)
-    (single 9 _ (c2 .are-projection-entries .ensures) (c1 .first .ensures) none))
+    (c6 .are-coefficients .ensures & c5 .rows-in-range .ensures & c4 .are-coefficients2 .ensures
+    & c3 .are-coefficients3 .ensures & c2 .are-coefficients4 .ensures & end) (c .first2 .ensures)
+    (single 9 _ (c7 .are-projection-entries .ensures) (c1 .first .ensures) none))
 
 pub aggregate-refusal-spec : {M : Type 1} → statement M
 aggregate-refusal-spec =
@@ -94,12 +94,12 @@ aggregate-refusal-spec =
     returns
     aggregate-lengths-requires
     returns-2
+    are-projection-entries-requires
     are-coefficients-requires
+    rows-in-range-requires
     are-coefficients-requires-2
     are-coefficients-requires-3
     are-coefficients-requires-4
-    are-coefficients-requires-5
-    are-projection-entries-requires
     first-requires
     first-requires-2
     returns-3)

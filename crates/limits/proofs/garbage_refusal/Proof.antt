@@ -43,6 +43,9 @@ returns-2 c =
     let fits = append-rows _ _ (c2 .constraint-lengths .ensures) (c1 .garbage-lengths .ensures) in
     unfit (garbageBounds m) 7 _ _ refl (c4 .garbage-bounds .ensures) (c3 .if1 .left) fits (c .if2 .taken)
 
+are-projection-entries-requires : tie.Need-are-projection-entries-requires
+are-projection-entries-requires c κs = tt
+
 are-coefficients-requires : tie.Need-are-coefficients-requires
 are-coefficients-requires c κs = tt
 
@@ -50,10 +53,7 @@ are-coefficients-requires-2 : tie.Need-are-coefficients-requires-2
 are-coefficients-requires-2 c κs = tt
 
 constraint-ranges-requires : tie.Need-constraint-ranges-requires
-constraint-ranges-requires c κs = tt
-
-are-projection-entries-requires : tie.Need-are-projection-entries-requires
-are-projection-entries-requires c κs = tt
+constraint-ranges-requires c κs = c .before .before .are-projection-entries .ensures
 
 first-requires : tie.Need-first-requires
 first-requires c κs = tt
@@ -80,9 +80,9 @@ returns-3 c =
     let fits = append-rows _ _ (c8 .constraint-lengths .ensures) (c7 .garbage-lengths .ensures) in
     fit (garbageBounds m) 7 _ _ refl (c10 .garbage-bounds .ensures) (c9 .if1 .left) fits (c6 .if2 .left)
     (single 8 _
-    (append-rows _ _ (c3 .constraint-ranges .ensures) (joined-row (c5 .are-coefficients .ensures
-    & c4 .are-coefficients2 .ensures & end))) (c .first2 .ensures)
-    (single 9 _ (c2 .are-projection-entries .ensures) (c1 .first .ensures) none))
+    (append-rows _ _ (c2 .constraint-ranges .ensures) (joined-row (c4 .are-coefficients .ensures
+    & c3 .are-coefficients2 .ensures & end))) (c .first2 .ensures)
+    (single 9 _ (c5 .are-projection-entries .ensures) (c1 .first .ensures) none))
 
 pub garbage-refusal-spec : {M : Type 1} → statement M
 garbage-refusal-spec =
@@ -93,10 +93,10 @@ garbage-refusal-spec =
     constraint-lengths-requires
     garbage-lengths-requires
     returns-2
+    are-projection-entries-requires
     are-coefficients-requires
     are-coefficients-requires-2
     constraint-ranges-requires
-    are-projection-entries-requires
     first-requires
     first-requires-2
     returns-3)

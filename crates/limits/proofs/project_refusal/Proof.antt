@@ -36,14 +36,14 @@ returns-2 c =
     let fits = c1 .project-lengths .ensures in
     unfit (projectBounds (m .d) (m .n) (m .r) (a .w)) 7 _ _ refl (c3 .project-bounds .ensures) (c2 .if1 .left) fits (c .if2 .taken)
 
-are-coefficients-requires : tie.Need-are-coefficients-requires
-are-coefficients-requires c κs = tt
-
-are-coefficients-requires-2 : tie.Need-are-coefficients-requires-2
-are-coefficients-requires-2 c κs = tt
-
 are-projection-entries-requires : tie.Need-are-projection-entries-requires
 are-projection-entries-requires c κs = tt
+
+rows-in-range-requires : tie.Need-rows-in-range-requires
+rows-in-range-requires c κs = c .are-projection-entries .ensures
+
+are-coefficients-requires : tie.Need-are-coefficients-requires
+are-coefficients-requires c κs = tt
 
 first-requires : tie.Need-first-requires
 first-requires c κs = tt
@@ -67,8 +67,8 @@ returns-3 c =
     let m = a .shape in
     let fits = c6 .project-lengths .ensures in
     fit (projectBounds (m .d) (m .n) (m .r) (a .w)) 7 _ _ refl (c8 .project-bounds .ensures) (c7 .if1 .left) fits (c5 .if2 .left)
-    (row 8 _ (c4 .are-coefficients .ensures & c3 .are-coefficients2 .ensures & end) (c .first2 .ensures)
-    (single 9 _ (c2 .are-projection-entries .ensures) (c1 .first .ensures) none))
+    (row 8 _ (c3 .rows-in-range .ensures & c2 .are-coefficients .ensures & end) (c .first2 .ensures)
+    (single 9 _ (c4 .are-projection-entries .ensures) (c1 .first .ensures) none))
 
 pub project-refusal-spec : {M : Type 1} → statement M
 project-refusal-spec =
@@ -78,9 +78,9 @@ project-refusal-spec =
     returns
     project-lengths-requires
     returns-2
-    are-coefficients-requires
-    are-coefficients-requires-2
     are-projection-entries-requires
+    rows-in-range-requires
+    are-coefficients-requires
     first-requires
     first-requires-2
     returns-3)

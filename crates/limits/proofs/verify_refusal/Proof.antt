@@ -1,12 +1,11 @@
 -- `limits::verify_refusal` meets its contract: the sizes, then row 7, then the rows after it. Assumes nothing.
 use mathlib.Core.Path.{refl}
-use native.Mathlib.Omega.{arith}
 use Rattle.fold.specs.Refusals.{verifyTests}
 use Rattle.fold.specs.RefusalLaws.{sized-iff}
 use Rattle.limits.specs.Stages.{verifyBounds}
 use Rattle.limits.specs.RowLaws.{end, _&_, joined-row}
 use Rattle.limits.specs.StageLaws.{stopped, unfit, fit, fitting, single, none, append-rows}
-use Rattle.limits.specs.StageLimits.{verify-constraints, verify-sized}
+use Rattle.limits.specs.StageLimits.{verify-sized}
 use Rattle.limits.proofs.verify_refusal.Statement.{statement}
 use Rattle.limits.proofs.verify_refusal.Tie as tie
 
@@ -32,27 +31,14 @@ matrix-lengths-requires c κs =
     let m = a .sizes in
     verify-sized m (c .before .before .verify-bounds .ensures) (c .before .if1 .left)
 
-constraint-lengths-requires : tie.Need-constraint-lengths-requires
-constraint-lengths-requires c κs =
+draw-lengths-requires : tie.Need-draw-lengths-requires
+draw-lengths-requires c κs =
     let c1 = c .before in
     let c2 = c1 .before in
     let c3 = c2 .before in
     let c4 = c3 .before in
-    let a = c4 .args in
-    let m = a .sizes in
-    verify-constraints m (verify-sized m (c3 .verify-bounds .ensures) (c2 .if1 .left))
-
-list-fits-requires : tie.Need-list-fits-requires
-list-fits-requires c κs =
-    let c1 = c .before in
-    let c2 = c1 .before in
-    let c3 = c2 .before in
-    let c4 = c3 .before in
-    let c5 = c4 .before in
-    let a = c5 .args in
-    let m = a .sizes in
-    let l = verify-sized m (c4 .verify-bounds .ensures) (c3 .if1 .left) in
-    (omega arith, omega arith)
+    let m = c4 .args .sizes in
+    verify-sized m (c3 .verify-bounds .ensures) (c2 .if1 .left)
 
 returns-2 : tie.Need-returns-2
 unfolding verifyTests
@@ -63,25 +49,23 @@ returns-2 c =
     let c4 = c3 .before in
     let c5 = c4 .before in
     let c6 = c5 .before in
-    let c7 = c6 .before in
-    let a = c7 .args in
+    let a = c6 .args in
     let m = a .sizes in
-    let messages = append-rows _ _ (c4 .message-lengths .ensures) (c3 .matrix-lengths .ensures) in
-    let lists = append-rows _ _ messages (c2 .constraint-lengths .ensures) in
-    let fits = append-rows _ _ lists (joined-row (c1 .list-fits .ensures & end)) in
-    unfit (verifyBounds m) 7 _ _ refl (c6 .verify-bounds .ensures) (c5 .if1 .left) fits (c .if2 .taken)
+    let lists = append-rows _ _ (c3 .message-lengths .ensures) (c2 .matrix-lengths .ensures) in
+    let fits = append-rows _ _ lists (c1 .draw-lengths .ensures) in
+    unfit (verifyBounds m) 7 _ _ refl (c5 .verify-bounds .ensures) (c4 .if1 .left) fits (c .if2 .taken)
+
+are-projection-entries-requires : tie.Need-are-projection-entries-requires
+are-projection-entries-requires c κs = tt
 
 message-ranges-requires : tie.Need-message-ranges-requires
 message-ranges-requires c κs = tt
 
 constraint-ranges-requires : tie.Need-constraint-ranges-requires
-constraint-ranges-requires c κs = tt
+constraint-ranges-requires c κs = c .before .are-projection-entries .ensures
 
 are-coefficients-requires : tie.Need-are-coefficients-requires
 are-coefficients-requires c κs = tt
-
-are-projection-entries-requires : tie.Need-are-projection-entries-requires
-are-projection-entries-requires c κs = tt
 
 challenges-requires : tie.Need-challenges-requires
 challenges-requires c κs =
@@ -92,10 +76,8 @@ challenges-requires c κs =
     let c5 = c4 .before in
     let c6 = c5 .before in
     let c7 = c6 .before in
-    let c8 = c7 .before in
-    let messages = append-rows _ _ (c8 .message-lengths .ensures) (c7 .matrix-lengths .ensures) in
-    let lists = append-rows _ _ messages (c6 .constraint-lengths .ensures) in
-    let fits = fitting _ (append-rows _ _ lists (joined-row (c5 .list-fits .ensures & end))) (c4 .if2 .left) in
+    let lists = append-rows _ _ (c7 .message-lengths .ensures) (c6 .matrix-lengths .ensures) in
+    let fits = fitting _ (append-rows _ _ lists (c5 .draw-lengths .ensures)) (c4 .if2 .left) in
     sized-iff _ _ .0 (fits .1 .1 .1 .1 .1 .1 .1 .1 .1 .1 .1 .1 .1 .1 .1 .1 .0)
 
 first-requires : tie.Need-first-requires
@@ -124,17 +106,15 @@ returns-3 c =
     let c12 = c11 .before in
     let c13 = c12 .before in
     let c14 = c13 .before in
-    let c15 = c14 .before in
-    let a = c15 .args in
+    let a = c14 .args in
     let m = a .sizes in
-    let messages = append-rows _ _ (c12 .message-lengths .ensures) (c11 .matrix-lengths .ensures) in
-    let lists = append-rows _ _ messages (c10 .constraint-lengths .ensures) in
-    let fits = append-rows _ _ lists (joined-row (c9 .list-fits .ensures & end)) in
-    let read = append-rows _ _ (c7 .message-ranges .ensures) (c6 .constraint-ranges .ensures) in
-    let ranges = append-rows _ _ read (joined-row (c5 .are-coefficients .ensures & end)) in
-    fit (verifyBounds m) 7 _ _ refl (c14 .verify-bounds .ensures) (c13 .if1 .left) fits (c8 .if2 .left)
+    let lists = append-rows _ _ (c11 .message-lengths .ensures) (c10 .matrix-lengths .ensures) in
+    let fits = append-rows _ _ lists (c9 .draw-lengths .ensures) in
+    let read = append-rows _ _ (c6 .message-ranges .ensures) (c5 .constraint-ranges .ensures) in
+    let ranges = append-rows _ _ read (joined-row (c4 .are-coefficients .ensures & end)) in
+    fit (verifyBounds m) 7 _ _ refl (c13 .verify-bounds .ensures) (c12 .if1 .left) fits (c8 .if2 .left)
     (single 8 _ ranges (c .first3 .ensures)
-    (single 9 _ (c4 .are-projection-entries .ensures) (c1 .first2 .ensures)
+    (single 9 _ (c7 .are-projection-entries .ensures) (c1 .first2 .ensures)
     (single 10 _ (c3 .challenges .ensures) (c2 .first .ensures) none)))
 
 pub verify-refusal-spec : {M : Type 1} → statement M
@@ -145,13 +125,12 @@ verify-refusal-spec =
     returns
     message-lengths-requires
     matrix-lengths-requires
-    constraint-lengths-requires
-    list-fits-requires
+    draw-lengths-requires
     returns-2
+    are-projection-entries-requires
     message-ranges-requires
     constraint-ranges-requires
     are-coefficients-requires
-    are-projection-entries-requires
     challenges-requires
     first-requires
     first-requires-2

@@ -1,12 +1,10 @@
 -- `chunks::refusals::next_refusal` meets its contract: the sizes, then row 7, then the rows after it. Assumes nothing.
 use mathlib.Core.Path.{refl, ap}
-use native.Mathlib.Omega.{arith}
 use lib.Dec.{leb}
 use Rattle.fold.specs.Refusals.{nextTests}
 use Rattle.fold.specs.RefusalLaws.{sized-iff}
 use Rattle.limits.specs.RowLaws.{end, _&_, joined-row}
 use Rattle.limits.specs.StageLaws.{stopped, unfit, fit, fitting, single, none, append-rows}
-use Rattle.limits.specs.StageLimits.{verify-constraints}
 use Rattle.chunks.specs.Stages.{nextBounds, next-sized, next-cut}
 use Rattle.chunks.proofs.refusals.next_refusal.Statement.{statement}
 use Rattle.chunks.proofs.refusals.next_refusal.Tie as tie
@@ -41,23 +39,13 @@ matrix-lengths-requires c κs =
     let a = c2 .before .before .args in
     next-sized (a .sizes) (a .nu) (a .mu) (c2 .before .next-bounds .ensures) (c2 .if1 .left)
 
-constraint-lengths-requires : tie.Need-constraint-lengths-requires
-constraint-lengths-requires c κs =
+draw-lengths-requires : tie.Need-draw-lengths-requires
+draw-lengths-requires c κs =
     let c1 = c .before in
     let c2 = c1 .before in
     let c3 = c2 .before in
     let a = c3 .before .before .args in
-    verify-constraints (a .sizes) (next-sized (a .sizes) (a .nu) (a .mu) (c3 .before .next-bounds .ensures) (c3 .if1 .left))
-
-list-fits-requires : tie.Need-list-fits-requires
-list-fits-requires c κs =
-    let c1 = c .before in
-    let c2 = c1 .before in
-    let c3 = c2 .before in
-    let c4 = c3 .before in
-    let a = c4 .before .before .args in
-    let l = next-sized (a .sizes) (a .nu) (a .mu) (c4 .before .next-bounds .ensures) (c4 .if1 .left) in
-    (omega (arith, l .shaped .parts-small), l .shaped .degree .small)
+    next-sized (a .sizes) (a .nu) (a .mu) (c3 .before .next-bounds .ensures) (c3 .if1 .left)
 
 returns-2 : tie.Need-returns-2
 unfolding nextTests
@@ -69,24 +57,22 @@ returns-2 c =
     let c5 = c4 .before in
     let c6 = c5 .before in
     let c7 = c6 .before in
-    let c8 = c7 .before in
-    let a = c8 .args in
-    let messages = append-rows _ _ (c4 .next-lengths .ensures) (c3 .matrix-lengths .ensures) in
-    let lists = append-rows _ _ messages (c2 .constraint-lengths .ensures) in
-    let fits = append-rows _ _ lists (joined-row (c1 .list-fits .ensures & end)) in
-    unfit (nextBounds (a .sizes) (a .nu) (a .mu)) 7 _ _ refl (c7 .next-bounds .ensures) (c6 .if1 .left) fits (c .if2 .taken)
+    let a = c7 .args in
+    let lists = append-rows _ _ (c3 .next-lengths .ensures) (c2 .matrix-lengths .ensures) in
+    let fits = append-rows _ _ lists (c1 .draw-lengths .ensures) in
+    unfit (nextBounds (a .sizes) (a .nu) (a .mu)) 7 _ _ refl (c6 .next-bounds .ensures) (c5 .if1 .left) fits (c .if2 .taken)
+
+are-projection-entries-requires : tie.Need-are-projection-entries-requires
+are-projection-entries-requires c κs = tt
 
 message-ranges-requires : tie.Need-message-ranges-requires
 message-ranges-requires c κs = tt
 
 constraint-ranges-requires : tie.Need-constraint-ranges-requires
-constraint-ranges-requires c κs = tt
+constraint-ranges-requires c κs = c .before .are-projection-entries .ensures
 
 are-coefficients-requires : tie.Need-are-coefficients-requires
 are-coefficients-requires c κs = tt
-
-are-projection-entries-requires : tie.Need-are-projection-entries-requires
-are-projection-entries-requires c κs = tt
 
 challenges-requires : tie.Need-challenges-requires
 challenges-requires c κs =
@@ -97,10 +83,8 @@ challenges-requires c κs =
     let c5 = c4 .before in
     let c6 = c5 .before in
     let c7 = c6 .before in
-    let c8 = c7 .before in
-    let messages = append-rows _ _ (c8 .next-lengths .ensures) (c7 .matrix-lengths .ensures) in
-    let lists = append-rows _ _ messages (c6 .constraint-lengths .ensures) in
-    let fits = fitting _ (append-rows _ _ lists (joined-row (c5 .list-fits .ensures & end))) (c4 .if2 .left) in
+    let lists = append-rows _ _ (c7 .next-lengths .ensures) (c6 .matrix-lengths .ensures) in
+    let fits = fitting _ (append-rows _ _ lists (c5 .draw-lengths .ensures)) (c4 .if2 .left) in
     sized-iff _ _ .0 (fits .1 .1 .1 .1 .1 .1 .1 .1 .1 .1 .1 .1 .1 .1 .1 .1 .0)
 
 first-requires : tie.Need-first-requires
@@ -134,17 +118,15 @@ returns-3 c =
     let c14 = c13 .before in
     let c15 = c14 .before in
     let c16 = c15 .before in
-    let c17 = c16 .before in
-    let a = c17 .args in
-    let messages = append-rows _ _ (c13 .next-lengths .ensures) (c12 .matrix-lengths .ensures) in
-    let lists = append-rows _ _ messages (c11 .constraint-lengths .ensures) in
-    let fits = append-rows _ _ lists (joined-row (c10 .list-fits .ensures & end)) in
-    let read = append-rows _ _ (c8 .message-ranges .ensures) (c7 .constraint-ranges .ensures) in
-    let ranges = append-rows _ _ read (joined-row (c6 .are-coefficients .ensures & end)) in
-    let small = ap (λ x. leb x 256) (c14 .rank-of .ensures) in
-    fit (nextBounds (a .sizes) (a .nu) (a .mu)) 7 _ _ refl (c16 .next-bounds .ensures) (c15 .if1 .left) fits (c9 .if2 .left)
+    let a = c16 .args in
+    let lists = append-rows _ _ (c12 .next-lengths .ensures) (c11 .matrix-lengths .ensures) in
+    let fits = append-rows _ _ lists (c10 .draw-lengths .ensures) in
+    let read = append-rows _ _ (c7 .message-ranges .ensures) (c6 .constraint-ranges .ensures) in
+    let ranges = append-rows _ _ read (joined-row (c5 .are-coefficients .ensures & end)) in
+    let small = ap (λ x. leb x 256) (c13 .rank-of .ensures) in
+    fit (nextBounds (a .sizes) (a .nu) (a .mu)) 7 _ _ refl (c15 .next-bounds .ensures) (c14 .if1 .left) fits (c9 .if2 .left)
     (single 8 _ ranges (c .first4 .ensures)
-    (single 9 _ (c5 .are-projection-entries .ensures) (c1 .first3 .ensures)
+    (single 9 _ (c8 .are-projection-entries .ensures) (c1 .first3 .ensures)
     (single 10 _ (c4 .challenges .ensures) (c2 .first2 .ensures)
     (single 11 _ small (c3 .first .ensures) none))))
 
@@ -157,13 +139,12 @@ next-refusal-spec =
     rank-of-requires
     next-lengths-requires
     matrix-lengths-requires
-    constraint-lengths-requires
-    list-fits-requires
+    draw-lengths-requires
     returns-2
+    are-projection-entries-requires
     message-ranges-requires
     constraint-ranges-requires
     are-coefficients-requires
-    are-projection-entries-requires
     challenges-requires
     first-requires
     first-requires-2

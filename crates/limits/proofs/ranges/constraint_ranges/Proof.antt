@@ -11,6 +11,9 @@ are-coefficients-requires c κs = tt
 are-coefficients-requires-2 : tie.Need-are-coefficients-requires-2
 are-coefficients-requires-2 c κs = tt
 
+rows-in-range-requires : tie.Need-rows-in-range-requires
+rows-in-range-requires c κs = c .before .before .pre
+
 are-coefficients-requires-3 : tie.Need-are-coefficients-requires-3
 are-coefficients-requires-3 c κs = tt
 
@@ -23,9 +26,6 @@ are-coefficients-requires-5 c κs = tt
 are-coefficients-requires-6 : tie.Need-are-coefficients-requires-6
 are-coefficients-requires-6 c κs = tt
 
-are-coefficients-requires-7 : tie.Need-are-coefficients-requires-7
-are-coefficients-requires-7 c κs = tt
-
 returns : tie.Need-returns
 returns c =
     let c1 = c .before in
@@ -37,11 +37,11 @@ returns c =
     joined-tests
     (c6 .are-coefficients .ensures
     & c5 .are-coefficients2 .ensures
-    & c4 .are-coefficients3 .ensures
-    & c3 .are-coefficients4 .ensures
-    & c2 .are-coefficients5 .ensures
-    & c1 .are-coefficients6 .ensures
-    & c .are-coefficients7 .ensures
+    & c4 .rows-in-range .ensures
+    & c3 .are-coefficients3 .ensures
+    & c2 .are-coefficients4 .ensures
+    & c1 .are-coefficients5 .ensures
+    & c .are-coefficients6 .ensures
     & end)
     refl
 
@@ -51,9 +51,9 @@ constraint-ranges-spec =
     (tie.spec
     are-coefficients-requires
     are-coefficients-requires-2
+    rows-in-range-requires
     are-coefficients-requires-3
     are-coefficients-requires-4
     are-coefficients-requires-5
     are-coefficients-requires-6
-    are-coefficients-requires-7
     returns)

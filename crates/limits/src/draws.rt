@@ -1,0 +1,46 @@
+// Row 7 of document 01's table for what the verifier and the next instance share besides matrices: both kinds of constraints and all draws.
+ghost use mathlib.Core.Path.{_≡_};
+ghost use Rattle.fold.specs.Refusals.{allOf};
+ghost use Rattle.fold.specs.Arguments.{VerifySized};
+ghost use Rattle.limits.specs.Stages as spec;
+use crate::lengths::constraint_lengths;
+use crate::lengths::list_fits;
+use fold::Shape;
+use fold::Sizes;
+
+pub fn draw_lengths(
+    sizes: Sizes,
+    whole: &[i32],
+    term: &[i32],
+    rows: &[i32],
+    psi: &[i32],
+    omega: &[i32],
+    alpha: &[i32],
+    delta: &[i32],
+    c: &[i32],
+) -> bool
+    requires { ⌜ VerifySized sizes ⌝ }
+    ensures { λ x.
+        ⌜ x ≡ allOf (spec.drawLengths sizes (now (whole .entry)) (now (term .entry)) (now (rows .entry))
+        (now (psi .entry)) (now (omega .entry)) (now (alpha .entry)) (now (delta .entry)) (now (c .entry))) ⌝ }
+{
+    let shape = Shape {
+        d: sizes.d,
+        n: sizes.n,
+        r: sizes.r,
+    };
+    constraint_lengths(
+        shape,
+        sizes.k,
+        sizes.l,
+        sizes.w,
+        whole,
+        term,
+        rows,
+        psi,
+        omega,
+        alpha,
+        delta,
+    )
+        & list_fits(c, sizes.r, sizes.d)
+}
