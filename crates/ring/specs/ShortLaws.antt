@@ -3,20 +3,21 @@
 --     short-value                  a column is a coefficient of the product
 use mathlib.Core.Path.{_≡_, refl, sym, ap, ap₂, _∙_}
 use mathlib.Core.Logic.{_⊎_, inl, inr}
-use mathlib.Core.Bool.{true}
+use mathlib.Core.Bool.{Bool, true, false, true≢false}
 use mathlib.Core.List.{List}
 use Prim.Native.Nat.{ℕ, _+_, _-_, _*_, _/_, _%_, _^_, _≤_, _<_}
 use native.Mathlib.Nat.{mul-le-mul, add-mul-mod-self-right}
 use native.Mathlib.Omega.{arith}
-use lib.ListN.{length, getD, set, length-set}
-use lib.Seq.{getD-set-same, getD-set-other}
-use lib.Dec.{T}
+use lib.ListN.{length, getD, set, take, drop, length-set, length-take}
+use lib.Seq.{getD-set-same, getD-set-other, getD-take, getD-drop}
+use lib.Dec.{T, eqb}
 use lib.Signed.{mag, nonNeg, yes-nonNeg}
 use lib.IntN.{ℤ, pos, negsuc, natAbs, negℤ, _+ℤ_}
 use mir.Syntax.{w64}
 use mir.Val.{Fits, SFits}
+use borrow.Author.Tests.{eq-eqb, ne-eqb}
 use Rattle.integers.specs.Bridge.{zarith, bnd, natAbs-pn, pn-min, add-pn, neg-pn}
-use Rattle.integers.specs.Sums.{total, total-add-one, total-bound, total-term}
+use Rattle.integers.specs.Sums.{total, total-add-one, total-bound, total-term, total-zeros}
 use Rattle.algebra.specs.CommRing.{zero-add}
 use Rattle.algebra.specs.Sum.{sum, sum-cong, sum-add, sum-mul}
 use Rattle.algebra.specs.Negacyclic.{coeff}
@@ -24,13 +25,32 @@ use Rattle.algebra.specs.Convolution.{wrapped, wrapped-yes, wrapped-no, coeff-m
 use Rattle.algebra.specs.Residue.{make, make-eq, make-val, make-add, make-mul}
 use Rattle.residues.specs.Modulus.{q, q-positive, Zq, red}
 use Rattle.residues.specs.ModulusLaws.{q-value, red-add, red-neg}
+use Rattle.residues.specs.RangeLaws.{allWithin-at, allWithin-of}
 use Rattle.ring.specs.Element.{Degree, R, el}
 use Rattle.ring.specs.ElementPlaces.{coeff-el}
 use Rattle.ring.specs.Product.{term, most, Residues}
 use Rattle.ring.specs.ColumnLaws.{make-total}
 use Rattle.ring.specs.ProductArrays.{le-or-lt, fill}
 use Rattle.ring.specs.ProductLaws.{left-factor, make-term, coeff-small, red-pos}
-use Rattle.ring.specs.Short.{lifted, reduced, weight, shortColumn, Short, Raised, Narrow}
+use Rattle.ring.specs.Short.{lifted, reduced, weight, shortColumn, short, Short, Raised, Narrow}
+
+-- ---- the test for short elements
+
+-- the numbers of element p
+part-at : (d : ℕ) (xs : List ℤ) (p i : ℕ) → i < d → getD (take d (drop (p * d) xs)) i (pos 0) ≡ getD xs (p * d + i) (pos 0)
+part-at d xs p i h = getD-take d (drop (p * d) xs) i (pos 0) h ∙ getD-drop (p * d) xs i (pos 0)
+
+pub short-below : (d : ℕ) (xs : List ℤ) (p : ℕ) → short d xs p ≡ true → Short d xs p
+unfolding short
+short-below d xs p e =
+    record { below = λ i h. omega (arith, allWithin-at 4194303 (take d (drop (p * d) xs)) e i, ap natAbs (part-at d xs p i h)) }
+
+short-of : (d : ℕ) (xs : List ℤ) (p : ℕ) → Short d xs p → short d xs p ≡ true
+unfolding short
+short-of d xs p s =
+    allWithin-of 4194303 (take d (drop (p * d) xs)) (λ i h.
+      let inside : i < d = omega (arith, length-take d (drop (p * d) xs)) in
+      omega (arith, s .below i inside, ap natAbs (part-at d xs p i inside)))
 
 -- ---- is_short: the sum of what the numbers hold of 2^22
 
@@ -52,11 +72,21 @@ counting-step {d} {xs} {p} {excess} {i} r h e small =
       small = omega (arith, r .small);
     }
 
-pub counting-end : {d : ℕ} {xs : List ℤ} {p excess i : ℕ} → Counting d xs p excess i → d ≤ i → excess ≡ 0 → Short d xs p
-counting-end {d} {xs} {p} {excess} {i} r h none =
-    record {
-      below = λ j b. omega (arith, r .is, r .within, total-term i (λ j. natAbs (getD xs (p * d + j) (pos 0)) / 4194304) j (omega arith));
-    }
+pub counting-end : {d : ℕ} {xs : List ℤ} {p excess i : ℕ} → Counting d xs p excess i → d ≤ i → eqb excess 0 ≡ short d xs p
+counting-end {d} {xs} {p} {excess} {i} r h = pick (short d xs p) refl
+  where
+    held : ℕ → ℕ
+    held j = natAbs (getD xs (p * d + j) (pos 0)) / 4194304
+
+    none-held : Short d xs p → excess ≡ 0
+    none-held s = r .is ∙ total-zeros i held (λ j b. omega (arith, s .below j (omega (arith, r .within))))
+
+    all-below : excess ≡ 0 → Short d xs p
+    all-below e = record { below = λ j b. omega (arith, r .is, r .within, total-term i held j (omega arith)) }
+
+    pick : (t : Bool) → short d xs p ≡ t → eqb excess 0 ≡ t
+    pick true e = eq-eqb excess 0 (none-held (short-below d xs p e))
+    pick false e = ne-eqb excess 0 (λ none. true≢false (sym (short-of d xs p (all-below none)) ∙ e))
 
 pub magnitude-small : (x : ℤ) {m : ℕ} → mag x < 2 ^ 31 → m ≡ natAbs x → m ≤ 2147483648
 magnitude-small (pos n) h e = omega arith
@@ -66,7 +96,7 @@ magnitude-small (negsuc n) h e = omega arith
 
 pub short-at : {d : ℕ} {xs : List ℤ} {p : ℕ} (i place : ℕ) → Short d xs p → i < d → place ≡ p * d + (d - 1 - i)
     → natAbs (getD xs place (pos 0)) < 4194304
-short-at {d} i place short h e = rw e (short .below (d - 1 - i) (omega arith))
+short-at {d} i place s h e = rw e (s .below (d - 1 - i) (omega arith))
 
 pub raised-start : (d : ℕ) (xs : List ℤ) (p : ℕ) (e : List ℕ) → length e ≡ 129 → Raised d xs p 0 (set e 0 0)
 raised-start d xs p e s =
@@ -137,7 +167,7 @@ raised-natural x h =
 -- every number of a raised array is small
 pub raised-narrow : {d : ℕ} {xs : List ℤ} {p : ℕ} {e : List ℕ} → Short d xs p → Raised d xs p d e → Narrow d e
 unfolding Narrow
-raised-narrow {d} {xs} {p} {e} short right j b = pick (le-or-lt 1 j) (le-or-lt (d + 1) j)
+raised-narrow {d} {xs} {p} {e} s right j b = pick (le-or-lt 1 j) (le-or-lt (d + 1) j)
   where
     pick : (1 ≤ j) ⊎ (j < 1) → (d + 1 ≤ j) ⊎ (j < d + 1) → getD e j 0 ≤ 8388608
     pick (inr l) m =
@@ -146,7 +176,7 @@ raised-narrow {d} {xs} {p} {e} short right j b = pick (le-or-lt 1 j) (le-or-lt (
     pick (inl l) (inr m) =
         let place : j - 1 + 1 ≡ j = omega arith in
         let last : d - 1 - (j - 1) < d = omega arith in
-        omega (arith, ap (λ t. getD e t 0) place, right .front (j - 1) (omega arith), lifted-small (getD xs (p * d + (d - 1 - (j - 1))) (pos 0)) (short .below (d - 1 - (j - 1)) last))
+        omega (arith, ap (λ t. getD e t 0) place, right .front (j - 1) (omega arith), lifted-small (getD xs (p * d + (d - 1 - (j - 1))) (pos 0)) (s .below (d - 1 - (j - 1)) last))
     pick (inl l) (inl m) =
         let place : d + (j - d - 1) + 1 ≡ j = omega arith in
         omega (arith, ap (λ t. getD e t 0) place, right .back (j - d - 1) (omega arith))
