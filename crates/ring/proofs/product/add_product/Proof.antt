@@ -3,7 +3,8 @@ use mathlib.Core.Path.{sym, _∙_}
 use borrow.Author.Needs.{needs}
 use native.Mathlib.Omega.{arith}
 use Rattle.ring.specs.ProductLaws.{column-value, gained, residues-small}
-use Rattle.ring.specs.ShortLaws.{raised-narrow, short-below, short-value, weight-bound}
+use Rattle.ring.specs.ShortOperand.{raised-narrow, short-below}
+use Rattle.ring.specs.ShortLaws.{short-value, weight-bound}
 use Rattle.ring.proofs.product.add_product.Statement.{statement}
 use Rattle.ring.proofs.product.add_product.Tie as tie
 

@@ -5,7 +5,7 @@ use native.Mathlib.Omega.{arith}
 use lib.ListN.{getD}
 use lib.IntN.{pos, natAbs}
 use Rattle.residues.specs.Words.{word}
-use Rattle.ring.specs.ShortLaws.{Counting, counting-start, counting-step, counting-end, magnitude-small}
+use Rattle.ring.specs.ShortOperand.{Counting, counting-start, counting-step, counting-end, magnitude-small}
 use Rattle.ring.proofs.short.is_short.Statement.{statement}
 use Rattle.ring.proofs.short.is_short.Tie as tie
 
