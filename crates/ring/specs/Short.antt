@@ -1,5 +1,5 @@
 -- Products with one short operand, in natural numbers: what the kernels of src/short.rt make of arrays. The short operand lies reversed
--- in an array with its negacyclic copy, each number raised by `shift` so that none is negative. That adds shift times the sum of the
+-- in an array with its negacyclic copy, each number raised by 2^22 so that none is negative. That adds 2^22 times the sum of the
 -- other operand's residues to every column, and `weight` takes it away again modulo q. No product then reaches 2^55, so that a column of
 -- at most sixty-four terms is summed exactly.
 use mathlib.Core.Path.{_≡_}
@@ -12,21 +12,18 @@ use Rattle.integers.specs.Sums.{total}
 use Rattle.residues.specs.Range.{allWithin}
 use Rattle.ring.specs.Product.{term}
 
-unfoldable pub shift : ℕ
-shift = 4194304
-
 -- congruent to x modulo q = 2^32 - 99
 unfoldable pub reduced : ℕ → ℕ
 reduced x = x % 4294967296 + 99 * (x / 4294967296)
 
--- minus shift times the sum of the residues, modulo q
+-- minus 2^22 times the sum of the residues, modulo q
 unfoldable pub weight : ℕ → List ℕ → ℕ
 weight d a = 4194304 * (274877900608 - total d (λ i. getD a i 0))
 
 unfoldable pub shortColumn : ℕ → List ℕ → List ℕ → ℕ → ℕ → ℕ
 shortColumn d a e c start = reduced (c + total d (term a e start))
 
--- whether the d numbers of element p of a list are all below shift in absolute value
+-- whether the d numbers of element p of a list are all below 2^22 in absolute value
 unfoldable pub short : ℕ → List ℤ → ℕ → Bool
 short d xs p = allWithin 4194303 (take d (drop (p * d) xs))
 

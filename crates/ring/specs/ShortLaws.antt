@@ -183,7 +183,7 @@ module _ {d : ℕ} {x : R d .Carrier} {xs : List ℤ} {p : ℕ} {a e : List ℕ}
         total-bound d 4294967197 (λ i. getD a i 0) (λ i h. omega (arith, left .entry i h, coeff-small x i)),
       )
 
-  -- the weight takes shift times the residues away
+  -- the weight takes 2^22 times the residues away
   make-weight : Zq .add (make q q-positive (weight d a)) (Zq .mul unit (sum Zq d (coeff Zq x))) ≡ Zq .zero
   unfolding weight unit residue-total q
   make-weight =

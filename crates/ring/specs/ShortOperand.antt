@@ -38,8 +38,8 @@ short-of : (d : ℕ) (xs : List ℤ) (p : ℕ) → Short d xs p → short d xs p
 unfolding short
 short-of d xs p s =
     allWithin-of 4194303 (take d (drop (p * d) xs)) (λ i h.
-      let inside : i < d = omega (arith, length-take d (drop (p * d) xs)) in
-      omega (arith, s .below i inside, ap natAbs (part-at d xs p i inside)))
+    let inside : i < d = omega (arith, length-take d (drop (p * d) xs)) in
+    omega (arith, s .below i inside, ap natAbs (part-at d xs p i inside)))
 
 -- ---- is_short: the sum of what the numbers hold of 2^22
 
