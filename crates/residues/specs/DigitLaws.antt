@@ -1,6 +1,6 @@
--- Laws of the digits of integers, to any base from 2 on. Only the three laws under 'the digit rule', and the machine's steps in
+-- Laws of the digits of integers, to any base from 2 on. Only the two laws under 'the digit rule', and the machine's steps in
 -- DigitSteps, look into the rule; all else, here and in the callers, follows from these laws.
---     rest-low, low-bound, low-congruent    the digit rule
+--     rest-low, low-bound                   the digit rule
 --     rests-bound, digit-bound, digit-small how long digits are
 --     recompose                             the digits' value is the number
 --     length-split, getD-split              the digits of a list
@@ -10,14 +10,14 @@ use Prim.Native.Nat.{ℕ, zero, suc, _+_, _*_, _/_, _^_, _≤_, _<_, max}
 use native.Mathlib.Decide.{decLe}
 use native.Mathlib.Nat.{mul-le-mul-right, mul-le-mul-left, mul-zero, pow-zero, pow-suc, pow-succ', le-step, lt-suc-self}
 use native.Mathlib.Omega.{arith}
-use lib.ListN.{length, getD, take, drop, length-map}
+use lib.ListN.{length, getD, length-map}
 use lib.IntN.{ℤ, pos, natAbs, _+ℤ_, _*ℤ_, +ℤ-idl, +ℤ-idr}
 use borrow.Author.Tests.{lt-ltb, le-ltb}
 use Rattle.integers.specs.Bridge.{pn-min, natAbs-pn, add-pn, sub-pn, abs-mul, zarith}
-use Rattle.integers.specs.Flat.{length-flat, getD-flat, block-flat}
-use Rattle.integers.specs.Remainder.{emod, ediv, centre}
+use Rattle.integers.specs.Flat.{length-flat, getD-flat}
+use Rattle.integers.specs.Remainder.{ediv, centre}
 use Rattle.integers.specs.Identities.{*ℤ-idl, ring-order}
-use Rattle.integers.specs.CentreLaws.{centre-abs, centre-emod, centre-quotient}
+use Rattle.integers.specs.CentreLaws.{centre-abs, centre-quotient}
 use Rattle.integers.specs.MachineDivision.{quotZ-centre}
 use Rattle.residues.specs.Digits.{low, rest, rests, digit, split, value}
 
@@ -46,10 +46,6 @@ module _ (b : ℕ) (b>1 : 2 ≤ b) where
   pub low-bound : (z : ℤ) → natAbs (low b z) * 2 ≤ b
   unfolding low
   low-bound z = omega (arith, centre-abs b (omega arith) z)
-
-  pub low-congruent : (z : ℤ) → emod (low b z) b ≡ emod z b
-  unfolding low
-  low-congruent z = centre-emod b (omega arith) z
 
   pub rest-low : (z : ℤ) → z ≡ rest b z *ℤ pos b +ℤ low b z
   unfolding low rest
@@ -158,8 +154,3 @@ module _ (b t : ℕ) (xs : List ℤ) where
   pub getD-split : (e i : ℕ) → e < t → i < length xs → getD (split b t xs) (e * length xs + i) (pos 0) ≡ digit b t e (getD xs i (pos 0))
   unfolding split
   getD-split e i h k = getD-flat t (length xs) (λ e. map (digit b t e) xs) width e i (pos 0) h k ∙ getD-digits e i k
-
-  -- digit e of all of them
-  pub block-split : (e : ℕ) → e < t → take (length xs) (drop (e * length xs) (split b t xs)) ≡ map (digit b t e) xs
-  unfolding split
-  block-split e h = block-flat t (length xs) (λ e. map (digit b t e) xs) width e h

@@ -6,7 +6,7 @@
 --     Compared              the invariant of the loop of `compare`, with its start, its step and its two ends
 use mathlib.Core.Path.{_≡_, refl, sym, ap, _∙_}
 use mathlib.Core.Bool.{Bool, true, false}
-use mathlib.Core.List.{List, _++_}
+use mathlib.Core.List.{List}
 use Prim.Native.Nat.{ℕ, suc, _+_, _-_, _≤_, _<_}
 use native.Mathlib.Numerals.{add-one}
 use native.Mathlib.Omega.{arith}
@@ -15,7 +15,7 @@ use lib.ListN.{length, getD, take}
 use lib.Seq.{take-all}
 use lib.IntN.{ℤ, pos}
 use borrow.Author.Tests.{le-leb, lt-leb, leb-true, leb-false}
-use Rattle.integers.specs.Sums.{normSq, sq, normSq-append, normSq-take-suc, normSq-take-le}
+use Rattle.integers.specs.Sums.{normSq, sq, normSq-take-suc, normSq-take-le}
 use Rattle.residues.specs.declared.length.Margin.{Margin}
 use Rattle.residues.specs.declared.length.Margin.the-variants.{Within, Above}
 use Rattle.residues.specs.Length.{marginIf, remaining, lessened, holds}
@@ -67,10 +67,6 @@ lessened-if b m n false e =
 
 pub lessened-remaining : (b m n : ℕ) → lessened (remaining b m) n ≡ remaining b (m + n)
 lessened-remaining b m n = lessened-if b m n (leb m b) refl
-
--- the same for two lists: compare one, lessen by the next
-pub lessened-append : (b : ℕ) (xs ys : List ℤ) → lessened (remaining b (normSq xs)) (normSq ys) ≡ remaining b (normSq (xs ++ ys))
-lessened-append b xs ys = lessened-remaining b (normSq xs) (normSq ys) ∙ ap (remaining b) (sym (normSq-append xs ys))
 
 -- ---- the loop of `compare`: the first i numbers are paid for, and rest is left of the bound
 

@@ -10,7 +10,7 @@ use mir.Val.{SFits}
 use Rattle.integers.specs.Bridge.{natAbs-pn, add-pn, mul-pn, zarith}
 use Rattle.integers.specs.Remainder.{emod}
 use Rattle.integers.specs.RemainderLaws.{emod-pos, emod-eq}
-use Rattle.integers.specs.CentreLaws.{Centred, centre-range, centre-abs, centre-shorter, centre-fixed}
+use Rattle.integers.specs.CentreLaws.{centre-abs, centre-shorter, centre-fixed}
 use Rattle.algebra.specs.Residue as Residue
 use Rattle.residues.specs.Modulus.{q, q-positive, Zq, red, cent, centred}
 
@@ -37,10 +37,6 @@ pub red-eq : (a b : ℤ) → emod a q ≡ emod b q → red a ≡ red b
 unfolding red
 red-eq a b e = Residue.reduce-eq q q-positive a b e
 
-pub eq-red : (a b : ℤ) → red a ≡ red b → emod a q ≡ emod b q
-unfolding red
-eq-red a b e = Residue.eq-reduce q q-positive a b e
-
 pub red-val : (x : Zq .Carrier) → red (pos (x .val)) ≡ x
 unfolding red
 red-val x = Residue.reduce-val q q-positive x
@@ -60,9 +56,6 @@ red-cent x = Residue.reduce-centred q q-positive x
 pub centred-eq : (a b : ℤ) → red a ≡ red b → centred a ≡ centred b
 unfolding red centred
 centred-eq a b e = Residue.centre-reduce q q-positive a b e
-
-pub centred-centred : (z : ℤ) → centred (centred z) ≡ centred z
-centred-centred z = centred-eq (centred z) z (red-centred z)
 
 -- a natural number and its remainder
 pub centred-mod : (n : ℕ) → centred (pos (n % 4294967197)) ≡ centred (pos n)
@@ -114,10 +107,6 @@ two-halves x = rw (red-val x) at (halves (pos (x .val)))
 
 -- ---- ranges
 
-pub centred-range : (z : ℤ) → Centred q (centred z)
-unfolding centred
-centred-range z = centre-range q q-above z
-
 pub centred-fixed : {z : ℤ} → natAbs z ≤ 2147483598 → centred z ≡ z
 unfolding centred
 centred-fixed {z} h =
@@ -142,10 +131,3 @@ centred-fits z = small-fits (centred-bound z)
 
 pub cent-fits : (x : Zq .Carrier) → SFits w32 (cent x)
 cent-fits x = small-fits (cent-bound x)
-
--- the only number in range with its residue
-pub cent-unique : {z : ℤ} {x : Zq .Carrier} → natAbs z ≤ 2147483598 → red z ≡ x → z ≡ cent x
-cent-unique {z} {x} h e = sym (centred-fixed h) ∙ sym (cent-red z) ∙ ap cent e
-
-pub centred-unique : {z : ℤ} (a : ℤ) → natAbs z ≤ 2147483598 → red z ≡ red a → z ≡ centred a
-centred-unique {z} a h e = sym (centred-fixed h) ∙ centred-eq z a e

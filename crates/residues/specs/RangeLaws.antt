@@ -1,31 +1,25 @@
 -- Laws of the range tests on slices.
 --     allWithin-at, allWithin-of        the test by index: true is a bound for each number
 --     allWithin-false                   one number above the bound
---     allWithin-append, -take, -drop, -part, -mono    joined slices, a part of a slice, a greater bound
+--     allWithin-append, -take, -drop, -part    joined slices, a part of a slice
 --     Tested                            the invariant of the loop of `all_within`, with its start, its step and its two ends
 --     coefficients-.., projections-..   the same at the bounds of rows 8 and 9
---     challenge-..                      row 10: what the rule says of each number, of the squared length and of the sum of absolute values
+--     challenge-tests                   row 10: the rule as two tests
 use mathlib.Core.Path.{_≡_, refl, sym, ap, ap₂, _∙_, subst}
 use mathlib.Core.Bool.{Bool, true, false, cond, not, _&&_}
 use mathlib.Core.List.{List, [], _∷_, _++_}
-use Prim.Native.Nat.{ℕ, zero, suc, _+_, _*_, _^_, _≤_, _<_}
-use native.Mathlib.Nat.{le-trans}
+use Prim.Native.Nat.{ℕ, zero, suc, _+_, _≤_, _<_}
 use native.Mathlib.Numerals.{add-one}
 use native.Mathlib.Omega.{arith}
-use lib.Dec.{T, leb, ltb, lit≤}
+use lib.Dec.{T, leb, ltb}
 use lib.ListN.{length, getD, take, drop, take-append-drop}
 use lib.Seq.{take-suc, take-all}
 use lib.IntN.{ℤ, pos, negsuc, natAbs}
-use lib.Signed.{mag}
-use mir.Syntax.{w32}
-use mir.Val.{SFits, toZ, ofZ}
 use borrow.Author.Tests.{le-leb, lt-leb, leb-true, ltb-true, ltb-false, le-ltb}
-use Rattle.integers.specs.Bridge.{zarith, natAbs-pn}
-use Rattle.integers.specs.Sums.{normSq, sq, total, total-mono, normSq-total}
+use Rattle.integers.specs.Sums.{normSq}
 use Rattle.residues.specs.declared.length.Margin.{Margin}
 use Rattle.residues.specs.Length.{remaining, holds}
 use Rattle.residues.specs.LengthLaws.{holds-remaining}
-use Rattle.residues.specs.Words.{word}
 use Rattle.residues.specs.Range.{between, allBetween, allWithin, coefficients, projections, challenge}
 
 -- ---- both tests of a conjunction
@@ -45,10 +39,6 @@ both-and false t = refl
 both-false : (s : Bool) → cond s false false ≡ false
 both-false true = refl
 both-false false = refl
-
-single : (b : ℕ) (x : ℤ) → natAbs x ≤ b → allWithin b (x ∷ []) ≡ true
-unfolding allWithin
-single b x h = rw (le-leb (natAbs x) b h) refl
 
 -- ---- the test by index
 
@@ -70,9 +60,6 @@ unfolding allWithin
 allWithin-false b [] i h = let f : ⊥ = omega arith in absurd f
 allWithin-false b (x ∷ xs) zero h = rw (lt-leb (natAbs x) b h) refl
 allWithin-false b (x ∷ xs) (suc i) h = rw (allWithin-false b xs i h) (both-false (leb (natAbs x) b))
-
-pub allWithin-mono : (b c : ℕ) (xs : List ℤ) → b ≤ c → allWithin b xs ≡ true → allWithin c xs ≡ true
-allWithin-mono b c xs h e = allWithin-of c xs (λ i k. le-trans (allWithin-at b xs e i) h)
 
 -- ---- joined slices, and a part of one
 
@@ -100,12 +87,6 @@ allWithin-drop b n xs e =
 -- a part `&xs[m..m + n]`
 pub allWithin-part : (b m n : ℕ) (xs : List ℤ) → allWithin b xs ≡ true → allWithin b (take n (drop m xs)) ≡ true
 allWithin-part b m n xs e = allWithin-take b n (drop m xs) (allWithin-drop b m xs e)
-
--- one number more
-pub allWithin-take-suc : (b : ℕ) (xs : List ℤ) (i : ℕ) → i < length xs → allWithin b (take i xs) ≡ true
-    → natAbs (getD xs i (pos 0)) ≤ b → allWithin b (take (suc i) xs) ≡ true
-allWithin-take-suc b xs i h e k =
-    rw (take-suc xs i (pos 0)) (allWithin-join b (take i xs) (getD xs i (pos 0) ∷ []) e (single b (getD xs i (pos 0)) k))
 
 -- ---- the loop of `all_within`: `all` says whether the first i numbers are within the bound
 
@@ -198,11 +179,6 @@ pub coefficients-of : (xs : List ℤ) → ((i : ℕ) → i < length xs → natAb
 unfolding coefficients
 coefficients-of xs h = allWithin-of 2147483598 xs h
 
--- an i32 holds each
-pub coefficients-fits : (xs : List ℤ) → coefficients xs ≡ true → (i : ℕ) → SFits w32 (getD xs i (pos 0))
-coefficients-fits xs e i =
-    omega (zarith, coefficients-at xs e i, natAbs-pn (getD xs i (pos 0)))
-
 pub coefficients-join : (xs ys : List ℤ) → coefficients xs ≡ true → coefficients ys ≡ true → coefficients (xs ++ ys) ≡ true
 unfolding coefficients
 coefficients-join xs ys e f = allWithin-join 2147483598 xs ys e f
@@ -228,36 +204,3 @@ pub challenge-tests : (xs : List ℤ) {small short : Bool} {margin : Margin} →
     → short ≡ holds margin → small && short ≡ challenge xs
 unfolding challenge
 challenge-tests xs e m h = rw (e, h, m, holds-remaining) (both-and (allWithin 2 xs) (leb (normSq xs) 71))
-
-challenge-within : (xs : List ℤ) → challenge xs ≡ true → allWithin 2 xs ≡ true
-unfolding challenge
-challenge-within xs e = both-left (allWithin 2 xs) (leb (normSq xs) 71) e
-
-pub challenge-at : (xs : List ℤ) → challenge xs ≡ true → (i : ℕ) → natAbs (getD xs i (pos 0)) ≤ 2
-challenge-at xs e i = allWithin-at 2 xs (challenge-within xs e) i
-
-pub challenge-normSq : (xs : List ℤ) → challenge xs ≡ true → normSq xs ≤ 71
-unfolding challenge
-challenge-normSq xs e = leb-true (normSq xs) 71 (both-right (allWithin 2 xs) (leb (normSq xs) 71) e)
-
-n-square : (n : ℕ) → n ≤ n * n
-n-square zero = omega arith
-n-square (suc n) = omega arith
-
-pub natAbs-sq : (x : ℤ) → natAbs x ≤ sq x
-unfolding sq
-natAbs-sq x = n-square (natAbs x)
-
--- the sum of the absolute values, which are at most their squares
-pub challenge-sum : (xs : List ℤ) → challenge xs ≡ true → total (length xs) (λ i. natAbs (getD xs i (pos 0))) ≤ 71
-challenge-sum xs e =
-    omega (
-      arith,
-      challenge-normSq xs e,
-      normSq-total xs,
-      total-mono (length xs) (λ i. natAbs (getD xs i (pos 0))) (λ i. sq (getD xs i (pos 0))) (λ i h. natAbs-sq (getD xs i (pos 0))),
-    )
-
-pub challenge-coefficients : (xs : List ℤ) → challenge xs ≡ true → coefficients xs ≡ true
-unfolding coefficients
-challenge-coefficients xs e = allWithin-mono 2 2147483598 xs (lit≤ tt) (challenge-within xs e)

@@ -1,6 +1,6 @@
 -- Digits of ring elements: recomposition in R gives the element back.
 use mathlib.Core.Path.{_≡_, sym, ap, ap₂, _∙_}
-use mathlib.Core.List.{List, map}
+use mathlib.Core.List.{List}
 use Prim.Native.Nat.{ℕ, zero, suc, _+_, _*_, _^_, _≤_, _<_}
 use native.Mathlib.Omega.{arith}
 use lib.ListN.{length, getD, drop}
@@ -13,12 +13,12 @@ use Rattle.algebra.specs.Convolution.{coeff-sum}
 use Rattle.integers.specs.Flat.{block-fits}
 use Rattle.residues.specs.Modulus.{Zq, red, cent, centred}
 use Rattle.residues.specs.ModulusLaws.{red-zero, red-add, red-mul, cent-red}
-use Rattle.ring.specs.Element.{R, number, lift, el, coeffs}
-use Rattle.ring.specs.ElementLaws.{element-ext, coeff-lift, lift-coeffs, length-coeffs}
-use Rattle.ring.specs.ElementPlaces.{coeff-el, el-cong}
+use Rattle.ring.specs.Element.{R, number, lift, el}
+use Rattle.ring.specs.ElementLaws.{element-ext, coeff-lift}
+use Rattle.ring.specs.ElementPlaces.{coeff-el}
 use Rattle.residues.specs.Digits.{digit, split, value}
 use Rattle.ring.specs.Joined.{joined}
-use Rattle.residues.specs.DigitLaws.{recompose, value-cong, getD-digits, getD-split}
+use Rattle.residues.specs.DigitLaws.{recompose, value-cong, getD-split}
 
 pub red-value : (b t : ℕ) (f : ℕ → ℤ) → red (value b t f) ≡ sum Zq t (λ e. Zq .mul (red (pos (b ^ e))) (red (f e)))
 unfolding value sum
@@ -46,22 +46,6 @@ module _ (d b t : ℕ) where
       ∙ sum-cong Zq t _ _ (λ e l. ap (Zq .mul (red (pos (b ^ e)))) (coeff-lift d (F e) k h))
       ∙ sym (red-value b t (λ e. getD (F e) k (pos 0)))
 
-  pub cent-joined-lift : (F : ℕ → List ℤ) (k : ℕ) → k < d
-      → cent (coeff Zq (joined d b t (λ e. lift d (F e))) k) ≡ centred (value b t (λ e. getD (F e) k (pos 0)))
-  cent-joined-lift F k h = ap cent (coeff-joined-lift F k h) ∙ cent-red (value b t (λ e. getD (F e) k (pos 0)))
-
-  module _ (b>1 : 2 ≤ b) (t>0 : 0 < t) where
-    -- the digits of a list of numbers
-    pub joined-digits : (xs : List ℤ) → d ≤ length xs → joined d b t (λ e. lift d (map (digit b t e) xs)) ≡ lift d xs
-    joined-digits xs long = element-ext d _ _ (λ k h.
-        coeff-joined-lift (λ e. map (digit b t e) xs) k h
-        ∙ ap red (value-cong b t _ _ (λ e l. getD-digits b t xs e k (omega arith)) ∙ recompose b b>1 t (getD xs k (pos 0)) t>0)
-        ∙ sym (coeff-lift d xs k h))
-
-    -- and of an element
-    pub joined-element : (u : R d .Carrier) → joined d b t (λ e. lift d (map (digit b t e) (coeffs d u))) ≡ u
-    joined-element u = joined-digits (coeffs d u) (omega (arith, length-coeffs d u)) ∙ lift-coeffs d u
-
 -- ---- elements laid out in a list
 
 module _ (d b t : ℕ) where
@@ -85,12 +69,6 @@ module _ (d b t : ℕ) where
         let place : (e * m + p) * d + k ≡ e * length xs + (p * d + k) = omega (arith, ap (λ (n : ℕ). e * n) whole) in
         ap (λ (n : ℕ). getD (split b t xs) n (pos 0)) place
         ∙ getD-split b t xs e (p * d + k) h (omega (arith, whole, block-fits m d p k l i))
-
-    pub el-split : (e p : ℕ) → e < t → p < m → el d (split b t xs) (e * m + p) ≡ el d (map (digit b t e) xs) p
-    el-split e p h l =
-        el-cong d (split b t xs) (map (digit b t e) xs) (e * m + p) p
-        (λ k i. getD-split-el e p k h l i
-        ∙ sym (getD-digits b t xs e (p * d + k) (omega (arith, whole, block-fits m d p k l i))))
 
     pub joined-split : 2 ≤ b → 0 < t → (p : ℕ) → p < m → joined d b t (λ e. el d (split b t xs) (e * m + p)) ≡ el d xs p
     joined-split b>1 t>0 p l = element-ext d _ _ (λ k h.

@@ -1,7 +1,7 @@
 -- The sixty-four numbers of an element, as a loop that fills them makes them: `tab 64 (upto d f (pos 0))`, with number f k at each
 -- place k below d and zeros past it.
 --     array-fill                    any element in that form
---     array-lift .. array-conjugate  that form for each operation, the numbers given as the leaves of modulus.rt compute them
+--     array-el .. array-conjugate   that form for each operation, the numbers given as the leaves of modulus.rt compute them
 --     array-zero, array-number, array-indeterminate  the constants, as arrays of which one place is set
 use mathlib.Core.Path.{_≡_, refl, sym, ap, ap₂, _∙_}
 use mathlib.Core.Logic.{_≢_}
@@ -59,9 +59,6 @@ module _ (d : ℕ) where
       entry : (k : ℕ) (t : Bool) → ltb k d ≡ t → cent (coeff Zq u k) ≡ upto d f (pos 0) k
       entry k true e = h k (ltb-true k d e) ∙ sym (upto-below d f (pos 0) k (ltb-true k d e))
       entry k false e = ap cent (coeff-past d u k (ltb-false k d e)) ∙ cent-zero ∙ sym (upto-above d f (pos 0) k (ltb-false k d e))
-
-  pub array-lift : (xs : List ℤ) → array d (lift d xs) ≡ tab 64 (upto d (λ k. centred (getD xs k (pos 0))) (pos 0))
-  array-lift xs = array-fill (lift d xs) _ (λ k l. ap cent (coeff-lift d xs k l) ∙ cent-red (getD xs k (pos 0)))
 
   pub array-el : (xs : List ℤ) (p : ℕ) → array d (el d xs p) ≡ tab 64 (upto d (λ k. centred (getD xs (p * d + k) (pos 0))) (pos 0))
   array-el xs p = array-fill (el d xs p) _ (λ k l. ap cent (coeff-el d xs p k l) ∙ cent-red (getD xs (p * d + k) (pos 0)))

@@ -13,6 +13,7 @@ pub mod ColumnLaws
 pub mod ProductArrays
 pub mod ProductLaws
 pub mod Short
+pub mod ShortOperand
 pub mod ShortLaws
 pub mod Computing
 pub mod Bench

@@ -1,12 +1,12 @@
 -- Numbers modulo q as elements: `number d` is a homomorphism from the integers. Products by -1 and by one half.
 use mathlib.Core.Path.{_≡_, ap, sym, _∙_}
 use Prim.Native.Nat.{ℕ}
-use lib.IntN.{ℤ, pos, negsuc, negℤ, _+ℤ_, _*ℤ_}
+use lib.IntN.{ℤ, pos, negsuc, _+ℤ_, _*ℤ_}
 use Rattle.algebra.specs.CommRing.{neg-mul, one-mul}
 use Rattle.algebra.specs.Negacyclic.{coeff, constant, coeff-add, coeff-neg}
-use Rattle.algebra.specs.Constant.{constant-zero, constant-add, constant-neg, constant-mul, coeff-constant-mul}
+use Rattle.algebra.specs.Constant.{constant-add, constant-mul, coeff-constant-mul}
 use Rattle.residues.specs.Modulus.{Zq, red}
-use Rattle.residues.specs.ModulusLaws.{red-zero, red-one, red-add, red-neg, red-mul, two-halves}
+use Rattle.residues.specs.ModulusLaws.{red-one, red-add, red-neg, red-mul, two-halves}
 use Rattle.ring.specs.Element.{R, number}
 use Rattle.ring.specs.ElementLaws.{element-ext}
 
@@ -14,17 +14,9 @@ pub number-one : (d : ℕ) → number d (pos 1) ≡ R d .one
 unfolding number
 number-one d = ap (λ x. constant Zq d x) red-one
 
-pub number-zero : (d : ℕ) → number d (pos 0) ≡ R d .zero
-unfolding number
-number-zero d = ap (λ x. constant Zq d x) red-zero ∙ constant-zero Zq d
-
 pub number-add : (d : ℕ) (a b : ℤ) → number d (a +ℤ b) ≡ R d .add (number d a) (number d b)
 unfolding number
 number-add d a b = ap (λ x. constant Zq d x) (red-add a b) ∙ constant-add Zq d (red a) (red b)
-
-pub number-neg : (d : ℕ) (a : ℤ) → number d (negℤ a) ≡ R d .neg (number d a)
-unfolding number
-number-neg d a = ap (λ x. constant Zq d x) (red-neg a) ∙ constant-neg Zq d (red a)
 
 pub number-mul : (d : ℕ) (a b : ℤ) → number d (a *ℤ b) ≡ R d .mul (number d a) (number d b)
 unfolding number

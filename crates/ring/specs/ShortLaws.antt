@@ -1,155 +1,32 @@
 -- Laws of products with one short operand.
---     Counting, raised-.., Totalling, Sized   the loops of src/short.rt: is_short, raise, raised_weight, columns
+--     Totalling, Sized             the loops of src/short.rt over both operands: raised_weight, columns
 --     short-value                  a column is a coefficient of the product
 use mathlib.Core.Path.{_≡_, refl, sym, ap, ap₂, _∙_}
 use mathlib.Core.Logic.{_⊎_, inl, inr}
-use mathlib.Core.Bool.{true}
 use mathlib.Core.List.{List}
-use Prim.Native.Nat.{ℕ, _+_, _-_, _*_, _/_, _%_, _^_, _≤_, _<_}
+use Prim.Native.Nat.{ℕ, _+_, _-_, _*_, _/_, _%_, _≤_, _<_}
 use native.Mathlib.Nat.{mul-le-mul, add-mul-mod-self-right}
 use native.Mathlib.Omega.{arith}
-use lib.ListN.{length, getD, set, length-set}
-use lib.Seq.{getD-set-same, getD-set-other}
-use lib.Dec.{T}
-use lib.Signed.{mag, nonNeg, yes-nonNeg}
-use lib.IntN.{ℤ, pos, negsuc, natAbs, negℤ, _+ℤ_}
+use lib.ListN.{getD}
+use lib.IntN.{ℤ, pos, negℤ}
 use mir.Syntax.{w64}
-use mir.Val.{Fits, SFits}
-use Rattle.integers.specs.Bridge.{zarith, bnd, natAbs-pn, pn-min, add-pn, neg-pn}
-use Rattle.integers.specs.Sums.{total, total-add-one, total-bound, total-term}
+use mir.Val.{Fits}
+use Rattle.integers.specs.Sums.{total, total-add-one, total-bound}
 use Rattle.algebra.specs.CommRing.{zero-add}
 use Rattle.algebra.specs.Sum.{sum, sum-cong, sum-add, sum-mul}
 use Rattle.algebra.specs.Negacyclic.{coeff}
 use Rattle.algebra.specs.Convolution.{wrapped, wrapped-yes, wrapped-no, coeff-mul}
 use Rattle.algebra.specs.Residue.{make, make-eq, make-val, make-add, make-mul}
 use Rattle.residues.specs.Modulus.{q, q-positive, Zq, red}
-use Rattle.residues.specs.ModulusLaws.{q-value, red-add, red-neg}
+use Rattle.residues.specs.ModulusLaws.{red-add, red-neg}
 use Rattle.ring.specs.Element.{Degree, R, el}
 use Rattle.ring.specs.ElementPlaces.{coeff-el}
 use Rattle.ring.specs.Product.{term, most, Residues}
 use Rattle.ring.specs.ColumnLaws.{make-total}
-use Rattle.ring.specs.ProductArrays.{le-or-lt, fill}
+use Rattle.ring.specs.ProductArrays.{le-or-lt}
 use Rattle.ring.specs.ProductLaws.{left-factor, make-term, coeff-small, red-pos}
 use Rattle.ring.specs.Short.{lifted, reduced, weight, shortColumn, Short, Raised, Narrow}
-
--- ---- is_short: the sum of what the numbers hold of 2^22
-
-pub record Counting (d : ℕ) (xs : List ℤ) (p excess i : ℕ) : Type 0 where
-  pub within : i ≤ d
-  pub is : excess ≡ total i (λ j. natAbs (getD xs (p * d + j) (pos 0)) / 4194304)
-  pub small : excess ≤ i * 512
-
-pub counting-start : (d : ℕ) (xs : List ℤ) (p : ℕ) → Counting d xs p 0 0
-unfolding total
-counting-start d xs p = record { within = omega arith; is = refl; small = omega arith }
-
-pub counting-step : {d : ℕ} {xs : List ℤ} {p excess i m : ℕ} → Counting d xs p excess i → i < d
-    → m ≡ natAbs (getD xs (p * d + i) (pos 0)) → m ≤ 2147483648 → Counting d xs p (excess + m / 4194304) (i + 1)
-counting-step {d} {xs} {p} {excess} {i} r h e small =
-    record {
-      within = omega arith;
-      is = ap₂ _+_ (r .is) (ap (λ t. t / 4194304) e) ∙ sym (total-add-one i (λ j. natAbs (getD xs (p * d + j) (pos 0)) / 4194304));
-      small = omega (arith, r .small);
-    }
-
-pub counting-end : {d : ℕ} {xs : List ℤ} {p excess i : ℕ} → Counting d xs p excess i → d ≤ i → excess ≡ 0 → Short d xs p
-counting-end {d} {xs} {p} {excess} {i} r h none =
-    record {
-      below = λ j b. omega (arith, r .is, r .within, total-term i (λ j. natAbs (getD xs (p * d + j) (pos 0)) / 4194304) j (omega arith));
-    }
-
-pub magnitude-small : (x : ℤ) {m : ℕ} → mag x < 2 ^ 31 → m ≡ natAbs x → m ≤ 2147483648
-magnitude-small (pos n) h e = omega arith
-magnitude-small (negsuc n) h e = omega arith
-
--- ---- raise: the numbers filled in
-
-pub short-at : {d : ℕ} {xs : List ℤ} {p : ℕ} (i place : ℕ) → Short d xs p → i < d → place ≡ p * d + (d - 1 - i)
-    → natAbs (getD xs place (pos 0)) < 4194304
-short-at {d} i place short h e = rw e (short .below (d - 1 - i) (omega arith))
-
-pub raised-start : (d : ℕ) (xs : List ℤ) (p : ℕ) (e : List ℕ) → length e ≡ 129 → Raised d xs p 0 (set e 0 0)
-raised-start d xs p e s =
-    record {
-      size = length-set e 0 0 ∙ s;
-      zero = getD-set-same e 0 0 0 (omega (arith, s));
-      front = λ i h. absurd (omega arith);
-      back = λ i h. absurd (omega arith);
-    }
-
-module _ {d : ℕ} {xs : List ℤ} {p i : ℕ} (degree : Degree d) (h : i < d) where
-  pub raised-step : {e : List ℕ} {v w : ℕ} → Raised d xs p i e → v ≡ lifted (getD xs (p * d + (d - 1 - i)) (pos 0))
-      → w ≡ 8388608 - v → Raised d xs p (i + 1) (set (set e (i + 1) v) (d + i + 1) w)
-  raised-step {e} {v} {w} r value rest =
-      let first : length (set e (i + 1) v) ≡ 129 = length-set e (i + 1) v ∙ r .size in
-      record {
-        size = length-set (set e (i + 1) v) (d + i + 1) w ∙ first;
-        zero =
-            getD-set-other (set e (i + 1) v) (d + i + 1) 0 w 0 (λ g. omega arith)
-            ∙ getD-set-other e (i + 1) 0 v 0 (λ g. omega arith) ∙ r .zero;
-        front = λ j b. getD-set-other (set e (i + 1) v) (d + i + 1) (j + 1) w 0 (λ g. omega arith)
-            ∙ fill (λ j. j + 1) (λ j. lifted (getD xs (p * d + (d - 1 - j)) (pos 0))) e i v (omega (arith, r .size, degree .small)) value
-            (λ j b g. omega arith) (r .front) j b;
-        back = fill (λ j. d + j + 1) (λ j. 8388608 - lifted (getD xs (p * d + (d - 1 - j)) (pos 0))) (set e (i + 1) v) i w (omega (arith, first, degree .small))
-            (rest ∙ ap (λ t. 8388608 - t) value) (λ j b g. omega arith)
-            (λ j b. getD-set-other e (i + 1) (d + j + 1) v 0 (λ g. omega arith) ∙ r .back j b);
-      }
-
--- a number below 2^22 in absolute value, raised
-lifted-small : (x : ℤ) → natAbs x < 4194304 → lifted x ≤ 8388608
-unfolding lifted
-lifted-small x h =
-    omega (zarith, natAbs-pn x, pn-min x, natAbs-pn (pos 4194304 +ℤ x), pn-min (pos 4194304 +ℤ x), add-pn (pos 4194304) x)
-
-lifted-is : (x : ℤ) → natAbs x < 4194304 → pos (lifted x) ≡ pos 4194304 +ℤ x
-unfolding lifted
-lifted-is x h =
-    omega (zarith, natAbs-pn x, pn-min x, natAbs-pn (pos 4194304 +ℤ x), pn-min (pos 4194304 +ℤ x), add-pn (pos 4194304) x)
-
-lowered-is : (x : ℤ) → natAbs x < 4194304 → pos (8388608 - lifted x) ≡ pos 4194304 +ℤ negℤ x
-unfolding lifted
-lowered-is x h =
-    omega (
-      zarith,
-      natAbs-pn x,
-      pn-min x,
-      natAbs-pn (pos 4194304 +ℤ x),
-      pn-min (pos 4194304 +ℤ x),
-      add-pn (pos 4194304) x,
-      add-pn (pos 4194304) (negℤ x),
-      neg-pn x,
-    )
-
-pub raised-limit : (x : ℤ) {v : ℕ} → v ≡ lifted x → natAbs x < 4194304 → v ≤ 8388608
-raised-limit x e h = omega (arith, e, lifted-small x h)
-
--- the sum 2^22 + x in 64 bits
-pub raised-fits : (x : ℤ) → natAbs x < 4194304 → SFits w64 (pos 4194304 +ℤ x)
-raised-fits x h = omega (zarith, natAbs-pn x, pn-min x, bnd (pos 4194304 +ℤ x), add-pn (pos 4194304) x)
-
-pub raised-natural : (x : ℤ) → natAbs x < 4194304 → T (nonNeg (pos 4194304 +ℤ x)) × Fits w64 (natAbs (pos 4194304 +ℤ x))
-unfolding lifted
-raised-natural x h =
-    let natural : T (nonNeg (pos 4194304 +ℤ x)) =
-    yes-nonNeg {z = pos 4194304 +ℤ x} (omega (zarith, natAbs-pn x, pn-min x, add-pn (pos 4194304) x)) in
-    (natural, omega (arith, lifted-small x h))
-
--- every number of a raised array is small
-pub raised-narrow : {d : ℕ} {xs : List ℤ} {p : ℕ} {e : List ℕ} → Short d xs p → Raised d xs p d e → Narrow d e
-unfolding Narrow
-raised-narrow {d} {xs} {p} {e} short right j b = pick (le-or-lt 1 j) (le-or-lt (d + 1) j)
-  where
-    pick : (1 ≤ j) ⊎ (j < 1) → (d + 1 ≤ j) ⊎ (j < d + 1) → getD e j 0 ≤ 8388608
-    pick (inr l) m =
-        let none : j ≡ 0 = omega arith in
-        rw none (omega (arith, right .zero))
-    pick (inl l) (inr m) =
-        let place : j - 1 + 1 ≡ j = omega arith in
-        let last : d - 1 - (j - 1) < d = omega arith in
-        omega (arith, ap (λ t. getD e t 0) place, right .front (j - 1) (omega arith), lifted-small (getD xs (p * d + (d - 1 - (j - 1))) (pos 0)) (short .below (d - 1 - (j - 1)) last))
-    pick (inl l) (inl m) =
-        let place : d + (j - d - 1) + 1 ≡ j = omega arith in
-        omega (arith, ap (λ t. getD e t 0) place, right .back (j - d - 1) (omega arith))
+use Rattle.ring.specs.ShortOperand.{lifted-small, lifted-is, lowered-is}
 
 -- ---- raised_weight: the sum of the residues
 
@@ -306,7 +183,7 @@ module _ {d : ℕ} {x : R d .Carrier} {xs : List ℤ} {p : ℕ} {a e : List ℕ}
         total-bound d 4294967197 (λ i. getD a i 0) (λ i h. omega (arith, left .entry i h, coeff-small x i)),
       )
 
-  -- the weight takes shift times the residues away
+  -- the weight takes 2^22 times the residues away
   make-weight : Zq .add (make q q-positive (weight d a)) (Zq .mul unit (sum Zq d (coeff Zq x))) ≡ Zq .zero
   unfolding weight unit residue-total q
   make-weight =

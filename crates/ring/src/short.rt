@@ -1,13 +1,12 @@
 // Products with one short operand: digits, challenges, most witnesses. Its numbers are raised so that none is negative; a column of
 // products is then summed exactly, with no upper halves apart.
 ghost use mathlib.Core.Path.{_≡_};
-ghost use mathlib.Core.Bool.{true};
 ghost use Prim.Native.Nat.{ℕ, _+_, _*_, _<_, _≤_};
 ghost use lib.ListN.{length, getD};
 ghost use lib.IntN.{natAbs};
 ghost use Rattle.ring.specs.Element.{Degree, R};
 ghost use Rattle.ring.specs.Product.{Residues, TwoColumns, Room, Added};
-ghost use Rattle.ring.specs.Short.{lifted, weight, shortColumn, Short, Raised, Narrow};
+ghost use Rattle.ring.specs.Short.{lifted, weight, shortColumn, short, Short, Raised, Narrow};
 use crate::product::ColumnPair;
 use residues::range::magnitude;
 
@@ -15,7 +14,7 @@ use residues::range::magnitude;
 pub fn is_short(d: usize, v: &[i32], p: usize) -> bool
     requires { ⌜ Degree d ⌝ }
     requires { ⌜ p * d + d ≤ length (now v) ⌝ }
-    ensures { λ r. ⌜ (r ≡ true → Short d (now (v .entry)) p) ⌝ }
+    ensures { λ r. ⌜ r ≡ short d (now (v .entry)) p ⌝ }
 {
     let at = p * d;
     let mut excess: u64 = 0;

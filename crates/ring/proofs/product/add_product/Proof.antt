@@ -1,8 +1,10 @@
 -- `ring::product::add_product` meets its contract: whichever way is taken, the columns that are added are the product's coefficients.
+use mathlib.Core.Path.{sym, _∙_}
 use borrow.Author.Needs.{needs}
 use native.Mathlib.Omega.{arith}
 use Rattle.ring.specs.ProductLaws.{column-value, gained, residues-small}
-use Rattle.ring.specs.ShortLaws.{raised-narrow, short-value, weight-bound}
+use Rattle.ring.specs.ShortOperand.{raised-narrow, short-below}
+use Rattle.ring.specs.ShortLaws.{short-value, weight-bound}
 use Rattle.ring.proofs.product.add_product.Statement.{statement}
 use Rattle.ring.proofs.product.add_product.Tie as tie
 
@@ -16,7 +18,7 @@ raise-requires : tie.Need-raise-requires
 raise-requires c κs =
     let found = c .before .before in
     let start = found .before .before .before in
-    (start .pre .0, (start .pre .1 .0 .1, start .pre .1 .1 .1, found .is-short .ensures (c .before .if1 .taken)))
+    (start .pre .0, (start .pre .1 .0 .1, start .pre .1 .1 .1, short-below _ _ _ (sym (found .is-short .ensures) ∙ c .before .if1 .taken)))
 
 raised-weight-requires : tie.Need-raised-weight-requires
 raised-weight-requires c κs =
@@ -33,7 +35,7 @@ add-pair-requires c κs =
       (
         start .pre .1 .1 .2,
         weight-bound _ _ (weighed .raised-weight .ensures),
-        raised-narrow (found .is-short .ensures (raised .before .before .if1 .taken)) (raised .raise .ensures),
+        raised-narrow (short-below _ _ _ (sym (found .is-short .ensures) ∙ raised .before .before .if1 .taken)) (raised .raise .ensures),
       ),
     )
 
@@ -44,7 +46,7 @@ returns c =
     let found = raised .before .before .before in
     let loaded = found .before in
     let start = loaded .before .before in
-    let short = found .is-short .ensures (raised .before .before .if1 .taken) in (
+    let short = short-below _ _ _ (sym (found .is-short .ensures) ∙ raised .before .before .if1 .taken) in (
       loaded .load .ensures .size,
       raised .raise .ensures .size,
       gained (c .add-pair .ensures)

@@ -4,9 +4,8 @@ use Prim.Native.Nat.{_+_, _-_, _*_}
 use native.Mathlib.Omega.{arith}
 use lib.ListN.{getD}
 use lib.IntN.{pos, natAbs}
-use borrow.Author.Tests.{eqb-true}
 use Rattle.residues.specs.Words.{word}
-use Rattle.ring.specs.ShortLaws.{Counting, counting-start, counting-step, counting-end, magnitude-small}
+use Rattle.ring.specs.ShortOperand.{Counting, counting-start, counting-step, counting-end, magnitude-small}
 use Rattle.ring.proofs.short.is_short.Statement.{statement}
 use Rattle.ring.proofs.short.is_short.Tie as tie
 
@@ -57,7 +56,7 @@ loop-again c =
     counting-step (l .loop .inv) (c .before .before .loop-test .taken) value (magnitude-small x given value)
 
 returns : tie.Need-returns Inv-loop μ-loop
-returns c = λ e. counting-end (c .before .loop .inv) (c .loop-test .left) (eqb-true _ _ e)
+returns c = counting-end (c .before .loop .inv) (c .loop-test .left)
 
 pub is-short-spec : {M : Type 1} → statement M
 is-short-spec =

@@ -6,7 +6,7 @@ use lib.ListN.{getD}
 use lib.IntN.{pos}
 use Rattle.residues.specs.Words.{word}
 use Rattle.ring.specs.Short.{lifted, Raised}
-use Rattle.ring.specs.ShortLaws.{raised-start, raised-step, raised-limit, short-at}
+use Rattle.ring.specs.ShortOperand.{raised-start, raised-step, raised-limit, short-at}
 use Rattle.ring.proofs.short.raise.Statement.{statement}
 use Rattle.ring.proofs.short.raise.Tie as tie
 

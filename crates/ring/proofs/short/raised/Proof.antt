@@ -3,7 +3,7 @@ use mathlib.Core.Path.{refl}
 use mir.Facts.{toZ-ofZ, sfits-widen}
 use Rattle.residues.specs.Words.{wide}
 use Rattle.ring.specs.Short.{lifted}
-use Rattle.ring.specs.ShortLaws.{raised-fits, raised-natural}
+use Rattle.ring.specs.ShortOperand.{raised-fits, raised-natural}
 use Rattle.ring.proofs.short.raised.Statement.{statement}
 use Rattle.ring.proofs.short.raised.Tie as tie
 
