@@ -52,3 +52,33 @@ pub fn after_number(xs: &[i32], at: usize) -> usize
     }
     at + 1
 }
+
+// What follows the first numbers.
+pub fn past_numbers(xs: &[i32], count: usize) -> &[i32]
+    ensures { λ r. ⌜ length (now r) ≤ length (now (xs .entry)) ⌝ }
+{
+    if xs.len() < count {
+        return &xs[0..0];
+    }
+    &xs[count..]
+}
+
+// What follows the first lists.
+pub fn past_lists(xs: &[i32], count: usize) -> &[i32]
+    ensures { λ r. ⌜ length (now r) ≤ length (now (xs .entry)) ⌝ }
+{
+    let mut at = 0;
+    let mut i = 0;
+    while i < count {
+        at = after_list(xs, at);
+        i += 1;
+    }
+    &xs[at..]
+}
+
+// The list that follows the first lists.
+pub fn nth_list(xs: &[i32], before: usize) -> &[i32]
+    ensures { λ r. ⌜ length (now r) ≤ length (now (xs .entry)) ⌝ }
+{
+    list(past_lists(xs, before), 0)
+}

@@ -1,11 +1,22 @@
-// A fold: messages 1 to 5 from a statement and a witness, and the verdict on them. Every list to write is lent with its length.
-ghost use mathlib.Core.Path.{_≡_};
-ghost use Rattle.fold.specs.Answers.{numberOf};
-ghost use Rattle.fold.specs.Arguments.{statementOf, drawsOf, transcriptOf};
-ghost use Rattle.fold.specs.Verification.{verification};
+// A fold: messages 1 to 5 from a statement and a witness, and the verdict on them. `setup` begins with the lists A, B, C, D and `draws` with
+// ω, α, δ, c; `lengths` and `messages` are those of module messages.
+use crate::input::FILL;
+use crate::input::ROOM;
+use crate::input::count_at;
+use crate::messages;
+use crate::messages::B2;
+use crate::messages::G;
+use crate::messages::H;
+use crate::messages::P;
+use crate::messages::T;
+use crate::messages::U1;
+use crate::messages::U2;
+use crate::messages::Z;
+use crate::messages::keep;
+use crate::messages::message;
 use crate::output;
 use crate::verdict::print_verdict;
-use crate::witness;
+use cases::lists::nth_list;
 use fold::CommitSizes;
 use fold::GarbageSizes;
 use fold::Shape;
@@ -19,18 +30,8 @@ fn shape(sizes: Sizes) -> Shape {
     }
 }
 
-fn commit(
-    place: usize,
-    sizes: Sizes,
-    a: &[i32],
-    b: &[i32],
-    c: &[i32],
-    witness: &[i32],
-    t: &mut [i32],
-    g: &mut [i32],
-    u1: &mut [i32],
-) {
-    let its = CommitSizes {
+fn commit_sizes(sizes: Sizes) -> CommitSizes {
+    CommitSizes {
         d: sizes.d,
         n: sizes.n,
         r: sizes.r,
@@ -40,59 +41,11 @@ fn commit(
         b2: sizes.b2,
         t1: sizes.t1,
         t2: sizes.t2,
-    };
-    output::print_answer(place, lizkarg::commit(its, a, b, c, witness, t, g, u1));
-    output::print_sum(t);
-    output::print_sum(g);
-    output::print_sum(u1);
+    }
 }
 
-fn project(sizes: Sizes, rows: &[i32], witness: &[i32], p: &mut [i32]) {
-    output::print_answer(1, lizkarg::project(shape(sizes), sizes.w, rows, witness, p));
-    output::print_sum(p);
-}
-
-fn aggregate(
-    sizes: Sizes,
-    term: &[i32],
-    rows: &[i32],
-    psi: &[i32],
-    omega: &[i32],
-    witness: &[i32],
-    b2: &mut [i32],
-) {
-    output::print_answer(
-        1,
-        lizkarg::aggregate(
-            shape(sizes),
-            sizes.l,
-            sizes.w,
-            term,
-            rows,
-            psi,
-            omega,
-            witness,
-            b2,
-        ),
-    );
-    output::print_sum(b2);
-}
-
-fn commit_garbage(
-    sizes: Sizes,
-    whole: &[i32],
-    term: &[i32],
-    rows: &[i32],
-    psi: &[i32],
-    omega: &[i32],
-    alpha: &[i32],
-    delta: &[i32],
-    d_matrix: &[i32],
-    witness: &[i32],
-    h: &mut [i32],
-    u2: &mut [i32],
-) {
-    let its = GarbageSizes {
+fn garbage_sizes(sizes: Sizes) -> GarbageSizes {
+    GarbageSizes {
         d: sizes.d,
         n: sizes.n,
         r: sizes.r,
@@ -102,156 +55,193 @@ fn commit_garbage(
         kappa2: sizes.kappa2,
         b1: sizes.b1,
         t1: sizes.t1,
-    };
-    output::print_answer(
-        1,
-        lizkarg::commit_garbage(
-            its,
-            whole,
-            term,
-            rows,
-            psi,
-            omega,
-            alpha,
-            delta,
-            d_matrix,
-            witness,
-            h,
-            u2,
-        ),
-    );
-    output::print_sum(h);
-    output::print_sum(u2);
+    }
 }
 
-fn amortize(sizes: Sizes, c: &[i32], witness: &[i32], z: &mut [i32]) {
-    output::print_answer(1, lizkarg::amortize(shape(sizes), sizes.b, c, witness, z));
-    output::print_sum(z);
-}
-
-// Messages 1 to 5: each answer, and the sums of what it wrote.
-fn write_messages(
+fn commit(
     place: usize,
     sizes: Sizes,
-    a: &[i32],
-    b: &[i32],
-    c_matrix: &[i32],
-    d_matrix: &[i32],
+    setup: &[i32],
+    witness: &[i32],
+    lengths: &[i32],
+    messages: &mut [i32],
+) {
+    let t_count = count_at(lengths, T);
+    let g_count = count_at(lengths, G);
+    let u1_count = count_at(lengths, U1);
+    let mut t_room = [FILL; ROOM];
+    let t = &mut t_room[..t_count];
+    let mut g_room = [FILL; ROOM];
+    let g = &mut g_room[..g_count];
+    let mut u1_room = [FILL; ROOM];
+    let u1 = &mut u1_room[..u1_count];
+    let answer = lizkarg::commit(
+        commit_sizes(sizes),
+        nth_list(setup, 0),
+        nth_list(setup, 1),
+        nth_list(setup, 2),
+        witness,
+        t,
+        g,
+        u1,
+    );
+    output::print_answer(place, answer);
+    keep(messages, lengths, T, t);
+    keep(messages, lengths, G, g);
+    keep(messages, lengths, U1, u1);
+}
+
+fn project(
+    sizes: Sizes,
+    rows: &[i32],
+    witness: &[i32],
+    lengths: &[i32],
+    messages: &mut [i32],
+) {
+    let count = count_at(lengths, P);
+    let mut p_room = [FILL; ROOM];
+    let p = &mut p_room[..count];
+    let answer = lizkarg::project(shape(sizes), sizes.w, rows, witness, p);
+    output::print_answer(1, answer);
+    keep(messages, lengths, P, p);
+}
+
+fn aggregate(
+    sizes: Sizes,
+    term: &[i32],
+    rows: &[i32],
+    psi: &[i32],
+    draws: &[i32],
+    witness: &[i32],
+    lengths: &[i32],
+    messages: &mut [i32],
+) {
+    let count = count_at(lengths, B2);
+    let mut b2_room = [FILL; ROOM];
+    let b2 = &mut b2_room[..count];
+    let answer = lizkarg::aggregate(
+        shape(sizes),
+        sizes.l,
+        sizes.w,
+        term,
+        rows,
+        psi,
+        nth_list(draws, 0),
+        witness,
+        b2,
+    );
+    output::print_answer(1, answer);
+    keep(messages, lengths, B2, b2);
+}
+
+fn commit_garbage(
+    sizes: Sizes,
+    setup: &[i32],
     whole: &[i32],
     term: &[i32],
     rows: &[i32],
     psi: &[i32],
-    omega: &[i32],
-    alpha: &[i32],
-    delta: &[i32],
-    c: &[i32],
+    draws: &[i32],
     witness: &[i32],
-    z: &mut [i32],
-    t: &mut [i32],
-    g: &mut [i32],
-    h: &mut [i32],
-    u1: &mut [i32],
-    p: &mut [i32],
-    b2: &mut [i32],
-    u2: &mut [i32],
+    lengths: &[i32],
+    messages: &mut [i32],
 ) {
-    commit(place, sizes, a, b, c_matrix, witness, t, g, u1);
-    project(sizes, rows, witness, p);
-    aggregate(sizes, term, rows, psi, omega, witness, b2);
-    commit_garbage(
-        sizes,
+    let h_count = count_at(lengths, H);
+    let u2_count = count_at(lengths, U2);
+    let mut h_room = [FILL; ROOM];
+    let h = &mut h_room[..h_count];
+    let mut u2_room = [FILL; ROOM];
+    let u2 = &mut u2_room[..u2_count];
+    let answer = lizkarg::commit_garbage(
+        garbage_sizes(sizes),
         whole,
         term,
         rows,
         psi,
-        omega,
-        alpha,
-        delta,
-        d_matrix,
+        nth_list(draws, 0),
+        nth_list(draws, 1),
+        nth_list(draws, 2),
+        nth_list(setup, 3),
         witness,
         h,
         u2,
     );
-    amortize(sizes, c, witness, z);
+    output::print_answer(1, answer);
+    keep(messages, lengths, H, h);
+    keep(messages, lengths, U2, u2);
 }
 
-// A fold: prints the messages and the verdict, and answers the verdict's number. The digits of z, t, g and h are put into the opening.
+fn amortize(
+    sizes: Sizes,
+    draws: &[i32],
+    witness: &[i32],
+    lengths: &[i32],
+    messages: &mut [i32],
+) {
+    let count = count_at(lengths, Z);
+    let mut z_room = [FILL; ROOM];
+    let z = &mut z_room[..count];
+    let c = nth_list(draws, 3);
+    let answer = lizkarg::amortize(shape(sizes), sizes.b, c, witness, z);
+    output::print_answer(1, answer);
+    keep(messages, lengths, Z, z);
+}
+
+fn verify(
+    sizes: Sizes,
+    setup: &[i32],
+    whole: &[i32],
+    term: &[i32],
+    rows: &[i32],
+    psi: &[i32],
+    draws: &[i32],
+    lengths: &[i32],
+    messages: &[i32],
+) {
+    print_verdict(
+        sizes,
+        nth_list(setup, 0),
+        nth_list(setup, 1),
+        nth_list(setup, 2),
+        nth_list(setup, 3),
+        whole,
+        term,
+        message(messages, lengths, U1),
+        rows,
+        message(messages, lengths, P),
+        psi,
+        nth_list(draws, 0),
+        message(messages, lengths, B2),
+        nth_list(draws, 1),
+        nth_list(draws, 2),
+        message(messages, lengths, U2),
+        nth_list(draws, 3),
+        messages::opening(messages, lengths),
+    );
+}
+
+// A fold: prints each message's answer and the sums of what it wrote, and the verdict.
 pub fn run_fold(
     place: usize,
     sizes: Sizes,
-    a: &[i32],
-    b: &[i32],
-    c_matrix: &[i32],
-    d_matrix: &[i32],
+    setup: &[i32],
     whole: &[i32],
     term: &[i32],
     rows: &[i32],
     psi: &[i32],
-    omega: &[i32],
-    alpha: &[i32],
-    delta: &[i32],
-    c: &[i32],
+    draws: &[i32],
     witness: &[i32],
-    z: &mut [i32],
-    t: &mut [i32],
-    g: &mut [i32],
-    h: &mut [i32],
-    u1: &mut [i32],
-    p: &mut [i32],
-    b2: &mut [i32],
-    u2: &mut [i32],
-    opening: &mut [i32],
-) -> u8
-    ensures { λ x.
-        ⌜ x ≡ numberOf (verification (statementOf sizes (now (a .entry)) (now (b .entry)) (now («c_matrix» .entry))
-        (now («d_matrix» .entry)) (now (whole .entry)) (now (term .entry))) (drawsOf (now (rows .entry))
-        (now (psi .entry)) (now (omega .entry)) (now (alpha .entry)) (now (delta .entry)) (now (c .entry)))
-        (transcriptOf (now (u1 .exit)) (now (p .exit)) (now (b2 .exit)) (now (u2 .exit))) (now (opening .exit))) ⌝ }
-{
-    write_messages(
-        place,
-        sizes,
-        a,
-        b,
-        c_matrix,
-        d_matrix,
-        whole,
-        term,
-        rows,
-        psi,
-        omega,
-        alpha,
-        delta,
-        c,
-        witness,
-        z,
-        t,
-        g,
-        h,
-        u1,
-        p,
-        b2,
-        u2,
+    lengths: &[i32],
+    messages: &mut [i32],
+) {
+    commit(place, sizes, setup, witness, lengths, messages);
+    project(sizes, rows, witness, lengths, messages);
+    aggregate(sizes, term, rows, psi, draws, witness, lengths, messages);
+    commit_garbage(
+        sizes, setup, whole, term, rows, psi, draws, witness, lengths, messages,
     );
-    witness::join(opening, z, t, g, h);
-    print_verdict(
-        sizes,
-        a,
-        b,
-        c_matrix,
-        d_matrix,
-        whole,
-        term,
-        u1,
-        rows,
-        p,
-        psi,
-        omega,
-        b2,
-        alpha,
-        delta,
-        u2,
-        c,
-        opening,
-    )
+    amortize(sizes, draws, witness, lengths, messages);
+    verify(
+        sizes, setup, whole, term, rows, psi, draws, lengths, messages,
+    );
 }

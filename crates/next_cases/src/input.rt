@@ -9,8 +9,10 @@ ghost use Rattle.next_cases.specs.Input.{sizeAt};
 use cases::numbers::size;
 use fold::Sizes;
 
-// Where the sizes of a case begin, and what follows them.
+// Where the sizes of a case begin, how many they are, and what follows them.
 pub const SIZES: usize = 1;
+
+pub const SIZE_COUNT: usize = 18;
 
 pub const LISTS: usize = 19;
 
@@ -92,20 +94,6 @@ pub fn read_mu(wides: &[i64]) -> usize
     ensures { λ x. ⌜ x ≡ sizeAt (now (wides .entry)) 15 ⌝ }
 {
     size_at(wides, 15)
-}
-
-// The place after the eighteen sizes at a place; the end where they are not all there.
-pub fn after_sizes(xs: &[i32], at: usize) -> usize
-    ensures { λ r. ⌜ r ≤ length (now (xs .entry)) ⌝ }
-{
-    let room = xs.len();
-    if room < 18 {
-        return room;
-    }
-    if room - 18 < at {
-        return room;
-    }
-    at + 18
 }
 
 // The length of a list to write, 0 where it is too long. The filled array has a part that long.

@@ -4,10 +4,10 @@
 mod folds;
 mod input;
 mod instance;
+mod messages;
 mod output;
 mod part;
 mod runs;
-mod second;
 mod twice;
 mod verdict;
 mod witness;

@@ -5,284 +5,145 @@ use crate::folds::run_fold;
 use crate::input::FILL;
 use crate::input::LISTS;
 use crate::input::ROOM;
+use crate::input::SIZE_COUNT;
 use crate::input::count_at;
 use crate::input::fitting;
+use crate::input::read_sizes;
+use crate::messages::B2;
+use crate::messages::P;
+use crate::messages::U1;
+use crate::messages::U2;
+use crate::messages::message;
+use crate::messages::opening;
 use crate::output;
 use crate::part::part_sizes;
-use crate::second::run_second;
-use cases::lists::after_list;
-use cases::lists::after_number;
-use cases::lists::list;
+use crate::witness::write_witness;
+use cases::lists::nth_list;
+use cases::lists::past_lists;
+use cases::lists::past_numbers;
+use cases::lists::rest;
+use chunks::part::PartSizes;
 use fold::Sizes;
 use next_instance::next_instance;
 
-// The next instance after the first fold, and then the second fold.
-fn with_messages(
+// The first fold: A, B, C, D, the whole and the constant-term functions, the rows, psi, omega, alpha, delta, the challenges, the witness.
+fn run_first(sizes: Sizes, lists: &[i32], lengths: &[i32], messages: &mut [i32]) {
+    run_fold(
+        0,
+        sizes,
+        lists,
+        nth_list(lists, 4),
+        nth_list(lists, 5),
+        nth_list(lists, 6),
+        nth_list(lists, 7),
+        past_lists(lists, 8),
+        nth_list(lists, 12),
+        lengths,
+        messages,
+    );
+}
+
+// The next instance after the first fold.
+fn print_next(
     sizes: Sizes,
     nu: usize,
     mu: usize,
-    a: &[i32],
-    b: &[i32],
-    c_matrix: &[i32],
-    d_matrix: &[i32],
-    whole: &[i32],
-    term: &[i32],
-    u1: &[i32],
-    rows: &[i32],
-    p: &[i32],
-    psi: &[i32],
-    omega: &[i32],
-    b2: &[i32],
-    alpha: &[i32],
-    delta: &[i32],
-    u2: &[i32],
-    c: &[i32],
-    opening: &[i32],
+    lists: &[i32],
+    lengths: &[i32],
+    messages: &[i32],
     out: &mut [i32],
-    wides: &[i64],
-    xs: &[i32],
-    at: usize,
-) -> usize
-    ensures { λ r. ⌜ r ≤ length (now (xs .entry)) ⌝ }
-{
+) {
     let answer = next_instance(
         sizes,
         nu,
         mu,
-        a,
-        b,
-        c_matrix,
-        d_matrix,
-        whole,
-        term,
-        u1,
-        rows,
-        p,
-        psi,
-        omega,
-        b2,
-        alpha,
-        delta,
-        u2,
-        c,
+        nth_list(lists, 0),
+        nth_list(lists, 1),
+        nth_list(lists, 2),
+        nth_list(lists, 3),
+        nth_list(lists, 4),
+        nth_list(lists, 5),
+        message(messages, lengths, U1),
+        nth_list(lists, 6),
+        message(messages, lengths, P),
+        nth_list(lists, 7),
+        nth_list(lists, 8),
+        message(messages, lengths, B2),
+        nth_list(lists, 9),
+        nth_list(lists, 10),
+        message(messages, lengths, U2),
+        nth_list(lists, 11),
         out,
     );
     output::print_answer(1, answer);
     output::print_sum(out);
-    run_second(part_sizes(sizes, nu, mu), opening, out, wides, xs, at)
 }
 
-// The first fold, and then what follows.
-fn run_first(
-    sizes: Sizes,
-    nu: usize,
-    mu: usize,
-    a: &[i32],
-    b: &[i32],
-    c_matrix: &[i32],
-    d_matrix: &[i32],
-    whole: &[i32],
-    term: &[i32],
-    rows: &[i32],
-    psi: &[i32],
-    omega: &[i32],
-    alpha: &[i32],
-    delta: &[i32],
-    c: &[i32],
-    witness: &[i32],
-    z: &mut [i32],
-    t: &mut [i32],
-    g: &mut [i32],
-    h: &mut [i32],
-    u1: &mut [i32],
-    p: &mut [i32],
-    b2: &mut [i32],
-    u2: &mut [i32],
-    opening: &mut [i32],
-    out: &mut [i32],
-    wides: &[i64],
-    xs: &[i32],
-    at: usize,
-) -> usize
-    ensures { λ r. ⌜ r ≤ length (now (xs .entry)) ⌝ }
+// A product of sizes; 0 where one passes what a list can have.
+fn product(x: usize, y: usize) -> usize
+    ensures { λ r. ⌜ r ≤ 1073741824 ⌝ }
 {
+    if x > ROOM {
+        return 0;
+    }
+    if y > ROOM {
+        return 0;
+    }
+    x * y
+}
+
+// The second fold: A, B, C, D, the rows, omega, alpha, delta, the challenges. There are no constant-term functions and no psi.
+fn run_second(sizes: Sizes, whole: &[i32], witness: &[i32], lists: &[i32]) {
+    let mut messages = [FILL; ROOM];
+    output::print_sum(witness);
     run_fold(
-        0,
+        1,
         sizes,
-        a,
-        b,
-        c_matrix,
-        d_matrix,
+        lists,
         whole,
-        term,
-        rows,
-        psi,
-        omega,
-        alpha,
-        delta,
-        c,
+        &whole[0..0],
+        nth_list(lists, 4),
+        &whole[0..0],
+        past_lists(lists, 5),
         witness,
-        z,
-        t,
-        g,
-        h,
-        u1,
-        p,
-        b2,
-        u2,
-        opening,
+        past_lists(lists, 9),
+        &mut messages,
     );
-    with_messages(
-        sizes,
-        nu,
-        mu,
-        a,
-        b,
-        c_matrix,
-        d_matrix,
-        whole,
-        term,
-        u1,
-        rows,
-        p,
-        psi,
-        omega,
-        b2,
-        alpha,
-        delta,
-        u2,
-        c,
-        opening,
-        out,
-        wides,
-        xs,
-        at,
-    )
 }
 
-// From the lengths on: those of the digits of z, t, g and h, of u1, p, b'', u2 and of the next constraints; and then the second fold.
-fn with_lists(
-    sizes: Sizes,
-    nu: usize,
-    mu: usize,
-    a: &[i32],
-    b: &[i32],
-    c_matrix: &[i32],
-    d_matrix: &[i32],
-    whole: &[i32],
-    term: &[i32],
-    rows: &[i32],
-    psi: &[i32],
-    omega: &[i32],
-    alpha: &[i32],
-    delta: &[i32],
-    c: &[i32],
-    witness: &[i32],
-    wides: &[i64],
-    xs: &[i32],
-    at: usize,
-) -> usize
-    ensures { λ r. ⌜ r ≤ length (now (xs .entry)) ⌝ }
-{
-    let t_at = after_number(xs, at);
-    let g_at = after_number(xs, t_at);
-    let h_at = after_number(xs, g_at);
-    let u1_at = after_number(xs, h_at);
-    let p_at = after_number(xs, u1_at);
-    let b2_at = after_number(xs, p_at);
-    let u2_at = after_number(xs, b2_at);
-    let out_at = after_number(xs, u2_at);
-    let z_count = count_at(xs, at);
-    let t_count = count_at(xs, t_at);
-    let g_count = count_at(xs, g_at);
-    let h_count = count_at(xs, h_at);
-    let u1_count = count_at(xs, u1_at);
-    let p_count = count_at(xs, p_at);
-    let b2_count = count_at(xs, b2_at);
-    let u2_count = count_at(xs, u2_at);
-    let out_count = count_at(xs, out_at);
-    let opening_count = fitting(z_count + t_count + g_count + h_count);
-    let second_at = after_number(xs, out_at);
-    let mut z = [FILL; ROOM];
-    let mut t = [FILL; ROOM];
-    let mut g = [FILL; ROOM];
-    let mut h = [FILL; ROOM];
-    let mut u1 = [FILL; ROOM];
-    let mut p = [FILL; ROOM];
-    let mut b2 = [FILL; ROOM];
-    let mut u2 = [FILL; ROOM];
-    let mut opening = [FILL; ROOM];
-    let mut out = [FILL; ROOM];
-    run_first(
-        sizes,
-        nu,
-        mu,
-        a,
-        b,
-        c_matrix,
-        d_matrix,
-        whole,
-        term,
-        rows,
-        psi,
-        omega,
-        alpha,
-        delta,
-        c,
-        witness,
-        &mut z[..z_count],
-        &mut t[..t_count],
-        &mut g[..g_count],
-        &mut h[..h_count],
-        &mut u1[..u1_count],
-        &mut p[..p_count],
-        &mut b2[..b2_count],
-        &mut u2[..u2_count],
-        &mut opening[..opening_count],
-        &mut out[..out_count],
-        wides,
-        xs,
-        second_at,
-    )
+// The next witness from the first fold's opening, and the second fold. The witness has as many parts as the sizes say.
+fn with_witness(first: PartSizes, sizes: Sizes, opening: &[i32], whole: &[i32], lists: &[i32]) {
+    let width = product(sizes.n, sizes.d);
+    let count = fitting(product(sizes.r, width));
+    let mut room = [FILL; ROOM];
+    let witness = &mut room[..count];
+    write_witness(first, sizes.r, width, opening, witness);
+    run_second(sizes, whole, witness, lists);
 }
 
-// A, B, C, D, the whole and the constant-term functions, the rows, psi, omega, alpha, delta, the challenges, the witness, and then the
-// rest. The answer is how many numbers the case has.
+// The first fold's lists and lengths, that of the next constraints among them; the second fold's sizes, lists and lengths. The answer is how
+// many numbers the case has.
 pub fn run_twice(sizes: Sizes, nu: usize, mu: usize, wides: &[i64], xs: &[i32]) -> usize
     ensures { λ r. ⌜ r ≤ length (now (xs .entry)) ⌝ }
 {
-    let b_at = after_list(xs, LISTS);
-    let c_matrix_at = after_list(xs, b_at);
-    let d_matrix_at = after_list(xs, c_matrix_at);
-    let whole_at = after_list(xs, d_matrix_at);
-    let term_at = after_list(xs, whole_at);
-    let rows_at = after_list(xs, term_at);
-    let psi_at = after_list(xs, rows_at);
-    let omega_at = after_list(xs, psi_at);
-    let alpha_at = after_list(xs, omega_at);
-    let delta_at = after_list(xs, alpha_at);
-    let c_at = after_list(xs, delta_at);
-    let witness_at = after_list(xs, c_at);
-    let z_at = after_list(xs, witness_at);
-    with_lists(
-        sizes,
-        nu,
-        mu,
-        list(xs, LISTS),
-        list(xs, b_at),
-        list(xs, c_matrix_at),
-        list(xs, d_matrix_at),
-        list(xs, whole_at),
-        list(xs, term_at),
-        list(xs, rows_at),
-        list(xs, psi_at),
-        list(xs, omega_at),
-        list(xs, alpha_at),
-        list(xs, delta_at),
-        list(xs, c_at),
-        list(xs, witness_at),
-        wides,
-        xs,
-        z_at,
-    )
+    let lists = past_numbers(xs, LISTS);
+    let lengths = past_lists(lists, 13);
+    let count = count_at(lengths, 8);
+    let second = past_numbers(lengths, 9);
+    let second_sizes = read_sizes(rest(wides, xs.len() - second.len()));
+    let second_lists = past_numbers(second, SIZE_COUNT);
+    let used = xs.len() - past_numbers(past_lists(second_lists, 9), 8).len();
+    let mut messages = [FILL; ROOM];
+    let mut room = [FILL; ROOM];
+    let whole = &mut room[..count];
+    run_first(sizes, lists, lengths, &mut messages);
+    print_next(sizes, nu, mu, lists, lengths, &messages, whole);
+    with_witness(
+        part_sizes(sizes, nu, mu),
+        second_sizes,
+        opening(&messages, lengths),
+        whole,
+        second_lists,
+    );
+    used
 }

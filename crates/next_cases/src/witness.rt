@@ -1,4 +1,4 @@
-// The opening and the next witness, put together from their parts.
+// The next witness, put together from its parts.
 ghost use Prim.Native.Nat.{_≤_};
 ghost use lib.ListN.{length};
 use chunks::part::PartSizes;
@@ -14,7 +14,7 @@ fn padded(xs: &[i32], place: usize) -> i32 {
 
 // Puts `width` numbers into a list, from `at` on: those of the part, and zeros after them. The answer is the place after them; nothing is
 // put past the list's end.
-fn put(out: &mut [i32], at: usize, part: &[i32], width: usize) -> usize
+pub fn put(out: &mut [i32], at: usize, part: &[i32], width: usize) -> usize
     requires { ⌜ at ≤ length (now out) ⌝ }
     ensures { λ r. ⌜ r ≤ length (now (out .exit)) ⌝ }
 {
@@ -29,16 +29,6 @@ fn put(out: &mut [i32], at: usize, part: &[i32], width: usize) -> usize
         i += 1;
     }
     to
-}
-
-// The opening: the digits of z, t, g and h. The answer is how many there are, up to the opening's length.
-pub fn join(opening: &mut [i32], z: &[i32], t: &[i32], g: &[i32], h: &[i32]) -> usize
-    ensures { λ r. ⌜ r ≤ length (now (opening .exit)) ⌝ }
-{
-    let t_at = put(opening, 0, z, z.len());
-    let g_at = put(opening, t_at, t, t.len());
-    let h_at = put(opening, g_at, g, g.len());
-    put(opening, h_at, h, h.len())
 }
 
 // The next witness: each part of the opening with zeros after it, `width` numbers in all.

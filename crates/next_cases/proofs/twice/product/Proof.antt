@@ -1,10 +1,10 @@
--- `next_cases::second::product` meets its contract. Assumes nothing.
+-- `next_cases::twice::product` meets its contract. Assumes nothing.
 use Prim.Native.Nat.{ℕ, _*_, _≤_}
 use native.Mathlib.Nat.{mul-le-mul}
 use native.Mathlib.Omega.{arith}
 use borrow.Author.Needs.{needs}
-use Rattle.next_cases.proofs.second.product.Statement.{statement}
-use Rattle.next_cases.proofs.second.product.Tie as tie
+use Rattle.next_cases.proofs.twice.product.Statement.{statement}
+use Rattle.next_cases.proofs.twice.product.Tie as tie
 
 small : {x y : ℕ} → x ≤ 32768 → y ≤ 32768 → x * y ≤ 1073741824
 small h k = mul-le-mul h k

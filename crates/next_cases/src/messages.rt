@@ -1,0 +1,62 @@
+// The messages of a fold in one list: the digits of z, t, g and h, which are the opening, then u1, p, b'' and u2. Their lengths are the first
+// numbers of another.
+ghost use Prim.Native.Nat.{_≤_};
+ghost use lib.ListN.{length};
+use crate::output;
+use crate::witness::put;
+use cases::numbers::size;
+
+// Which list each message is.
+pub const Z: usize = 0;
+
+pub const T: usize = 1;
+
+pub const G: usize = 2;
+
+pub const H: usize = 3;
+
+pub const U1: usize = 4;
+
+pub const P: usize = 5;
+
+pub const B2: usize = 6;
+
+pub const U2: usize = 7;
+
+// How many numbers the first lists have, up to `room`.
+fn total(lengths: &[i32], lists: usize, room: usize) -> usize
+    ensures { λ r. ⌜ r ≤ room ⌝ }
+{
+    let mut sum = 0;
+    let mut i = 0;
+    while i < lists {
+        sum += size(lengths, i, room - sum);
+        i += 1;
+    }
+    sum
+}
+
+// The opening.
+pub fn opening<'a>(messages: &'a [i32], lengths: &[i32]) -> &'a [i32]
+    ensures { λ r. ⌜ length (now r) ≤ length (now (messages .entry)) ⌝ }
+{
+    let end = total(lengths, U1, messages.len());
+    &messages[0..end]
+}
+
+// The list of this number.
+pub fn message<'a>(messages: &'a [i32], lengths: &[i32], number: usize) -> &'a [i32]
+    ensures { λ r. ⌜ length (now r) ≤ length (now (messages .entry)) ⌝ }
+{
+    let room = messages.len();
+    let start = total(lengths, number, room);
+    let end = start + size(lengths, number, room - start);
+    &messages[start..end]
+}
+
+// Keeps the list of this number, and prints its sum.
+pub fn keep(messages: &mut [i32], lengths: &[i32], number: usize, xs: &[i32]) {
+    let start = total(lengths, number, messages.len());
+    put(messages, start, xs, xs.len());
+    output::print_sum(xs);
+}
