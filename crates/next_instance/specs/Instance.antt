@@ -15,8 +15,8 @@ use Rattle.fold.specs.Sizes.{nextCount}
 use Rattle.fold.specs.Chunks.{width}
 use Rattle.fold.specs.Refusals.{wholeLength}
 use Rattle.fold.specs.NextInstance.{laidOut, nextWhole}
+use Rattle.fold.specs.SizeBounds.{pairs-bound}
 use Rattle.constraints.specs.Facts.{WholeFacts, AggregateFacts}
-use Rattle.verifier.specs.SizeLaws.{pairs-bound}
 use Rattle.chunks.specs.NextFacts.{NextFacts}
 use Rattle.next_constraints.specs.Facts.{EntryFacts}
 use Rattle.next_constraints.specs.Tables.{TableRoom}
