@@ -28,7 +28,6 @@ use Rattle.fold.specs.Entries.{aggregateΦ}
 use Rattle.fold.specs.EntryLaws.{aggregate-φ}
 use Rattle.fold.specs.WriterLaws.{length-elements, pairElements, el-pairs, garbage-places, garbage-cong}
 use Rattle.constraints.specs.Aggregated.{values-sum}
-use Rattle.constraints.specs.SizeLaws.{pairs-small}
 use Rattle.prover.specs.Places.{part-fits}
 
 unfoldable pub aggregatePart : (d n r K L w : ℕ) (whole term rows ψ ω α δ : List ℤ) → ℕ → ℕ → R d .Carrier
@@ -202,13 +201,6 @@ outer-end d r κ₂ t₁ m D x is out = out ∙ ap (λ (m : ℕ). elements d κ�
 pub digits-length : (d r t₁ : ℕ) {len count : ℕ} → count ≡ pairs r → len ≡ garbageSize r t₁ * d → len ≡ count * (t₁ * d)
 unfolding garbageSize
 digits-length d r t₁ is e = e ∙ rw is (omega arith)
-
-pub garbage-size : (r t₁ : ℕ) {count : ℕ} → count ≡ pairs r → count * t₁ ≡ garbageSize r t₁
-unfolding garbageSize
-garbage-size r t₁ is = rw is refl
-
-pub garbage-small : (r t₁ : ℕ) {count : ℕ} → count ≡ pairs r → r ≤ 16 → t₁ ≤ 8 → count * t₁ ≤ 1088
-garbage-small r t₁ is small few = rw is (mul-le-mul (pairs-small small) few)
 
 -- the elements of one φ_i, and all products, have room in the local lists
 pub phi-room : {d n r : ℕ} → Shaped d n r → n * d ≤ 16384

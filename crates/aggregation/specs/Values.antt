@@ -24,7 +24,7 @@ use Rattle.fold.specs.Messages.{five, elements, g, second, b″}
 use Rattle.fold.specs.Entries.{secondA, secondΦ}
 use Rattle.fold.specs.EntryLaws.{second-value, el-inners}
 use Rattle.constraints.specs.Rows.{row-entry}
-use Rattle.constraints.specs.SizeLaws.{pairs-small}
+use Rattle.fold.specs.SizeBounds.{pairs-bound}
 use Rattle.aggregation.specs.Rows.{added, plusProduct, by-element, Sums, sums-step}
 
 unfoldable pub pairProduct : (d n r : ℕ) → List ℤ → ℕ → R d .Carrier
@@ -116,7 +116,7 @@ values-end d n r L w term rows ψ ω s degree pairSums witnessSums out =
 
 -- the elements of all pairs have room in a local list
 pub pairs-room : {d n r : ℕ} → Shaped d n r → pairs r * d ≤ 8704
-pairs-room shaped = mul-le-mul (pairs-small (shaped .parts-small)) (shaped .degree .small)
+pairs-room shaped = mul-le-mul (pairs-bound _ (shaped .parts-small)) (shaped .degree .small)
 
 -- element e of those of a list
 pub place-fits : (d : ℕ) {m e len : ℕ} → e < m → m * d ≤ len → e * d + d ≤ len

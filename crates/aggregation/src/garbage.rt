@@ -12,7 +12,8 @@ ghost use Rattle.aggregation.specs.Garbage.{halved};
 use crate::products::write_products;
 use fold::GarbageSizes;
 use fold::Shape;
-use prover::garbage::pairs;
+use fold::counts::garbage_size;
+use fold::counts::pair_count;
 use prover::garbage::write_digits;
 use ring::element::Element;
 use ring::product::inner;
@@ -104,7 +105,7 @@ pub fn write_h(
     );
     let mut values = [0i32; 8704];
     write_half_sums(d, r, &products, &mut values);
-    let count = pairs(r);
+    let count = pair_count(r);
     write_digits(d, b1, t1, count, &values, out);
 }
 
@@ -130,11 +131,6 @@ pub fn write_u2(sizes: GarbageSizes, matrix: &[i32], digits: &[i32], out: &mut [
     requires { ⌜ OuterFacts (sizes .d) (sizes .r) (sizes .kappa2) (sizes .t1) (now matrix) (now digits) (now out) ⌝ }
     ensures { λ _. ⌜ now (out .exit) ≡ u₂ (sizes .d) (sizes .r) (sizes .kappa2) (sizes .t1) (now (matrix .entry)) (now (digits .entry)) ⌝ }
 {
-    let d = sizes.d;
-    let r = sizes.r;
-    let kappa2 = sizes.kappa2;
-    let t1 = sizes.t1;
-    let count = pairs(r);
-    let m = count * t1;
-    write_rows(d, kappa2, m, matrix, digits, out);
+    let m = garbage_size(sizes.r, sizes.t1);
+    write_rows(sizes.d, sizes.kappa2, m, matrix, digits, out);
 }

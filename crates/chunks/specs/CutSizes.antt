@@ -9,7 +9,7 @@ use Rattle.algebra.specs.Triangle.{start}
 use Rattle.fold.specs.Sizes.{ceiling, nextRank, restSize}
 use Rattle.fold.specs.Chunks.{chunk, width}
 use Rattle.fold.specs.ChunkLaws.{width-bound}
-use Rattle.limits.specs.SizeLaws.{tSize-bound, garbageSize-bound}
+use Rattle.fold.specs.SizeBounds.{tSize-bound, garbageSize-bound}
 
 pub record CutSizes (n ν m μ : ℕ) : Type 0 where
   pub n-small : n ≤ 256

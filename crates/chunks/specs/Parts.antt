@@ -17,7 +17,7 @@ use Rattle.fold.specs.Chunks.{width, cut, padded}
 use Rattle.fold.specs.ChunkLaws.{widths-cover}
 use Rattle.fold.specs.NextCall.{partRefusal, nextPart}
 use Rattle.fold.specs.NextCallLaws.{part-of-padded}
-use Rattle.limits.specs.SizeLaws.{product-bound}
+use Rattle.fold.specs.SizeBounds.{product-bound}
 use Rattle.chunks.specs.CutSizes.{CutSizes, restSize-bound}
 use Rattle.chunks.specs.NextFacts.{ChunkLimits, chunk-limits}
 use Rattle.chunks.specs.Stages.{cut-sizes}

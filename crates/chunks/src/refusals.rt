@@ -95,7 +95,7 @@ pub fn next_fits(out: &[i32], d: usize, rank: usize, parts: usize, count: usize)
     requires { ⌜ (d ≤ 64) × (rank ≤ 8192) × (parts ≤ 16) × (count ≤ 32) ⌝ }
     ensures { λ x. ⌜ x ≡ table.sized (now (out .entry)) (table.wholeLength d rank parts count) ⌝ }
 {
-    let function = limits::sizes::pairs(parts) + parts * rank;
+    let function = fold::counts::pair_count(parts) + parts * rank;
     let length = count * ((function + 1) * d);
     sized(out, length)
 }

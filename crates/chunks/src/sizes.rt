@@ -5,8 +5,8 @@ ghost use Rattle.algebra.specs.Triangle.{start};
 ghost use Rattle.fold.specs.Sizes as spec;
 ghost use Rattle.fold.specs.Chunks as cuts;
 ghost use Rattle.chunks.specs.CutSizes.{CutSizes};
-use limits::sizes::garbage_size;
-use limits::sizes::t_size;
+use fold::counts::garbage_size;
+use fold::counts::t_size;
 
 // Elements of t, g and h together: m.
 pub fn rest_size(r: usize, kappa: usize, t1: usize, t2: usize) -> usize

@@ -14,8 +14,8 @@ ghost use Rattle.constraints.specs.Aggregated.{weightedA, weightedΦ};
 use crate::second::COUNT;
 use crate::second::second_row_a;
 use crate::second::second_row_phi;
-use crate::sizes;
 use fold::Shape;
+use fold::counts;
 use ring::element::Element;
 use ring::product;
 
@@ -37,7 +37,7 @@ pub fn whole_entry(shape: Shape, kc: usize, whole: &[i32], alpha: &[i32], e: usi
         (now (alpha .entry)) e) ⌝ }
 {
     let d = shape.d;
-    let size = sizes::function_size(shape);
+    let size = counts::function_size(shape.n, shape.r);
     let step = (size + 1) * d;
     let mut sum = Element::additive_identity();
     let mut at = 0;
@@ -158,7 +158,7 @@ pub fn aggregate_phi(
         (now (delta .entry)) e) ⌝ }
 {
     let d = shape.d;
-    let pairs = sizes::pair_count(shape.r);
+    let pairs = counts::pair_count(shape.r);
     let place = pairs + e;
     let wholes = whole_entry(shape, kc, whole, alpha, place);
     let seconds = weighted_phi(shape, l, w, term, rows, psi, omega, sums, delta, e);
@@ -180,7 +180,7 @@ pub fn aggregate_constant(
         (now (alpha .entry)) (now (delta .entry)) (now (b2 .entry))) ⌝ }
 {
     let d = shape.d;
-    let place = sizes::function_size(shape);
+    let place = counts::function_size(shape.n, shape.r);
     let wholes = whole_entry(shape, kc, whole, alpha, place);
     let coefficients = product::inner(d, COUNT, delta, 0, b2, 0);
     let seconds = Element { coefficients };

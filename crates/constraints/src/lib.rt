@@ -3,4 +3,3 @@ pub mod aggregated;
 mod projected_rows;
 pub mod row_groups;
 pub mod second;
-mod sizes;

@@ -10,8 +10,8 @@ ghost use Rattle.fold.specs.Entries.{termEntry, secondA, secondΦ};
 ghost use Rattle.constraints.specs.Facts.{TermFacts, SecondFacts};
 ghost use Rattle.constraints.specs.RowGroups.{SumsOf};
 use crate::projected_rows::projection_row;
-use crate::sizes;
 use fold::Shape;
+use fold::counts;
 use ring::element::Element;
 
 // How many second functions there are.
@@ -25,7 +25,7 @@ pub fn term_entry(shape: Shape, l: usize, term: &[i32], psi: &[i32], k: usize, e
         (now (psi .entry)) k e) ⌝ }
 {
     let d = shape.d;
-    let size = sizes::function_size(shape);
+    let size = counts::function_size(shape.n, shape.r);
     let step = size * d + 1;
     let first = k * l;
     let mut sum = Element::additive_identity();
@@ -88,7 +88,7 @@ fn second_phi(
         (conjugate Zq (lift (shape .d) (projected .coefficients)))) ⌝ }
 {
     let d = shape.d;
-    let pairs = sizes::pair_count(shape.r);
+    let pairs = counts::pair_count(shape.r);
     let place = pairs + e;
     let own = term_entry(shape, l, term, psi, k, place);
     let conjugated = projected.conjugate(d);

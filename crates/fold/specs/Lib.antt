@@ -48,6 +48,7 @@ pub mod ReadingLaws
 pub mod RecomposedLength
 pub mod RefusalLaws
 pub mod SelfProduct
+pub mod SizeBounds
 pub mod TableLaws
 pub mod TableSums
 pub mod TrimLaws

@@ -1,4 +1,6 @@
 // The answers of every call of the fold: document 01, 'Verdict' and 'Where a call stops'.
+pub mod counts;
+
 ghost use mathlib.Core.Path.{_≡_};
 ghost use Rattle.fold.specs.Answers.{kindOf, numberOf};
 

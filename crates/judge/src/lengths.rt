@@ -4,6 +4,8 @@ ghost use Prim.Native.Nat.{_*_};
 ghost use Rattle.fold.specs.Sizes.{tSize, garbageSize, openingSize};
 ghost use Rattle.fold.specs.Refusals.{wholeLength, termLength, projectionLength};
 ghost use Rattle.sheet.specs.Sections.{Bounded};
+use fold::counts::garbage_size;
+use fold::counts::t_size;
 use limits::sizes;
 use sheet::sizes::SheetSizes;
 
@@ -18,7 +20,7 @@ pub fn b_length(s: SheetSizes) -> usize
     requires { ⌜ Bounded s ⌝ }
     ensures { λ m. ⌜ m ≡ s .kappa1 * tSize (s .r) (s .kappa) (s .t1) * s .d ⌝ }
 {
-    let columns = sizes::t_size(s.r, s.kappa, s.t1);
+    let columns = t_size(s.r, s.kappa, s.t1);
     sizes::flat_length(s.kappa1, columns, s.d)
 }
 
@@ -26,7 +28,7 @@ pub fn c_length(s: SheetSizes) -> usize
     requires { ⌜ Bounded s ⌝ }
     ensures { λ m. ⌜ m ≡ s .kappa1 * garbageSize (s .r) (s .t2) * s .d ⌝ }
 {
-    let columns = sizes::garbage_size(s.r, s.t2);
+    let columns = garbage_size(s.r, s.t2);
     sizes::flat_length(s.kappa1, columns, s.d)
 }
 
@@ -34,7 +36,7 @@ pub fn d_length(s: SheetSizes) -> usize
     requires { ⌜ Bounded s ⌝ }
     ensures { λ m. ⌜ m ≡ s .kappa2 * garbageSize (s .r) (s .t1) * s .d ⌝ }
 {
-    let columns = sizes::garbage_size(s.r, s.t1);
+    let columns = garbage_size(s.r, s.t1);
     sizes::flat_length(s.kappa2, columns, s.d)
 }
 

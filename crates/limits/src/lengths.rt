@@ -9,17 +9,17 @@ ghost use Rattle.limits.specs.Stages.{ConstraintLimits};
 ghost use Rattle.limits.specs.Stages as spec;
 use crate::rows::sized;
 use crate::sizes::flat_length;
-use crate::sizes::garbage_size;
 use crate::sizes::list_length;
 use crate::sizes::opening_size;
 use crate::sizes::projection_length;
-use crate::sizes::t_size;
 use crate::sizes::term_length;
 use crate::sizes::whole_length;
 use fold::CommitSizes;
 use fold::GarbageSizes;
 use fold::Shape;
 use fold::Sizes;
+use fold::counts::garbage_size;
+use fold::counts::t_size;
 
 // Rows of elements.
 pub fn matrix_fits(xs: &[i32], rows: usize, columns: usize, d: usize) -> bool

@@ -3,38 +3,9 @@ ghost use mathlib.Core.Path.{_≡_};
 ghost use Prim.Native.Nat.{_*_, _≤_};
 ghost use Rattle.fold.specs.Sizes as spec;
 ghost use Rattle.fold.specs.Refusals as table;
-
-// The number of pairs i ≤ j of r parts.
-pub fn pairs(r: usize) -> usize
-    requires { ⌜ r ≤ 16 ⌝ }
-    ensures { λ x. ⌜ x ≡ spec.pairs r ⌝ }
-{
-    r * (r + 1) / 2
-}
-
-// Elements of the a and φ of a constraint.
-pub fn function_size(n: usize, r: usize) -> usize
-    requires { ⌜ (n ≤ 256) × (r ≤ 16) ⌝ }
-    ensures { λ x. ⌜ x ≡ spec.functionSize n r ⌝ }
-{
-    pairs(r) + r * n
-}
-
-// Elements of the t digits.
-pub fn t_size(r: usize, kappa: usize, t1: usize) -> usize
-    requires { ⌜ (r ≤ 16) × (kappa ≤ 8) × (t1 ≤ 8) ⌝ }
-    ensures { λ x. ⌜ x ≡ spec.tSize r kappa t1 ⌝ }
-{
-    r * (t1 * kappa)
-}
-
-// Elements of the g or h digits.
-pub fn garbage_size(r: usize, t: usize) -> usize
-    requires { ⌜ (r ≤ 16) × (t ≤ 8) ⌝ }
-    ensures { λ x. ⌜ x ≡ spec.garbageSize r t ⌝ }
-{
-    pairs(r) * t
-}
+use fold::counts::function_size;
+use fold::counts::garbage_size;
+use fold::counts::t_size;
 
 // Elements of an opening whose z has two digits.
 pub fn opening_size(n: usize, r: usize, kappa: usize, t1: usize, t2: usize) -> usize

@@ -28,7 +28,7 @@ use Rattle.fold.specs.EntryLaws.{aggregate-a, aggregate-φ}
 use Rattle.fold.specs.NextInstance.{product}
 use Rattle.fold.specs.WriterLaws.{length-elements, pairElements, el-pairs}
 use Rattle.constraints.specs.Aggregated.{values-product}
-use Rattle.constraints.specs.SizeLaws.{pairs-small}
+use Rattle.fold.specs.SizeBounds.{pairs-bound}
 use Rattle.next_constraints.specs.Tables.{TableRoom, Tables}
 
 unfoldable pub foldedTerm : (d n r K L w : ℕ) (whole term rows ψ ω α δ c : List ℤ) (k : ℕ) → ℕ → R d .Carrier
@@ -77,7 +77,7 @@ pub room-of : {d n r : ℕ} {folded products relation diagonal : List ℤ} → S
     → length products ≡ 8704 → length relation ≡ 8704 → length diagonal ≡ 8704 → TableRoom d n r folded products relation diagonal
 room-of {d} {n} {r} shaped f p a i =
     let rank : n * d ≤ 16384 = mul-le-mul (shaped .rank-small) (shaped .degree .small) in
-    let pair : pairs r * d ≤ 8704 = mul-le-mul (pairs-small (shaped .parts-small)) (shaped .degree .small) in
+    let pair : pairs r * d ≤ 8704 = mul-le-mul (pairs-bound _ (shaped .parts-small)) (shaped .degree .small) in
     record { folded-length = omega arith; products-length = omega arith; relation-length = omega arith; diagonal-length = omega arith }
 
 pub room-kept : {d n r : ℕ} {folded products relation diagonal folded′ products′ relation′ diagonal′ : List ℤ}

@@ -16,6 +16,8 @@ ghost use Rattle.next_constraints.specs.Entries.{middleEntry, outerEntry
 use crate::entries;
 use crate::places;
 use fold::Sizes;
+use fold::counts::garbage_size;
+use fold::counts::t_size;
 use ring::element::Element;
 
 // Check 5, row k: A on z, -c_i b1^e on row k of t.
@@ -120,13 +122,13 @@ fn check3_entry(sizes: Sizes, b: &[i32], c_matrix: &[i32], k: usize, p: usize) -
     }
     let g_start = places::g_from(sizes);
     if p < g_start {
-        let size = places::t_size(sizes);
+        let size = t_size(sizes.r, sizes.kappa, sizes.t1);
         let place = p - t_start;
         return entries::row_entry(d, size, b, k, place);
     }
     let h_start = places::h_from(sizes);
     if p < h_start {
-        let size = places::garbage_size(sizes.r, sizes.t2);
+        let size = garbage_size(sizes.r, sizes.t2);
         let place = p - g_start;
         return entries::row_entry(d, size, c_matrix, k, place);
     }
@@ -146,7 +148,7 @@ fn check4_entry(sizes: Sizes, d_matrix: &[i32], k: usize, p: usize) -> Element
     if p < h_start {
         return Element::additive_identity();
     }
-    let size = places::garbage_size(sizes.r, sizes.t1);
+    let size = garbage_size(sizes.r, sizes.t1);
     let place = p - h_start;
     entries::row_entry(d, size, d_matrix, k, place)
 }

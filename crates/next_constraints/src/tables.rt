@@ -17,6 +17,7 @@ ghost use Rattle.constraints.specs.Facts.{WholeFacts, TermFacts};
 use constraints::aggregated::aggregate_a;
 use fold::Shape;
 use fold::Sizes;
+use fold::counts::pair_count;
 use ring::element::Element;
 
 // How often a pair counts: once for i = j, twice for i < j.
@@ -118,14 +119,6 @@ pub fn write_diagonal(d: usize, r: usize, out: &mut [i32])
         at += r - i;
         i += 1;
     }
-}
-
-// The number of pairs i ≤ j below r.
-fn pair_count(r: usize) -> usize
-    requires { ⌜ r ≤ 16 ⌝ }
-    ensures { λ k. ⌜ k ≡ pairs r ⌝ }
-{
-    r * (r + 1) / 2
 }
 
 // The aggregate's a at pair place e.

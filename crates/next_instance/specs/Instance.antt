@@ -15,8 +15,8 @@ use Rattle.fold.specs.Sizes.{nextCount}
 use Rattle.fold.specs.Chunks.{width}
 use Rattle.fold.specs.Refusals.{wholeLength}
 use Rattle.fold.specs.NextInstance.{laidOut, nextWhole}
+use Rattle.fold.specs.SizeBounds.{pairs-bound}
 use Rattle.constraints.specs.Facts.{AggregateFacts}
-use Rattle.verifier.specs.SizeLaws.{pairs-bound}
 use Rattle.verifier.specs.ListFacts.{wholes-known, aggregate-known}
 use Rattle.chunks.specs.NextFacts.{NextFacts}
 use Rattle.next_constraints.specs.Facts.{EntryFacts}

@@ -1,15 +1,16 @@
 -- Places within slices, and the sizes of an opening and of a constraint of the next instance.
 use mathlib.Core.Path.{_≡_}
 use Prim.Native.Nat.{ℕ, _+_, _-_, _*_, _<_, _≤_}
-use native.Mathlib.Nat.{mul-le-mul, mul-le-mul-right}
+use native.Mathlib.Nat.{mul-le-mul-right}
 use native.Mathlib.Omega.{arith}
 use Rattle.algebra.specs.Triangle.{start, start-mono}
 use Rattle.fold.specs.declared.Sizes.{Sizes}
 use Rattle.fold.specs.Arguments.{VerifySized}
 use Rattle.fold.specs.Sizes.{pairs, functionSize, restSize, openingSize, nextParts}
+use Rattle.fold.specs.SizeBounds.{functionSize-bound}
 use Rattle.fold.specs.Chunks.{width}
 use Rattle.fold.specs.ChunkLaws.{width-bound, widths-cover}
-use Rattle.verifier.specs.SizeLaws.{pairs-bound, t-size-bound, g-size-bound, h-size-bound}
+use Rattle.verifier.specs.SizeLaws.{t-size-bound, g-size-bound, h-size-bound}
 use Rattle.next_instance.specs.declared.cut.Cut.{Cut}
 use Rattle.chunks.specs.CutSizes.{CutSizes}
 use Rattle.next_instance.specs.Facts.{CutFacts}
@@ -68,8 +69,7 @@ module _ (s : Sizes) (cut : Cut) (facts : CutFacts s cut) where
   parts-few = omega (arith, facts .parts-is, facts .parts-small)
 
   pub size-small : cut .size ≤ 4232
-  unfolding functionSize
-  size-small = omega (arith, facts .size-is, pairs-bound (cut .parts) parts-few, mul-le-mul parts-few (facts .rank-small))
+  size-small = rw (facts .size-is) (functionSize-bound _ _ (facts .rank-small) parts-few)
 
   -- the room for a, for φ and for b in the block of a constraint
   module _ (d : ℕ) {len : ℕ} (room : len ≡ (functionSize (cut .rank) (cut .parts) + 1) * d) where

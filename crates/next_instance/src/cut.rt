@@ -8,7 +8,8 @@ ghost use Rattle.next_instance.specs.Facts.{CutFacts};
 use chunks::sizes::next_rank;
 use chunks::sizes::rest_size;
 use fold::Sizes;
-use verifier::sizes::pair_count;
+use fold::counts::function_size;
+use fold::counts::pair_count;
 
 // ν, μ, m, n' and r', with the number of pairs i ≤ j of r' parts and the number of elements of a and φ together.
 pub struct Cut {
@@ -32,7 +33,7 @@ pub fn cut_of(sizes: Sizes, nu: usize, mu: usize) -> Cut
     let rank = next_rank(sizes.n, nu, m, mu);
     let parts = 2 * nu + mu;
     let pairs = pair_count(parts);
-    let size = pairs + parts * rank;
+    let size = function_size(rank, parts);
     Cut {
         nu,
         mu,

@@ -1,11 +1,9 @@
 -- Places within slices: bounds on products of sizes, as the messages' loops need them.
 use mathlib.Core.Path.{_≡_}
 use Prim.Native.Nat.{ℕ, _+_, _-_, _*_, _<_, _≤_}
-use native.Mathlib.Nat.{mul-le-mul, mul-le-mul-right}
+use native.Mathlib.Nat.{mul-le-mul-right}
 use native.Mathlib.Omega.{arith}
-use Rattle.algebra.specs.Triangle.{pairs-count-twice}
 use Rattle.residues.specs.DigitBlocks.{last-fits}
-use Rattle.fold.specs.Sizes.{pairs}
 
 -- block k of n blocks of m
 pub block-fits : (m k n : ℕ) → k < n → k * m + m ≤ n * m
@@ -32,14 +30,3 @@ last-place d n t h e = omega (arith, last-fits t (n * d) h)
 
 pub stretch-below : (w t : ℕ) {len : ℕ} → 0 < t → len ≡ t * w → w ≤ len
 stretch-below w t h e = omega (arith, mul-le-mul-right w h)
-
--- ---- the sizes of the messages
-
-pub t-small : (r κ t₁ : ℕ) → r ≤ 16 → κ ≤ 8 → t₁ ≤ 8 → r * (t₁ * κ) ≤ 1024
-t-small r κ t₁ h k l = mul-le-mul h (mul-le-mul l k)
-
-pub pairs-small : (r : ℕ) → r ≤ 16 → pairs r ≤ 136
-unfolding pairs
-pairs-small r h =
-    let most : r + 1 ≤ 17 = omega arith in
-    omega (arith, pairs-count-twice r, mul-le-mul h most)

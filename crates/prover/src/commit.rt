@@ -9,10 +9,11 @@ ghost use Rattle.residues.specs.Digits.{Base, split};
 ghost use Rattle.fold.specs.Messages.{elements, t};
 ghost use Rattle.prover.specs.Facts.{PartFacts, TFacts, GFacts, OuterFacts};
 ghost use Rattle.prover.specs.Outputs.{outer, tOf, gOf, u₁Of};
-use crate::garbage::pairs;
 use crate::garbage::write_garbage_digits;
 use crate::garbage::write_pair_products;
 use fold::CommitSizes;
+use fold::counts::garbage_size;
+use fold::counts::t_size;
 use residues::digits::split_digits;
 use ring::element::Element;
 use ring::product::inner;
@@ -162,14 +163,7 @@ pub fn write_u1(sizes: CommitSizes, b: &[i32], c: &[i32], t: &[i32], g: &[i32], 
     requires { ⌜ OuterFacts sizes (now b) (now c) (now t) (now g) (now out) ⌝ }
     ensures { λ _. ⌜ now (out .exit) ≡ u₁Of sizes (now (b .entry)) (now (c .entry)) (now (t .entry)) (now (g .entry)) ⌝ }
 {
-    let d = sizes.d;
-    let r = sizes.r;
-    let kappa = sizes.kappa;
-    let kappa1 = sizes.kappa1;
-    let t1 = sizes.t1;
-    let t2 = sizes.t2;
-    let m = r * (t1 * kappa);
-    let count = pairs(r);
-    let l = count * t2;
-    write_outer(d, kappa1, m, b, t, l, c, g, out);
+    let m = t_size(sizes.r, sizes.kappa, sizes.t1);
+    let l = garbage_size(sizes.r, sizes.t2);
+    write_outer(sizes.d, sizes.kappa1, m, b, t, l, c, g, out);
 }

@@ -11,17 +11,10 @@ ghost use Rattle.residues.specs.Digits.{Base, split};
 ghost use Rattle.fold.specs.Sizes.{pairs, garbageSize};
 ghost use Rattle.fold.specs.Messages.{elements, g, garbageDigits};
 ghost use Rattle.fold.specs.WriterLaws.{pairElements};
+use fold::counts::pair_count;
 use residues::digits::split_digits;
 use ring::element::Element;
 use ring::product::inner;
-
-// The number of pairs i ≤ j below r.
-pub fn pairs(r: usize) -> usize
-    requires { ⌜ r ≤ 16 ⌝ }
-    ensures { λ k. ⌜ k ≡ pairs r ⌝ }
-{
-    r * (r + 1) / 2
-}
 
 // The products of part i with the parts from i on, written from element `at` on.
 fn write_pair_row(
@@ -116,6 +109,6 @@ pub fn write_garbage_digits(
     requires { ⌜ (r ≤ 16) × (0 < t) × (t ≤ 8) × (pairs r * d ≤ length (now values)) × (length (now out) ≡ garbageSize r t * d) ⌝ }
     ensures { λ _. ⌜ now (out .exit) ≡ garbageDigits d r base t (λ i j. el d (now (values .entry)) (pair r i j)) ⌝ }
 {
-    let count = pairs(r);
+    let count = pair_count(r);
     write_digits(d, base, t, count, values, out);
 }

@@ -1,6 +1,7 @@
 -- Laws of the range tests on slices.
 --     allWithin-at, allWithin-of        the test by index: true is a bound for each number
 --     allWithin-false                   one number above the bound
+--     allWithin-mono                    a larger bound
 --     allWithin-append, -take, -drop, -part    joined slices, a part of a slice
 --     Tested                            the invariant of the loop of `all_within`, with its start, its step and its two ends
 --     coefficients-.., projections-..   the same at the bounds of rows 8 and 9
@@ -9,6 +10,7 @@ use mathlib.Core.Path.{_≡_, refl, sym, ap, ap₂, _∙_, subst}
 use mathlib.Core.Bool.{Bool, true, false, cond, not, _&&_}
 use mathlib.Core.List.{List, [], _∷_, _++_}
 use Prim.Native.Nat.{ℕ, zero, suc, _+_, _≤_, _<_}
+use native.Mathlib.Nat.{le-trans}
 use native.Mathlib.Numerals.{add-one}
 use native.Mathlib.Omega.{arith}
 use lib.Dec.{T, leb, ltb}
@@ -60,6 +62,9 @@ unfolding allWithin
 allWithin-false b [] i h = let f : ⊥ = omega arith in absurd f
 allWithin-false b (x ∷ xs) zero h = rw (lt-leb (natAbs x) b h) refl
 allWithin-false b (x ∷ xs) (suc i) h = rw (allWithin-false b xs i h) (both-false (leb (natAbs x) b))
+
+pub allWithin-mono : (b c : ℕ) (xs : List ℤ) → b ≤ c → allWithin b xs ≡ true → allWithin c xs ≡ true
+allWithin-mono b c xs h e = allWithin-of c xs (λ i k. le-trans (allWithin-at b xs e i) h)
 
 -- ---- joined slices, and a part of one
 

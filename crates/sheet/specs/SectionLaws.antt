@@ -1,34 +1,47 @@
 -- Laws of the sizes of a sheet's parts, and of where its lines end.
 use mathlib.Core.Path.{_≡_, refl}
 use mathlib.Core.Bool.{Bool, true}
-use Prim.Native.Nat.{ℕ, _+_, _*_, _-_, _/_, _%_, _≤_, _<_}
+use Prim.Native.Nat.{ℕ, _+_, _*_, _-_, _%_, _≤_, _<_}
 use native.Mathlib.Nat.{mul-le-mul}
 use native.Mathlib.Omega.{arith}
 use borrow.Author.Tests.{eq-eqb, ne-eqb, lt-ltb, le-ltb}
-use Rattle.algebra.specs.Triangle.{pairs-count-twice}
-use Rattle.fold.specs.Sizes.{pairs}
+use Rattle.fold.specs.Sizes.{functionSize, tSize, garbageSize}
+use Rattle.fold.specs.SizeBounds.{functionSize-bound, tSize-bound, garbageSize-bound}
 use Rattle.sheet.specs.declared.sizes.SheetSizes.{SheetSizes}
 use Rattle.sheet.specs.declared.sizes.Sections.{Sections}
-use Rattle.sheet.specs.Sections.{lastCount, sectionsOf, total, rowsFrom, challengesFrom, endsElement, endsTerm, endsLine}
+use Rattle.sheet.specs.Sections.{Bounded, lastCount, sectionsOf, total, rowsFrom, challengesFrom, endsElement, endsTerm, endsLine}
 
 pub le-one : {a b : ℕ} → a ≤ b → a + 1 ≤ b + 1
 le-one h = omega arith
-
-pub square-small : {r : ℕ} → r ≤ 16 → r * (r + 1) ≤ 272
-square-small h = mul-le-mul h (le-one h)
-
-pub pairs-half : (r : ℕ) → r * (r + 1) / 2 ≡ pairs r
-unfolding pairs
-pairs-half r = omega (arith, pairs-count-twice r)
-
-pub pairs-small : {r : ℕ} → r ≤ 16 → pairs r ≤ 136
-pairs-small {r} h = omega (arith, pairs-half r, square-small h)
 
 pub sum-le : {a b x y : ℕ} → a ≤ x → b ≤ y → a + b ≤ x + y
 sum-le h k = omega arith
 
 pub before-challenges : {k κ₂ : ℕ} → k ≤ 32 → κ₂ ≤ 8 → 5 + (k + (5 + κ₂)) ≤ 50
 before-challenges h l = omega arith
+
+-- ---- numbers of elements that code has computed
+
+module _ {s : SheetSizes} (b : Bounded s) where
+  pub function-few : {x : ℕ} → x ≡ functionSize (s .n) (s .r) → x ≤ 4232
+  function-few e = rw e (functionSize-bound _ _ (b .rank) (b .parts))
+
+  module _ {t g h : ℕ} (e : t ≡ tSize (s .r) (s .kappa) (s .t1)) (f : g ≡ garbageSize (s .r) (s .t2)) (k : h ≡ garbageSize (s .r) (s .t1)) where
+    t-few : t ≤ 1024
+    t-few = rw e (tSize-bound _ _ _ (b .parts) (b .κ) (b .t₁))
+
+    g-few : g ≤ 1088
+    g-few = rw f (garbageSize-bound _ _ (b .parts) (b .t₂))
+
+    h-few : h ≤ 1088
+    h-few = rw k (garbageSize-bound _ _ (b .parts) (b .t₁))
+
+    pub matrices-few : s .kappa * s .n + (s .kappa1 * t + (s .kappa1 * g + s .kappa2 * h)) ≤ 27648
+    matrices-few =
+        omega (arith, mul-le-mul (b .κ) (b .rank), mul-le-mul (b .κ₁) t-few, mul-le-mul (b .κ₁) g-few, mul-le-mul (b .κ₂) h-few)
+
+    pub opening-few : 2 * s .n + (t + (g + h)) ≤ 3712
+    opening-few = omega (arith, b .rank, t-few, g-few, h-few)
 
 -- ---- sums of the parts
 

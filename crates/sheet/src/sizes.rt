@@ -1,9 +1,11 @@
 // The sizes on a sheet's header, and how many numbers each part of the sheet has.
 ghost use mathlib.Core.Path.{_≡_};
 ghost use Prim.Native.Nat.{_+_, _*_, _≤_, _<_};
-ghost use Rattle.fold.specs.Sizes.{pairs, functionSize, tSize, garbageSize};
 ghost use Rattle.sheet.specs.Sections.{Bounded, Sectioned, matrixCount, wholeCount, rowCount, lastCount, termSize};
 ghost use Rattle.sheet.specs.Sections.{total, rowsFrom, challengesFrom, endsElement, endsTerm, endsLine};
+use fold::counts::function_size;
+use fold::counts::garbage_size;
+use fold::counts::t_size;
 
 // The header's numbers, in its order; `bound` is β² and `target` is β'².
 pub struct SheetSizes {
@@ -36,38 +38,6 @@ pub struct Sections {
     pub terms: usize,
     pub middle: usize,
     pub ones: usize,
-}
-
-// The number of pairs i ≤ j of r parts.
-fn pair_count(r: usize) -> usize
-    requires { ⌜ r ≤ 16 ⌝ }
-    ensures { λ p. ⌜ (p ≡ pairs r) × (p ≤ 136) ⌝ }
-{
-    r * (r + 1) / 2
-}
-
-fn function_size(n: usize, r: usize) -> usize
-    requires { ⌜ (n ≤ 256) × (r ≤ 16) ⌝ }
-    ensures { λ p. ⌜ (p ≡ functionSize n r) × (p ≤ 4232) ⌝ }
-{
-    let a = pair_count(r);
-    a + r * n
-}
-
-fn t_size(r: usize, kappa: usize, t1: usize) -> usize
-    requires { ⌜ (r ≤ 16) × (kappa ≤ 8) × (t1 ≤ 8) ⌝ }
-    ensures { λ p. ⌜ (p ≡ tSize r kappa t1) × (p ≤ 1024) ⌝ }
-{
-    let rows = t1 * kappa;
-    r * rows
-}
-
-fn garbage_size(r: usize, t: usize) -> usize
-    requires { ⌜ (r ≤ 16) × (t ≤ 8) ⌝ }
-    ensures { λ p. ⌜ (p ≡ garbageSize r t) × (p ≤ 1088) ⌝ }
-{
-    let a = pair_count(r);
-    a * t
 }
 
 // Elements of A, B, C and D.

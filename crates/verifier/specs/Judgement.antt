@@ -3,6 +3,7 @@ use mathlib.Core.Path.{_≡_, refl, sym, ap, _∙_, subst}
 use mathlib.Core.Bool.{Bool, true, false, not, cond}
 use mathlib.Core.List.{List, [], _∷_}
 use Prim.Native.Nat.{ℕ, zero, suc, _*_, _≤_, _<_}
+use native.Mathlib.Nat.{mul-le-mul}
 use native.Mathlib.Omega.{arith}
 use lib.IntN.{ℤ}
 use lib.ListN.{length}
@@ -23,7 +24,6 @@ use Rattle.verifier.specs.Facts.{Fits, Holds, Opening, tBlockOf, gBlockO
 use Rattle.verifier.specs.ConstantTerms.{Terms}
 use Rattle.verifier.specs.ListFacts.{terms-known, aggregate-known}
 use Rattle.verifier.specs.Places.{el-written}
-use Rattle.verifier.specs.SizeLaws.{product-bound}
 
 -- ---- the first failed test
 
@@ -52,7 +52,7 @@ pub record Recomposed (s : Sizes) (o z : List ℤ) : Type 0 where
 pub recomposed : (s : Sizes) → Fits s → (o old z : List ℤ) → length z ≡ 16384 → z ≡ over old 0 (elements (s .d) (s .n)
     (zValue s o)) → Recomposed s o z
 recomposed s fits o old z room e = record {
-  room = omega (arith, product-bound (fits .shaped .rank-small) (fits .shaped .degree .small));
+  room = omega (arith, mul-le-mul (fits .shaped .rank-small) (fits .shaped .degree .small));
   agree = λ i h. el-written (s .d) (s .n) (zValue s o) old z e i h;
 }
 

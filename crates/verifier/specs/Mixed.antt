@@ -15,10 +15,11 @@ use Rattle.ring.specs.Element.{R, Degree, lift, el, array}
 use Rattle.residues.specs.Digits.{Base}
 use Rattle.fold.specs.declared.Sizes.{Sizes}
 use Rattle.fold.specs.Sizes.{pairs, garbageSize}
+use Rattle.fold.specs.SizeBounds.{pairs-bound}
 use Rattle.fold.specs.Verdict.{block, gPlace, hPlace, garbageOf}
 use Rattle.verifier.specs.Facts.{Fits, Opening}
 use Rattle.verifier.specs.Places.{held, garbageAt, garbage-at}
-use Rattle.verifier.specs.SizeLaws.{pairs-bound, g-within, h-within}
+use Rattle.verifier.specs.SizeLaws.{g-within, h-within}
 
 module _ (𝓡 : CommRing) where
   infixl 65 _⊕_

@@ -4,7 +4,7 @@ use mathlib.Core.Bool.{Bool}
 use mathlib.Core.List.{List}
 use Prim.Native.Nat.{ℕ, _+_, _*_, _<_, _≤_}
 use native.Mathlib.Omega.{arith}
-use native.Mathlib.Nat.{mul-le-mul-right}
+use native.Mathlib.Nat.{mul-le-mul, mul-le-mul-right}
 use lib.IntN.{ℤ}
 use Rattle.integers.specs.Flat.{block-fits}
 use Rattle.algebra.specs.Sum.{sum, sum-cong}
@@ -19,7 +19,6 @@ use Rattle.fold.specs.Messages.{aggregate, aggregateConstant}
 use Rattle.fold.specs.Verdict.{block, gPlace, hPlace, garbageOf, check₇, check₈}
 use Rattle.fold.specs.Facts.{Shaped}
 use Rattle.verifier.specs.Facts.{gBlockOf, hBlockOf, gValue, hValue}
-use Rattle.verifier.specs.SizeLaws.{product-bound}
 use Rattle.verifier.specs.Places.{held, garbageAt, garbage-at}
 
 module _ (s : Sizes) (whole term projections ψ ω α δ : List ℤ) where
@@ -118,4 +117,4 @@ module _ (s : Sizes) (whole term ψ α δ o : List ℤ) where
         ∙ ap₂ (R (s .d) .add) (held (s .d) small (rw eg at egs) ∙ relation-sum) (held (s .d) small ehs ∙ rw eh refl)) (held (s .d) small er)
 
 pub parts-bound : {d n r : ℕ} → Shaped d n r → r * n ≤ 4096
-parts-bound shaped = product-bound (shaped .parts-small) (shaped .rank-small)
+parts-bound shaped = mul-le-mul (shaped .parts-small) (shaped .rank-small)

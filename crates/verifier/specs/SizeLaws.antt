@@ -1,40 +1,26 @@
 -- Bounds of the sizes: how large the blocks of an opening are, and that they lie within it.
-use mathlib.Core.Path.{_≡_, refl}
+use mathlib.Core.Path.{_≡_}
 use mathlib.Core.List.{List}
-use Prim.Native.Nat.{ℕ, _+_, _*_, _/_, _<_, _≤_}
-use native.Mathlib.Nat.{mul-le-mul, mul-le-mul-right}
+use Prim.Native.Nat.{ℕ, _+_, _*_, _<_, _≤_}
+use native.Mathlib.Nat.{mul-le-mul-right}
 use native.Mathlib.Omega.{arith}
 use lib.ListN.{length}
 use lib.IntN.{ℤ}
-use Rattle.algebra.specs.Triangle.{pairs-count, pairs-count-twice}
 use Rattle.fold.specs.declared.Sizes.{Sizes}
-use Rattle.fold.specs.Sizes.{pairs, functionSize, tSize, garbageSize, restSize, openingSize}
+use Rattle.fold.specs.Sizes.{functionSize, tSize, garbageSize, restSize, openingSize}
+use Rattle.fold.specs.SizeBounds.{functionSize-bound, tSize-bound, garbageSize-bound}
 use Rattle.fold.specs.Verdict.{tPlace, gPlace, hPlace}
 use Rattle.verifier.specs.Facts.{Fits, Holds, Opening}
 
-pub product-bound : {x y a b : ℕ} → x ≤ a → y ≤ b → x * y ≤ a * b
-product-bound h k = mul-le-mul h k
-
-pub pairs-half : (r : ℕ) → r * (r + 1) / 2 ≡ pairs r
-unfolding pairs
-pairs-half r = omega (arith, pairs-count-twice r)
-
-pub pairs-bound : (r : ℕ) → r ≤ 16 → pairs r ≤ 136
-unfolding pairs
-pairs-bound r h = omega (arith, pairs-count-twice r, product-bound h h)
-
 module _ (s : Sizes) (fits : Fits s) where
   pub t-size-bound : tSize (s .r) (s .kappa) (s .t1) ≤ 1024
-  unfolding tSize
-  t-size-bound = mul-le-mul (fits .shaped .parts-small) (mul-le-mul (fits .t₁-most) (fits .κ-small))
+  t-size-bound = tSize-bound _ _ _ (fits .shaped .parts-small) (fits .κ-small) (fits .t₁-most)
 
   pub g-size-bound : garbageSize (s .r) (s .t2) ≤ 1088
-  unfolding garbageSize
-  g-size-bound = mul-le-mul (pairs-bound (s .r) (fits .shaped .parts-small)) (fits .t₂-most)
+  g-size-bound = garbageSize-bound _ _ (fits .shaped .parts-small) (fits .t₂-most)
 
   pub h-size-bound : garbageSize (s .r) (s .t1) ≤ 1088
-  unfolding garbageSize
-  h-size-bound = mul-le-mul (pairs-bound (s .r) (fits .shaped .parts-small)) (fits .t₁-most)
+  h-size-bound = garbageSize-bound _ _ (fits .shaped .parts-small) (fits .t₁-most)
 
   pub t-place-bound : tPlace 2 (s .n) ≤ 512
   unfolding tPlace
@@ -80,6 +66,4 @@ t-part-within s o whole i place h e =
     omega (arith, t-within s o whole, mul-le-mul-right (s .d) below)
 
 pub function-size-bound : (s : Sizes) → Fits s → functionSize (s .n) (s .r) ≤ 4232
-unfolding functionSize
-function-size-bound s fits =
-    omega (arith, pairs-bound (s .r) (fits .shaped .parts-small), product-bound (fits .shaped .parts-small) (fits .shaped .rank-small))
+function-size-bound s fits = functionSize-bound _ _ (fits .shaped .rank-small) (fits .shaped .parts-small)

@@ -11,8 +11,8 @@ ghost use Rattle.fold.specs.Verdict.{block, garbageOf, check₅, check₆};
 ghost use Rattle.verifier.specs.Facts.{Fits, Holds, Opening, tValue, gValue};
 ghost use Rattle.verifier.specs.Mixed.{Garbage, mixedTerm, mixedRow};
 use crate::outer;
+use crate::places;
 use crate::recomposed;
-use crate::sizes;
 use fold::Sizes;
 use ring::element::Element;
 use ring::product;
@@ -40,7 +40,7 @@ fn folded_term(sizes: Sizes, c: &[i32], opening: &[i32], i: usize, k: usize) -> 
         (tValue sizes (now (opening .entry)) i k)) ⌝ }
 {
     let d = sizes.d;
-    let start = sizes::t_place(sizes);
+    let start = places::t_place(sizes);
     let t = recomposed::t_of(d, sizes.kappa, sizes.b1, sizes.t1, opening, start, i, k);
     let challenge = Element::from_slice(d, c, i);
     element_product(d, challenge, t)
@@ -208,7 +208,7 @@ pub fn self_product(sizes: Sizes, c: &[i32], z: &[i32], opening: &[i32]) -> bool
     let left = Element {
         coefficients: product::inner(d, sizes.n, z, 0, z, 0),
     };
-    let start = sizes::g_place(sizes);
+    let start = places::g_place(sizes);
     let right = mixed_sum(d, sizes.r, sizes.b2, sizes.t2, opening, start, c);
     left.equals(d, right)
 }

@@ -10,9 +10,9 @@ pub mod amortized;
 pub mod judgement;
 pub mod norms;
 pub mod outer;
+pub mod places;
 pub mod recomposed;
 pub mod relation;
-pub mod sizes;
 pub mod terms;
 
 // The answer to a statement, the draws, the messages and an opening.

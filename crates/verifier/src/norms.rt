@@ -5,7 +5,7 @@ ghost use lib.ListN.{length};
 ghost use Rattle.fold.specs.Verdict.{check₁, check₉};
 ghost use Rattle.verifier.specs.Facts.{Fits, Opening};
 ghost use Rattle.verifier.specs.Norms.{withinThree};
-use crate::sizes;
+use crate::places;
 use fold::Sizes;
 use residues::length;
 
@@ -40,7 +40,7 @@ pub fn short_opening(sizes: Sizes, opening: &[i32]) -> bool
         (now (opening .entry)) ⌝ }
 {
     let d = sizes.d;
-    let t_start = sizes::t_place(sizes) * d;
-    let h_start = sizes::h_place(sizes) * d;
+    let t_start = places::t_place(sizes) * d;
+    let h_start = places::h_place(sizes) * d;
     short_parts(sizes.target, t_start, h_start, opening)
 }

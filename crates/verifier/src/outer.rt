@@ -7,8 +7,10 @@ ghost use Rattle.fold.specs.Sizes.{tSize, garbageSize};
 ghost use Rattle.fold.specs.Messages.{times, outer₁, outer₂};
 ghost use Rattle.fold.specs.Verdict.{block, check₃, check₄};
 ghost use Rattle.verifier.specs.Facts.{Fits, Holds, Opening, tBlockOf, gBlockOf, hBlockOf};
-use crate::sizes;
+use crate::places;
 use fold::Sizes;
+use fold::counts::garbage_size;
+use fold::counts::t_size;
 use ring::element::Element;
 use ring::product;
 
@@ -39,11 +41,11 @@ fn first_row(sizes: Sizes, b: &[i32], c: &[i32], u1: &[i32], opening: &[i32], k:
         (gBlockOf sizes (now (opening .entry)))) ⌝ }
 {
     let d = sizes.d;
-    let t_count = sizes::t_size(sizes);
-    let t_start = sizes::t_place(sizes);
+    let t_count = t_size(sizes.r, sizes.kappa, sizes.t1);
+    let t_start = places::t_place(sizes);
     let t_part = row_times(d, t_count, b, k, opening, t_start);
-    let g_count = sizes::g_size(sizes);
-    let g_start = sizes::g_place(sizes);
+    let g_count = garbage_size(sizes.r, sizes.t2);
+    let g_start = places::g_place(sizes);
     let g_part = row_times(d, g_count, c, k, opening, g_start);
     let row = t_part.sum(d, g_part);
     let u = Element::from_slice(d, u1, k);
@@ -84,8 +86,8 @@ fn second_row(sizes: Sizes, matrix: &[i32], u2: &[i32], opening: &[i32], k: usiz
         (now (matrix .entry)) k (hBlockOf sizes (now (opening .entry)))) ⌝ }
 {
     let d = sizes.d;
-    let count = sizes::h_size(sizes);
-    let start = sizes::h_place(sizes);
+    let count = garbage_size(sizes.r, sizes.t1);
+    let start = places::h_place(sizes);
     let row = row_times(d, count, matrix, k, opening, start);
     let u = Element::from_slice(d, u2, k);
     u.equals(d, row)

@@ -15,12 +15,13 @@ ghost use Rattle.verifier.specs.Facts.{Fits, Holds, Opening, gValue, hVa
 ghost use Rattle.verifier.specs.Mixed.{Garbage};
 ghost use Rattle.verifier.specs.Relation.{phiTerm, phiProduct, linearTerm, relationTerm};
 use crate::amortized;
+use crate::places;
 use crate::recomposed;
-use crate::sizes;
 use constraints::aggregated;
 use constraints::row_groups;
 use fold::Shape;
 use fold::Sizes;
+use fold::counts::pair_count;
 use ring::element::Element;
 
 // Element y of φ_i times that of z, at element e = i n + y of the witness. `table` is the table of omega.
@@ -213,7 +214,7 @@ pub fn linear_part(
         c,
         z,
     );
-    let start = sizes::h_place(sizes);
+    let start = places::h_place(sizes);
     let right = amortized::mixed_sum(d, sizes.r, sizes.b1, sizes.t1, opening, start, c);
     left.equals(d, right)
 }
@@ -271,7 +272,7 @@ fn relation_sum(
         (now (delta .entry)) (now (opening .entry)) place)) ⌝ }
 {
     let d = sizes.d;
-    let count = sizes::pair_count(sizes.r);
+    let count = pair_count(sizes.r);
     let mut acc = Element::additive_identity();
     let mut q = 0;
     while q < count {
@@ -328,9 +329,9 @@ pub fn relation_holds(
         n: sizes.n,
         r: sizes.r,
     };
-    let g_start = sizes::g_place(sizes);
+    let g_start = places::g_place(sizes);
     let g_sum = relation_sum(sizes, whole, term, psi, alpha, delta, opening, g_start);
-    let h_start = sizes::h_place(sizes);
+    let h_start = places::h_place(sizes);
     let h_sum = diagonal_sum(d, sizes.r, sizes.b1, sizes.t1, opening, h_start);
     let left = g_sum.sum(d, h_sum);
     let right = aggregated::aggregate_constant(shape, sizes.k, whole, alpha, delta, b2);

@@ -11,8 +11,8 @@ ghost use Rattle.fold.specs.Sizes.{functionSize};
 ghost use Rattle.fold.specs.Verdict.{check₂};
 ghost use Rattle.verifier.specs.Facts.{Fits};
 ghost use Rattle.verifier.specs.ConstantTerms.{Terms, weighted, termHolds};
-use crate::sizes;
 use fold::Sizes;
+use fold::counts::function_size;
 use residues::modulus;
 use ring::element::Element;
 
@@ -58,7 +58,7 @@ fn constant_term_holds(
         (now (omega .entry)) (now (p .entry)) (now (b2 .entry)) k ⌝ }
 {
     let d = sizes.d;
-    let last = sizes::function_size(sizes) * d;
+    let last = function_size(sizes.n, sizes.r) * d;
     let terms = weighted_sum(sizes.l, psi, k * sizes.l, term, last, last + 1);
     let projected = weighted_sum(sizes.w, omega, k * sizes.w, p, 0, 1);
     let expected = modulus::add(terms, projected);

@@ -27,8 +27,8 @@ write-half-sums-requires c κs =
     let kept = c .before .before .before .write-products .kept .1 .1 .1 .1 .1 .1 .1 .1 .1 .1 .1 .1 .0 in
     (shaped .degree, (omega (arith, square-room shaped, kept), pairs-room shaped))
 
-pairs-requires : tie.Need-pairs-requires
-pairs-requires c κs = search needs
+pair-count-requires : tie.Need-pair-count-requires
+pair-count-requires c κs = search needs
 
 slice-aggregate-write-digits : tie.Need-slice-aggregate-write-digits
 slice-aggregate-write-digits c = search needs
@@ -38,7 +38,7 @@ write-digits-requires c κs =
     let s = c .before .before .before .before .before .before .before .before .before .before in
     let z = s .args .sizes in
     let shaped = s .pre .aggregated .wholes .shaped in
-    let count = c .before .before .pairs .ensures in
+    let count = c .before .before .pair-count .ensures in
     let kept = c .before .before .before .before .write-half-sums .kept .1 .1 .1 .0 in (
       shaped .degree,
       (
@@ -61,7 +61,7 @@ returns c =
     let z = s .args .sizes in
     h-written (z .d) (z .n) (z .r) (z .k) (z .l) (z .w) (z .b1) (z .t1) _ _ _ _ _ _ _ _ _ _
     (c .before .before .before .before .before .before .before .before .before .before .write-products .ensures) (pairs-room (s .pre .aggregated .wholes .shaped))
-    (c .before .before .before .before .before .before .write-half-sums .ensures) (c .before .before .before .before .pairs .ensures) (c .before .write-digits .ensures)
+    (c .before .before .before .before .before .before .write-half-sums .ensures) (c .before .before .before .before .pair-count .ensures) (c .before .write-digits .ensures)
 
 pub write-h-spec : {M : Type 1} → statement M
 write-h-spec =
@@ -72,7 +72,7 @@ write-h-spec =
     slice-aggregate-write-half-sums
     slice-aggregate-write-half-sums-2
     write-half-sums-requires
-    pairs-requires
+    pair-count-requires
     slice-aggregate-write-digits
     write-digits-requires
     same-length

@@ -3,7 +3,7 @@ use mathlib.Core.Path.{_≡_}
 use Prim.Native.Nat.{_+_, _-_, _*_, _≤_}
 use native.Mathlib.Omega.{arith}
 use lib.ListN.{length}
-use Rattle.constraints.specs.SizeLaws.{pairs-small}
+use Rattle.fold.specs.SizeBounds.{pairs-bound}
 use Rattle.prover.specs.Places.{part-fits}
 use Rattle.aggregation.specs.Rows.{Sums, canonical}
 use Rattle.aggregation.specs.Values.{pairTerm, pair-below, pairs-step}
@@ -29,7 +29,7 @@ add-place : tie.Need-add-place Inv-loop μ-loop
 add-place c =
     let s = c .before .before in
     let below = pair-below (s .args .shape .r) (s .args .i) (c .before .loop .k) (s .pre .1 .0 .1) (c .loop-test .taken) in
-    omega (arith, below, pairs-small (s .pre .0 .terms .shaped .parts-small))
+    omega (arith, below, pairs-bound _ (s .pre .0 .terms .shaped .parts-small))
 
 add-j : tie.Need-add-j Inv-loop μ-loop
 add-j c = omega arith

@@ -3,7 +3,7 @@ use mathlib.Core.Path.{_≡_, sym}
 use Prim.Native.Nat.{_-_, _≤_}
 use native.Mathlib.Omega.{arith}
 use Rattle.algebra.specs.Triangle.{pair, pair-zero}
-use Rattle.constraints.specs.SizeLaws.{pairs-small}
+use Rattle.fold.specs.SizeBounds.{pairs-bound}
 use Rattle.aggregation.specs.Rows.{Sums, sums-start}
 use Rattle.aggregation.specs.Values.{pairTerm, pair-room, pair-after, pairs-all}
 use Rattle.aggregation.proofs.second.weigh_pairs.Statement.{statement}
@@ -32,7 +32,7 @@ add-at c =
     let l = c .before .before in
     let r = l .before .args .shape .r in
     let room = pair-room r (l .loop .i) (l .loop .inv .1) (c .before .loop-test .taken) in
-    omega (arith, room, pairs-small (l .before .pre .terms .shaped .parts-small))
+    omega (arith, room, pairs-bound _ (l .before .pre .terms .shaped .parts-small))
 
 add-i : tie.Need-add-i Inv-loop μ-loop
 add-i c = omega (arith, c .before .loop-test .taken)

@@ -3,13 +3,13 @@ use Prim.Native.Nat.{_≤_}
 use native.Mathlib.Omega.{arith}
 use Rattle.fold.specs.Sizes.{functionSize}
 use Rattle.fold.specs.Refusals.{wholeLength}
-use Rattle.limits.specs.SizeLaws.{product-fits, product-bound, pairs-bound}
+use Rattle.fold.specs.SizeBounds.{product-fits, product-bound, pairs-bound}
 use borrow.Author.Needs.{needs}
 use Rattle.chunks.proofs.refusals.next_fits.Statement.{statement}
 use Rattle.chunks.proofs.refusals.next_fits.Tie as tie
 
-pairs-requires : tie.Need-pairs-requires
-pairs-requires c κs = search needs
+pair-count-requires : tie.Need-pair-count-requires
+pair-count-requires c κs = search needs
 
 mul-function : tie.Need-mul-function
 mul-function c = product-fits _ _ 16 8192 (c .before .pre .2) (c .before .pre .1) tt
@@ -17,28 +17,28 @@ mul-function c = product-fits _ _ 16 8192 (c .before .pre .2) (c .before .pre .1
 add-function : tie.Need-add-function
 add-function c =
     let p = c .before .pre in
-    let few : c .pairs .result ≤ 136 = rw (c .pairs .ensures) (pairs-bound _ (p .2)) in
+    let few : c .pair-count .result ≤ 136 = rw (c .pair-count .ensures) (pairs-bound _ (p .2)) in
     let linear = product-bound (c .before .args .parts) (c .before .args .rank) 16 8192 (p .2) (p .1) in
     omega (arith, few, linear)
 
 add-length : tie.Need-add-length
 add-length c =
     let p = c .before .pre in
-    let few : c .pairs .result ≤ 136 = rw (c .pairs .ensures) (pairs-bound _ (p .2)) in
+    let few : c .pair-count .result ≤ 136 = rw (c .pair-count .ensures) (pairs-bound _ (p .2)) in
     let linear = product-bound (c .before .args .parts) (c .before .args .rank) 16 8192 (p .2) (p .1) in
     omega (arith, few, linear)
 
 mul-length : tie.Need-mul-length
 mul-length c =
     let p = c .before .pre in
-    let few : c .pairs .result ≤ 136 = rw (c .pairs .ensures) (pairs-bound _ (p .2)) in
+    let few : c .pair-count .result ≤ 136 = rw (c .pair-count .ensures) (pairs-bound _ (p .2)) in
     let linear = product-bound (c .before .args .parts) (c .before .args .rank) 16 8192 (p .2) (p .1) in
     product-fits _ _ 131209 64 (omega (arith, few, linear)) (p .0) tt
 
 mul-length-2 : tie.Need-mul-length-2
 mul-length-2 c =
     let p = c .before .pre in
-    let few : c .pairs .result ≤ 136 = rw (c .pairs .ensures) (pairs-bound _ (p .2)) in
+    let few : c .pair-count .result ≤ 136 = rw (c .pair-count .ensures) (pairs-bound _ (p .2)) in
     let linear = product-bound (c .before .args .parts) (c .before .args .rank) 16 8192 (p .2) (p .1) in
     product-fits _ _ 32 8397376 (p .3) (product-bound _ _ 131209 64 (omega (arith, few, linear)) (p .0)) tt
 
@@ -47,13 +47,13 @@ sized-requires c κs = search needs
 
 returns : tie.Need-returns
 unfolding wholeLength functionSize
-returns c = rw (c .before .pairs .ensures) at (c .sized .ensures)
+returns c = rw (c .before .pair-count .ensures) at (c .sized .ensures)
 
 pub next-fits-spec : {M : Type 1} → statement M
 next-fits-spec =
     tie.close
     (tie.spec
-    pairs-requires
+    pair-count-requires
     mul-function
     add-function
     add-length

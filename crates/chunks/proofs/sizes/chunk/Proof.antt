@@ -1,6 +1,6 @@
 -- `chunks::sizes::chunk` meets its contract: past the end, short or full. Assumes nothing.
 use native.Mathlib.Omega.{arith}
-use Rattle.limits.specs.SizeLaws.{product-fits}
+use Rattle.fold.specs.SizeBounds.{product-fits}
 use Rattle.chunks.specs.CutSizes.{ceiling-bound, chunk-empty, chunk-short, chunk-full}
 use borrow.Author.Needs.{needs}
 use Rattle.chunks.proofs.sizes.chunk.Statement.{statement}

@@ -6,7 +6,7 @@ use Rattle.constraints.proofs.aggregated.aggregate_constant.Statement.{
 use Rattle.constraints.proofs.aggregated.aggregate_constant.Tie as tie
 
 function-size-requires : tie.Need-function-size-requires
-function-size-requires c κs = c .pre .0 .shaped
+function-size-requires c κs = (c .pre .0 .shaped .rank-small, c .pre .0 .shaped .parts-small)
 
 whole-entry-requires : tie.Need-whole-entry-requires
 whole-entry-requires c κs = (c .before .pre .0, omega (arith, c .function-size .ensures))

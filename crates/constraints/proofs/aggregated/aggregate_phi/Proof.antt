@@ -1,6 +1,7 @@
 -- `constraints::aggregated::aggregate_phi` meets its contract.
 use native.Mathlib.Omega.{arith}
-use Rattle.constraints.specs.SizeLaws.{pairs-small, witness-small, function-parts}
+use Rattle.fold.specs.SizeBounds.{pairs-bound}
+use Rattle.constraints.specs.SizeLaws.{witness-small, function-parts}
 use Rattle.constraints.specs.Aggregated.{aggregate-φ-end}
 use Rattle.constraints.proofs.aggregated.aggregate_phi.Statement.{statement}
 use Rattle.constraints.proofs.aggregated.aggregate_phi.Tie as tie
@@ -11,7 +12,7 @@ pair-count-requires c κs = c .pre .0 .wholes .shaped .parts-small
 add-place : tie.Need-add-place
 add-place c =
     let shaped = c .before .pre .0 .wholes .shaped in
-    omega (arith, c .pair-count .ensures, pairs-small (shaped .parts-small), witness-small shaped, c .before .pre .1 .1)
+    omega (arith, c .pair-count .ensures, pairs-bound _ (shaped .parts-small), witness-small shaped, c .before .pre .1 .1)
 
 whole-entry-requires : tie.Need-whole-entry-requires
 whole-entry-requires c κs =

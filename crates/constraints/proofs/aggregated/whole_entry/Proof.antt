@@ -17,7 +17,7 @@ abbrev μ-loop : tie.MeasureT-loop
 μ-loop kc whole alpha e d size step sum₀ at₀ k₀ sum at k = kc - k
 
 function-size-requires : tie.Need-function-size-requires Inv-loop μ-loop
-function-size-requires c κs = c .pre .0 .shaped
+function-size-requires c κs = (c .pre .0 .shaped .rank-small, c .pre .0 .shaped .parts-small)
 
 add-step : tie.Need-add-step Inv-loop μ-loop
 add-step c = omega (arith, whole-size-small (c .before .pre .0) (c .function-size .ensures))

@@ -1,6 +1,7 @@
 -- `constraints::second::second_phi` meets its contract.
 use native.Mathlib.Omega.{arith}
-use Rattle.constraints.specs.SizeLaws.{pairs-small, witness-small, function-parts}
+use Rattle.fold.specs.SizeBounds.{pairs-bound}
+use Rattle.constraints.specs.SizeLaws.{witness-small, function-parts}
 use Rattle.constraints.specs.Aggregated.{second-φ-end}
 use Rattle.constraints.proofs.second.second_phi.Statement.{statement}
 use Rattle.constraints.proofs.second.second_phi.Tie as tie
@@ -11,7 +12,7 @@ pair-count-requires c κs = c .pre .0 .shaped .parts-small
 add-place : tie.Need-add-place
 add-place c =
     let shaped = c .before .pre .0 .shaped in
-    omega (arith, c .pair-count .ensures, pairs-small (shaped .parts-small), witness-small shaped, c .before .pre .1 .1)
+    omega (arith, c .pair-count .ensures, pairs-bound _ (shaped .parts-small), witness-small shaped, c .before .pre .1 .1)
 
 term-entry-requires : tie.Need-term-entry-requires
 term-entry-requires c κs =

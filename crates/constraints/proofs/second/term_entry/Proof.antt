@@ -17,7 +17,7 @@ abbrev μ-loop : tie.MeasureT-loop
 μ-loop l term psi k e d size step first sum₀ at₀ j₀ sum at j = l - j
 
 function-size-requires : tie.Need-function-size-requires Inv-loop μ-loop
-function-size-requires c κs = c .pre .0 .shaped
+function-size-requires c κs = (c .pre .0 .shaped .rank-small, c .pre .0 .shaped .parts-small)
 
 mul-step : tie.Need-mul-step Inv-loop μ-loop
 mul-step c = omega (arith, term-step-small (c .before .pre .0) (c .function-size .ensures))

@@ -6,7 +6,6 @@ use borrow.Author.Needs.{needs}
 use Rattle.judge.proofs.lengths.b_length.Statement.{statement}
 use Rattle.judge.proofs.lengths.b_length.Tie as tie
 use Rattle.limits.proofs.sizes.flat_length.Reads as flat-length-reads
-use Rattle.limits.proofs.sizes.t_size.Reads as t-size-reads
 
 t-size-requires : tie.Need-t-size-requires
 t-size-requires c κs = search needs

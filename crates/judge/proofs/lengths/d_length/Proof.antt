@@ -6,7 +6,6 @@ use borrow.Author.Needs.{needs}
 use Rattle.judge.proofs.lengths.d_length.Statement.{statement}
 use Rattle.judge.proofs.lengths.d_length.Tie as tie
 use Rattle.limits.proofs.sizes.flat_length.Reads as flat-length-reads
-use Rattle.limits.proofs.sizes.garbage_size.Reads as garbage-size-reads
 
 garbage-size-requires : tie.Need-garbage-size-requires
 garbage-size-requires c κs = search needs

@@ -4,7 +4,7 @@ use native.Mathlib.Omega.{arith}
 use mathlib.Core.Path.{_≡_, ap}
 use Prim.Native.Nat.{_+_, _*_, _≤_}
 use Rattle.fold.specs.Refusals.{termLength}
-use Rattle.limits.specs.SizeLaws.{product-fits, product-bound, functionSize-bound}
+use Rattle.fold.specs.SizeBounds.{product-fits, product-bound, functionSize-bound}
 use Rattle.limits.proofs.sizes.term_length.Statement.{statement}
 use Rattle.limits.proofs.sizes.term_length.Tie as tie
 

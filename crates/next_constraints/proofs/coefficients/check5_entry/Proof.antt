@@ -1,8 +1,8 @@
 -- `next_constraints::coefficients::check5_entry` meets its contract.
 use mathlib.Core.Path.{refl}
 use Prim.Native.Nat.{_-_, _≤_}
+use native.Mathlib.Nat.{mul-le-mul}
 use native.Mathlib.Omega.{arith}
-use Rattle.next_constraints.specs.EntryLimits.{product-bound}
 use Rattle.next_constraints.specs.EntryRoom.{holds-as, t₁-some, all-room, part-room, in-t}
 use Rattle.next_constraints.specs.EntrySteps.{entry5-z, entry5-t, entry5-rest}
 use borrow.Author.Needs.{needs}
@@ -16,7 +16,7 @@ mul-from : tie.Need-mul-from
 mul-from c =
     let s = c .before .before .before in
     let few : s .args .k ≤ 8 = omega (arith, s .pre .1 .1 .1, s .pre .0 .κ-small) in
-    omega (arith, product-bound few (s .pre .0 .shaped .rank-small))
+    omega (arith, mul-le-mul few (s .pre .0 .shaped .rank-small))
 
 z-entry-requires : tie.Need-z-entry-requires
 z-entry-requires c κs =

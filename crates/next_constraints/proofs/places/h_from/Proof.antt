@@ -3,7 +3,8 @@ use mathlib.Core.Path.{sym, ap₂, _∙_}
 use Prim.Native.Nat.{ℕ, _+_}
 use native.Mathlib.Omega.{arith}
 use Rattle.next_constraints.specs.EntryTables.{starts}
-use Rattle.next_constraints.specs.EntryLimits.{garbage-small, g-from-small}
+use Rattle.fold.specs.SizeBounds.{garbageSize-bound}
+use Rattle.next_constraints.specs.EntryLimits.{g-from-small}
 use borrow.Author.Needs.{needs}
 use Rattle.next_constraints.proofs.places.h_from.Statement.{statement}
 use Rattle.next_constraints.proofs.places.h_from.Tie as tie
@@ -23,7 +24,7 @@ add-result c =
       c .before .g-from .ensures,
       c .garbage-size .ensures,
       g-from-small z (s .pre),
-      garbage-small (z .r) (z .t2) (s .pre .shaped .parts-small) (s .pre .t₂-most),
+      garbageSize-bound (z .r) (z .t2) (s .pre .shaped .parts-small) (s .pre .t₂-most),
     )
 
 returns : tie.Need-returns

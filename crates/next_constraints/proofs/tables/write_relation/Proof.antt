@@ -6,7 +6,7 @@ use native.Mathlib.Omega.{arith}
 use Rattle.fold.specs.Entries.{aggregateA}
 use Rattle.fold.specs.Sizes.{pairs}
 use Rattle.fold.specs.WriterLaws.{Elements, elements-start, elements-turn}
-use Rattle.constraints.specs.SizeLaws.{pairs-small}
+use Rattle.fold.specs.SizeBounds.{pairs-bound}
 use Rattle.next_constraints.specs.TablePlaces.{element-within}
 use Rattle.next_constraints.proofs.tables.write_relation.Statement.{statement}
 use Rattle.next_constraints.proofs.tables.write_relation.Tie as tie
@@ -41,7 +41,7 @@ store-requires c κs =
 add-e : tie.Need-add-e Inv-loop μ-loop
 add-e c =
     let f = c .before .before .before .before .before .before in
-    let most = pairs-small (f .before .pre .0 .shaped .parts-small) in
+    let most = pairs-bound _ (f .before .pre .0 .shaped .parts-small) in
     omega (arith, c .before .before .before .before .loop-test .taken, f .pair-count .ensures, most)
 
 loop-less : tie.Need-loop-less Inv-loop μ-loop

@@ -1,10 +1,7 @@
 -- `next_instance::cut::cut_of` meets its contract.
-use mathlib.Core.Path.{refl, ap}
-use Prim.Native.Nat.{ℕ, _+_, _*_, _≤_}
-use native.Mathlib.Nat.{mul-le-mul}
+use mathlib.Core.Path.{refl}
 use native.Mathlib.Omega.{arith}
-use Rattle.fold.specs.Sizes.{functionSize, nextParts}
-use Rattle.verifier.specs.SizeLaws.{pairs-bound}
+use Rattle.fold.specs.Sizes.{nextParts}
 use Rattle.next_instance.specs.Places.{rest-small}
 use borrow.Author.Needs.{needs}
 use Rattle.next_instance.proofs.cut.cut_of.Statement.{statement}
@@ -34,26 +31,18 @@ add-parts c = search needs
 pair-count-requires : tie.Need-pair-count-requires
 pair-count-requires c κs = search needs
 
-mul-size : tie.Need-mul-size
-mul-size c =
+function-size-requires : tie.Need-function-size-requires
+function-size-requires c κs =
     let s = c .before .before .before in
-    let rank : c .before .next-rank .result ≤ 256 = rw (c .before .next-rank .ensures, c .before .before .rest-size .ensures) (s .pre .1 .1) in
-    omega (arith, mul-le-mul (s .pre .1 .0 .parts-small) rank)
-
-add-size : tie.Need-add-size
-add-size c =
-    let s = c .before .before .before in
-    let rank : c .before .next-rank .result ≤ 256 = rw (c .before .next-rank .ensures, c .before .before .rest-size .ensures) (s .pre .1 .1) in
-    let few = s .pre .1 .0 .parts-small in
-    omega (arith, mul-le-mul few rank, pairs-bound (2 * s .args .nu + s .args .mu) few, c .pair-count .ensures)
+    (rw (c .before .next-rank .ensures, c .before .before .rest-size .ensures) (s .pre .1 .1), s .pre .1 .0 .parts-small)
 
 returns : tie.Need-returns
-unfolding nextParts functionSize
+unfolding nextParts
 returns c =
-    let s = c .before .before .before in
+    let s = c .before .before .before .before in
     let limits = s .pre .1 .0 in
-    let m = c .before .before .rest-size .ensures in
-    let rank = c .before .next-rank .ensures in (
+    let m = c .before .before .before .rest-size .ensures in
+    let rank = c .before .before .next-rank .ensures in (
       record {
         ν-positive = limits .ν-positive;
         μ-positive = limits .μ-positive;
@@ -62,8 +51,8 @@ returns c =
         rank-is = rank;
         rank-small = rw (rank, m) (s .pre .1 .1);
         parts-is = refl;
-        pairs-is = c .pair-count .ensures;
-        size-is = ap (λ (k : ℕ). k + (2 * s .args .nu + s .args .mu) * c .before .next-rank .result) (c .pair-count .ensures);
+        pairs-is = c .before .pair-count .ensures;
+        size-is = c .function-size .ensures;
       },
       refl,
       refl,
@@ -78,6 +67,5 @@ cut-of-spec =
     mul-parts
     add-parts
     pair-count-requires
-    mul-size
-    add-size
+    function-size-requires
     returns)

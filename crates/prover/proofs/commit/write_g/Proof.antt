@@ -2,9 +2,9 @@
 use borrow.Author.Needs.{needs}
 use native.Mathlib.Nat.{mul-le-mul}
 use native.Mathlib.Omega.{arith}
+use Rattle.fold.specs.SizeBounds.{pairs-bound}
 use Rattle.fold.specs.Messages.{g, gDigits}
 use Rattle.fold.specs.WriterLaws.{garbage-written}
-use Rattle.prover.specs.Places.{pairs-small}
 use Rattle.prover.proofs.commit.write_g.Statement.{statement}
 use Rattle.prover.proofs.commit.write_g.Tie as tie
 
@@ -19,7 +19,7 @@ write-pair-products-requires c κs =
       (
         shape .rank-small,
         omega (arith, s .pre .witness),
-        mul-le-mul (pairs-small (s .args .sizes .r) (shape .parts-small)) (shape .degree .small),
+        mul-le-mul (pairs-bound (s .args .sizes .r) (shape .parts-small)) (shape .degree .small),
       ),
     )
 
@@ -30,7 +30,7 @@ write-garbage-digits-requires : tie.Need-write-garbage-digits-requires
 write-garbage-digits-requires c κs =
     let s = c .before .before .before .before .before in
     let facts = s .pre .sized in
-    let fits = mul-le-mul (pairs-small (s .args .sizes .r) (facts .shape .parts-small)) (facts .shape .degree .small) in (
+    let fits = mul-le-mul (pairs-bound (s .args .sizes .r) (facts .shape .parts-small)) (facts .shape .degree .small) in (
       facts .shape .degree,
       (
         facts .g-base,
@@ -53,7 +53,7 @@ returns c =
     let s = c .before .before .before .before .before .before .before in
     let z = s .args .sizes in
     let shape = s .pre .sized .shape in
-    let fits = mul-le-mul (pairs-small (z .r) (shape .parts-small)) (shape .degree .small) in
+    let fits = mul-le-mul (pairs-bound (z .r) (shape .parts-small)) (shape .degree .small) in
     garbage-written (z .d) (z .r) (z .b2) (z .t2) (g (z .d) (z .n) (s .args .witness .now)) _ fits
     (c .before .before .before .before .before .write-pair-products .ensures) (c .before .write-garbage-digits .ensures)
 

@@ -1,50 +1,32 @@
 -- `prover::commit::write_u1` meets its contract: the outer commitment at the sizes of t and g.
 use borrow.Author.Needs.{needs}
-use Prim.Native.Nat.{_-_}
-use native.Mathlib.Nat.{mul-le-mul}
 use native.Mathlib.Omega.{arith}
-use Rattle.fold.specs.Sizes.{pairs, tSize, garbageSize}
+use Rattle.fold.specs.SizeBounds.{tSize-bound, garbageSize-bound}
 use Rattle.fold.specs.Messages.{u₁, outer₁}
 use Rattle.prover.specs.Outputs.{outer}
-use Rattle.prover.specs.Places.{t-small, pairs-small}
 use Rattle.prover.proofs.commit.write_u1.Statement.{statement}
 use Rattle.prover.proofs.commit.write_u1.Tie as tie
 
-mul-m : tie.Need-mul-m
-mul-m c = omega (arith, mul-le-mul (c .pre .sized .t-digits-few) (c .pre .sized .rank-small))
+t-size-requires : tie.Need-t-size-requires
+t-size-requires c κs = search needs
 
-mul-m-2 : tie.Need-mul-m-2
-mul-m-2 c =
-    let z = c .args .sizes in
-    let facts = c .pre .sized in
-    omega (arith, t-small (z .r) (z .kappa) (z .t1) (facts .shape .parts-small) (facts .rank-small) (facts .t-digits-few))
-
-pairs-requires : tie.Need-pairs-requires
-pairs-requires c κs = search needs
-
-mul-l : tie.Need-mul-l
-mul-l c =
-    let s = c .before in
-    let facts = s .pre .sized in
-    rw (c .pairs .ensures) (omega (arith, mul-le-mul (pairs-small (s .args .sizes .r) (facts .shape .parts-small)) (facts .g-digits-few)))
+garbage-size-requires : tie.Need-garbage-size-requires
+garbage-size-requires c κs = search needs
 
 write-outer-requires : tie.Need-write-outer-requires
-unfolding tSize garbageSize
 write-outer-requires c κs =
-    let s = c .before .before in
+    let s = c .before .before .before in
     let z = s .args .sizes in
     let facts = s .pre .sized in
-    let count = c .before .pairs .ensures in
-    let few = mul-le-mul (pairs-small (z .r) (facts .shape .parts-small)) (facts .g-digits-few) in (
+    let m = c .before .before .t-size .ensures in
+    let l = c .before .garbage-size .ensures in
+    let ts = tSize-bound (z .r) (z .kappa) (z .t1) (facts .shape .parts-small) (facts .rank-small) (facts .t-digits-few) in
+    let gs = garbageSize-bound (z .r) (z .t2) (facts .shape .parts-small) (facts .g-digits-few) in (
       facts .shape .degree,
       (
+        (rw m (omega (arith, ts)), rw m (omega (arith, s .pre .t-matrix)), rw m (omega (arith, s .pre .t-digits))),
         (
-          omega (arith, t-small (z .r) (z .kappa) (z .t1) (facts .shape .parts-small) (facts .rank-small) (facts .t-digits-few)),
-          omega (arith, s .pre .t-matrix),
-          omega (arith, s .pre .t-digits),
-        ),
-        (
-          (rw count (omega (arith, few)), rw count (omega (arith, s .pre .g-matrix)), rw count (omega (arith, s .pre .g-digits))),
+          (rw l (omega (arith, gs)), rw l (omega (arith, s .pre .g-matrix)), rw l (omega (arith, s .pre .g-digits))),
           s .pre .output,
         ),
       ),
@@ -54,10 +36,8 @@ same-length : tie.Need-same-length
 same-length c = search needs
 
 returns : tie.Need-returns
-unfolding u₁ outer₁ outer tSize garbageSize
-returns c = rw (c .before .before .before .pairs .ensures) at (c .before .write-outer .ensures)
+unfolding u₁ outer₁ outer
+returns c = rw (c .before .before .before .before .t-size .ensures, c .before .before .before .garbage-size .ensures) at (c .before .write-outer .ensures)
 
 pub write-u1-spec : {M : Type 1} → statement M
-write-u1-spec =
-    tie.close
-    (tie.spec mul-m mul-m-2 pairs-requires mul-l write-outer-requires same-length returns)
+write-u1-spec = tie.close (tie.spec t-size-requires garbage-size-requires write-outer-requires same-length returns)

@@ -1,8 +1,8 @@
 -- `sheet::sizes::matrix_count` meets its contract.
 use mathlib.Core.Path.{refl}
-use native.Mathlib.Nat.{mul-le-mul}
 use native.Mathlib.Omega.{arith}
 use Rattle.sheet.specs.Sections.{matrixCount}
+use Rattle.sheet.specs.SectionLaws.{matrices-few}
 use borrow.Author.Needs.{needs}
 use Rattle.sheet.proofs.sizes.matrix_count.Statement.{statement}
 use Rattle.sheet.proofs.sizes.matrix_count.Tie as tie
@@ -17,89 +17,69 @@ garbage-size-requires-2 : tie.Need-garbage-size-requires-2
 garbage-size-requires-2 c κs = search needs
 
 mul-a : tie.Need-mul-a
-mul-a c = omega (arith, mul-le-mul (c .before .before .before .before .pre .κ) (c .before .before .before .before .pre .rank))
+mul-a c =
+    let h = c .before in
+    omega (
+      arith,
+      matrices-few (h .before .before .before .pre) (h .before .before .t-size .ensures) (h .before .garbage-size .ensures) (h .garbage-size2 .ensures),
+    )
 
 mul-b : tie.Need-mul-b
 mul-b c =
-    omega (arith, mul-le-mul (c .before .before .before .before .before .pre .κ₁) (c .before .before .before .before .t-size .ensures .1))
+    let h = c .before .before in
+    omega (
+      arith,
+      matrices-few (h .before .before .before .pre) (h .before .before .t-size .ensures) (h .before .garbage-size .ensures) (h .garbage-size2 .ensures),
+    )
 
 mul-c : tie.Need-mul-c
 mul-c c =
+    let h = c .before .before .before in
     omega (
       arith,
-      mul-le-mul (c .before .before .before .before .before .before .pre .κ₁)
-          (c .before .before .before .before .garbage-size .ensures .1),
+      matrices-few (h .before .before .before .pre) (h .before .before .t-size .ensures) (h .before .garbage-size .ensures) (h .garbage-size2 .ensures),
     )
 
 mul-d : tie.Need-mul-d
 mul-d c =
+    let h = c .before .before .before .before in
     omega (
       arith,
-      mul-le-mul (c .before .before .before .before .before .before .before .pre .κ₂)
-          (c .before .before .before .before .garbage-size2 .ensures .1),
+      matrices-few (h .before .before .before .pre) (h .before .before .t-size .ensures) (h .before .garbage-size .ensures) (h .garbage-size2 .ensures),
     )
 
 add-result : tie.Need-add-result
 add-result c =
-    let start = c .before .before .before .before .before .before .before in
+    let h = c .before .before .before .before in
     omega (
       arith,
-      mul-le-mul (start .pre .κ) (start .pre .rank),
-      mul-le-mul (start .pre .κ₁)
-          (c .before .before .before .before .before .before .t-size .ensures .1),
-      mul-le-mul (start .pre .κ₁)
-          (c .before .before .before .before .before .garbage-size .ensures .1),
-      mul-le-mul (start .pre .κ₂)
-          (c .before .before .before .before .garbage-size2 .ensures .1),
+      matrices-few (h .before .before .before .pre) (h .before .before .t-size .ensures) (h .before .garbage-size .ensures) (h .garbage-size2 .ensures),
     )
 
 add-result-2 : tie.Need-add-result-2
 add-result-2 c =
-    let start = c .before .before .before .before .before .before .before in
+    let h = c .before .before .before .before in
     omega (
       arith,
-      mul-le-mul (start .pre .κ) (start .pre .rank),
-      mul-le-mul (start .pre .κ₁)
-          (c .before .before .before .before .before .before .t-size .ensures .1),
-      mul-le-mul (start .pre .κ₁)
-          (c .before .before .before .before .before .garbage-size .ensures .1),
-      mul-le-mul (start .pre .κ₂)
-          (c .before .before .before .before .garbage-size2 .ensures .1),
+      matrices-few (h .before .before .before .pre) (h .before .before .t-size .ensures) (h .before .garbage-size .ensures) (h .garbage-size2 .ensures),
     )
 
 add-result-3 : tie.Need-add-result-3
 add-result-3 c =
-    let start = c .before .before .before .before .before .before .before in
+    let h = c .before .before .before .before in
     omega (
       arith,
-      mul-le-mul (start .pre .κ) (start .pre .rank),
-      mul-le-mul (start .pre .κ₁)
-          (c .before .before .before .before .before .before .t-size .ensures .1),
-      mul-le-mul (start .pre .κ₁)
-          (c .before .before .before .before .before .garbage-size .ensures .1),
-      mul-le-mul (start .pre .κ₂)
-          (c .before .before .before .before .garbage-size2 .ensures .1),
+      matrices-few (h .before .before .before .pre) (h .before .before .t-size .ensures) (h .before .garbage-size .ensures) (h .garbage-size2 .ensures),
     )
 
 returns : tie.Need-returns
 unfolding matrixCount
 returns c =
-    let start = c .before .before .before .before .before .before .before in (
-      rw (
-        c .before .before .before .before .before .before .t-size .ensures .0,
-        c .before .before .before .before .before .garbage-size .ensures .0,
-        c .before .before .before .before .garbage-size2 .ensures .0,
-      ) refl,
-      omega (
-        arith,
-        mul-le-mul (start .pre .κ) (start .pre .rank),
-        mul-le-mul (start .pre .κ₁)
-            (c .before .before .before .before .before .before .t-size .ensures .1),
-        mul-le-mul (start .pre .κ₁)
-            (c .before .before .before .before .before .garbage-size .ensures .1),
-        mul-le-mul (start .pre .κ₂)
-            (c .before .before .before .before .garbage-size2 .ensures .1),
-      ),
+    let h = c .before .before .before .before in
+    let g = h .before in
+    let t = g .before in (
+      rw (t .t-size .ensures, g .garbage-size .ensures, h .garbage-size2 .ensures) refl,
+      matrices-few (t .before .pre) (t .t-size .ensures) (g .garbage-size .ensures) (h .garbage-size2 .ensures),
     )
 
 pub matrix-count-spec : {M : Type 1} → statement M

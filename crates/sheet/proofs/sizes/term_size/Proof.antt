@@ -3,6 +3,7 @@ use mathlib.Core.Path.{refl}
 use native.Mathlib.Nat.{mul-le-mul}
 use native.Mathlib.Omega.{arith}
 use Rattle.sheet.specs.Sections.{termSize}
+use Rattle.sheet.specs.SectionLaws.{le-one, function-few}
 use borrow.Author.Needs.{needs}
 use Rattle.sheet.proofs.sizes.term_size.Statement.{statement}
 use Rattle.sheet.proofs.sizes.term_size.Tie as tie
@@ -11,18 +12,20 @@ function-size-requires : tie.Need-function-size-requires
 function-size-requires c κs = search needs
 
 mul-result : tie.Need-mul-result
-mul-result c = omega (arith, mul-le-mul (c .before .function-size .ensures .1) (c .before .before .pre .degree))
+mul-result c =
+    let b = c .before .before .pre in
+    omega (arith, mul-le-mul (function-few b (c .before .function-size .ensures)) (b .degree))
 
 add-result : tie.Need-add-result
-add-result c = omega (arith, mul-le-mul (c .before .function-size .ensures .1) (c .before .before .pre .degree))
+add-result c =
+    let b = c .before .before .pre in
+    omega (arith, mul-le-mul (function-few b (c .before .function-size .ensures)) (b .degree))
 
 returns : tie.Need-returns
 unfolding termSize
-returns c = (
-  rw (c .before .function-size .ensures .0) refl,
-  omega
-      (arith, mul-le-mul (c .before .function-size .ensures .1) (c .before .before .pre .degree)),
-)
+returns c =
+    let b = c .before .before .pre in
+    (rw (c .before .function-size .ensures) refl, le-one (mul-le-mul (function-few b (c .before .function-size .ensures)) (b .degree)))
 
 pub term-size-spec : {M : Type 1} → statement M
 term-size-spec = tie.close (tie.spec function-size-requires mul-result add-result returns)

@@ -3,7 +3,7 @@ use mathlib.Core.Path.{refl}
 use native.Mathlib.Nat.{mul-le-mul}
 use native.Mathlib.Omega.{arith}
 use Rattle.sheet.specs.Sections.{wholeCount}
-use Rattle.sheet.specs.SectionLaws.{le-one}
+use Rattle.sheet.specs.SectionLaws.{le-one, function-few}
 use borrow.Author.Needs.{needs}
 use Rattle.sheet.proofs.sizes.whole_count.Statement.{statement}
 use Rattle.sheet.proofs.sizes.whole_count.Tie as tie
@@ -12,18 +12,18 @@ function-size-requires : tie.Need-function-size-requires
 function-size-requires c κs = search needs
 
 add-result : tie.Need-add-result
-add-result c = search needs
+add-result c = omega (arith, function-few (c .before .pre) (c .function-size .ensures))
 
 mul-result : tie.Need-mul-result
-mul-result c = omega (arith, mul-le-mul (c .before .before .pre .whole) (le-one (c .before .function-size .ensures .1)))
+mul-result c =
+    let b = c .before .before .pre in
+    omega (arith, mul-le-mul (b .whole) (le-one (function-few b (c .before .function-size .ensures))))
 
 returns : tie.Need-returns
 unfolding wholeCount
-returns c = (
-  rw (c .before .function-size .ensures .0) refl,
-  omega
-      (arith, mul-le-mul (c .before .before .pre .whole) (le-one (c .before .function-size .ensures .1))),
-)
+returns c =
+    let b = c .before .before .pre in
+    (rw (c .before .function-size .ensures) refl, mul-le-mul (b .whole) (le-one (function-few b (c .before .function-size .ensures))))
 
 pub whole-count-spec : {M : Type 1} → statement M
 whole-count-spec = tie.close (tie.spec function-size-requires add-result mul-result returns)

@@ -1,5 +1,6 @@
 -- `verifier::judgement::judge_recomposed` meets its contract.
-use Rattle.verifier.specs.SizeLaws.{product-bound, z-within}
+use native.Mathlib.Nat.{mul-le-mul}
+use Rattle.verifier.specs.SizeLaws.{z-within}
 use Rattle.verifier.specs.Judgement.{recomposed}
 use borrow.Author.Needs.{needs}
 use Rattle.verifier.proofs.judgement.judge_recomposed.Statement.{statement}
@@ -17,7 +18,7 @@ write-z-requires c κs =
         f .base,
         (
           z-within (s .args .sizes) _ (s .pre .opening),
-          product-bound (f .shaped .rank-small)
+          mul-le-mul (f .shaped .rank-small)
               (f .shaped .degree .small),
         ),
       ),

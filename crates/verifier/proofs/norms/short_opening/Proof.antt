@@ -2,8 +2,8 @@
 use mathlib.Core.Path.{ap, _∙_}
 use Prim.Native.Nat.{ℕ, _*_, _≤_}
 use native.Mathlib.Omega.{arith}
-use native.Mathlib.Nat.{mul-le-mul-right}
-use Rattle.verifier.specs.SizeLaws.{product-bound, t-place-bound, h-place-bound, h-within, t-before-h}
+use native.Mathlib.Nat.{mul-le-mul, mul-le-mul-right}
+use Rattle.verifier.specs.SizeLaws.{t-place-bound, h-place-bound, h-within, t-before-h}
 use Rattle.verifier.specs.Norms.{check-nine}
 use borrow.Author.Needs.{needs}
 use Rattle.verifier.proofs.norms.short_opening.Statement.{statement}
@@ -16,7 +16,7 @@ mul-t-start : tie.Need-mul-t-start
 mul-t-start c =
     let s = c .before in
     let small : c .t-place .result ≤ 512 = rw (c .t-place .ensures) (t-place-bound (s .args .sizes) (s .pre .0)) in
-    omega (arith, product-bound small (s .pre .0 .shaped .degree .small))
+    omega (arith, mul-le-mul small (s .pre .0 .shaped .degree .small))
 
 h-place-requires : tie.Need-h-place-requires
 h-place-requires c κs = search needs
@@ -25,7 +25,7 @@ mul-h-start : tie.Need-mul-h-start
 mul-h-start c =
     let s = c .before .before in
     let small : c .h-place .result ≤ 2624 = rw (c .h-place .ensures) (h-place-bound (s .args .sizes) (s .pre .0)) in
-    omega (arith, product-bound small (s .pre .0 .shaped .degree .small))
+    omega (arith, mul-le-mul small (s .pre .0 .shaped .degree .small))
 
 short-parts-requires : tie.Need-short-parts-requires
 short-parts-requires c κs =

@@ -1,14 +1,14 @@
 -- `verifier::norms::short_projection` meets its contract.
+use native.Mathlib.Nat.{mul-le-mul}
 use native.Mathlib.Omega.{arith}
 use mathlib.Core.Path.{refl}
-use Rattle.verifier.specs.SizeLaws.{product-bound}
 use Rattle.verifier.specs.Norms.{check-one}
 use borrow.Author.Needs.{needs}
 use Rattle.verifier.proofs.norms.short_projection.Statement.{statement}
 use Rattle.verifier.proofs.norms.short_projection.Tie as tie
 
 mul-budget : tie.Need-mul-budget
-mul-budget c = omega (arith, product-bound (c .pre .0) (c .pre .1))
+mul-budget c = omega (arith, mul-le-mul (c .pre .0) (c .pre .1))
 
 compare-requires : tie.Need-compare-requires
 compare-requires c κs = search needs

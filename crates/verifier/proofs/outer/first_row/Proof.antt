@@ -23,8 +23,8 @@ row-times-requires c κs =
     let part = part-fits (z .d) (c .t-place .ensures) (c .before .t-size .ensures) (t-within z _ (s .pre .1 .1 .1 .1 .0)) in
     (s .pre .0 .shaped .degree, (small, (row, part)))
 
-g-size-requires : tie.Need-g-size-requires
-g-size-requires c κs = search needs
+garbage-size-requires : tie.Need-garbage-size-requires
+garbage-size-requires c κs = search needs
 
 g-place-requires : tie.Need-g-place-requires
 g-place-requires c κs = search needs
@@ -33,9 +33,9 @@ row-times-requires-2 : tie.Need-row-times-requires-2
 row-times-requires-2 c κs =
     let s = c .before .before .before .before .before in
     let z = s .args .sizes in
-    let small : c .before .g-size .result ≤ 4096 = rw (c .before .g-size .ensures) (omega (arith, g-size-bound z (s .pre .0))) in
-    let row = row-fits (z .d) _ (z .kappa1) (s .args .k) _ _ (c .before .g-size .ensures) (s .pre .1 .1 .0) (s .pre .1 .1 .1 .1 .1) in
-    let part = part-fits (z .d) (c .g-place .ensures) (c .before .g-size .ensures) (g-within z _ (s .pre .1 .1 .1 .1 .0)) in
+    let small : c .before .garbage-size .result ≤ 4096 = rw (c .before .garbage-size .ensures) (omega (arith, g-size-bound z (s .pre .0))) in
+    let row = row-fits (z .d) _ (z .kappa1) (s .args .k) _ _ (c .before .garbage-size .ensures) (s .pre .1 .1 .0) (s .pre .1 .1 .1 .1 .1) in
+    let part = part-fits (z .d) (c .g-place .ensures) (c .before .garbage-size .ensures) (g-within z _ (s .pre .1 .1 .1 .1 .0)) in
     (s .pre .0 .shaped .degree, (small, (row, part)))
 
 sum-requires : tie.Need-sum-requires
@@ -61,7 +61,7 @@ returns c =
     let tc = tp .before in
     let s = tc .before in
     first-row (s .args .sizes) (s .pre .0 .shaped .degree .small) _ _ (s .args .k) _ _ _ _ _ _ _ _ _ _ _ (tc .t-size .ensures)
-    (tp .t-place .ensures) (t .row-times .ensures) (gc .g-size .ensures) (gp .g-place .ensures) (g .row-times2 .ensures) (row .sum .ensures)
+    (tp .t-place .ensures) (t .row-times .ensures) (gc .garbage-size .ensures) (gp .g-place .ensures) (g .row-times2 .ensures) (row .sum .ensures)
     (u .from-slice .ensures) (c .equals .ensures)
 
 pub first-row-spec : {M : Type 1} → statement M
@@ -71,7 +71,7 @@ first-row-spec =
     t-size-requires
     t-place-requires
     row-times-requires
-    g-size-requires
+    garbage-size-requires
     g-place-requires
     row-times-requires-2
     sum-requires

@@ -8,8 +8,8 @@ use borrow.Author.Needs.{needs}
 use Rattle.verifier.proofs.outer.second_row.Statement.{statement}
 use Rattle.verifier.proofs.outer.second_row.Tie as tie
 
-h-size-requires : tie.Need-h-size-requires
-h-size-requires c κs = search needs
+garbage-size-requires : tie.Need-garbage-size-requires
+garbage-size-requires c κs = search needs
 
 h-place-requires : tie.Need-h-place-requires
 h-place-requires c κs = search needs
@@ -18,9 +18,9 @@ row-times-requires : tie.Need-row-times-requires
 row-times-requires c κs =
     let s = c .before .before in
     let z = s .args .sizes in
-    let small : c .before .h-size .result ≤ 4096 = rw (c .before .h-size .ensures) (omega (arith, h-size-bound z (s .pre .0))) in
-    let row = row-fits (z .d) _ (z .kappa2) (s .args .k) _ _ (c .before .h-size .ensures) (s .pre .1 .0) (s .pre .1 .1 .1 .1) in
-    let part = part-fits (z .d) (c .h-place .ensures) (c .before .h-size .ensures) (h-within z _ (s .pre .1 .1 .1 .0)) in
+    let small : c .before .garbage-size .result ≤ 4096 = rw (c .before .garbage-size .ensures) (omega (arith, h-size-bound z (s .pre .0))) in
+    let row = row-fits (z .d) _ (z .kappa2) (s .args .k) _ _ (c .before .garbage-size .ensures) (s .pre .1 .0) (s .pre .1 .1 .1 .1) in
+    let part = part-fits (z .d) (c .h-place .ensures) (c .before .garbage-size .ensures) (h-within z _ (s .pre .1 .1 .1 .0)) in
     (s .pre .0 .shaped .degree, (small, (row, part)))
 
 from-slice-requires : tie.Need-from-slice-requires
@@ -38,14 +38,14 @@ returns c =
     let hp = row .before in
     let hc = hp .before in
     let s = hc .before in
-    second-row (s .args .sizes) (s .pre .0 .shaped .degree .small) _ _ (s .args .k) _ _ _ _ _ _ (hc .h-size .ensures) (hp .h-place .ensures)
+    second-row (s .args .sizes) (s .pre .0 .shaped .degree .small) _ _ (s .args .k) _ _ _ _ _ _ (hc .garbage-size .ensures) (hp .h-place .ensures)
     (row .row-times .ensures) (u .from-slice .ensures) (c .equals .ensures)
 
 pub second-row-spec : {M : Type 1} → statement M
 second-row-spec =
     tie.close
     (tie.spec
-    h-size-requires
+    garbage-size-requires
     h-place-requires
     row-times-requires
     from-slice-requires

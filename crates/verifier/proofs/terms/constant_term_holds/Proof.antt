@@ -1,9 +1,10 @@
 -- `verifier::terms::constant_term_holds` meets its contract.
 use mathlib.Core.Path.{refl, ap}
 use Prim.Native.Nat.{ℕ, _*_, _≤_}
+use native.Mathlib.Nat.{mul-le-mul}
 use native.Mathlib.Omega.{arith}
 use Rattle.verifier.specs.Places.{element-fits}
-use Rattle.verifier.specs.SizeLaws.{product-bound, function-size-bound}
+use Rattle.verifier.specs.SizeLaws.{function-size-bound}
 use Rattle.verifier.specs.ConstantTerms.{term-holds, weights-fit, constants-fit}
 use borrow.Author.Needs.{needs}
 use Rattle.verifier.proofs.terms.constant_term_holds.Statement.{statement}
@@ -16,7 +17,7 @@ mul-last : tie.Need-mul-last
 mul-last c =
     let s = c .before in
     let small : c .function-size .result ≤ 4232 = rw (c .function-size .ensures) (function-size-bound (s .args .sizes) (s .pre .0)) in
-    omega (arith, product-bound small (s .pre .0 .shaped .degree .small))
+    omega (arith, mul-le-mul small (s .pre .0 .shaped .degree .small))
 
 mul-weighted-sum : tie.Need-mul-weighted-sum
 mul-weighted-sum c =
@@ -28,7 +29,7 @@ add-weighted-sum c =
     let s = c .before .before in
     let small : c .before .function-size .result ≤ 4232 = rw (c .before .function-size .ensures) (function-size-bound (s .args .sizes)
     (s .pre .0)) in
-    omega (arith, product-bound small (s .pre .0 .shaped .degree .small))
+    omega (arith, mul-le-mul small (s .pre .0 .shaped .degree .small))
 
 weighted-sum-requires : tie.Need-weighted-sum-requires
 weighted-sum-requires c κs =

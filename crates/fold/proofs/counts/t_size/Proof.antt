@@ -1,9 +1,9 @@
--- `limits::sizes::t_size` meets its contract: at most 16 * (8 * 8). Assumes nothing.
+-- `fold::counts::t_size` meets its contract: at most 16 * (8 * 8). Assumes nothing.
 use mathlib.Core.Path.{refl}
 use Rattle.fold.specs.Sizes.{tSize}
-use Rattle.limits.specs.SizeLaws.{product-fits, product-bound}
-use Rattle.limits.proofs.sizes.t_size.Statement.{statement}
-use Rattle.limits.proofs.sizes.t_size.Tie as tie
+use Rattle.fold.specs.SizeBounds.{product-fits, product-bound}
+use Rattle.fold.proofs.counts.t_size.Statement.{statement}
+use Rattle.fold.proofs.counts.t_size.Tie as tie
 
 mul-result : tie.Need-mul-result
 mul-result c = product-fits _ _ 8 8 (c .pre .2) (c .pre .1) tt

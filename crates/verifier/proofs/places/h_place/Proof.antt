@@ -1,18 +1,18 @@
--- `verifier::sizes::h_place` meets its contract.
+-- `verifier::places::h_place` meets its contract.
 use mathlib.Core.Path.{ap₂}
 use Prim.Native.Nat.{ℕ, _+_}
 use native.Mathlib.Omega.{arith}
 use Rattle.fold.specs.Verdict.{hPlace}
 use Rattle.verifier.specs.SizeLaws.{g-size-bound, g-place-bound}
 use borrow.Author.Needs.{needs}
-use Rattle.verifier.proofs.sizes.h_place.Statement.{statement}
-use Rattle.verifier.proofs.sizes.h_place.Tie as tie
+use Rattle.verifier.proofs.places.h_place.Statement.{statement}
+use Rattle.verifier.proofs.places.h_place.Tie as tie
 
 g-place-requires : tie.Need-g-place-requires
 g-place-requires c κs = search needs
 
-g-size-requires : tie.Need-g-size-requires
-g-size-requires c κs = search needs
+garbage-size-requires : tie.Need-garbage-size-requires
+garbage-size-requires c κs = search needs
 
 add-result : tie.Need-add-result
 add-result c =
@@ -20,7 +20,7 @@ add-result c =
     omega (
       arith,
       c .before .g-place .ensures,
-      c .g-size .ensures,
+      c .garbage-size .ensures,
       g-place-bound (s .args .sizes) (s .pre),
       g-size-bound
           (s .args .sizes) (s .pre),
@@ -28,7 +28,7 @@ add-result c =
 
 returns : tie.Need-returns
 unfolding hPlace
-returns c = ap₂ (λ (x y : ℕ). x + y) (c .before .g-place .ensures) (c .g-size .ensures)
+returns c = ap₂ (λ (x y : ℕ). x + y) (c .before .g-place .ensures) (c .garbage-size .ensures)
 
 pub h-place-spec : {M : Type 1} → statement M
-h-place-spec = tie.close (tie.spec g-place-requires g-size-requires add-result returns)
+h-place-spec = tie.close (tie.spec g-place-requires garbage-size-requires add-result returns)

@@ -1,0 +1,36 @@
+// How many elements the sizes give. Within the limits of rows 1 to 4 no product wraps.
+ghost use mathlib.Core.Path.{_≡_};
+ghost use Prim.Native.Nat.{_≤_};
+ghost use Rattle.fold.specs.Sizes.{pairs, functionSize, tSize, garbageSize};
+
+// The number of pairs i ≤ j of r parts.
+pub fn pair_count(r: usize) -> usize
+    requires { ⌜ r ≤ 16 ⌝ }
+    ensures { λ x. ⌜ x ≡ pairs r ⌝ }
+{
+    r * (r + 1) / 2
+}
+
+// Elements of the a and φ of a constraint.
+pub fn function_size(n: usize, r: usize) -> usize
+    requires { ⌜ (n ≤ 256) × (r ≤ 16) ⌝ }
+    ensures { λ x. ⌜ x ≡ functionSize n r ⌝ }
+{
+    pair_count(r) + r * n
+}
+
+// Elements of the t digits.
+pub fn t_size(r: usize, kappa: usize, t1: usize) -> usize
+    requires { ⌜ (r ≤ 16) × (kappa ≤ 8) × (t1 ≤ 8) ⌝ }
+    ensures { λ x. ⌜ x ≡ tSize r kappa t1 ⌝ }
+{
+    r * (t1 * kappa)
+}
+
+// Elements of the g or h digits.
+pub fn garbage_size(r: usize, t: usize) -> usize
+    requires { ⌜ (r ≤ 16) × (t ≤ 8) ⌝ }
+    ensures { λ x. ⌜ x ≡ garbageSize r t ⌝ }
+{
+    pair_count(r) * t
+}
