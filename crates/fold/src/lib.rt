@@ -1,4 +1,5 @@
 // The answers of every call of the fold: document 01, 'Verdict' and 'Where a call stops'.
+// Structs of sizes are laid out as C lays them out: crates/capi takes them as they are.
 ghost use mathlib.Core.Path.{_≡_};
 ghost use Rattle.fold.specs.Answers.{kindOf, numberOf};
 
@@ -16,6 +17,7 @@ pub enum Answer {
 }
 
 // Degree, rank and number of parts.
+#[repr(C)]
 pub struct Shape {
     pub d: usize,
     pub n: usize,
@@ -23,6 +25,7 @@ pub struct Shape {
 }
 
 // The sizes of message 1.
+#[repr(C)]
 pub struct CommitSizes {
     pub d: usize,
     pub n: usize,
@@ -36,6 +39,7 @@ pub struct CommitSizes {
 }
 
 // The sizes of message 4.
+#[repr(C)]
 pub struct GarbageSizes {
     pub d: usize,
     pub n: usize,
@@ -49,6 +53,7 @@ pub struct GarbageSizes {
 }
 
 // The sizes of the verifier; `bound` is β² and `target` is β'².
+#[repr(C)]
 pub struct Sizes {
     pub d: usize,
     pub n: usize,

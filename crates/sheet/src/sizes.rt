@@ -6,6 +6,7 @@ ghost use Rattle.sheet.specs.Sections.{Bounded, Sectioned, matrixCount, 
 ghost use Rattle.sheet.specs.Sections.{total, rowsFrom, challengesFrom, endsElement, endsTerm, endsLine};
 
 // The header's numbers, in its order; `bound` is β² and `target` is β'².
+#[repr(C)]
 pub struct SheetSizes {
     pub d: usize,
     pub n: usize,
