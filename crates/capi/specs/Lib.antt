@@ -2,5 +2,5 @@ pub mod Codes
 pub mod Product
 pub mod Places
 -- Laws
-pub mod CodeLaws
+pub mod ProductLaws
 pub mod PlaceLaws

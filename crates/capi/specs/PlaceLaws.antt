@@ -1,5 +1,5 @@
 -- A part of the next witness by its place: refused, and found.
-use mathlib.Core.Path.{_≡_, refl, sym, subst, _∙_}
+use mathlib.Core.Path.{_≡_, refl, sym, _∙_}
 use mathlib.Core.List.{List}
 use Prim.Native.Nat.{ℕ, zero, suc, _+_, _*_, _-_}
 use native.Mathlib.Omega.{arith}
@@ -10,10 +10,6 @@ use Rattle.chunks.specs.declared.part.PartSizes.{PartSizes}
 use Rattle.chunks.specs.Parts.{partRefusalOf, restOf, stretch-inside, stretch-is, refused-empty}
 use Rattle.capi.specs.declared.types.CPart.{CPart}
 use Rattle.capi.specs.Places.{placeIf, placeOf, Placed}
-
--- the sizes that C lent, converted, are those that the promise names
-pub placed-at : {plain sizes : PartSizes} {i : ℕ} {o : List ℤ} {place : CPart} → plain ≡ sizes → Placed plain i o place → Placed sizes i o place
-placed-at {i = i} {o} {place} sizes-are placed = subst (λ m. Placed m i o place) sizes-are placed
 
 nowhere : (n first count : ℕ) → (n ≡ 0 → ⊥) → _≡_ {A = CPart} (record { start = 0; length = 0 }) (placeIf n first count)
 unfolding placeIf

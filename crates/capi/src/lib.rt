@@ -9,13 +9,13 @@ ghost use Rattle.fold.specs.Verification.{verification};
 ghost use Rattle.lizkarg.specs.Calls.{Committed, Projected, Aggregated, GarbageCommitted, Amortized};
 ghost use Rattle.sheet.specs.Reading as reader;
 ghost use Rattle.judge.specs.Judging.{judgedText};
-ghost use Rattle.capi.specs.Codes.{Coded, shapeOf, commitSizesOf, garbageSizesOf, sizesOf, codeOf, sheetCode};
+ghost use Rattle.capi.specs.Codes.{Coded, codeOf, sheetCode};
+use fold::CommitSizes;
+use fold::GarbageSizes;
+use fold::Shape;
+use fold::Sizes;
 use types::CAnswer;
-use types::CCommitSizes;
-use types::CGarbageSizes;
-use types::CShape;
 use types::CSheet;
-use types::CSizes;
 
 pub mod multiply;
 pub mod next;
@@ -24,7 +24,7 @@ pub mod types;
 // Message 1: `lizkarg::commit`.
 #[no_mangle]
 pub extern "C" fn lizkarg_commit(
-    sizes: CCommitSizes,
+    sizes: CommitSizes,
     a: &[i32],
     b: &[i32],
     c: &[i32],
@@ -34,36 +34,34 @@ pub extern "C" fn lizkarg_commit(
     u1: &mut [i32],
 ) -> CAnswer
     ensures { λ x.
-        ⌜ Coded (λ answer. Committed (commitSizesOf sizes) (now (a .entry)) (now (b .entry)) (now (c .entry)) (now (witness .entry))
+        ⌜ Coded (λ answer. Committed sizes (now (a .entry)) (now (b .entry)) (now (c .entry)) (now (witness .entry))
         (now (t .entry)) (now (g .entry)) (now (u1 .entry)) answer (now (t .exit)) (now (g .exit)) (now (u1 .exit))) x ⌝ }
 {
-    let plain = types::commit_sizes(sizes);
-    let answer = lizkarg::commit(plain, a, b, c, witness, t, g, u1);
+    let answer = lizkarg::commit(sizes, a, b, c, witness, t, g, u1);
     types::code(answer)
 }
 
 // Message 2: `lizkarg::project`.
 #[no_mangle]
 pub extern "C" fn lizkarg_project(
-    shape: CShape,
+    shape: Shape,
     w: usize,
     rows: &[i32],
     witness: &[i32],
     p: &mut [i32],
 ) -> CAnswer
     ensures { λ x.
-        ⌜ Coded (λ answer. Projected (shapeOf shape) w (now (rows .entry)) (now (witness .entry)) (now (p .entry)) answer
+        ⌜ Coded (λ answer. Projected shape w (now (rows .entry)) (now (witness .entry)) (now (p .entry)) answer
         (now (p .exit))) x ⌝ }
 {
-    let plain = types::shape(shape);
-    let answer = lizkarg::project(plain, w, rows, witness, p);
+    let answer = lizkarg::project(shape, w, rows, witness, p);
     types::code(answer)
 }
 
 // Message 3: `lizkarg::aggregate`.
 #[no_mangle]
 pub extern "C" fn lizkarg_aggregate(
-    shape: CShape,
+    shape: Shape,
     l: usize,
     w: usize,
     term: &[i32],
@@ -74,18 +72,17 @@ pub extern "C" fn lizkarg_aggregate(
     b2: &mut [i32],
 ) -> CAnswer
     ensures { λ x.
-        ⌜ Coded (λ answer. Aggregated (shapeOf shape) l w (now (term .entry)) (now (rows .entry)) (now (psi .entry)) (now (omega .entry))
+        ⌜ Coded (λ answer. Aggregated shape l w (now (term .entry)) (now (rows .entry)) (now (psi .entry)) (now (omega .entry))
         (now (witness .entry)) (now (b2 .entry)) answer (now (b2 .exit))) x ⌝ }
 {
-    let plain = types::shape(shape);
-    let answer = lizkarg::aggregate(plain, l, w, term, rows, psi, omega, witness, b2);
+    let answer = lizkarg::aggregate(shape, l, w, term, rows, psi, omega, witness, b2);
     types::code(answer)
 }
 
 // Message 4: `lizkarg::commit_garbage`.
 #[no_mangle]
 pub extern "C" fn lizkarg_commit_garbage(
-    sizes: CGarbageSizes,
+    sizes: GarbageSizes,
     whole: &[i32],
     term: &[i32],
     rows: &[i32],
@@ -99,13 +96,12 @@ pub extern "C" fn lizkarg_commit_garbage(
     u2: &mut [i32],
 ) -> CAnswer
     ensures { λ x.
-        ⌜ Coded (λ answer. GarbageCommitted (garbageSizesOf sizes) (now (whole .entry)) (now (term .entry)) (now (rows .entry))
+        ⌜ Coded (λ answer. GarbageCommitted sizes (now (whole .entry)) (now (term .entry)) (now (rows .entry))
         (now (psi .entry)) (now (omega .entry)) (now (alpha .entry)) (now (delta .entry)) (now («d_matrix» .entry))
         (now (witness .entry)) (now (h .entry)) (now (u2 .entry)) answer (now (h .exit)) (now (u2 .exit))) x ⌝ }
 {
-    let plain = types::garbage_sizes(sizes);
     let answer = lizkarg::commit_garbage(
-        plain,
+        sizes,
         whole,
         term,
         rows,
@@ -124,25 +120,24 @@ pub extern "C" fn lizkarg_commit_garbage(
 // Message 5: `lizkarg::amortize`.
 #[no_mangle]
 pub extern "C" fn lizkarg_amortize(
-    shape: CShape,
+    shape: Shape,
     b: usize,
     c: &[i32],
     witness: &[i32],
     z: &mut [i32],
 ) -> CAnswer
     ensures { λ x.
-        ⌜ Coded (λ answer. Amortized (shapeOf shape) b (now (c .entry)) (now (witness .entry)) (now (z .entry)) answer
+        ⌜ Coded (λ answer. Amortized shape b (now (c .entry)) (now (witness .entry)) (now (z .entry)) answer
         (now (z .exit))) x ⌝ }
 {
-    let plain = types::shape(shape);
-    let answer = lizkarg::amortize(plain, b, c, witness, z);
+    let answer = lizkarg::amortize(shape, b, c, witness, z);
     types::code(answer)
 }
 
 // The verifier: `lizkarg::verify`.
 #[no_mangle]
 pub extern "C" fn lizkarg_verify(
-    sizes: CSizes,
+    sizes: Sizes,
     a: &[i32],
     b: &[i32],
     c_matrix: &[i32],
@@ -162,15 +157,14 @@ pub extern "C" fn lizkarg_verify(
     opening: &[i32],
 ) -> CAnswer
     ensures { λ x.
-        ⌜ x ≡ codeOf (verification (statementOf (sizesOf sizes) (now (a .entry)) (now (b .entry)) (now («c_matrix» .entry))
+        ⌜ x ≡ codeOf (verification (statementOf sizes (now (a .entry)) (now (b .entry)) (now («c_matrix» .entry))
         (now («d_matrix» .entry)) (now (whole .entry)) (now (term .entry)))
         (drawsOf (now (rows .entry)) (now (psi .entry)) (now (omega .entry)) (now (alpha .entry)) (now (delta .entry))
         (now (c .entry))) (transcriptOf (now (u1 .entry)) (now (p .entry)) (now (b2 .entry)) (now (u2 .entry)))
         (now (opening .entry))) ⌝ }
 {
-    let plain = types::sizes(sizes);
     let answer = lizkarg::verify(
-        plain,
+        sizes,
         a,
         b,
         c_matrix,

@@ -3,23 +3,22 @@ ghost use mathlib.Core.Path.{_≡_};
 ghost use Rattle.fold.specs.Arguments.{statementOf, drawsOf, transcriptOf};
 ghost use Rattle.chunks.specs.Parts.{partRefusalOf};
 ghost use Rattle.next_instance.specs.Calls.{NextCalled};
-ghost use Rattle.capi.specs.Codes.{Coded, sizesOf, partSizesOf};
+ghost use Rattle.capi.specs.Codes.{Coded};
 ghost use Rattle.capi.specs.Places.{Placed};
 use crate::types;
 use crate::types::CAnswer;
 use crate::types::CPart;
-use crate::types::CPartSizes;
-use crate::types::CSizes;
 use chunks::part::PartSizes;
 use chunks::part::next_part_refusal;
 use chunks::sizes::chunk_start;
 use chunks::sizes::chunk_width;
 use chunks::sizes::rest_size;
+use fold::Sizes;
 
 // The next instance: `next_instance::next_instance`.
 #[no_mangle]
 pub extern "C" fn lizkarg_next_instance(
-    sizes: CSizes,
+    sizes: Sizes,
     nu: usize,
     mu: usize,
     a: &[i32],
@@ -41,15 +40,14 @@ pub extern "C" fn lizkarg_next_instance(
     out: &mut [i32],
 ) -> CAnswer
     ensures { λ x.
-        ⌜ Coded (λ answer. NextCalled (statementOf (sizesOf sizes) (now (a .entry)) (now (b .entry)) (now («c_matrix» .entry))
+        ⌜ Coded (λ answer. NextCalled (statementOf sizes (now (a .entry)) (now (b .entry)) (now («c_matrix» .entry))
         (now («d_matrix» .entry)) (now (whole .entry)) (now (term .entry)))
         (drawsOf (now (rows .entry)) (now (psi .entry)) (now (omega .entry)) (now (alpha .entry)) (now (delta .entry))
         (now (c .entry))) (transcriptOf (now (u1 .entry)) (now (p .entry)) (now (b2 .entry)) (now (u2 .entry))) nu mu
         (now (out .entry)) answer (now (out .exit))) x ⌝ }
 {
-    let plain = types::sizes(sizes);
     let answer = next_instance::next_instance(
-        plain,
+        sizes,
         nu,
         mu,
         a,
@@ -75,15 +73,15 @@ pub extern "C" fn lizkarg_next_instance(
 
 // The number with which part `part`, from 1, is refused, else 0: `chunks::part::next_part_refusal`.
 #[no_mangle]
-pub extern "C" fn lizkarg_next_part_refusal(sizes: CPartSizes, part: usize, opening: &[i32]) -> u8
-    ensures { λ x. ⌜ x ≡ partRefusalOf (partSizesOf sizes) part (now (opening .entry)) ⌝ }
+pub extern "C" fn lizkarg_next_part_refusal(sizes: PartSizes, part: usize, opening: &[i32]) -> u8
+    ensures { λ x. ⌜ x ≡ partRefusalOf sizes part (now (opening .entry)) ⌝ }
 {
-    let plain = types::part_sizes(sizes);
-    next_part_refusal(plain, part, opening)
+    next_part_refusal(sizes, part, opening)
 }
 
-// The place of part `part`, from 1, in the opening.
-fn place(sizes: PartSizes, part: usize, opening: &[i32]) -> CPart
+// The place in the opening of what `chunks::part::next_part` hands back.
+#[no_mangle]
+pub extern "C" fn lizkarg_next_part(sizes: PartSizes, part: usize, opening: &[i32]) -> CPart
     ensures { λ x. ⌜ Placed sizes part (now (opening .entry)) x ⌝ }
 {
     let refusal = next_part_refusal(sizes, part, opening);
@@ -103,13 +101,4 @@ fn place(sizes: PartSizes, part: usize, opening: &[i32]) -> CPart
         start: start,
         length: length,
     }
-}
-
-// The place of what `chunks::part::next_part` hands back.
-#[no_mangle]
-pub extern "C" fn lizkarg_next_part(sizes: CPartSizes, part: usize, opening: &[i32]) -> CPart
-    ensures { λ x. ⌜ Placed (partSizesOf sizes) part (now (opening .entry)) x ⌝ }
-{
-    let plain = types::part_sizes(sizes);
-    place(plain, part, opening)
 }

@@ -19,6 +19,7 @@ use limits::rows::rank;
 use limits::sizes::opening_size;
 
 // The sizes of an opening and of its cut into ν and μ chunks.
+#[repr(C)]
 pub struct PartSizes {
     pub d: usize,
     pub n: usize,

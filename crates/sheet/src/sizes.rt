@@ -8,6 +8,7 @@ use fold::counts::garbage_size;
 use fold::counts::t_size;
 
 // The header's numbers, in its order; `bound` is β² and `target` is β'².
+#[repr(C)]
 pub struct SheetSizes {
     pub d: usize,
     pub n: usize,

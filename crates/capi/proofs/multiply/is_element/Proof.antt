@@ -1,6 +1,6 @@
 -- `capi::multiply::is_element` meets its contract. Assumes nothing.
 use borrow.Author.Needs.{needs}
-use Rattle.capi.specs.CodeLaws.{element-tests}
+use Rattle.capi.specs.ProductLaws.{element-tests}
 use Rattle.capi.proofs.multiply.is_element.Statement.{statement}
 use Rattle.capi.proofs.multiply.is_element.Tie as tie
 

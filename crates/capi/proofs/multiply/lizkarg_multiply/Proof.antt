@@ -1,6 +1,6 @@
 -- `capi::multiply::lizkarg_multiply` meets its contract: refused by a number, or the product. Assumes nothing.
 use borrow.Author.Needs.{needs}
-use Rattle.capi.specs.CodeLaws.{product-refused, product-degree, product-written}
+use Rattle.capi.specs.ProductLaws.{product-refused, product-degree, product-written}
 use Rattle.capi.proofs.multiply.lizkarg_multiply.Statement.{statement}
 use Rattle.capi.proofs.multiply.lizkarg_multiply.Tie as tie
 

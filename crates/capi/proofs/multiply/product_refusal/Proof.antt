@@ -1,6 +1,6 @@
 -- `capi::multiply::product_refusal` meets its contract: rows 1 and 8 in order. Assumes nothing.
 use borrow.Author.Needs.{needs}
-use Rattle.capi.specs.CodeLaws.{product-tests}
+use Rattle.capi.specs.ProductLaws.{product-tests}
 use Rattle.capi.proofs.multiply.product_refusal.Statement.{statement}
 use Rattle.capi.proofs.multiply.product_refusal.Tie as tie
 

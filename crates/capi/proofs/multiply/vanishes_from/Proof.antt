@@ -2,7 +2,7 @@
 use mathlib.Core.Path.{_∙_}
 use borrow.Author.Needs.{needs}
 use Rattle.residues.specs.RangeLaws.{between-zero}
-use Rattle.capi.specs.CodeLaws.{none-from, rest-from}
+use Rattle.capi.specs.ProductLaws.{none-from, rest-from}
 use Rattle.capi.proofs.multiply.vanishes_from.Statement.{statement}
 use Rattle.capi.proofs.multiply.vanishes_from.Tie as tie
 

@@ -1,4 +1,4 @@
--- `capi::types::sheet_code` meets its contract: the header or zeros, by the case of the answer. Assumes nothing.
+-- `capi::types::sheet_code` meets its contract: by the case of the answer. Assumes nothing.
 use borrow.Author.Needs.{needs}
 use mathlib.Core.Path.{refl}
 use Rattle.capi.proofs.types.sheet_code.Statement.{statement}
@@ -7,14 +7,17 @@ use Rattle.capi.proofs.types.sheet_code.Tie as tie
 enum-known-answer : tie.Need-enum-known-answer
 enum-known-answer c = search needs
 
+empty-header-requires : tie.Need-empty-header-requires
+empty-header-requires c κs = search needs
+
 enum-known-answer-2 : tie.Need-enum-known-answer-2
 enum-known-answer-2 c = search needs
 
 returns : tie.Need-returns
-returns c = rw (c .before .answer .given .1) refl
+returns c = rw (c .empty-header .ensures, c .before .before .answer .given .1) refl
 
 returns-2 : tie.Need-returns-2
 returns-2 c = rw (c .before .answer2 .given .1) refl
 
 pub sheet-code-spec : {M : Type 1} → statement M
-sheet-code-spec = tie.close (tie.spec enum-known-answer enum-known-answer-2 returns returns-2)
+sheet-code-spec = tie.close (tie.spec enum-known-answer empty-header-requires enum-known-answer-2 returns returns-2)

@@ -1,0 +1,13 @@
+-- `capi::types::empty_header` meets its contract: every number is 0. Assumes nothing.
+use mathlib.Core.Path.{refl}
+use Rattle.sheet.specs.Reading.{sizesOf}
+use Rattle.capi.specs.Codes.{emptyHeader}
+use Rattle.capi.proofs.types.empty_header.Statement.{statement}
+use Rattle.capi.proofs.types.empty_header.Tie as tie
+
+returns : tie.Need-returns
+unfolding emptyHeader sizesOf
+returns c = refl
+
+pub empty-header-spec : {M : Type 1} → statement M
+empty-header-spec = tie.close (tie.spec returns)
