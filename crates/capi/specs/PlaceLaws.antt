@@ -7,7 +7,7 @@ use lib.IntN.{ℤ}
 use Rattle.algebra.specs.Triangle.{start}
 use Rattle.fold.specs.Chunks.{width}
 use Rattle.chunks.specs.declared.part.PartSizes.{PartSizes}
-use Rattle.chunks.specs.Parts.{partRefusalOf, restOf, stretch-inside, stretch-is, refused-empty}
+use Rattle.chunks.specs.Parts.{partRefusalOf, restOf, chunk-inside, chunk-is, refused-empty}
 use Rattle.capi.specs.declared.types.CPart.{CPart}
 use Rattle.capi.specs.Places.{placeIf, placeOf, Placed}
 
@@ -34,6 +34,6 @@ module _ (m : PartSizes) (i : ℕ) (o : List ℤ) {x : ℕ} (e : x ≡ partRefus
         let count : at * m .d + w * m .d - at * m .d ≡ w * m .d = omega arith in
         record {
           place-is = rw (sym e ∙ z, begins, wide, rest) refl;
-          inside = stretch-inside m i o e z rest begins wide;
-          part-is = rw count at (stretch-is m i o e z rest begins wide);
+          inside = chunk-inside m i o e z rest begins wide;
+          part-is = rw count at (chunk-is m i o e z rest begins wide);
         }

@@ -110,9 +110,9 @@ module _ (m : PartSizes) (i : ℕ) (o : List ℤ) {x : ℕ} (e : x ≡ partRefus
   -- where the stretch ends: at, k and w are what the code has computed
   module _ {k at w : ℕ} (rest : k ≡ restOf m) (begins : at ≡ start (width 2 (m .n) (m .nu) k (m .mu)) (i - 1))
       (wide : w ≡ width 2 (m .n) (m .nu) k (m .mu) (i - 1)) where
-    pub stretch-inside : at * m .d + w * m .d ≤ length o
+    pub chunk-inside : at * m .d + w * m .d ≤ length o
     unfolding nextParts
-    stretch-inside =
+    chunk-inside =
         let f = part-facts in
         let l = f .counts in
         let here : i - 1 < 2 * m .nu + m .mu = omega (arith, f .from-one, f .up-to-parts) in
@@ -122,16 +122,16 @@ module _ (m : PartSizes) (i : ℕ) (o : List ℤ) {x : ℕ} (e : x ≡ partRefus
         let scaled : (at + w) * m .d ≤ (2 * m .n + restOf m) * m .d = mul-le-mul-right (m .d) within in
         omega (arith, scaled, opening-length)
 
-    pub stretch-room : at * m .d + w * m .d ≤ 1000000
-    stretch-room =
+    pub chunk-room : at * m .d + w * m .d ≤ 1000000
+    chunk-room =
         let f = part-facts in
         let m-bound = restSize-bound (m .r) (m .kappa) (m .t1) (m .t2) (f .r-small) (f .κ-small) (f .t₁-small) (f .t₂-small) in
         let room = product-bound (2 * m .n + restOf m) (m .d) 3712 64 (omega (arith, f .n-small, m-bound)) (f .d-small) in
-        omega (arith, room, stretch-inside, opening-length)
+        omega (arith, room, chunk-inside, opening-length)
 
-    pub stretch-is : take (at * m .d + w * m .d - at * m .d) (drop (at * m .d) o) ≡ nextPartOf m i o
+    pub chunk-is : take (at * m .d + w * m .d - at * m .d) (drop (at * m .d) o) ≡ nextPartOf m i o
     unfolding nextPart written cut
-    stretch-is =
+    chunk-is =
         let count : at * m .d + w * m .d - at * m .d ≡ w * m .d = omega arith in
         rw (count, sym e ∙ z, begins, wide, rest) refl
 

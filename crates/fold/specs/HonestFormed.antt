@@ -21,7 +21,7 @@ use Rattle.fold.specs.Verdict.{Statement, Draws, Transcript}
 use Rattle.fold.specs.Honest.{honestTranscript, honestOpening}
 use Rattle.fold.specs.HonestChecks.{length-honestZ, length-honestT, length-honestG, length-honestH}
 use Rattle.fold.specs.Refusals.{allOf, base, digitCount, sized}
-use Rattle.fold.specs.Refusals.{sizeTests, boundTests, lentLengths, lentRanges, drawTests, lengths, ranges}
+use Rattle.fold.specs.Refusals.{sizeTests, boundTests, givenLengths, givenRanges, drawTests, lengths, ranges}
 use Rattle.fold.specs.Refusals.{proverTests, verifyTests}
 use Rattle.fold.specs.RefusalLaws.{Passes, passes-refusal, refusal-passes, passes-join, passes-front, passes-back}
 use Rattle.fold.specs.RefusalLaws.{All, allOf-all, allOf-tail, allOf-drop, allOf-cons, base-fits, sized-iff}
@@ -34,7 +34,7 @@ module _ (𝓢 : Statement) (𝓓 : Draws) where
 
   abbrev materialTests : List ℤ → List (ℕ × Bool)
   materialTests s =
-      (7, allOf (sized s (r * n * d) ∷ lentLengths 𝓢 𝓓)) ∷ (8, allOf (coefficients s ∷ lentRanges 𝓢 𝓓)) ∷ drawTests 𝓢 𝓓
+      (7, allOf (sized s (r * n * d) ∷ givenLengths 𝓢 𝓓)) ∷ (8, allOf (coefficients s ∷ givenRanges 𝓢 𝓓)) ∷ drawTests 𝓢 𝓓
 
   abbrev messageTests : Transcript → List ℤ → List (ℕ × Bool)
   messageTests 𝓣 o =
@@ -62,9 +62,9 @@ module _ (𝓢 : Statement) (𝓓 : Draws) where
     where
       material : Passes (sizeTests 𝓢 𝓓) → Passes (messageTests 𝓣 o) → Passes (materialTests s)
       material _ passed =
-          let lent-lengths : allOf (lentLengths 𝓢 𝓓) ≡ true = allOf-drop 5 _ (passed .0) in
-          let lent-ranges : allOf (lentRanges 𝓢 𝓓) ≡ true = allOf-drop 5 _ (passed .1 .0) in
-          (allOf-cons _ _ (sized-iff _ _ .1 long) lent-lengths, (allOf-cons _ _ small lent-ranges, passed .1 .1))
+          let given-lengths : allOf (givenLengths 𝓢 𝓓) ≡ true = allOf-drop 5 _ (passed .0) in
+          let given-ranges : allOf (givenRanges 𝓢 𝓓) ≡ true = allOf-drop 5 _ (passed .1 .0) in
+          (allOf-cons _ _ (sized-iff _ _ .1 long) given-lengths, (allOf-cons _ _ small given-ranges, passed .1 .1))
 
 -- ---- the honest messages
 

@@ -19,7 +19,7 @@ use Rattle.fold.specs.Accepted.{accepted-step, step-accepted}
 use Rattle.fold.specs.Refusals.{wholeLength, nextTests, partTests}
 use Rattle.fold.specs.RefusalLaws.{refusal-passes, allOf-all, between-iff, chunks-iff, sized-iff}
 use Rattle.fold.specs.Chunks.{width, padded}
-use Rattle.fold.specs.PaddingLaws.{stretch-padded}
+use Rattle.fold.specs.PaddingLaws.{chunk-padded}
 use Rattle.fold.specs.NextInstance.{n′, r′, constraint, nextWhole, nextWitness, nextRelation}
 use Rattle.fold.specs.LaidOut.{length-written}
 use Rattle.fold.specs.NextSolves.{FirstChecks}
@@ -85,4 +85,4 @@ part-of-padded d n r κ t₁ t₂ tz ν μ i o e =
     let inside = between-iff 1 (nextParts tz ν μ) i .0 (allOf-all _ (tests .1 .0) .1 .1 .0) in
     let chunks = chunks-iff tz ν μ .0 (tests .1 .1 .1 .1 .0) in
     let size = sized-iff o _ .0 (tests .1 .1 .1 .1 .1 .0) in
-    rw e (sym (stretch-padded d tz n ν (restSize r κ t₁ t₂) μ (chunks .0) (chunks .1 .0) o size (i - 1) (omega (arith, inside))))
+    rw e (sym (chunk-padded d tz n ν (restSize r κ t₁ t₂) μ (chunks .0) (chunks .1 .0) o size (i - 1) (omega (arith, inside))))

@@ -83,28 +83,28 @@ module _ (𝓢 : Statement) (𝓓 : Draws) (𝓣 : Transcript) (ν μ : ℕ) (o 
   parts = nextParts tz ν μ
 
   -- the parts of the padded opening
-  abbrev stretch : ℕ → ℕ → Rd
-  stretch = part d rank (padded d tz n ν rest μ o)
+  abbrev paddedPart : ℕ → ℕ → Rd
+  paddedPart = part d rank (padded d tz n ν rest μ o)
 
   -- the value at the padded opening of the function with these a and this table
   abbrev pub valueOf : (ℕ → ℕ → Rd) → List Rd → Rd
-  valueOf a table = value (R d) parts rank (record { a = a; φ = φ′ d widths table }) stretch
+  valueOf a table = value (R d) parts rank (record { a = a; φ = φ′ d widths table }) paddedPart
 
   module _ (some-ν : 0 < ν) (some-μ : 0 < μ) (sized : length o ≡ openingSize tz n r κ t₁ t₂ * d) where
-    within : (s k : ℕ) → s < parts → k < widths s → stretch s k ≡ el d o (start widths s + k)
+    within : (s k : ℕ) → s < parts → k < widths s → paddedPart s k ≡ el d o (start widths s + k)
     unfolding openingSize
     within = part-padded d tz n ν rest μ some-ν some-μ o sized
 
-    past : (s k : ℕ) → s < parts → widths s ≤ k → k < rank → stretch s k ≡ 𝟘
+    past : (s k : ℕ) → s < parts → widths s ≤ k → k < rank → paddedPart s k ≡ 𝟘
     unfolding openingSize
     past = part-padding d tz n ν rest μ some-ν some-μ o sized
 
     value-table : (a : ℕ → ℕ → Rd) (table : List Rd) → length table ≡ tz * n + rest
-        → valueOf a table ≡ rows (R d) parts (λ i j. a i j ⊗ inner (R d) rank (stretch i) (stretch j)) ⊕ dot (R d) table (el d o)
+        → valueOf a table ≡ rows (R d) parts (λ i j. a i j ⊗ inner (R d) rank (paddedPart i) (paddedPart j)) ⊕ dot (R d) table (el d o)
     unfolding value φ′
     value-table a table e =
-        ap (λ x. rows (R d) parts (λ i j. a i j ⊗ inner (R d) rank (stretch i) (stretch j)) ⊕ x)
-        (chunk-products (R d) parts rank widths (width-bound tz n ν rest μ) (el d o) stretch within past table
+        ap (λ x. rows (R d) parts (λ i j. a i j ⊗ inner (R d) rank (paddedPart i) (paddedPart j)) ⊕ x)
+        (chunk-products (R d) parts rank widths (width-bound tz n ν rest μ) (el d o) paddedPart within past table
         (e ∙ sym (widths-cover tz n ν rest μ some-ν some-μ)))
 
     -- a table by its four blocks, whose sums over those of the opening are u, v, y and z
@@ -135,13 +135,13 @@ module _ (𝓢 : Statement) (𝓓 : Draws) (𝓣 : Transcript) (ν μ : ℕ) (o 
           place p = omega arith
 
       value-blocks : (a : ℕ → ℕ → Rd) {x : Rd}
-          → rows (R d) parts (λ i j. a i j ⊗ inner (R d) rank (stretch i) (stretch j)) ≡ x
+          → rows (R d) parts (λ i j. a i j ⊗ inner (R d) rank (paddedPart i) (paddedPart j)) ≡ x
           → valueOf a (zs ++ (ts ++ (gs ++ hs))) ≡ x ⊕ (u ⊕ (v ⊕ (y ⊕ z)))
       value-blocks a e = value-table a (zs ++ (ts ++ (gs ++ hs))) length-blocks ∙ ap₂ _⊕_ e dot-blocks
 
       value-linear : valueOf (no-a d) (zs ++ (ts ++ (gs ++ hs))) ≡ u ⊕ (v ⊕ (y ⊕ z))
       value-linear =
-          value-blocks (no-a d) (rows-zero (R d) parts (λ i j. inner (R d) rank (stretch i) (stretch j)))
+          value-blocks (no-a d) (rows-zero (R d) parts (λ i j. inner (R d) rank (paddedPart i) (paddedPart j)))
           ∙ zero-add (R d) (u ⊕ (v ⊕ (y ⊕ z)))
 
     no-z : Summed d (tz * n) (el d o) 𝟘 (zeros d (tz * n))
@@ -178,7 +178,7 @@ module _ (𝓢 : Statement) (𝓓 : Draws) (𝓣 : Transcript) (ν μ : ℕ) (o 
     unfolding zOf joined
     value-six =
         value-blocks no-z no-t (mixed-sums d r b₂ t₂ (el d c) (gBlock 𝓢 𝓓 𝓣 o)) no-h (squares d tz ν b)
-        (self-product (R d) tz n ν rest μ some-ν (power d b) (el d o) stretch within past (squares d tz ν b)
+        (self-product (R d) tz n ν rest μ some-ν (power d b) (el d o) paddedPart within past (squares d tz ν b)
         (squares-once d tz ν b) (squares-twice d tz ν b))
         ∙ in-six (R d) _ _
 

@@ -1,6 +1,6 @@
 -- Laws of the padded opening, for ν and μ above 0 and an opening of tz · n + m elements.
 --     part-padded, part-padding     part s holds its chunk of the opening, then zeros
---     stretch-padded                the same as a list
+--     chunk-padded                the same as a list
 --     normSq-padded                 its squared length is the opening's
 --     unpadded-padded, padded-unpadded     padding is undone, and done again where it is zero
 use mathlib.Core.Path.{_≡_, sym, ap, _∙_}
@@ -50,11 +50,11 @@ module _ (d tz n ν m μ : ℕ) (some-ν : 0 < ν) (some-μ : 0 < μ) where
     part-padding = part-past d (nextParts tz ν μ) (nextRank n ν m μ) (width tz n ν m μ) fitting o covered
 
     -- "the library hands back that stretch of the caller's own slice": with zeros after it, it is that part of the padded opening
-    pub stretch-padded : (s : ℕ) → s < nextParts tz ν μ
+    pub chunk-padded : (s : ℕ) → s < nextParts tz ν μ
         → take (nextRank n ν m μ * d) (drop (s * (nextRank n ν m μ * d)) (padded d tz n ν m μ o))
         ≡ cut d (width tz n ν m μ) o s ++ replicate ((nextRank n ν m μ - width tz n ν m μ s) * d) (pos 0)
     unfolding padded cutPadded
-    stretch-padded = block-cuts d (nextParts tz ν μ) (nextRank n ν m μ) (width tz n ν m μ) fitting o covered
+    chunk-padded = block-cuts d (nextParts tz ν μ) (nextRank n ν m μ) (width tz n ν m μ) fitting o covered
 
     pub normSq-padded : normSq (padded d tz n ν m μ o) ≡ normSq o
     unfolding padded

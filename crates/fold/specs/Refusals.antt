@@ -206,8 +206,8 @@ module _ (𝓢 : Statement) (𝓓 : Draws) where
   abbrev pub boundTests : List (ℕ × Bool)
   boundTests = (6, allOf (lengthBound (pos bound) ∷ lengthBound (pos target) ∷ [])) ∷ []
 
-  abbrev pub lentLengths : List Bool
-  lentLengths =
+  abbrev pub givenLengths : List Bool
+  givenLengths =
       sized A (κ * n * d)
       ∷ sized B (κ₁ * tSize r κ t₁ * d)
       ∷ sized C (κ₁ * garbageSize r t₂ * d)
@@ -222,8 +222,8 @@ module _ (𝓢 : Statement) (𝓓 : Draws) where
       ∷ sized c (r * d)
       ∷ []
 
-  abbrev pub lentRanges : List Bool
-  lentRanges =
+  abbrev pub givenRanges : List Bool
+  givenRanges =
       coefficients A
       ∷ coefficients B
       ∷ coefficients C
@@ -246,8 +246,8 @@ module _ (𝓢 : Statement) (𝓓 : Draws) where
   proverTests s =
       sizeTests
       ++ (boundTests
-      ++ ((7, allOf (sized s (r * n * d) ∷ lentLengths))
-      ∷ (8, allOf (coefficients s ∷ lentRanges))
+      ++ ((7, allOf (sized s (r * n * d) ∷ givenLengths))
+      ∷ (8, allOf (coefficients s ∷ givenRanges))
       ∷ drawTests))
 
 -- the verifier and the next instance take the messages too
@@ -257,10 +257,10 @@ module _ (𝓢 : Statement) (𝓓 : Draws) (𝓣 : Transcript) where
   open Transcript 𝓣 using (u₁, p, b″, u₂)
 
   abbrev pub lengths : List Bool
-  lengths = sized u₁ (κ₁ * d) ∷ sized p w ∷ sized b″ (5 * d) ∷ sized u₂ (κ₂ * d) ∷ lentLengths 𝓢 𝓓
+  lengths = sized u₁ (κ₁ * d) ∷ sized p w ∷ sized b″ (5 * d) ∷ sized u₂ (κ₂ * d) ∷ givenLengths 𝓢 𝓓
 
   abbrev pub ranges : List Bool
-  ranges = coefficients u₁ ∷ coefficients p ∷ coefficients b″ ∷ coefficients u₂ ∷ lentRanges 𝓢 𝓓
+  ranges = coefficients u₁ ∷ coefficients p ∷ coefficients b″ ∷ coefficients u₂ ∷ givenRanges 𝓢 𝓓
 
   -- the verifier, with the opening o
   unfoldable pub verifyTests : List ℤ → List (ℕ × Bool)

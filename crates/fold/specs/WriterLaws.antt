@@ -2,7 +2,7 @@
 --     Elements      elements written one after the other, from element a of a list on
 --     Blocks        a list filled block by block, all of one width, each block lent to a callee
 --     Rows          the elements of the pairs i ≤ j, row by row, at the beginning of a list
---     drop-last     what stands in the last stretch of a block, where elements are written before they are split into digits
+--     drop-last     what stands in the last part of a block, where elements are written before they are split into digits
 --     el-pairs, garbage-places, garbage-written     the elements of pairs read back, and their digits
 use mathlib.Core.Path.{_≡_, refl, sym, ap, _∙_}
 use mathlib.Core.List.{List, _++_, append-nil}
@@ -13,7 +13,7 @@ use native.Mathlib.Omega.{arith}
 use lib.ListN.{length, take, drop, length-take, length-drop, drop-of-length-le}
 use lib.Seq.{length-take-le, take-at, drop-at}
 use lib.IntN.{ℤ}
-use Rattle.integers.specs.Over.{over, over-nil, over-all, over-over, over-lent, length-over}
+use Rattle.integers.specs.Over.{over, over-nil, over-all, over-over, over-slice, length-over}
 use Rattle.integers.specs.Flat.{flat, flat-at, flat-suc, flat-append, flat-cong, length-flat, over-flat}
 use Rattle.algebra.specs.CommRing.{CommRing}
 use Rattle.algebra.specs.Tables.{length-flat-start}
@@ -44,7 +44,7 @@ drop-last old l a e =
     drop-at (take a old) (l ++ drop (a + length l) old) a (length-take-le a old before)
     ∙ rw (drop-of-length-le old after) (append-nil l)
 
--- ---- digits of elements that stand in the last stretch of a block
+-- ---- digits of elements that stand in the last part of a block
 
 pub length-digits : (d b t : ℕ) (u : R d .Carrier) → length (split b t (coeffs d u)) ≡ t * d
 length-digits d b t u = length-split b t (coeffs d u) ∙ ap (λ (k : ℕ). t * k) (length-coeffs d u)
@@ -124,8 +124,8 @@ module _ (n w : ℕ) (F : ℕ → List ℤ) (old : List ℤ) (size : length old 
 
   pub blocks-turn : {k at : ℕ} {new next block : List ℤ} → ((i : ℕ) → length (F i) ≡ w) → Blocks n w F old k at new → k < n
       → block ≡ F k → next ≡ take at new ++ (block ++ drop (at + w - at) (drop at new)) → Blocks n w F old (k + 1) (at + w) next
-  blocks-turn {k} {at} {new} {next} {block} wide sofar h e lent =
-      let written : next ≡ over new at (F k) = lent ∙ rw (e, add-sub-cancel-left) (over-lent new at w (F k) (wide k)) in
+  blocks-turn {k} {at} {new} {next} {block} wide sofar h e slice =
+      let written : next ≡ over new at (F k) = slice ∙ rw (e, add-sub-cancel-left) (over-slice new at w (F k) (wide k)) in
       let place : at ≡ 0 + k * w = omega (arith, sofar .place) in
       record {
         within = omega arith;

@@ -3,7 +3,7 @@
 --     over-nil         nothing is written yet
 --     over-step        one more element, by `set`
 --     over-over        one more part, by a callee
---     over-lent        what comes back from a callee that was lent `&mut out[a..e]`
+--     over-slice        what comes back from a callee that was lent `&mut out[a..e]`
 use mathlib.Core.Path.{_≡_, refl, sym, ap, _∙_}
 use mathlib.Core.List.{List, [], _∷_, _++_, append-assoc, append-nil}
 use Prim.Native.Nat.{ℕ, suc, _+_, _-_, _≤_, _<_}
@@ -118,9 +118,9 @@ module _ {ℓ} {A : Type ℓ} where
   over-part out a e l h q = let end : e ≡ a + length l = omega arith in rw end
 
   -- the form in which a part that was lent comes back
-  pub over-lent : (out : List A) (a k : ℕ) (l : List A) → length l ≡ k → take a out ++ (l ++ drop k (drop a out)) ≡ over out a l
+  pub over-slice : (out : List A) (a k : ℕ) (l : List A) → length l ≡ k → take a out ++ (l ++ drop k (drop a out)) ≡ over out a l
   unfolding over
-  over-lent out a k l q = rw (drop-drop, q)
+  over-slice out a k l q = rw (drop-drop, q)
 
   -- ---- elements
 

@@ -54,7 +54,7 @@ part-room d r κ t p l some-κ some-t h fits =
     omega (arith, mul-le-mul-right d below)
 
 module _ (s : Sizes) (p : ℕ) {t g h : ℕ} (et : t ≡ tFrom s) (eg : g ≡ gFrom s) (eh : h ≡ hFrom s) where
-  -- p within its stretch
+  -- p within its block
   pub in-t : t ≤ p → p < g → p - t < tSize (s .r) (s .kappa) (s .t1)
   in-t l b = omega (arith, starts s .g-after-t)
 

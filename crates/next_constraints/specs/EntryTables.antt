@@ -56,7 +56,7 @@ module _ (d : ℕ) where
   unfolding garbageEntry
   garbage-entry r base t xs f same p some h = sym (garbageTable-at d r base t f (el d xs) same p 𝟘 some h)
 
--- ---- the four stretches of an opening
+-- ---- the four blocks of an opening
 
 module _ (s : Sizes) where
   by-place : (P : Type 0) (p : ℕ) → (p < tFrom s → P) → (tFrom s ≤ p → p < gFrom s → P) → (gFrom s ≤ p → p < hFrom s → P)
@@ -75,7 +75,7 @@ module _ (s : Sizes) where
       first true e = z (ltb-true p (tFrom s) e)
       first false e = second (ltb p (gFrom s)) refl (ltb-false p (tFrom s) e)
 
-  -- the starts in order, and the sizes of the stretches
+  -- the starts in order, and the sizes of the blocks
   pub record Starts : Type 0 where
     pub t-after-z : tFrom s ≡ 2 * s .n
     pub g-after-t : gFrom s ≡ tFrom s + tSize (s .r) (s .kappa) (s .t1)
@@ -158,7 +158,7 @@ module _ (s : Sizes) (fits : VerifySized s) (A B C D c whole term rows ψ ω α 
   zeros-length n = length-replicate n 𝟘
 
   module _ (p : ℕ) (inside : p < openingSize 2 (s .n) (s .r) (s .kappa) (s .t1) (s .t2)) where
-    -- p within its stretch
+    -- p within its block
     in-z : p < tFrom s → p < 2 * s .n
     in-z h = omega (arith, starts s .t-after-z)
 

@@ -33,12 +33,12 @@ module _ (n w : ℕ) (old : List ℤ) (size : length old ≡ n * w) where
   pub filled-turn : {k at : ℕ} {new next : List ℤ} (block : List ℤ) → Filled n w old k at new → k < n
       → length block ≡ length (take (at + w - at) (drop at new))
       → next ≡ take at new ++ (block ++ drop (at + w - at) (drop at new)) → Filled n w old (k + 1) (at + w) next
-  filled-turn {k} {at} {new} {next} block sofar h kept lent =
+  filled-turn {k} {at} {new} {next} block sofar h kept slice =
       let wide : length block ≡ w = kept ∙ filled-part sofar h in
       record {
         within = omega arith;
         place = omega (arith, sofar .place);
-        same = ap length lent
+        same = ap length slice
             ∙ simp (length-append, length-take, length-drop, add-sub-cancel-left) (omega (arith, wide, filled-fit sofar h, sofar .same));
       }
 

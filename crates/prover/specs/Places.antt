@@ -24,9 +24,9 @@ place-below d x {len} h e = omega (arith, scaled)
 pub element-fits : (d a : ℕ) {k n len : ℕ} → k < n → (a + n) * d ≤ len → (a + k) * d + d ≤ len
 element-fits d a {k} {n} h e = omega (arith, block-fits d k n h)
 
--- the last of t stretches of n elements
+-- the last of t parts of n elements
 pub last-place : (d n t : ℕ) {len : ℕ} → 0 < t → len ≡ t * (n * d) → ((t - 1) * n + n) * d ≤ len
 last-place d n t h e = omega (arith, last-fits t (n * d) h)
 
-pub stretch-below : (w t : ℕ) {len : ℕ} → 0 < t → len ≡ t * w → w ≤ len
-stretch-below w t h e = omega (arith, mul-le-mul-right w h)
+pub block-below : (w t : ℕ) {len : ℕ} → 0 < t → len ≡ t * w → w ≤ len
+block-below w t h e = omega (arith, mul-le-mul-right w h)

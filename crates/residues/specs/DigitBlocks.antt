@@ -1,5 +1,5 @@
--- Splitting numbers into digits in place, as loops do it: the numbers stand in the last of t stretches of w places.
---     Peeled        one low digit taken from each of n numbers and written to an earlier stretch
+-- Splitting numbers into digits in place, as loops do it: the numbers stand in the last of t parts of w places.
+--     Peeled        one low digit taken from each of n numbers and written to an earlier part
 --     Splitting     k low digits taken from each number
 use mathlib.Core.Path.{_≡_, refl, sym, ap, _∙_}
 use mathlib.Core.List.{List}
@@ -83,9 +83,9 @@ module _ (b to from : ℕ) (old : List ℤ) where
 
 -- ---- all the digits
 
--- stretch k ends before the last begins
-pub stretch-fits : (t w k : ℕ) → k + 1 < t → k * w + w ≤ (t - 1) * w
-stretch-fits t w k h = let l : k + 1 ≤ t - 1 = omega arith in omega (arith, mul-le-mul-right w l)
+-- part k ends before the last begins
+pub digit-block-fits : (t w k : ℕ) → k + 1 < t → k * w + w ≤ (t - 1) * w
+digit-block-fits t w k h = let l : k + 1 ≤ t - 1 = omega arith in omega (arith, mul-le-mul-right w l)
 
 pub last-fits : (t w : ℕ) → 0 < t → (t - 1) * w + w ≡ t * w
 last-fits t w h = let e : t - 1 + 1 ≡ t = omega arith in omega (arith, ap (λ (s : ℕ). s * w) e)

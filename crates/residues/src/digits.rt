@@ -49,7 +49,7 @@ fn peel(base: usize, width: usize, block: &mut [i32], to: usize, from: usize)
     }
 }
 
-// The digits of `width` numbers, digit by digit: the numbers stand in the last of `count` stretches of the block.
+// The digits of `width` numbers, digit by digit: the numbers stand in the last of `count` parts of the block.
 pub fn split_digits(base: usize, count: usize, width: usize, block: &mut [i32])
     requires { ⌜ Base base ⌝ }
     requires { ⌜ (0 < count) × (length (now block) ≡ count * width) ⌝ }

@@ -16,4 +16,4 @@ pub mod Short
 pub mod ShortOperand
 pub mod ShortLaws
 pub mod Computing
-pub mod Bench
+pub mod RingCases

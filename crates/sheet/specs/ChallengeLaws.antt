@@ -1,5 +1,5 @@
 -- The loop over the challenges of a sheet.
---     lent-length, lent-part     an array that `fill` wrote from its start on
+--     filled-length, filled-part     an array that `fill` wrote from its start on
 --     Challenged                 the first e elements keep the rule: `are_challenges`
 use mathlib.Core.Path.{_≡_, refl, sym, ap, _∙_}
 use mathlib.Core.Bool.{Bool, true, false, not}
@@ -26,14 +26,14 @@ use Rattle.sheet.specs.WalkLaws.{length-numbers, place-index}
 
 module _ (zeros out : List ℤ) (ends : ℕ → Bool) (text : List ℕ) (from d : ℕ) (size : length zeros ≡ 64) (small : d ≤ 64)
     (written : out ≡ over zeros 0 (numbersFrom ends 289 text from d)) where
-  pub lent-length : d ≡ length (take d out)
-  lent-length =
+  pub filled-length : d ≡ length (take d out)
+  filled-length =
       let l = numbersFrom ends 289 text from d in
       let n : length l ≡ d = length-numbers ends text from d in
       omega (arith, length-take d out, ap length written, length-over zeros 0 l (omega arith))
 
-  pub lent-part : take d out ≡ numbersFrom ends 289 text from d
-  lent-part = rw written (part-over zeros 0 (numbersFrom ends 289 text from d) d (omega arith) (length-numbers ends text from d))
+  pub filled-part : take d out ≡ numbersFrom ends 289 text from d
+  filled-part = rw written (part-over zeros 0 (numbersFrom ends 289 text from d) d (omega arith) (length-numbers ends text from d))
 
 -- ---- the elements
 

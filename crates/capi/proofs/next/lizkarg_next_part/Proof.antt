@@ -1,7 +1,7 @@
 -- `capi::next::lizkarg_next_part` meets its contract: 0 and 0 where the part is refused, and else where that chunk stands. Assumes nothing.
 use native.Mathlib.Omega.{arith}
 use borrow.Author.Needs.{needs}
-use Rattle.chunks.specs.Parts.{part-facts, part-cut, stretch-room}
+use Rattle.chunks.specs.Parts.{part-facts, part-cut, chunk-room}
 use Rattle.capi.specs.PlaceLaws.{placed-refused, placed-found}
 use Rattle.capi.proofs.next.lizkarg_next_part.Statement.{statement}
 use Rattle.capi.proofs.next.lizkarg_next_part.Tie as tie
@@ -53,7 +53,7 @@ mul-start c =
     let a = c5 .before .args in
     let e = c5 .next-part-refusal .ensures in
     let z = c4 .if1 .left in
-    let room = stretch-room (a .sizes) (a .part) _ e z (c3 .rest-size .ensures) (c2 .chunk-start .ensures) (c1 .chunk-width .ensures) in
+    let room = chunk-room (a .sizes) (a .part) _ e z (c3 .rest-size .ensures) (c2 .chunk-start .ensures) (c1 .chunk-width .ensures) in
     omega (arith, room)
 
 mul-length : tie.Need-mul-length
@@ -67,7 +67,7 @@ mul-length c =
     let a = c6 .before .args in
     let e = c6 .next-part-refusal .ensures in
     let z = c5 .if1 .left in
-    let room = stretch-room (a .sizes) (a .part) _ e z (c4 .rest-size .ensures) (c3 .chunk-start .ensures) (c2 .chunk-width .ensures) in
+    let room = chunk-room (a .sizes) (a .part) _ e z (c4 .rest-size .ensures) (c3 .chunk-start .ensures) (c2 .chunk-width .ensures) in
     omega (arith, room)
 
 returns-2 : tie.Need-returns-2

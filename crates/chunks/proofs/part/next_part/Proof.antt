@@ -1,6 +1,6 @@
 -- `chunks::part::next_part` meets its contract: an empty stretch where the part is refused, and else that chunk. Assumes nothing.
 use native.Mathlib.Omega.{arith}
-use Rattle.chunks.specs.Parts.{part-facts, part-cut, stretch-inside, stretch-room, stretch-is, refused-empty}
+use Rattle.chunks.specs.Parts.{part-facts, part-cut, chunk-inside, chunk-room, chunk-is, refused-empty}
 use borrow.Author.Needs.{needs}
 use Rattle.chunks.proofs.part.next_part.Statement.{statement}
 use Rattle.chunks.proofs.part.next_part.Tie as tie
@@ -62,7 +62,7 @@ mul-start c =
     let a = c6 .args in
     let e = c5 .next-part-refusal .ensures in
     let z = c4 .if1 .left in
-    let room = stretch-room (a .sizes) (a .part) _ e z (c3 .rest-size .ensures) (c2 .chunk-start .ensures) (c1 .chunk-width .ensures) in
+    let room = chunk-room (a .sizes) (a .part) _ e z (c3 .rest-size .ensures) (c2 .chunk-start .ensures) (c1 .chunk-width .ensures) in
     omega (arith, room)
 
 mul-count : tie.Need-mul-count
@@ -77,7 +77,7 @@ mul-count c =
     let a = c7 .args in
     let e = c6 .next-part-refusal .ensures in
     let z = c5 .if1 .left in
-    let room = stretch-room (a .sizes) (a .part) _ e z (c4 .rest-size .ensures) (c3 .chunk-start .ensures) (c2 .chunk-width .ensures) in
+    let room = chunk-room (a .sizes) (a .part) _ e z (c4 .rest-size .ensures) (c3 .chunk-start .ensures) (c2 .chunk-width .ensures) in
     omega (arith, room)
 
 add-end : tie.Need-add-end
@@ -92,7 +92,7 @@ add-end c =
     let a = c7 .args in
     let e = c6 .next-part-refusal .ensures in
     let z = c5 .if1 .left in
-    let room = stretch-room (a .sizes) (a .part) _ e z (c4 .rest-size .ensures) (c3 .chunk-start .ensures) (c2 .chunk-width .ensures) in
+    let room = chunk-room (a .sizes) (a .part) _ e z (c4 .rest-size .ensures) (c3 .chunk-start .ensures) (c2 .chunk-width .ensures) in
     omega (arith, room)
 
 mul-result : tie.Need-mul-result
@@ -107,7 +107,7 @@ mul-result c =
     let a = c7 .args in
     let e = c6 .next-part-refusal .ensures in
     let z = c5 .if1 .left in
-    let room = stretch-room (a .sizes) (a .part) _ e z (c4 .rest-size .ensures) (c3 .chunk-start .ensures) (c2 .chunk-width .ensures) in
+    let room = chunk-room (a .sizes) (a .part) _ e z (c4 .rest-size .ensures) (c3 .chunk-start .ensures) (c2 .chunk-width .ensures) in
     omega (arith, room)
 
 sub-result-2 : tie.Need-sub-result-2
@@ -128,7 +128,7 @@ part-result-end-2 c =
     let a = c7 .args in
     let e = c6 .next-part-refusal .ensures in
     let z = c5 .if1 .left in
-    let room = stretch-inside (a .sizes) (a .part) _ e z (c4 .rest-size .ensures) (c3 .chunk-start .ensures) (c2 .chunk-width .ensures) in
+    let room = chunk-inside (a .sizes) (a .part) _ e z (c4 .rest-size .ensures) (c3 .chunk-start .ensures) (c2 .chunk-width .ensures) in
     omega (arith, room)
 
 returns-2 : tie.Need-returns-2
@@ -144,7 +144,7 @@ returns-2 c =
     let a = c8 .args in
     let e = c7 .next-part-refusal .ensures in
     let z = c6 .if1 .left in
-    stretch-is (a .sizes) (a .part) _ e z (c5 .rest-size .ensures) (c4 .chunk-start .ensures) (c3 .chunk-width .ensures)
+    chunk-is (a .sizes) (a .part) _ e z (c5 .rest-size .ensures) (c4 .chunk-start .ensures) (c3 .chunk-width .ensures)
 
 pub next-part-spec : {M : Type 1} → statement M
 next-part-spec =

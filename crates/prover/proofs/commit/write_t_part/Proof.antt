@@ -1,9 +1,9 @@
--- `prover::commit::write_t_part` meets its contract: t_i stands in the last stretch of the block before it is split.
+-- `prover::commit::write_t_part` meets its contract: t_i stands in the last part of the block before it is split.
 use borrow.Author.Needs.{needs}
 use Prim.Native.Nat.{_-_, _*_, _+_}
 use native.Mathlib.Omega.{arith}
 use Rattle.fold.specs.WriterLaws.{split-elements}
-use Rattle.prover.specs.Places.{place-below, last-place, stretch-below}
+use Rattle.prover.specs.Places.{place-below, last-place, block-below}
 use Rattle.prover.proofs.commit.write_t_part.Statement.{statement}
 use Rattle.prover.proofs.commit.write_t_part.Tie as tie
 
@@ -27,7 +27,7 @@ mul-width : tie.Need-mul-width
 mul-width c =
     let s = c .before .before .before in
     let a = s .args in
-    omega (arith, stretch-below (a .kappa * a .d) (a .t1) (s .pre .1 .1 .1 .0) (s .pre .1 .1 .1 .1))
+    omega (arith, block-below (a .kappa * a .d) (a .t1) (s .pre .1 .1 .1 .0) (s .pre .1 .1 .1 .1))
 
 split-digits-requires : tie.Need-split-digits-requires
 split-digits-requires c κs = search needs

@@ -1,4 +1,4 @@
--- `prover::garbage::write_element_digits` meets its contract: the element stands in the last stretch of the block before it is split.
+-- `prover::garbage::write_element_digits` meets its contract: the element stands in the last part of the block before it is split.
 use borrow.Author.Needs.{needs}
 use Prim.Native.Nat.{_-_}
 use native.Mathlib.Omega.{arith}

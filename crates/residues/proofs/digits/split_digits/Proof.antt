@@ -2,7 +2,7 @@
 use mathlib.Core.Path.{sym, _∙_}
 use Prim.Native.Nat.{_-_, _<_}
 use native.Mathlib.Omega.{arith}
-use Rattle.residues.specs.DigitBlocks.{Splitting, split-start, split-step, split-end, stretch-fits, last-fits}
+use Rattle.residues.specs.DigitBlocks.{Splitting, split-start, split-step, split-end, digit-block-fits, last-fits}
 use Rattle.residues.proofs.digits.split_digits.Statement.{statement}
 use Rattle.residues.proofs.digits.split_digits.Tie as tie
 
@@ -29,7 +29,7 @@ mul-peel c =
     let start = c .before .before .before in
     omega (
       arith,
-      stretch-fits (start .args .count) (start .args .width) (c .before .before .loop .k) (omega arith),
+      digit-block-fits (start .args .count) (start .args .width) (c .before .before .loop .k) (omega arith),
       last-fits (start .args .count) (start .args .width) (start .pre .1 .0),
       start .pre .1,
     )
@@ -40,7 +40,7 @@ peel-requires c κs =
     let at = c .before .before .loop in (
       start .pre .0,
       (
-        stretch-fits (start .args .count) (start .args .width) (at .k) (omega arith),
+        digit-block-fits (start .args .count) (start .args .width) (at .k) (omega arith),
         omega (arith, last-fits (start .args .count) (start .args .width) (start .pre .1 .0), at .inv .0 .same),
       ),
     )

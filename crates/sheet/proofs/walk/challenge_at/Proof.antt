@@ -2,7 +2,7 @@
 use mathlib.Core.Path.{refl, ap, _∙_}
 use Rattle.residues.specs.Range.{challenge}
 use Rattle.sheet.specs.Sections.{endsLine}
-use Rattle.sheet.specs.ChallengeLaws.{lent-length, lent-part}
+use Rattle.sheet.specs.ChallengeLaws.{filled-length, filled-part}
 use borrow.Author.Needs.{needs}
 use Rattle.sheet.proofs.walk.challenge_at.Statement.{statement}
 use Rattle.sheet.proofs.walk.challenge_at.Tie as tie
@@ -19,7 +19,7 @@ array-share-prefix-numbers c = search needs
 slice-aggregate-is-challenge : tie.Need-slice-aggregate-is-challenge
 slice-aggregate-is-challenge c =
     let start = c .before .before .before .before .before in
-    lent-length _ (c .before .before .fill .last .1 .1 .1 .1 .1 .0) (endsLine (start .args .s)) (start .args .text .now)
+    filled-length _ (c .before .before .fill .last .1 .1 .1 .1 .1 .0) (endsLine (start .args .s)) (start .args .text .now)
     (start .args .from) (start .args .d) refl (start .pre .0 .2) (c .before .before .fill .ensures)
 
 is-challenge-requires : tie.Need-is-challenge-requires
@@ -29,7 +29,7 @@ returns : tie.Need-returns
 returns c =
     let start = c .before .before .before .before .before .before in
     c .is-challenge .ensures ∙ ap challenge
-    (lent-part _ (c .before .before .before .fill .last .1 .1 .1 .1 .1 .0) (endsLine (start .args .s)) (start .args .text .now)
+    (filled-part _ (c .before .before .before .fill .last .1 .1 .1 .1 .1 .0) (endsLine (start .args .s)) (start .args .text .now)
     (start .args .from) (start .args .d) refl (start .pre .0 .2) (c .before .before .before .fill .ensures))
 
 pub challenge-at-spec : {M : Type 1} → statement M

@@ -19,7 +19,7 @@ product d u v = coeffs d (R d .mul (lift d u) (lift d v))
 abbrev pub X : (d : ℕ) → R d .Carrier
 X d = indeterminate Zq d
 
-pub record Bench : Type 0 where
+pub record RingCases : Type 0 where
   -- "d=2: (1+2X)² = -3+4X", "X·X = -1", "d=4: σ(1+2X+3X²+4X³) = 1-4X-3X²-2X³"
   pub square : product 2 (+ 1 ∷ + 2 ∷ []) (+ 1 ∷ + 2 ∷ []) ≡ - 3 ∷ + 4 ∷ []
   pub X-squared : coeffs 2 (R 2 .mul (X 2) (X 2)) ≡ - 1 ∷ + 0 ∷ []
@@ -36,9 +36,9 @@ pub record Bench : Type 0 where
   pub digits-of-2 : split 4 2 (+ 2 ∷ []) ≡ - 2 ∷ + 1 ∷ []
   pub digits-of-minus-2 : split 4 2 (- 2 ∷ []) ≡ - 2 ∷ + 0 ∷ []
 
-pub bench : Bench
+pub ring-cases : RingCases
 unfolding ring-computes
-bench =
+ring-cases =
     record {
       square = refl;
       X-squared = refl;
