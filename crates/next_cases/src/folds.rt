@@ -3,7 +3,6 @@
 use crate::input::FILL;
 use crate::input::ROOM;
 use crate::input::count_at;
-use crate::messages;
 use crate::messages::B2;
 use crate::messages::G;
 use crate::messages::H;
@@ -13,9 +12,8 @@ use crate::messages::U1;
 use crate::messages::U2;
 use crate::messages::Z;
 use crate::messages::keep;
-use crate::messages::message;
-use crate::output;
-use crate::verdict::print_verdict;
+use crate::output::print_answer;
+use crate::verdict::verify;
 use cases::lists::nth_list;
 use fold::CommitSizes;
 use fold::GarbageSizes;
@@ -85,24 +83,18 @@ fn commit(
         g,
         u1,
     );
-    output::print_answer(place, answer);
+    print_answer(place, answer);
     keep(messages, lengths, T, t);
     keep(messages, lengths, G, g);
     keep(messages, lengths, U1, u1);
 }
 
-fn project(
-    sizes: Sizes,
-    rows: &[i32],
-    witness: &[i32],
-    lengths: &[i32],
-    messages: &mut [i32],
-) {
+fn project(sizes: Sizes, rows: &[i32], witness: &[i32], lengths: &[i32], messages: &mut [i32]) {
     let count = count_at(lengths, P);
     let mut p_room = [FILL; ROOM];
     let p = &mut p_room[..count];
     let answer = lizkarg::project(shape(sizes), sizes.w, rows, witness, p);
-    output::print_answer(1, answer);
+    print_answer(1, answer);
     keep(messages, lengths, P, p);
 }
 
@@ -130,7 +122,7 @@ fn aggregate(
         witness,
         b2,
     );
-    output::print_answer(1, answer);
+    print_answer(1, answer);
     keep(messages, lengths, B2, b2);
 }
 
@@ -166,58 +158,19 @@ fn commit_garbage(
         h,
         u2,
     );
-    output::print_answer(1, answer);
+    print_answer(1, answer);
     keep(messages, lengths, H, h);
     keep(messages, lengths, U2, u2);
 }
 
-fn amortize(
-    sizes: Sizes,
-    draws: &[i32],
-    witness: &[i32],
-    lengths: &[i32],
-    messages: &mut [i32],
-) {
+fn amortize(sizes: Sizes, draws: &[i32], witness: &[i32], lengths: &[i32], messages: &mut [i32]) {
     let count = count_at(lengths, Z);
     let mut z_room = [FILL; ROOM];
     let z = &mut z_room[..count];
     let c = nth_list(draws, 3);
     let answer = lizkarg::amortize(shape(sizes), sizes.b, c, witness, z);
-    output::print_answer(1, answer);
+    print_answer(1, answer);
     keep(messages, lengths, Z, z);
-}
-
-fn verify(
-    sizes: Sizes,
-    setup: &[i32],
-    whole: &[i32],
-    term: &[i32],
-    rows: &[i32],
-    psi: &[i32],
-    draws: &[i32],
-    lengths: &[i32],
-    messages: &[i32],
-) {
-    print_verdict(
-        sizes,
-        nth_list(setup, 0),
-        nth_list(setup, 1),
-        nth_list(setup, 2),
-        nth_list(setup, 3),
-        whole,
-        term,
-        message(messages, lengths, U1),
-        rows,
-        message(messages, lengths, P),
-        psi,
-        nth_list(draws, 0),
-        message(messages, lengths, B2),
-        nth_list(draws, 1),
-        nth_list(draws, 2),
-        message(messages, lengths, U2),
-        nth_list(draws, 3),
-        messages::opening(messages, lengths),
-    );
 }
 
 // A fold: prints each message's answer and the sums of what it wrote, and the verdict.
@@ -238,10 +191,27 @@ pub fn run_fold(
     project(sizes, rows, witness, lengths, messages);
     aggregate(sizes, term, rows, psi, draws, witness, lengths, messages);
     commit_garbage(
-        sizes, setup, whole, term, rows, psi, draws, witness, lengths, messages,
+        sizes,
+        setup,
+        whole,
+        term,
+        rows,
+        psi,
+        draws,
+        witness,
+        lengths,
+        messages,
     );
     amortize(sizes, draws, witness, lengths, messages);
     verify(
-        sizes, setup, whole, term, rows, psi, draws, lengths, messages,
+        sizes,
+        setup,
+        whole,
+        term,
+        rows,
+        psi,
+        draws,
+        lengths,
+        messages,
     );
 }

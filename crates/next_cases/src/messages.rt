@@ -2,9 +2,9 @@
 // numbers of another.
 ghost use Prim.Native.Nat.{_≤_};
 ghost use lib.ListN.{length};
-use crate::output;
-use crate::witness::put;
+use cases::lists::put;
 use cases::numbers::size;
+use cases::sums::print_sum;
 
 // Which list each message is.
 pub const Z: usize = 0;
@@ -58,5 +58,5 @@ pub fn message<'a>(messages: &'a [i32], lengths: &[i32], number: usize) -> &'a [
 pub fn keep(messages: &mut [i32], lengths: &[i32], number: usize, xs: &[i32]) {
     let start = total(lengths, number, messages.len());
     put(messages, start, xs, xs.len());
-    output::print_sum(xs);
+    print_sum(xs);
 }
