@@ -54,6 +54,16 @@ pub fn message<'a>(messages: &'a [i32], lengths: &[i32], number: usize) -> &'a [
     &messages[start..end]
 }
 
+// The same, to be written.
+pub fn message_mut<'a>(messages: &'a mut [i32], lengths: &[i32], number: usize) -> &'a mut [i32]
+    ensures { λ r. ⌜ length (now r) ≤ length (now (messages .entry)) ⌝ }
+{
+    let room = messages.len();
+    let start = total(lengths, number, room);
+    let end = start + size(lengths, number, room - start);
+    &mut messages[start..end]
+}
+
 // Keeps the list of this number, and prints its sum.
 pub fn keep(messages: &mut [i32], lengths: &[i32], number: usize, xs: &[i32]) {
     let start = total(lengths, number, messages.len());
