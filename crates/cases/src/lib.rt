@@ -2,3 +2,4 @@
 pub mod lists;
 pub mod numbers;
 pub mod printing;
+pub mod sums;

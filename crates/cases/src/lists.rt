@@ -82,3 +82,30 @@ pub fn nth_list(xs: &[i32], before: usize) -> &[i32]
 {
     list(past_lists(xs, before), 0)
 }
+
+// The number at a place; 0 past the end.
+fn padded(xs: &[i32], place: usize) -> i32 {
+    if xs.len() <= place {
+        return 0;
+    }
+    xs[place]
+}
+
+// Puts `width` numbers into a list, from `at` on: those of the part, and zeros after them. The answer is the place after them; nothing is
+// put past the list's end.
+pub fn put(out: &mut [i32], at: usize, part: &[i32], width: usize) -> usize
+    requires { ⌜ at ≤ length (now out) ⌝ }
+    ensures { λ r. ⌜ r ≤ length (now (out .exit)) ⌝ }
+{
+    let mut to = at;
+    let mut i = 0;
+    while i < width {
+        if out.len() <= to {
+            return to;
+        }
+        out[to] = padded(part, i);
+        to += 1;
+        i += 1;
+    }
+    to
+}

@@ -3,7 +3,6 @@
 use crate::input::FILL;
 use crate::input::ROOM;
 use crate::input::count_at;
-use crate::messages;
 use crate::messages::B2;
 use crate::messages::G;
 use crate::messages::H;
@@ -14,9 +13,11 @@ use crate::messages::U2;
 use crate::messages::Z;
 use crate::messages::keep;
 use crate::messages::message;
-use crate::output;
-use crate::verdict::print_verdict;
+use crate::messages::message_mut;
+use crate::output::print_answer;
+use crate::verdict::verify;
 use cases::lists::nth_list;
+use cases::sums::print_sum;
 use fold::CommitSizes;
 use fold::GarbageSizes;
 use fold::Shape;
@@ -68,13 +69,11 @@ fn commit(
 ) {
     let t_count = count_at(lengths, T);
     let g_count = count_at(lengths, G);
-    let u1_count = count_at(lengths, U1);
     let mut t_room = [FILL; ROOM];
     let t = &mut t_room[..t_count];
     let mut g_room = [FILL; ROOM];
     let g = &mut g_room[..g_count];
-    let mut u1_room = [FILL; ROOM];
-    let u1 = &mut u1_room[..u1_count];
+    let u1 = message_mut(messages, lengths, U1);
     let answer = lizkarg::commit(
         commit_sizes(sizes),
         nth_list(setup, 0),
@@ -85,25 +84,17 @@ fn commit(
         g,
         u1,
     );
-    output::print_answer(place, answer);
+    print_answer(place, answer);
     keep(messages, lengths, T, t);
     keep(messages, lengths, G, g);
-    keep(messages, lengths, U1, u1);
+    print_sum(message(messages, lengths, U1));
 }
 
-fn project(
-    sizes: Sizes,
-    rows: &[i32],
-    witness: &[i32],
-    lengths: &[i32],
-    messages: &mut [i32],
-) {
-    let count = count_at(lengths, P);
-    let mut p_room = [FILL; ROOM];
-    let p = &mut p_room[..count];
+fn project(sizes: Sizes, rows: &[i32], witness: &[i32], lengths: &[i32], messages: &mut [i32]) {
+    let p = message_mut(messages, lengths, P);
     let answer = lizkarg::project(shape(sizes), sizes.w, rows, witness, p);
-    output::print_answer(1, answer);
-    keep(messages, lengths, P, p);
+    print_answer(1, answer);
+    print_sum(p);
 }
 
 fn aggregate(
@@ -116,9 +107,7 @@ fn aggregate(
     lengths: &[i32],
     messages: &mut [i32],
 ) {
-    let count = count_at(lengths, B2);
-    let mut b2_room = [FILL; ROOM];
-    let b2 = &mut b2_room[..count];
+    let b2 = message_mut(messages, lengths, B2);
     let answer = lizkarg::aggregate(
         shape(sizes),
         sizes.l,
@@ -130,8 +119,8 @@ fn aggregate(
         witness,
         b2,
     );
-    output::print_answer(1, answer);
-    keep(messages, lengths, B2, b2);
+    print_answer(1, answer);
+    print_sum(b2);
 }
 
 fn commit_garbage(
@@ -146,12 +135,10 @@ fn commit_garbage(
     lengths: &[i32],
     messages: &mut [i32],
 ) {
-    let h_count = count_at(lengths, H);
-    let u2_count = count_at(lengths, U2);
-    let mut h_room = [FILL; ROOM];
-    let h = &mut h_room[..h_count];
-    let mut u2_room = [FILL; ROOM];
-    let u2 = &mut u2_room[..u2_count];
+    let count = count_at(lengths, H);
+    let mut room = [FILL; ROOM];
+    let h = &mut room[..count];
+    let u2 = message_mut(messages, lengths, U2);
     let answer = lizkarg::commit_garbage(
         garbage_sizes(sizes),
         whole,
@@ -166,58 +153,17 @@ fn commit_garbage(
         h,
         u2,
     );
-    output::print_answer(1, answer);
+    print_answer(1, answer);
     keep(messages, lengths, H, h);
-    keep(messages, lengths, U2, u2);
+    print_sum(message(messages, lengths, U2));
 }
 
-fn amortize(
-    sizes: Sizes,
-    draws: &[i32],
-    witness: &[i32],
-    lengths: &[i32],
-    messages: &mut [i32],
-) {
-    let count = count_at(lengths, Z);
-    let mut z_room = [FILL; ROOM];
-    let z = &mut z_room[..count];
+fn amortize(sizes: Sizes, draws: &[i32], witness: &[i32], lengths: &[i32], messages: &mut [i32]) {
+    let z = message_mut(messages, lengths, Z);
     let c = nth_list(draws, 3);
     let answer = lizkarg::amortize(shape(sizes), sizes.b, c, witness, z);
-    output::print_answer(1, answer);
-    keep(messages, lengths, Z, z);
-}
-
-fn verify(
-    sizes: Sizes,
-    setup: &[i32],
-    whole: &[i32],
-    term: &[i32],
-    rows: &[i32],
-    psi: &[i32],
-    draws: &[i32],
-    lengths: &[i32],
-    messages: &[i32],
-) {
-    print_verdict(
-        sizes,
-        nth_list(setup, 0),
-        nth_list(setup, 1),
-        nth_list(setup, 2),
-        nth_list(setup, 3),
-        whole,
-        term,
-        message(messages, lengths, U1),
-        rows,
-        message(messages, lengths, P),
-        psi,
-        nth_list(draws, 0),
-        message(messages, lengths, B2),
-        nth_list(draws, 1),
-        nth_list(draws, 2),
-        message(messages, lengths, U2),
-        nth_list(draws, 3),
-        messages::opening(messages, lengths),
-    );
+    print_answer(1, answer);
+    print_sum(z);
 }
 
 // A fold: prints each message's answer and the sums of what it wrote, and the verdict.
@@ -238,10 +184,27 @@ pub fn run_fold(
     project(sizes, rows, witness, lengths, messages);
     aggregate(sizes, term, rows, psi, draws, witness, lengths, messages);
     commit_garbage(
-        sizes, setup, whole, term, rows, psi, draws, witness, lengths, messages,
+        sizes,
+        setup,
+        whole,
+        term,
+        rows,
+        psi,
+        draws,
+        witness,
+        lengths,
+        messages,
     );
     amortize(sizes, draws, witness, lengths, messages);
     verify(
-        sizes, setup, whole, term, rows, psi, draws, lengths, messages,
+        sizes,
+        setup,
+        whole,
+        term,
+        rows,
+        psi,
+        draws,
+        lengths,
+        messages,
     );
 }

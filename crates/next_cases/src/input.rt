@@ -9,10 +9,14 @@ ghost use Rattle.next_cases.specs.Input.{sizeAt};
 use cases::numbers::size;
 use fold::Sizes;
 
-// Where the sizes of a case begin, how many they are, and what follows them.
+// Where the sizes of a case begin, how many they are, which are ν and μ, and what follows them.
 pub const SIZES: usize = 1;
 
 pub const SIZE_COUNT: usize = 18;
+
+pub const NU: usize = 14;
+
+pub const MU: usize = 15;
 
 pub const LISTS: usize = 19;
 
@@ -80,20 +84,6 @@ pub fn read_sizes(wides: &[i64]) -> Sizes
         bound: bound_at(wides, 16),
         target: bound_at(wides, 17),
     }
-}
-
-// ν of these sizes.
-pub fn read_nu(wides: &[i64]) -> usize
-    ensures { λ x. ⌜ x ≡ sizeAt (now (wides .entry)) 14 ⌝ }
-{
-    size_at(wides, 14)
-}
-
-// μ of these sizes.
-pub fn read_mu(wides: &[i64]) -> usize
-    ensures { λ x. ⌜ x ≡ sizeAt (now (wides .entry)) 15 ⌝ }
-{
-    size_at(wides, 15)
 }
 
 // The length of a list to write, 0 where it is too long. The filled array has a part that long.

@@ -5,10 +5,11 @@ use crate::input::FILL;
 use crate::input::LISTS;
 use crate::input::ROOM;
 use crate::input::count_at;
-use crate::output;
+use crate::output::print_answer;
 use cases::lists::nth_list;
 use cases::lists::past_lists;
 use cases::lists::past_numbers;
+use cases::sums::print_shown;
 use fold::Sizes;
 use next_instance::next_instance;
 
@@ -36,8 +37,8 @@ fn print_instance(sizes: Sizes, nu: usize, mu: usize, lists: &[i32], out: &mut [
         nth_list(lists, 15),
         out,
     );
-    output::print_answer(0, answer);
-    output::print_shown(out);
+    print_answer(0, answer);
+    print_shown(out);
 }
 
 // The sixteen lists of the call, and the length of the list to write. The answer is how many numbers the case has.

@@ -2,9 +2,9 @@
 // numbers of another.
 ghost use Prim.Native.Nat.{_≤_};
 ghost use lib.ListN.{length};
-use crate::output;
-use crate::witness::put;
+use cases::lists::put;
 use cases::numbers::size;
+use cases::sums::print_sum;
 
 // Which list each message is.
 pub const Z: usize = 0;
@@ -54,9 +54,19 @@ pub fn message<'a>(messages: &'a [i32], lengths: &[i32], number: usize) -> &'a [
     &messages[start..end]
 }
 
+// The same, to be written.
+pub fn message_mut<'a>(messages: &'a mut [i32], lengths: &[i32], number: usize) -> &'a mut [i32]
+    ensures { λ r. ⌜ length (now r) ≤ length (now (messages .entry)) ⌝ }
+{
+    let room = messages.len();
+    let start = total(lengths, number, room);
+    let end = start + size(lengths, number, room - start);
+    &mut messages[start..end]
+}
+
 // Keeps the list of this number, and prints its sum.
 pub fn keep(messages: &mut [i32], lengths: &[i32], number: usize, xs: &[i32]) {
     let start = total(lengths, number, messages.len());
     put(messages, start, xs, xs.len());
-    output::print_sum(xs);
+    print_sum(xs);
 }

@@ -4,9 +4,9 @@ ghost use Prim.Native.Nat.{_≤_};
 ghost use lib.ListN.{length};
 use crate::input::LISTS;
 use crate::input::size_at;
-use crate::output;
 use cases::lists::after_list;
 use cases::lists::list;
+use cases::sums::print_shown;
 use chunks::part::PartSizes;
 use chunks::part::next_part;
 use chunks::part::next_part_refusal;
@@ -36,7 +36,7 @@ pub fn part_sizes(sizes: Sizes, nu: usize, mu: usize) -> PartSizes
 fn print_part(sizes: PartSizes, part: usize, opening: &[i32]) {
     let refusal = next_part_refusal(sizes, part, opening);
     io::print_decimal(1, refusal as u64);
-    output::print_shown(next_part(sizes, part, opening));
+    print_shown(next_part(sizes, part, opening));
 }
 
 // The part's number, the opening. The answer is how many numbers the case has.

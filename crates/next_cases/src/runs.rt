@@ -15,8 +15,8 @@ fn run(kind: i32, wides: &[i64], xs: &[i32]) -> usize
 {
     let fold = lists::rest(wides, input::SIZES);
     let sizes = input::read_sizes(fold);
-    let nu = input::read_nu(fold);
-    let mu = input::read_mu(fold);
+    let nu = input::size_at(fold, input::NU);
+    let mu = input::size_at(fold, input::MU);
     match kind {
         1 => instance::run_instance(sizes, nu, mu, xs),
         2 => part::run_part(sizes, nu, mu, wides, xs),

@@ -15,13 +15,14 @@ use crate::messages::U1;
 use crate::messages::U2;
 use crate::messages::message;
 use crate::messages::opening;
-use crate::output;
+use crate::output::print_answer;
 use crate::part::part_sizes;
 use crate::witness::write_witness;
 use cases::lists::nth_list;
 use cases::lists::past_lists;
 use cases::lists::past_numbers;
 use cases::lists::rest;
+use cases::sums::print_sum;
 use chunks::part::PartSizes;
 use fold::Sizes;
 use next_instance::next_instance;
@@ -75,8 +76,8 @@ fn print_next(
         nth_list(lists, 11),
         out,
     );
-    output::print_answer(1, answer);
-    output::print_sum(out);
+    print_answer(1, answer);
+    print_sum(out);
 }
 
 // A product of sizes; 0 where one passes what a list can have.
@@ -95,7 +96,7 @@ fn product(x: usize, y: usize) -> usize
 // The second fold: A, B, C, D, the rows, omega, alpha, delta, the challenges. There are no constant-term functions and no psi.
 fn run_second(sizes: Sizes, whole: &[i32], witness: &[i32], lists: &[i32]) {
     let mut messages = [FILL; ROOM];
-    output::print_sum(witness);
+    print_sum(witness);
     run_fold(
         1,
         sizes,

@@ -3,11 +3,18 @@ ghost use mathlib.Core.Path.{_≡_};
 ghost use Rattle.fold.specs.Answers.{numberOf};
 ghost use Rattle.fold.specs.Arguments.{statementOf, drawsOf, transcriptOf};
 ghost use Rattle.fold.specs.Verification.{verification};
-use crate::output;
+use crate::messages::B2;
+use crate::messages::P;
+use crate::messages::U1;
+use crate::messages::U2;
+use crate::messages::message;
+use crate::messages::opening;
+use crate::output::print_answer;
+use cases::lists::nth_list;
 use fold::Sizes;
 
 // The verdict on an opening and messages: its kind and number are printed, its number is the answer.
-pub fn print_verdict(
+fn print_verdict(
     sizes: Sizes,
     a: &[i32],
     b: &[i32],
@@ -53,5 +60,39 @@ pub fn print_verdict(
         c,
         opening,
     );
-    output::print_answer(1, answer)
+    print_answer(1, answer)
+}
+
+// The verdict on a fold's messages; the parameters are those of a fold, as module folds has them.
+pub fn verify(
+    sizes: Sizes,
+    setup: &[i32],
+    whole: &[i32],
+    term: &[i32],
+    rows: &[i32],
+    psi: &[i32],
+    draws: &[i32],
+    lengths: &[i32],
+    messages: &[i32],
+) {
+    print_verdict(
+        sizes,
+        nth_list(setup, 0),
+        nth_list(setup, 1),
+        nth_list(setup, 2),
+        nth_list(setup, 3),
+        whole,
+        term,
+        message(messages, lengths, U1),
+        rows,
+        message(messages, lengths, P),
+        psi,
+        nth_list(draws, 0),
+        message(messages, lengths, B2),
+        nth_list(draws, 1),
+        nth_list(draws, 2),
+        message(messages, lengths, U2),
+        nth_list(draws, 3),
+        opening(messages, lengths),
+    );
 }

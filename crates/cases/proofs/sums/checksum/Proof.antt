@@ -1,9 +1,9 @@
--- `next_cases::output::checksum` meets its contract. Assumes nothing.
+-- `cases::sums::checksum` meets its contract. Assumes nothing.
 use Prim.Native.Nat.{_-_, _<_, _≤_}
 use native.Mathlib.Omega.{arith}
 use lib.ListN.{length}
-use Rattle.next_cases.proofs.output.checksum.Statement.{statement}
-use Rattle.next_cases.proofs.output.checksum.Tie as tie
+use Rattle.cases.proofs.sums.checksum.Statement.{statement}
+use Rattle.cases.proofs.sums.checksum.Tie as tie
 
 abbrev Inv-loop : tie.InvT-loop
 Inv-loop xs sum₀ i₀ sum i = (i ≤ length xs) × (sum < 2147483647)

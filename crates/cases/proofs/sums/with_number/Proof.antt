@@ -1,10 +1,10 @@
--- `next_cases::output::with_number` meets its contract. Assumes nothing.
+-- `cases::sums::with_number` meets its contract. Assumes nothing.
 use Prim.Native.Nat.{ℕ, _*_, _%_, _≤_}
 use native.Mathlib.Nat.{mul-le-mul}
 use native.Mathlib.Omega.{arith}
 use borrow.Author.Needs.{needs}
-use Rattle.next_cases.proofs.output.with_number.Statement.{statement}
-use Rattle.next_cases.proofs.output.with_number.Tie as tie
+use Rattle.cases.proofs.sums.with_number.Statement.{statement}
+use Rattle.cases.proofs.sums.with_number.Tie as tie
 
 small : {x y : ℕ} → x ≤ 2147483647 → y ≤ 2147483647 → x * y ≤ 4611686014132420609
 small h k = mul-le-mul h k

@@ -1,10 +1,10 @@
--- `next_cases::witness::put` meets its contract: it stays inside the list. Assumes nothing.
+-- `cases::lists::put` meets its contract: it stays inside the list. Assumes nothing.
 use mathlib.Core.Path.{_≡_, refl}
 use Prim.Native.Nat.{_-_, _≤_}
 use native.Mathlib.Omega.{arith}
 use lib.ListN.{length, length-set}
-use Rattle.next_cases.proofs.witness.put.Statement.{statement}
-use Rattle.next_cases.proofs.witness.put.Tie as tie
+use Rattle.cases.proofs.lists.put.Statement.{statement}
+use Rattle.cases.proofs.lists.put.Tie as tie
 
 abbrev Inv-loop : tie.InvT-loop
 Inv-loop out₀ at part width to₀ i₀ out to i = (length out ≡ length out₀) × (to ≤ length out)
