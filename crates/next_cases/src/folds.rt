@@ -166,7 +166,7 @@ fn amortize(sizes: Sizes, draws: &[i32], witness: &[i32], lengths: &[i32], messa
     print_sum(z);
 }
 
-// A fold: prints each message's answer and the sums of what it wrote, and the verdict.
+// A fold: prints each message's answer and the sums of what it wrote, and the verdict; a blank first where `place` is not 0.
 pub fn run_fold(
     place: usize,
     sizes: Sizes,
