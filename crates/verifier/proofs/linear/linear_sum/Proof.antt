@@ -1,11 +1,11 @@
--- `verifier::relation::linear_sum` meets its contract. The accumulator holds the sum of the terms so far.
+-- `verifier::linear::linear_sum` meets its contract. The accumulator holds the sum of the terms so far.
 use Prim.Native.Nat.{_-_}
 use native.Mathlib.Omega.{arith}
 use Rattle.verifier.specs.Places.{element-fits}
 use Rattle.verifier.specs.Relation.{linearTerm, linear-term}
 use Rattle.verifier.specs.Loops.{Summed, summed-start, summed-step, summed-end}
-use Rattle.verifier.proofs.relation.linear_sum.Statement.{statement}
-use Rattle.verifier.proofs.relation.linear_sum.Tie as tie
+use Rattle.verifier.proofs.linear.linear_sum.Statement.{statement}
+use Rattle.verifier.proofs.linear.linear_sum.Tie as tie
 
 abbrev Inv-loop : tie.InvT-loop
 Inv-loop sizes whole term rows psi omega table alpha delta c z d count acc₀ i₀ acc i = Summed (sizes .d) count

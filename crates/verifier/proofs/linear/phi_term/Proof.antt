@@ -1,10 +1,10 @@
--- `verifier::relation::phi_term` meets its contract.
+-- `verifier::linear::phi_term` meets its contract.
 use native.Mathlib.Omega.{arith}
 use Rattle.ring.specs.ElementPlaces.{block-before}
 use Rattle.verifier.specs.Relation.{phi-term}
 use borrow.Author.Needs.{needs}
-use Rattle.verifier.proofs.relation.phi_term.Statement.{statement}
-use Rattle.verifier.proofs.relation.phi_term.Tie as tie
+use Rattle.verifier.proofs.linear.phi_term.Statement.{statement}
+use Rattle.verifier.proofs.linear.phi_term.Tie as tie
 
 aggregate-phi-requires : tie.Need-aggregate-phi-requires
 aggregate-phi-requires c κs = search needs
