@@ -64,7 +64,7 @@ fn phi_term(
         e,
     );
     let value = Element::from_slice(d, z, y);
-    amortized::element_product(d, phi, value)
+    phi.product(d, value)
 }
 
 // <φ_i, z>.
@@ -145,7 +145,7 @@ fn linear_sum(
     let mut acc = Element::additive_identity();
     let mut i = 0;
     while i < count {
-        let product = phi_product(
+        let inner = phi_product(
             sizes,
             whole,
             term,
@@ -159,7 +159,7 @@ fn linear_sum(
             i,
         );
         let challenge = Element::from_slice(d, c, i);
-        let weighted = amortized::element_product(d, product, challenge);
+        let weighted = inner.product(d, challenge);
         acc = acc.sum(d, weighted);
         i += 1;
     }

@@ -12,7 +12,6 @@ ghost use Rattle.constraints.specs.Facts.{TermFacts, WholeFacts};
 ghost use Rattle.verifier.specs.Facts.{Fits, Holds, Opening, gValue, hValue};
 ghost use Rattle.verifier.specs.Mixed.{Garbage};
 ghost use Rattle.verifier.specs.Relation.{relationTerm};
-use crate::amortized;
 use crate::places;
 use crate::recomposed;
 use constraints::aggregated;
@@ -50,7 +49,7 @@ fn relation_term(
     };
     let a = aggregated::aggregate_a(shape, sizes.k, sizes.l, whole, term, psi, alpha, delta, q);
     let g = recomposed::garbage_of(d, sizes.b2, sizes.t2, opening, place, q);
-    amortized::element_product(d, a, g)
+    a.product(d, g)
 }
 
 // Σ a_ij g_ij.
