@@ -5,7 +5,7 @@ ghost use lib.ListN.{length};
 ghost use Rattle.algebra.specs.Sum.{sum};
 ghost use Rattle.algebra.specs.Triangle.{pair};
 ghost use Rattle.algebra.specs.DotProduct.{mixed};
-ghost use Rattle.ring.specs.Element.{R, Degree, lift, el, array, same};
+ghost use Rattle.ring.specs.Element.{R, el, array, same};
 ghost use Rattle.fold.specs.Messages.{times};
 ghost use Rattle.fold.specs.Verdict.{block, garbageOf, check₅, check₆};
 ghost use Rattle.verifier.specs.Facts.{Fits, Holds, Opening, tValue, gValue};
@@ -16,18 +16,6 @@ use crate::recomposed;
 use fold::Sizes;
 use ring::element::Element;
 use ring::product;
-
-// The product of two elements.
-pub fn element_product(d: usize, x: Element, y: Element) -> Element
-    requires { ⌜ Degree d ⌝ }
-    ensures { λ r. ⌜ r .coefficients ≡ array d (R d .mul (lift d (x .coefficients)) (lift d (y .coefficients))) ⌝ }
-{
-    let a = x.coefficients;
-    let b = y.coefficients;
-    Element {
-        coefficients: product::multiply(d, a, b),
-    }
-}
 
 // c_i times row k of t_i.
 fn folded_term(sizes: Sizes, c: &[i32], opening: &[i32], i: usize, k: usize) -> Element
@@ -43,7 +31,7 @@ fn folded_term(sizes: Sizes, c: &[i32], opening: &[i32], i: usize, k: usize) -> 
     let start = places::t_place(sizes);
     let t = recomposed::t_of(d, sizes.kappa, sizes.b1, sizes.t1, opening, start, i, k);
     let challenge = Element::from_slice(d, c, i);
-    element_product(d, challenge, t)
+    challenge.product(d, t)
 }
 
 // Row k of Σ c_i t_i.
@@ -130,8 +118,8 @@ fn mixed_term(
     let garbage = recomposed::garbage_of(d, b, t, opening, place, q);
     let left = Element::from_slice(d, c, i);
     let right = Element::from_slice(d, c, i + k);
-    let challenges = element_product(d, left, right);
-    let once = element_product(d, garbage, challenges);
+    let challenges = left.product(d, right);
+    let once = garbage.product(d, challenges);
     if k == 0 {
         return once;
     }

@@ -6,6 +6,7 @@ ghost use Rattle.fold.specs.Arguments.{statementOf, drawsOf, transcriptOf};
 ghost use Rattle.fold.specs.CallFacts.{VerifyFacts};
 ghost use Rattle.verifier.specs.Judgement.{OpeningFacts, Recomposed, openingChecks};
 use crate::amortized;
+use crate::linear;
 use crate::norms;
 use crate::outer;
 use crate::recomposed;
@@ -46,7 +47,7 @@ fn judge_opening(
     if !six {
         return Verdict::Failed(6);
     }
-    let seven = relation::linear_part(
+    let seven = linear::linear_part(
         sizes,
         whole,
         term,

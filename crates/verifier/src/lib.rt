@@ -8,6 +8,7 @@ use limits::verify_refusal;
 
 pub mod amortized;
 pub mod judgement;
+pub mod linear;
 pub mod norms;
 pub mod outer;
 pub mod places;

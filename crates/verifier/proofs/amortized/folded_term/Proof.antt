@@ -35,8 +35,8 @@ from-slice-requires c κs =
     let s = c .before .before in
     (s .pre .0 .shaped .degree, element-fits _ _ (s .args .i) _ (s .pre .1 .0) (s .pre .1 .1 .1 .0))
 
-element-product-requires : tie.Need-element-product-requires
-element-product-requires c κs = search needs
+product-requires : tie.Need-product-requires
+product-requires c κs = search needs
 
 returns : tie.Need-returns
 returns c =
@@ -44,9 +44,9 @@ returns c =
     let z = s .args .sizes in
     let t = c .before .before .t-of .ensures ∙ ap (λ (p : ℕ). array (z .d) (tOf (z .d) (z .kappa) (z .b1) (z .t1) (block (z .d)
     (s .args .opening .now) p) (s .args .i) (s .args .k))) (c .before .before .before .t-place .ensures) in
-    folded-term (z .d) _ _ _ _ _ (s .pre .0 .shaped .degree .small) (c .before .from-slice .ensures) t (c .element-product .ensures)
+    folded-term (z .d) _ _ _ _ _ (s .pre .0 .shaped .degree .small) (c .before .from-slice .ensures) t (c .product .ensures)
 
 pub folded-term-spec : {M : Type 1} → statement M
 folded-term-spec =
     tie.close
-    (tie.spec t-place-requires t-of-requires from-slice-requires element-product-requires returns)
+    (tie.spec t-place-requires t-of-requires from-slice-requires product-requires returns)

@@ -35,11 +35,11 @@ from-slice-requires-2 c κs =
     let s = c .before .before in
     (s .pre .0 .degree, element-fits (s .args .d) (s .args .r) (s .args .i + s .args .k) _ (s .pre .1 .0) (s .pre .1 .1 .0))
 
-element-product-requires : tie.Need-element-product-requires
-element-product-requires c κs = search needs
+product-requires : tie.Need-product-requires
+product-requires c κs = search needs
 
-element-product-requires-2 : tie.Need-element-product-requires-2
-element-product-requires-2 c κs = search needs
+product-requires-2 : tie.Need-product-requires-2
+product-requires-2 c κs = search needs
 
 returns : tie.Need-returns
 returns c =
@@ -49,8 +49,8 @@ returns c =
     let zero : a .k ≤ 0 = omega (arith, c .if1 .taken) in
     mixed-term-once (a .d) (a .r) (a .b) (a .t) (a .place) _ _ (a .i) (a .k) (a .q) _ _ _ _ _ (s .pre .0 .degree .small) zero
     (s .pre .1 .1 .1) (p .before .before .before .garbage-of .ensures)
-    (p .before .before .from-slice .ensures) (p .before .from-slice2 .ensures) (p .element-product .ensures)
-    (c .before .element-product2 .ensures)
+    (p .before .before .from-slice .ensures) (p .before .from-slice2 .ensures) (p .product .ensures)
+    (c .before .product2 .ensures)
 
 sum-requires : tie.Need-sum-requires
 sum-requires c κs = search needs
@@ -64,8 +64,8 @@ returns-2 c =
     let apart : 0 < a .k = omega (arith, l .if1 .left) in
     mixed-term-twice (a .d) (a .r) (a .b) (a .t) (a .place) _ _ (a .i) (a .k) (a .q) _ _ _ _ _ _ (s .pre .0 .degree .small) apart
     (s .pre .1 .1 .1) (p .before .before .before .garbage-of .ensures)
-    (p .before .before .from-slice .ensures) (p .before .from-slice2 .ensures) (p .element-product .ensures)
-    (l .before .element-product2 .ensures) (c .sum .ensures)
+    (p .before .before .from-slice .ensures) (p .before .from-slice2 .ensures) (p .product .ensures)
+    (l .before .product2 .ensures) (c .sum .ensures)
 
 pub mixed-term-spec : {M : Type 1} → statement M
 mixed-term-spec =
@@ -75,8 +75,8 @@ mixed-term-spec =
     from-slice-requires
     add-from-slice
     from-slice-requires-2
-    element-product-requires
-    element-product-requires-2
+    product-requires
+    product-requires-2
     returns
     sum-requires
     returns-2)

@@ -16,15 +16,15 @@ garbage-of-requires c κs =
     let g = s .pre .1 .1 .1 .0 in
     (g .degree, (g .base, (g .digits, garbage-below (z .d) (z .r) (z .t2) (s .args .place) (s .args .q) _ (s .pre .1 .1 .1 .1) (g .inside))))
 
-element-product-requires : tie.Need-element-product-requires
-element-product-requires c κs = search needs
+product-requires : tie.Need-product-requires
+product-requires c κs = search needs
 
 returns : tie.Need-returns
 returns c =
     let s = c .before .before .before in
     relation-term (s .args .sizes) _ _ _ _ _ _ (s .args .place) (s .args .q) _ _ _ (s .pre .0 .shaped .degree .small)
-    (c .before .before .aggregate-a .ensures) (c .before .garbage-of .ensures) (c .element-product .ensures)
+    (c .before .before .aggregate-a .ensures) (c .before .garbage-of .ensures) (c .product .ensures)
 
 pub relation-term-spec : {M : Type 1} → statement M
 relation-term-spec =
-    tie.close (tie.spec aggregate-a-requires garbage-of-requires element-product-requires returns)
+    tie.close (tie.spec aggregate-a-requires garbage-of-requires product-requires returns)

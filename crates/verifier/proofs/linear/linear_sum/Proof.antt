@@ -1,11 +1,11 @@
--- `verifier::relation::linear_sum` meets its contract. The accumulator holds the sum of the terms so far.
+-- `verifier::linear::linear_sum` meets its contract. The accumulator holds the sum of the terms so far.
 use Prim.Native.Nat.{_-_}
 use native.Mathlib.Omega.{arith}
 use Rattle.verifier.specs.Places.{element-fits}
 use Rattle.verifier.specs.Relation.{linearTerm, linear-term}
 use Rattle.verifier.specs.Loops.{Summed, summed-start, summed-step, summed-end}
-use Rattle.verifier.proofs.relation.linear_sum.Statement.{statement}
-use Rattle.verifier.proofs.relation.linear_sum.Tie as tie
+use Rattle.verifier.proofs.linear.linear_sum.Statement.{statement}
+use Rattle.verifier.proofs.linear.linear_sum.Tie as tie
 
 abbrev Inv-loop : tie.InvT-loop
 Inv-loop sizes whole term rows psi omega table alpha delta c z d count acc₀ i₀ acc i = Summed (sizes .d) count
@@ -30,8 +30,8 @@ from-slice-requires c κs =
     let s = c .before .before .before .before in
     (s .pre .0 .wholes .shaped .degree, element-fits _ _ (c .before .before .loop .i) _ (s .pre .1 .1 .0) (c .before .loop-test .taken))
 
-element-product-requires : tie.Need-element-product-requires Inv-loop μ-loop
-element-product-requires c κs = c .before .before .before .before .before .pre .0 .wholes .shaped .degree
+product-requires : tie.Need-product-requires Inv-loop μ-loop
+product-requires c κs = c .before .before .before .before .before .pre .0 .wholes .shaped .degree
 
 sum-requires : tie.Need-sum-requires Inv-loop μ-loop
 sum-requires c κs = c .before .before .before .before .before .before .pre .0 .wholes .shaped .degree
@@ -53,8 +53,8 @@ loop-again c =
     let s = l .before .before in
     let small = s .pre .0 .wholes .shaped .degree .small in
     let value = linear-term (s .args .sizes) _ _ _ _ _ _ _ _ _ (l .loop .i) _ _ _ small (p .phi-product .ensures)
-    (f .from-slice .ensures) (e .element-product .ensures) in
-    summed-step _ _ _ (e .element-product .result .coefficients) small (l .loop .inv) (p .before .loop-test .taken) value (c .sum .ensures)
+    (f .from-slice .ensures) (e .product .ensures) in
+    summed-step _ _ _ (e .product .result .coefficients) small (l .loop .inv) (p .before .loop-test .taken) value (c .sum .ensures)
 
 returns : tie.Need-returns Inv-loop μ-loop
 returns c = summed-end _ _ _ (c .before .loop .inv) (c .loop-test .left)
@@ -69,7 +69,7 @@ linear-sum-spec =
     loop-holds
     phi-product-requires
     from-slice-requires
-    element-product-requires
+    product-requires
     sum-requires
     add-i
     loop-less

@@ -1,10 +1,10 @@
--- `verifier::relation::phi_term` meets its contract.
+-- `verifier::linear::phi_term` meets its contract.
 use native.Mathlib.Omega.{arith}
 use Rattle.ring.specs.ElementPlaces.{block-before}
 use Rattle.verifier.specs.Relation.{phi-term}
 use borrow.Author.Needs.{needs}
-use Rattle.verifier.proofs.relation.phi_term.Statement.{statement}
-use Rattle.verifier.proofs.relation.phi_term.Tie as tie
+use Rattle.verifier.proofs.linear.phi_term.Statement.{statement}
+use Rattle.verifier.proofs.linear.phi_term.Tie as tie
 
 aggregate-phi-requires : tie.Need-aggregate-phi-requires
 aggregate-phi-requires c κs = search needs
@@ -15,16 +15,16 @@ from-slice-requires c κs =
     let z = s .args .sizes in
     (s .pre .0 .wholes .shaped .degree, omega (arith, block-before (z .d) (s .args .y) (z .n) (s .pre .1 .1 .1 .1), s .pre .1 .1 .0))
 
-element-product-requires : tie.Need-element-product-requires
-element-product-requires c κs = search needs
+product-requires : tie.Need-product-requires
+product-requires c κs = search needs
 
 returns : tie.Need-returns
 returns c =
     let s = c .before .before .before in
     phi-term (s .args .sizes) _ _ _ _ _ _ _ _ (s .args .e) (s .args .y) _ _ _ (s .pre .0 .wholes .shaped .degree .small)
-    (c .before .before .aggregate-phi .ensures) (c .before .from-slice .ensures) (c .element-product .ensures)
+    (c .before .before .aggregate-phi .ensures) (c .before .from-slice .ensures) (c .product .ensures)
 
 pub phi-term-spec : {M : Type 1} → statement M
 phi-term-spec =
     tie.close
-    (tie.spec aggregate-phi-requires from-slice-requires element-product-requires returns)
+    (tie.spec aggregate-phi-requires from-slice-requires product-requires returns)

@@ -1,10 +1,10 @@
--- `verifier::relation::linear_part` meets its contract.
+-- `verifier::linear::linear_part` meets its contract.
 use lib.ListN.{length-replicate}
 use lib.IntN.{pos}
 use Rattle.verifier.specs.Mixed.{h-garbage}
 use Rattle.verifier.specs.Relation.{check-seven}
-use Rattle.verifier.proofs.relation.linear_part.Statement.{statement}
-use Rattle.verifier.proofs.relation.linear_part.Tie as tie
+use Rattle.verifier.proofs.linear.linear_part.Statement.{statement}
+use Rattle.verifier.proofs.linear.linear_part.Tie as tie
 
 write-sums-requires : tie.Need-write-sums-requires
 write-sums-requires c κs =

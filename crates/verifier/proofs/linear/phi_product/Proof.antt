@@ -1,12 +1,12 @@
--- `verifier::relation::phi_product` meets its contract. The accumulator holds the sum of the terms so far.
+-- `verifier::linear::phi_product` meets its contract. The accumulator holds the sum of the terms so far.
 use mathlib.Core.Path.{ap, _∙_}
 use Prim.Native.Nat.{_-_, _+_, _*_}
 use native.Mathlib.Omega.{arith}
 use Rattle.ring.specs.Element.{array}
 use Rattle.verifier.specs.Relation.{phiTerm, phi-product, part-place, parts-bound}
 use Rattle.verifier.specs.Loops.{Summed, summed-start, summed-step, summed-end}
-use Rattle.verifier.proofs.relation.phi_product.Statement.{statement}
-use Rattle.verifier.proofs.relation.phi_product.Tie as tie
+use Rattle.verifier.proofs.linear.phi_product.Statement.{statement}
+use Rattle.verifier.proofs.linear.phi_product.Tie as tie
 
 abbrev Inv-loop : tie.InvT-loop
 Inv-loop sizes whole term rows psi omega table alpha delta z i d rank first acc₀ y₀ acc y = Summed (sizes .d) rank

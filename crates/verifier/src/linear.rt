@@ -1,0 +1,214 @@
+// Check 7: the aggregated function's φ against h. Its entries are formed as they are used.
+ghost use mathlib.Core.Path.{_≡_};
+ghost use Prim.Native.Nat.{_*_, _<_, _≤_};
+ghost use lib.ListN.{length};
+ghost use Rattle.algebra.specs.Sum.{sum};
+ghost use Rattle.ring.specs.Element.{R, el, array};
+ghost use Rattle.fold.specs.Messages.{aggregate};
+ghost use Rattle.fold.specs.Verdict.{check₇};
+ghost use Rattle.constraints.specs.Facts.{AggregateFacts};
+ghost use Rattle.constraints.specs.RowGroups.{SumsOf};
+ghost use Rattle.verifier.specs.Facts.{Fits, Holds, Opening, hValue};
+ghost use Rattle.verifier.specs.Relation.{phiTerm, phiProduct, linearTerm};
+use crate::amortized;
+use crate::places;
+use constraints::aggregated;
+use constraints::row_groups;
+use fold::Shape;
+use fold::Sizes;
+use ring::element::Element;
+
+// Element y of φ_i times that of z, at element e = i n + y of the witness. `table` is the table of omega.
+fn phi_term(
+    sizes: Sizes,
+    whole: &[i32],
+    term: &[i32],
+    rows: &[i32],
+    psi: &[i32],
+    omega: &[i32],
+    table: &[i64; 25920],
+    alpha: &[i32],
+    delta: &[i32],
+    z: &[i32],
+    e: usize,
+    y: usize,
+) -> Element
+    requires { ⌜ AggregateFacts (sizes .d) (sizes .n) (sizes .r) (sizes .k) (sizes .l) (sizes .w) (now whole) (now term) (now rows)
+        (now psi) (now omega) (now alpha) (now delta) ⌝ }
+    requires { ⌜ SumsOf (sizes .w) (now omega) (now table) ⌝ }
+    requires { ⌜ sizes .n * sizes .d ≤ length (now z) ⌝ }
+    requires { ⌜ (e < sizes .r * sizes .n) × (y < sizes .n) ⌝ }
+    ensures { λ x.
+        ⌜ x .coefficients ≡ array (sizes .d) (phiTerm sizes (now (whole .entry)) (now (term .entry)) (now (rows .entry))
+        (now (psi .entry)) (now (omega .entry)) (now (alpha .entry)) (now (delta .entry)) (now (z .entry)) e y) ⌝ }
+{
+    let d = sizes.d;
+    let shape = Shape {
+        d: sizes.d,
+        n: sizes.n,
+        r: sizes.r,
+    };
+    let phi = aggregated::aggregate_phi(
+        shape,
+        sizes.k,
+        sizes.l,
+        sizes.w,
+        whole,
+        term,
+        rows,
+        psi,
+        omega,
+        table,
+        alpha,
+        delta,
+        e,
+    );
+    let value = Element::from_slice(d, z, y);
+    phi.product(d, value)
+}
+
+// <φ_i, z>.
+fn phi_product(
+    sizes: Sizes,
+    whole: &[i32],
+    term: &[i32],
+    rows: &[i32],
+    psi: &[i32],
+    omega: &[i32],
+    table: &[i64; 25920],
+    alpha: &[i32],
+    delta: &[i32],
+    z: &[i32],
+    i: usize,
+) -> Element
+    requires { ⌜ AggregateFacts (sizes .d) (sizes .n) (sizes .r) (sizes .k) (sizes .l) (sizes .w) (now whole) (now term) (now rows)
+        (now psi) (now omega) (now alpha) (now delta) ⌝ }
+    requires { ⌜ SumsOf (sizes .w) (now omega) (now table) ⌝ }
+    requires { ⌜ sizes .n * sizes .d ≤ length (now z) ⌝ }
+    requires { ⌜ i < sizes .r ⌝ }
+    ensures { λ x.
+        ⌜ x .coefficients ≡ array (sizes .d) (phiProduct sizes (now (whole .entry)) (now (term .entry)) (now (rows .entry))
+        (now (psi .entry)) (now (omega .entry)) (now (alpha .entry)) (now (delta .entry)) (now (z .entry)) i) ⌝ }
+{
+    let d = sizes.d;
+    let rank = sizes.n;
+    let first = i * rank;
+    let mut acc = Element::additive_identity();
+    let mut y = 0;
+    while y < rank {
+        let term = phi_term(
+            sizes,
+            whole,
+            term,
+            rows,
+            psi,
+            omega,
+            table,
+            alpha,
+            delta,
+            z,
+            first + y,
+            y,
+        );
+        acc = acc.sum(d, term);
+        y += 1;
+    }
+    acc
+}
+
+// Σ <φ_i, z> c_i.
+fn linear_sum(
+    sizes: Sizes,
+    whole: &[i32],
+    term: &[i32],
+    rows: &[i32],
+    psi: &[i32],
+    omega: &[i32],
+    table: &[i64; 25920],
+    alpha: &[i32],
+    delta: &[i32],
+    c: &[i32],
+    z: &[i32],
+) -> Element
+    requires { ⌜ AggregateFacts (sizes .d) (sizes .n) (sizes .r) (sizes .k) (sizes .l) (sizes .w) (now whole) (now term) (now rows)
+        (now psi) (now omega) (now alpha) (now delta) ⌝ }
+    requires { ⌜ SumsOf (sizes .w) (now omega) (now table) ⌝ }
+    requires { ⌜ Holds (sizes .d) (sizes .r) (now c) ⌝ }
+    requires { ⌜ sizes .n * sizes .d ≤ length (now z) ⌝ }
+    ensures { λ x.
+        ⌜ x .coefficients ≡ array (sizes .d) (sum (R (sizes .d)) (sizes .r)
+        (linearTerm sizes (now (whole .entry)) (now (term .entry)) (now (rows .entry)) (now (psi .entry)) (now (omega .entry))
+        (now (alpha .entry)) (now (delta .entry)) (now (c .entry)) (now (z .entry)))) ⌝ }
+{
+    let d = sizes.d;
+    let count = sizes.r;
+    let mut acc = Element::additive_identity();
+    let mut i = 0;
+    while i < count {
+        let inner = phi_product(
+            sizes,
+            whole,
+            term,
+            rows,
+            psi,
+            omega,
+            table,
+            alpha,
+            delta,
+            z,
+            i,
+        );
+        let challenge = Element::from_slice(d, c, i);
+        let weighted = inner.product(d, challenge);
+        acc = acc.sum(d, weighted);
+        i += 1;
+    }
+    acc
+}
+
+// Check 7: Σ <φ_i, z> c_i is the mixed sum of h, with z read from the start of a slice.
+pub fn linear_part(
+    sizes: Sizes,
+    whole: &[i32],
+    term: &[i32],
+    rows: &[i32],
+    psi: &[i32],
+    omega: &[i32],
+    alpha: &[i32],
+    delta: &[i32],
+    c: &[i32],
+    z: &[i32],
+    opening: &[i32],
+) -> bool
+    requires { ⌜ Fits sizes ⌝ }
+    requires { ⌜ AggregateFacts (sizes .d) (sizes .n) (sizes .r) (sizes .k) (sizes .l) (sizes .w) (now whole) (now term) (now rows)
+        (now psi) (now omega) (now alpha) (now delta) ⌝ }
+    requires { ⌜ Holds (sizes .d) (sizes .r) (now c) ⌝ }
+    requires { ⌜ sizes .n * sizes .d ≤ length (now z) ⌝ }
+    requires { ⌜ Opening sizes (now opening) ⌝ }
+    ensures { λ r.
+        ⌜ r ≡ check₇ (sizes .d) (sizes .n) (sizes .r) (now (c .entry))
+        (aggregate (sizes .d) (sizes .n) (sizes .r) (sizes .k) (sizes .l) (sizes .w) (now (whole .entry)) (now (term .entry))
+        (now (rows .entry)) (now (psi .entry)) (now (omega .entry)) (now (alpha .entry)) (now (delta .entry)) .φ)
+        (el (sizes .d) (now (z .entry))) (hValue sizes (now (opening .entry))) ⌝ }
+{
+    let mut table = [0i64; 25920];
+    row_groups::write_sums(sizes.w, omega, &mut table);
+    let d = sizes.d;
+    let left = linear_sum(
+        sizes,
+        whole,
+        term,
+        rows,
+        psi,
+        omega,
+        &table,
+        alpha,
+        delta,
+        c,
+        z,
+    );
+    let start = places::h_place(sizes);
+    let right = amortized::mixed_sum(d, sizes.r, sizes.b1, sizes.t1, opening, start, c);
+    left.equals(d, right)
+}
