@@ -10,7 +10,6 @@ pub mod amortized;
 pub mod judgement;
 pub mod norms;
 pub mod outer;
-pub mod places;
 pub mod recomposed;
 pub mod relation;
 pub mod terms;

@@ -15,13 +15,13 @@ ghost use Rattle.verifier.specs.Facts.{Fits, Holds, Opening, gValue, hVa
 ghost use Rattle.verifier.specs.Mixed.{Garbage};
 ghost use Rattle.verifier.specs.Relation.{phiTerm, phiProduct, linearTerm, relationTerm};
 use crate::amortized;
-use crate::places;
 use crate::recomposed;
 use constraints::aggregated;
 use constraints::row_groups;
 use fold::Shape;
 use fold::Sizes;
 use fold::counts::pair_count;
+use fold::places;
 use ring::element::Element;
 
 // Element y of φ_i times that of z, at element e = i n + y of the witness. `table` is the table of omega.
