@@ -9,6 +9,7 @@ use crate::refusals::chunk_counts;
 use crate::sizes::chunk_start;
 use crate::sizes::chunk_width;
 use crate::sizes::rest_size;
+use fold::counts::opening_size;
 use limits::lengths::list_fits;
 use limits::rows::commitment_rank;
 use limits::rows::degree;
@@ -16,7 +17,6 @@ use limits::rows::digit_count;
 use limits::rows::first;
 use limits::rows::parts;
 use limits::rows::rank;
-use limits::sizes::opening_size;
 
 // The sizes of an opening and of its cut into ν and μ chunks.
 #[repr(C)]

@@ -49,6 +49,7 @@ pub mod RecomposedLength
 pub mod RefusalLaws
 pub mod SelfProduct
 pub mod SizeBounds
+pub mod PlaceBounds
 pub mod TableLaws
 pub mod TableSums
 pub mod TrimLaws

@@ -1,5 +1,5 @@
 -- How large the lengths can be within the limits of rows 1 to 4: at most 136 pairs, 4232 elements of a constraint's functions, 1024 of
--- the t digits and 1088 of the g or h digits.
+-- the t digits, 1088 of the g or h digits and 3712 of an opening.
 use mathlib.Core.Path.{_≡_}
 use Prim.Native.Nat.{ℕ, _+_, _*_, _/_, _^_, _≤_}
 use native.Mathlib.Nat.{mul-le-mul, lt-of-le-of-lt}
@@ -8,7 +8,7 @@ use lib.Dec.{T, ltb, ltb→lt}
 use mir.Syntax.{w64}
 use mir.Val.{Fits}
 use Rattle.algebra.specs.Triangle.{pairs-count-twice}
-use Rattle.fold.specs.Sizes.{pairs, functionSize, tSize, garbageSize}
+use Rattle.fold.specs.Sizes.{pairs, functionSize, tSize, garbageSize, restSize, openingSize}
 
 -- a bound for a product
 pub product-bound : (x y a b : ℕ) → x ≤ a → y ≤ b → x * y ≤ a * b
@@ -39,3 +39,8 @@ tSize-bound r κ t₁ h k l =
 pub garbageSize-bound : (r t : ℕ) → r ≤ 16 → t ≤ 8 → garbageSize r t ≤ 1088
 unfolding garbageSize
 garbageSize-bound r t h k = product-bound (pairs r) t 136 8 (pairs-bound r h) k
+
+pub openingSize-bound : (n r κ t₁ t₂ : ℕ) → n ≤ 256 → r ≤ 16 → κ ≤ 8 → t₁ ≤ 8 → t₂ ≤ 8 → openingSize 2 n r κ t₁ t₂ ≤ 3712
+unfolding openingSize restSize
+openingSize-bound n r κ t₁ t₂ h k l u v =
+    omega (arith, tSize-bound r κ t₁ k l u, garbageSize-bound r t₂ k v, garbageSize-bound r t₁ k u)

@@ -1,7 +1,7 @@
 // How many elements the sizes give. Within the limits of rows 1 to 4 no product wraps.
 ghost use mathlib.Core.Path.{_≡_};
 ghost use Prim.Native.Nat.{_≤_};
-ghost use Rattle.fold.specs.Sizes.{pairs, functionSize, tSize, garbageSize};
+ghost use Rattle.fold.specs.Sizes.{pairs, functionSize, tSize, garbageSize, openingSize};
 
 // The number of pairs i ≤ j of r parts.
 pub fn pair_count(r: usize) -> usize
@@ -33,4 +33,15 @@ pub fn garbage_size(r: usize, t: usize) -> usize
     ensures { λ x. ⌜ x ≡ garbageSize r t ⌝ }
 {
     pair_count(r) * t
+}
+
+// Elements of an opening whose z has two digits.
+pub fn opening_size(n: usize, r: usize, kappa: usize, t1: usize, t2: usize) -> usize
+    requires { ⌜ (n ≤ 256) × (r ≤ 16) × (kappa ≤ 8) × (t1 ≤ 8) × (t2 ≤ 8) ⌝ }
+    ensures { λ x. ⌜ x ≡ openingSize 2 n r kappa t1 t2 ⌝ }
+{
+    let t = t_size(r, kappa, t1);
+    let g = garbage_size(r, t2);
+    let h = garbage_size(r, t1);
+    2 * n + (t + (g + h))
 }

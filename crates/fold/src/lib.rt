@@ -1,6 +1,7 @@
 // The answers of every call of the fold: document 01, 'Verdict' and 'Where a call stops'.
 // Structs of sizes are laid out as C lays them out: crates/capi takes them as they are.
 pub mod counts;
+pub mod places;
 
 ghost use mathlib.Core.Path.{_≡_};
 ghost use Rattle.fold.specs.Answers.{kindOf, numberOf};

@@ -5,6 +5,7 @@ ghost use Rattle.fold.specs.Sizes.{tSize, garbageSize, openingSize};
 ghost use Rattle.fold.specs.Refusals.{wholeLength, termLength, projectionLength};
 ghost use Rattle.sheet.specs.Sections.{Bounded};
 use fold::counts::garbage_size;
+use fold::counts::opening_size;
 use fold::counts::t_size;
 use limits::sizes;
 use sheet::sizes::SheetSizes;
@@ -65,6 +66,6 @@ pub fn opening_length(s: SheetSizes) -> usize
     requires { ⌜ Bounded s ⌝ }
     ensures { λ m. ⌜ m ≡ openingSize 2 (s .n) (s .r) (s .kappa) (s .t1) (s .t2) * s .d ⌝ }
 {
-    let elements = sizes::opening_size(s.n, s.r, s.kappa, s.t1, s.t2);
+    let elements = opening_size(s.n, s.r, s.kappa, s.t1, s.t2);
     sizes::list_length(elements, s.d)
 }

@@ -1,16 +1,10 @@
--- How large an opening can be within the limits of rows 1 to 4, and the numbers of elements that code has computed.
+-- Numbers of elements that code has computed, within the columns that `matrix_fits` takes.
 use mathlib.Core.Path.{_≡_}
 use Prim.Native.Nat.{ℕ, _≤_}
 use native.Mathlib.Omega.{arith}
-use Rattle.fold.specs.Sizes.{tSize, garbageSize, restSize, openingSize}
-use Rattle.fold.specs.SizeBounds.{tSize-bound, garbageSize-bound}
+use Rattle.fold.specs.Sizes.{tSize, garbageSize, openingSize}
+use Rattle.fold.specs.SizeBounds.{tSize-bound, garbageSize-bound, openingSize-bound}
 
-pub openingSize-bound : (n r κ t₁ t₂ : ℕ) → n ≤ 256 → r ≤ 16 → κ ≤ 8 → t₁ ≤ 8 → t₂ ≤ 8 → openingSize 2 n r κ t₁ t₂ ≤ 3712
-unfolding openingSize restSize
-openingSize-bound n r κ t₁ t₂ h k l u v =
-    omega (arith, tSize-bound r κ t₁ k l u, garbageSize-bound r t₂ k v, garbageSize-bound r t₁ k u)
-
--- numbers of elements that code has computed, within the columns that `matrix_fits` takes
 pub t-within : (r κ t₁ : ℕ) {k : ℕ} → k ≡ tSize r κ t₁ → r ≤ 16 → κ ≤ 8 → t₁ ≤ 8 → k ≤ 8192
 t-within r κ t₁ e h l u = omega (arith, tSize-bound r κ t₁ h l u)
 

@@ -10,7 +10,6 @@ ghost use Rattle.limits.specs.Stages as spec;
 use crate::rows::sized;
 use crate::sizes::flat_length;
 use crate::sizes::list_length;
-use crate::sizes::opening_size;
 use crate::sizes::projection_length;
 use crate::sizes::term_length;
 use crate::sizes::whole_length;
@@ -19,6 +18,7 @@ use fold::GarbageSizes;
 use fold::Shape;
 use fold::Sizes;
 use fold::counts::garbage_size;
+use fold::counts::opening_size;
 use fold::counts::t_size;
 
 // Rows of elements.

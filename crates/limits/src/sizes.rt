@@ -1,22 +1,8 @@
-// The lengths that the sizes give, in elements and in numbers. Within the limits of rows 1 to 4 no product wraps.
+// The lengths that the sizes give, in numbers. Within the limits of rows 1 to 4 no product wraps.
 ghost use mathlib.Core.Path.{_≡_};
 ghost use Prim.Native.Nat.{_*_, _≤_};
-ghost use Rattle.fold.specs.Sizes as spec;
 ghost use Rattle.fold.specs.Refusals as table;
 use fold::counts::function_size;
-use fold::counts::garbage_size;
-use fold::counts::t_size;
-
-// Elements of an opening whose z has two digits.
-pub fn opening_size(n: usize, r: usize, kappa: usize, t1: usize, t2: usize) -> usize
-    requires { ⌜ (n ≤ 256) × (r ≤ 16) × (kappa ≤ 8) × (t1 ≤ 8) × (t2 ≤ 8) ⌝ }
-    ensures { λ x. ⌜ x ≡ spec.openingSize 2 n r kappa t1 t2 ⌝ }
-{
-    let t = t_size(r, kappa, t1);
-    let g = garbage_size(r, t2);
-    let h = garbage_size(r, t1);
-    2 * n + (t + (g + h))
-}
 
 // Numbers of `rows` rows of `columns` elements.
 pub fn flat_length(rows: usize, columns: usize, d: usize) -> usize

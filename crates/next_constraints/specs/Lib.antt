@@ -8,7 +8,6 @@ pub mod Order
 pub mod EntrySteps
 pub mod EntryTables
 pub mod Coefficients
-pub mod EntryLimits
 pub mod Powers
 pub mod EntryRoom
 pub mod Squares

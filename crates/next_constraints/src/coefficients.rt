@@ -14,10 +14,10 @@ ghost use Rattle.next_constraints.specs.Facts.{EntryFacts};
 ghost use Rattle.next_constraints.specs.Entries.{entry5, entry6, entry7, entry8, entry3, entry4};
 ghost use Rattle.next_constraints.specs.Entries.{middleEntry, outerEntry, coefficientAt};
 use crate::entries;
-use crate::places;
 use fold::Sizes;
 use fold::counts::garbage_size;
 use fold::counts::t_size;
+use fold::places;
 use ring::element::Element;
 
 // Check 5, row k: A on z, -c_i b1^e on row k of t.
@@ -29,12 +29,12 @@ fn check5_entry(sizes: Sizes, a: &[i32], c: &[i32], k: usize, p: usize) -> Eleme
     ensures { λ x. ⌜ x .coefficients ≡ array (sizes .d) (entry5 sizes (now (a .entry)) (now (c .entry)) k p) ⌝ }
 {
     let d = sizes.d;
-    let t_start = places::t_from(sizes);
+    let t_start = places::t_place(sizes);
     if p < t_start {
         let from = k * sizes.n;
         return entries::z_entry(d, sizes.n, sizes.b, a, from, p);
     }
-    let g_start = places::g_from(sizes);
+    let g_start = places::g_place(sizes);
     if p < g_start {
         let place = p - t_start;
         return entries::t_entry(d, sizes.kappa, sizes.b1, sizes.t1, c, k, place);
@@ -49,11 +49,11 @@ fn check6_entry(sizes: Sizes, products: &[i32], p: usize) -> Element
     ensures { λ x. ⌜ x .coefficients ≡ array (sizes .d) (entry6 sizes (now (products .entry)) p) ⌝ }
 {
     let d = sizes.d;
-    let g_start = places::g_from(sizes);
+    let g_start = places::g_place(sizes);
     if p < g_start {
         return Element::additive_identity();
     }
-    let h_start = places::h_from(sizes);
+    let h_start = places::h_place(sizes);
     if p < h_start {
         let place = p - g_start;
         return entries::garbage_entry(d, sizes.b2, sizes.t2, products, place);
@@ -71,11 +71,11 @@ fn check7_entry(sizes: Sizes, folded: &[i32], products: &[i32], p: usize) -> Ele
         ⌜ x .coefficients ≡ array (sizes .d) (entry7 sizes (now (folded .entry)) (now (products .entry)) p) ⌝ }
 {
     let d = sizes.d;
-    let t_start = places::t_from(sizes);
+    let t_start = places::t_place(sizes);
     if p < t_start {
         return entries::z_entry(d, sizes.n, sizes.b, folded, 0, p);
     }
-    let h_start = places::h_from(sizes);
+    let h_start = places::h_place(sizes);
     if p < h_start {
         return Element::additive_identity();
     }
@@ -93,11 +93,11 @@ fn check8_entry(sizes: Sizes, relation: &[i32], diagonal: &[i32], p: usize) -> E
         ⌜ x .coefficients ≡ array (sizes .d) (entry8 sizes (now (relation .entry)) (now (diagonal .entry)) p) ⌝ }
 {
     let d = sizes.d;
-    let g_start = places::g_from(sizes);
+    let g_start = places::g_place(sizes);
     if p < g_start {
         return Element::additive_identity();
     }
-    let h_start = places::h_from(sizes);
+    let h_start = places::h_place(sizes);
     if p < h_start {
         let place = p - g_start;
         return entries::garbage_entry(d, sizes.b2, sizes.t2, relation, place);
@@ -116,17 +116,17 @@ fn check3_entry(sizes: Sizes, b: &[i32], c_matrix: &[i32], k: usize, p: usize) -
         ⌜ x .coefficients ≡ array (sizes .d) (entry3 sizes (now (b .entry)) (now («c_matrix» .entry)) k p) ⌝ }
 {
     let d = sizes.d;
-    let t_start = places::t_from(sizes);
+    let t_start = places::t_place(sizes);
     if p < t_start {
         return Element::additive_identity();
     }
-    let g_start = places::g_from(sizes);
+    let g_start = places::g_place(sizes);
     if p < g_start {
         let size = t_size(sizes.r, sizes.kappa, sizes.t1);
         let place = p - t_start;
         return entries::row_entry(d, size, b, k, place);
     }
-    let h_start = places::h_from(sizes);
+    let h_start = places::h_place(sizes);
     if p < h_start {
         let size = garbage_size(sizes.r, sizes.t2);
         let place = p - g_start;
@@ -144,7 +144,7 @@ fn check4_entry(sizes: Sizes, d_matrix: &[i32], k: usize, p: usize) -> Element
     ensures { λ x. ⌜ x .coefficients ≡ array (sizes .d) (entry4 sizes (now («d_matrix» .entry)) k p) ⌝ }
 {
     let d = sizes.d;
-    let h_start = places::h_from(sizes);
+    let h_start = places::h_place(sizes);
     if p < h_start {
         return Element::additive_identity();
     }

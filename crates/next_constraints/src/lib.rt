@@ -4,5 +4,4 @@ pub mod constants;
 pub mod entries;
 pub mod folded;
 pub mod lists;
-pub mod places;
 pub mod tables;

@@ -10,7 +10,7 @@ use Rattle.fold.specs.Sizes.{pairs, functionSize, restSize, openingSize, nextPa
 use Rattle.fold.specs.SizeBounds.{functionSize-bound}
 use Rattle.fold.specs.Chunks.{width}
 use Rattle.fold.specs.ChunkLaws.{width-bound, widths-cover}
-use Rattle.verifier.specs.SizeLaws.{t-size-bound, g-size-bound, h-size-bound}
+use Rattle.fold.specs.PlaceBounds.{t-size-bound, g-size-bound, h-size-bound}
 use Rattle.next_instance.specs.declared.cut.Cut.{Cut}
 use Rattle.chunks.specs.CutSizes.{CutSizes}
 use Rattle.next_instance.specs.Facts.{CutFacts}

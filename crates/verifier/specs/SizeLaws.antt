@@ -1,4 +1,4 @@
--- Bounds of the sizes: how large the blocks of an opening are, and that they lie within it.
+-- The blocks of an opening lie within it, and a bound of a constraint's functions.
 use mathlib.Core.Path.{_≡_}
 use mathlib.Core.List.{List}
 use Prim.Native.Nat.{ℕ, _+_, _*_, _<_, _≤_}
@@ -8,31 +8,9 @@ use lib.ListN.{length}
 use lib.IntN.{ℤ}
 use Rattle.fold.specs.declared.Sizes.{Sizes}
 use Rattle.fold.specs.Sizes.{functionSize, tSize, garbageSize, restSize, openingSize}
-use Rattle.fold.specs.SizeBounds.{functionSize-bound, tSize-bound, garbageSize-bound}
+use Rattle.fold.specs.SizeBounds.{functionSize-bound}
 use Rattle.fold.specs.Verdict.{tPlace, gPlace, hPlace}
 use Rattle.verifier.specs.Facts.{Fits, Holds, Opening}
-
-module _ (s : Sizes) (fits : Fits s) where
-  pub t-size-bound : tSize (s .r) (s .kappa) (s .t1) ≤ 1024
-  t-size-bound = tSize-bound _ _ _ (fits .shaped .parts-small) (fits .κ-small) (fits .t₁-most)
-
-  pub g-size-bound : garbageSize (s .r) (s .t2) ≤ 1088
-  g-size-bound = garbageSize-bound _ _ (fits .shaped .parts-small) (fits .t₂-most)
-
-  pub h-size-bound : garbageSize (s .r) (s .t1) ≤ 1088
-  h-size-bound = garbageSize-bound _ _ (fits .shaped .parts-small) (fits .t₁-most)
-
-  pub t-place-bound : tPlace 2 (s .n) ≤ 512
-  unfolding tPlace
-  t-place-bound = omega (arith, fits .shaped .rank-small)
-
-  pub g-place-bound : gPlace 2 (s .n) (s .r) (s .kappa) (s .t1) ≤ 1536
-  unfolding gPlace
-  g-place-bound = omega (arith, t-place-bound, t-size-bound)
-
-  pub h-place-bound : hPlace 2 (s .n) (s .r) (s .kappa) (s .t1) (s .t2) ≤ 2624
-  unfolding hPlace
-  h-place-bound = omega (arith, g-place-bound, g-size-bound)
 
 -- the blocks lie within the opening
 module _ (s : Sizes) (o : List ℤ) (whole : Opening s o) where

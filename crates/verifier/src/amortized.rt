@@ -11,9 +11,9 @@ ghost use Rattle.fold.specs.Verdict.{block, garbageOf, check₅, check₆};
 ghost use Rattle.verifier.specs.Facts.{Fits, Holds, Opening, tValue, gValue};
 ghost use Rattle.verifier.specs.Mixed.{Garbage, mixedTerm, mixedRow};
 use crate::outer;
-use crate::places;
 use crate::recomposed;
 use fold::Sizes;
+use fold::places;
 use ring::element::Element;
 use ring::product;
 

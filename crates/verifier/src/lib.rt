@@ -11,7 +11,6 @@ pub mod judgement;
 pub mod linear;
 pub mod norms;
 pub mod outer;
-pub mod places;
 pub mod recomposed;
 pub mod relation;
 pub mod terms;

@@ -11,11 +11,11 @@ ghost use Rattle.constraints.specs.RowGroups.{SumsOf};
 ghost use Rattle.verifier.specs.Facts.{Fits, Holds, Opening, hValue};
 ghost use Rattle.verifier.specs.Relation.{phiTerm, phiProduct, linearTerm};
 use crate::amortized;
-use crate::places;
 use constraints::aggregated;
 use constraints::row_groups;
 use fold::Shape;
 use fold::Sizes;
+use fold::places;
 use ring::element::Element;
 
 // Element y of φ_i times that of z, at element e = i n + y of the witness. `table` is the table of omega.

@@ -5,8 +5,8 @@ ghost use lib.ListN.{length};
 ghost use Rattle.fold.specs.Verdict.{check₁, check₉};
 ghost use Rattle.verifier.specs.Facts.{Fits, Opening};
 ghost use Rattle.verifier.specs.Norms.{withinThree};
-use crate::places;
 use fold::Sizes;
+use fold::places;
 use residues::length;
 
 // Check 1: 2·|p|² is at most w·β².

@@ -7,10 +7,10 @@ ghost use Rattle.fold.specs.Sizes.{tSize, garbageSize};
 ghost use Rattle.fold.specs.Messages.{times, outer₁, outer₂};
 ghost use Rattle.fold.specs.Verdict.{block, check₃, check₄};
 ghost use Rattle.verifier.specs.Facts.{Fits, Holds, Opening, tBlockOf, gBlockOf, hBlockOf};
-use crate::places;
 use fold::Sizes;
 use fold::counts::garbage_size;
 use fold::counts::t_size;
+use fold::places;
 use ring::element::Element;
 use ring::product;
 

@@ -12,12 +12,12 @@ ghost use Rattle.constraints.specs.Facts.{TermFacts, WholeFacts};
 ghost use Rattle.verifier.specs.Facts.{Fits, Holds, Opening, gValue, hValue};
 ghost use Rattle.verifier.specs.Mixed.{Garbage};
 ghost use Rattle.verifier.specs.Relation.{relationTerm};
-use crate::places;
 use crate::recomposed;
 use constraints::aggregated;
 use fold::Shape;
 use fold::Sizes;
 use fold::counts::pair_count;
+use fold::places;
 use ring::element::Element;
 
 // The aggregate's a at pair number q, times g there.

@@ -6,7 +6,7 @@ use borrow.Author.Needs.{needs}
 use Rattle.judge.proofs.lengths.opening_length.Statement.{statement}
 use Rattle.judge.proofs.lengths.opening_length.Tie as tie
 use Rattle.limits.proofs.sizes.list_length.Reads as list-length-reads
-use Rattle.limits.proofs.sizes.opening_size.Reads as opening-size-reads
+use Rattle.fold.proofs.counts.opening_size.Reads as opening-size-reads
 
 opening-size-requires : tie.Need-opening-size-requires
 opening-size-requires c κs = search needs

@@ -6,8 +6,8 @@ use borrow.Author.Needs.{needs}
 use Rattle.next_constraints.proofs.coefficients.check3_entry.Statement.{statement}
 use Rattle.next_constraints.proofs.coefficients.check3_entry.Tie as tie
 
-t-from-requires : tie.Need-t-from-requires
-t-from-requires c κs = search needs
+t-place-requires : tie.Need-t-place-requires
+t-place-requires c κs = search needs
 
 additive-identity-requires : tie.Need-additive-identity-requires
 additive-identity-requires c κs = search needs
@@ -15,11 +15,11 @@ additive-identity-requires c κs = search needs
 returns : tie.Need-returns
 returns c =
     let a = c .before .before .before .args in
-    let to = rw (c .before .before .t-from .ensures) at (c .before .if1 .taken) in
+    let to = rw (c .before .before .t-place .ensures) at (c .before .if1 .taken) in
     holds-as _ (entry3-z (a .sizes) (a .p) _ _ (a .k) to) (c .additive-identity .ensures (a .sizes .d))
 
-g-from-requires : tie.Need-g-from-requires
-g-from-requires c κs = search needs
+g-place-requires : tie.Need-g-place-requires
+g-place-requires c κs = search needs
 
 t-size-requires : tie.Need-t-size-requires
 t-size-requires c κs = search needs
@@ -30,7 +30,7 @@ row-entry-requires c κs =
     let t = g .before .before in
     let s = t .before in
     let z = s .args .sizes in
-    let inside = in-t z (s .args .p) (t .t-from .ensures) (g .g-from .ensures) refl (g .before .if1 .left) (c .before .if2 .taken) in
+    let inside = in-t z (s .args .p) (t .t-place .ensures) (g .g-place .ensures) refl (g .before .if1 .left) (c .before .if2 .taken) in
     (s .pre .0 .shaped .degree, row-place (z .d) (z .kappa1) (s .args .k) (c .t-size .ensures) (s .pre .1 .1 .1) inside (s .pre .1 .0))
 
 returns-2 : tie.Need-returns-2
@@ -38,13 +38,13 @@ returns-2 c =
     let g = c .before .before .before in
     let t = g .before .before in
     let a = t .before .args in
-    let from = rw (t .t-from .ensures) at (g .before .if1 .left) in
-    let to = rw (g .g-from .ensures) at (c .before .before .if2 .taken) in
+    let from = rw (t .t-place .ensures) at (g .before .if1 .left) in
+    let to = rw (g .g-place .ensures) at (c .before .before .if2 .taken) in
     holds-as _ (entry3-t (a .sizes) (a .p) _ _ (a .k) from to)
-    (rw (t .t-from .ensures, c .before .t-size .ensures) at (c .row-entry .ensures))
+    (rw (t .t-place .ensures, c .before .t-size .ensures) at (c .row-entry .ensures))
 
-h-from-requires : tie.Need-h-from-requires
-h-from-requires c κs = search needs
+h-place-requires : tie.Need-h-place-requires
+h-place-requires c κs = search needs
 
 garbage-size-requires : tie.Need-garbage-size-requires
 garbage-size-requires c κs = search needs
@@ -55,7 +55,7 @@ row-entry-requires-2 c κs =
     let g = h .before .before in
     let s = g .before .before .before in
     let z = s .args .sizes in
-    let inside = in-g z (s .args .p) refl (g .g-from .ensures) (h .h-from .ensures) (h .before .if2 .left) (c .before .if3 .taken) in
+    let inside = in-g z (s .args .p) refl (g .g-place .ensures) (h .h-place .ensures) (h .before .if2 .left) (c .before .if3 .taken) in
     (s .pre .0 .shaped .degree, row-place (z .d) (z .kappa1) (s .args .k) (c .garbage-size .ensures) (s .pre .1 .1 .1) inside (s .pre .1 .1 .0))
 
 returns-3 : tie.Need-returns-3
@@ -64,11 +64,11 @@ returns-3 c =
     let g = h .before .before in
     let t = g .before .before in
     let a = t .before .args in
-    let first = rw (t .t-from .ensures) at (g .before .if1 .left) in
-    let from = rw (g .g-from .ensures) at (h .before .if2 .left) in
-    let to = rw (h .h-from .ensures) at (c .before .before .if3 .taken) in
+    let first = rw (t .t-place .ensures) at (g .before .if1 .left) in
+    let from = rw (g .g-place .ensures) at (h .before .if2 .left) in
+    let to = rw (h .h-place .ensures) at (c .before .before .if3 .taken) in
     holds-as _ (entry3-g (a .sizes) (a .p) _ _ (a .k) first from to)
-    (rw (g .g-from .ensures, c .before .garbage-size .ensures) at (c .row-entry2 .ensures))
+    (rw (g .g-place .ensures, c .before .garbage-size .ensures) at (c .row-entry2 .ensures))
 
 additive-identity-requires-2 : tie.Need-additive-identity-requires-2
 additive-identity-requires-2 c κs = search needs
@@ -79,23 +79,23 @@ returns-4 c =
     let g = h .before .before in
     let t = g .before .before in
     let a = t .before .args in
-    let first = rw (t .t-from .ensures) at (g .before .if1 .left) in
-    let from = rw (g .g-from .ensures) at (h .before .if2 .left) in
-    let to = rw (h .h-from .ensures) at (c .before .if3 .left) in
+    let first = rw (t .t-place .ensures) at (g .before .if1 .left) in
+    let from = rw (g .g-place .ensures) at (h .before .if2 .left) in
+    let to = rw (h .h-place .ensures) at (c .before .if3 .left) in
     holds-as _ (entry3-h (a .sizes) (a .p) _ _ (a .k) first from to) (c .additive-identity2 .ensures (a .sizes .d))
 
 pub check3-entry-spec : {M : Type 1} → statement M
 check3-entry-spec =
     tie.close
     (tie.spec
-    t-from-requires
+    t-place-requires
     additive-identity-requires
     returns
-    g-from-requires
+    g-place-requires
     t-size-requires
     row-entry-requires
     returns-2
-    h-from-requires
+    h-place-requires
     garbage-size-requires
     row-entry-requires-2
     returns-3

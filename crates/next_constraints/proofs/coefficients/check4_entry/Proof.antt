@@ -6,8 +6,8 @@ use borrow.Author.Needs.{needs}
 use Rattle.next_constraints.proofs.coefficients.check4_entry.Statement.{statement}
 use Rattle.next_constraints.proofs.coefficients.check4_entry.Tie as tie
 
-h-from-requires : tie.Need-h-from-requires
-h-from-requires c κs = search needs
+h-place-requires : tie.Need-h-place-requires
+h-place-requires c κs = search needs
 
 additive-identity-requires : tie.Need-additive-identity-requires
 additive-identity-requires c κs = search needs
@@ -15,7 +15,7 @@ additive-identity-requires c κs = search needs
 returns : tie.Need-returns
 returns c =
     let a = c .before .before .before .args in
-    let to = rw (c .before .before .h-from .ensures) at (c .before .if1 .taken) in
+    let to = rw (c .before .before .h-place .ensures) at (c .before .if1 .taken) in
     holds-as _ (entry4-before (a .sizes) (a .p) _ (a .k) to) (c .additive-identity .ensures (a .sizes .d))
 
 garbage-size-requires : tie.Need-garbage-size-requires
@@ -26,22 +26,22 @@ row-entry-requires c κs =
     let h = c .before .before in
     let s = h .before in
     let z = s .args .sizes in
-    let inside = in-h z (s .args .p) refl refl (h .h-from .ensures) (c .before .if1 .left) (s .pre .1 .1 .1) in
+    let inside = in-h z (s .args .p) refl refl (h .h-place .ensures) (c .before .if1 .left) (s .pre .1 .1 .1) in
     (s .pre .0 .shaped .degree, row-place (z .d) (z .kappa2) (s .args .k) (c .garbage-size .ensures) (s .pre .1 .1 .0) inside (s .pre .1 .0))
 
 returns-2 : tie.Need-returns-2
 returns-2 c =
     let h = c .before .before .before in
     let a = h .before .args in
-    let from = rw (h .h-from .ensures) at (c .before .before .if1 .left) in
+    let from = rw (h .h-place .ensures) at (c .before .before .if1 .left) in
     holds-as _ (entry4-h (a .sizes) (a .p) _ (a .k) from)
-    (rw (h .h-from .ensures, c .before .garbage-size .ensures) at (c .row-entry .ensures))
+    (rw (h .h-place .ensures, c .before .garbage-size .ensures) at (c .row-entry .ensures))
 
 pub check4-entry-spec : {M : Type 1} → statement M
 check4-entry-spec =
     tie.close
     (tie.spec
-    h-from-requires
+    h-place-requires
     additive-identity-requires
     returns
     garbage-size-requires

@@ -9,8 +9,8 @@ use borrow.Author.Needs.{needs}
 use Rattle.next_constraints.proofs.coefficients.check5_entry.Statement.{statement}
 use Rattle.next_constraints.proofs.coefficients.check5_entry.Tie as tie
 
-t-from-requires : tie.Need-t-from-requires
-t-from-requires c κs = search needs
+t-place-requires : tie.Need-t-place-requires
+t-place-requires c κs = search needs
 
 mul-from : tie.Need-mul-from
 mul-from c =
@@ -30,10 +30,10 @@ returns : tie.Need-returns
 returns c =
     let t = c .before .before .before in
     let a = t .before .args in
-    holds-as _ (entry5-z (a .sizes) (a .p) _ _ (a .k) (rw (t .t-from .ensures) at (c .before .before .if1 .taken))) (c .z-entry .ensures)
+    holds-as _ (entry5-z (a .sizes) (a .p) _ _ (a .k) (rw (t .t-place .ensures) at (c .before .before .if1 .taken))) (c .z-entry .ensures)
 
-g-from-requires : tie.Need-g-from-requires
-g-from-requires c κs = search needs
+g-place-requires : tie.Need-g-place-requires
+g-place-requires c κs = search needs
 
 t-entry-requires : tie.Need-t-entry-requires
 t-entry-requires c κs =
@@ -42,8 +42,8 @@ t-entry-requires c κs =
     let z = s .args .sizes in
     let f = s .pre .0 in
     let some = t₁-some z f in
-    let inside = in-t z (s .args .p) (t .t-from .ensures) (c .before .g-from .ensures) refl (c .before .before .if1 .left) (c .if2 .taken) in
-    let place = s .args .p - t .t-from .result in (
+    let inside = in-t z (s .args .p) (t .t-place .ensures) (c .before .g-place .ensures) refl (c .before .before .if1 .left) (c .if2 .taken) in
+    let place = s .args .p - t .t-place .result in (
       f .shaped .degree,
       (
         f .base₁,
@@ -61,9 +61,9 @@ returns-2 c =
     let e = c .before .before .before in
     let t = e .before in
     let a = t .before .args in
-    let from = rw (t .t-from .ensures) at (e .if1 .left) in
-    let to = rw (c .before .before .g-from .ensures) at (c .before .if2 .taken) in
-    holds-as _ (entry5-t (a .sizes) (a .p) _ _ (a .k) from to) (rw (t .t-from .ensures) at (c .t-entry .ensures))
+    let from = rw (t .t-place .ensures) at (e .if1 .left) in
+    let to = rw (c .before .before .g-place .ensures) at (c .before .if2 .taken) in
+    holds-as _ (entry5-t (a .sizes) (a .p) _ _ (a .k) from to) (rw (t .t-place .ensures) at (c .t-entry .ensures))
 
 additive-identity-requires : tie.Need-additive-identity-requires
 additive-identity-requires c κs = search needs
@@ -73,19 +73,19 @@ returns-3 c =
     let e = c .before .before .before in
     let t = e .before in
     let a = t .before .args in
-    let from = rw (t .t-from .ensures) at (e .if1 .left) in
-    let to = rw (c .before .before .g-from .ensures) at (c .before .if2 .left) in
+    let from = rw (t .t-place .ensures) at (e .if1 .left) in
+    let to = rw (c .before .before .g-place .ensures) at (c .before .if2 .left) in
     holds-as _ (entry5-rest (a .sizes) (a .p) _ _ (a .k) from to) (c .additive-identity .ensures (a .sizes .d))
 
 pub check5-entry-spec : {M : Type 1} → statement M
 check5-entry-spec =
     tie.close
     (tie.spec
-    t-from-requires
+    t-place-requires
     mul-from
     z-entry-requires
     returns
-    g-from-requires
+    g-place-requires
     t-entry-requires
     returns-2
     additive-identity-requires

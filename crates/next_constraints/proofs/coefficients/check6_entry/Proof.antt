@@ -7,8 +7,8 @@ use borrow.Author.Needs.{needs}
 use Rattle.next_constraints.proofs.coefficients.check6_entry.Statement.{statement}
 use Rattle.next_constraints.proofs.coefficients.check6_entry.Tie as tie
 
-g-from-requires : tie.Need-g-from-requires
-g-from-requires c κs = search needs
+g-place-requires : tie.Need-g-place-requires
+g-place-requires c κs = search needs
 
 additive-identity-requires : tie.Need-additive-identity-requires
 additive-identity-requires c κs = search needs
@@ -17,11 +17,11 @@ returns : tie.Need-returns
 returns c =
     let s = c .before .before .before in
     let a = s .args in
-    let start = c .before .before .g-from .ensures in
+    let start = c .before .before .g-place .ensures in
     holds-as _ (entry6-before (a .sizes) (a .p) _ (rw start at (c .before .if1 .taken))) (c .additive-identity .ensures (a .sizes .d))
 
-h-from-requires : tie.Need-h-from-requires
-h-from-requires c κs = search needs
+h-place-requires : tie.Need-h-place-requires
+h-place-requires c κs = search needs
 
 garbage-entry-requires : tie.Need-garbage-entry-requires
 garbage-entry-requires c κs =
@@ -29,9 +29,9 @@ garbage-entry-requires c κs =
     let s = g .before in
     let z = s .args .sizes in
     let some = t₂-some z (s .pre .0) in
-    let inside = in-g z (s .args .p) refl (g .g-from .ensures) (c .before .h-from .ensures) (c .before .before .if1 .left) (c .if2 .taken) in (
+    let inside = in-g z (s .args .p) refl (g .g-place .ensures) (c .before .h-place .ensures) (c .before .before .if1 .left) (c .if2 .taken) in (
       s .pre .0 .shaped .degree,
-      (s .pre .0 .base₂, (some, garbage-room (z .d) (z .r) (z .t2) (s .args .p - g .g-from .result) _ some inside (s .pre .1))),
+      (s .pre .0 .base₂, (some, garbage-room (z .d) (z .r) (z .t2) (s .args .p - g .g-place .result) _ some inside (s .pre .1))),
     )
 
 returns-2 : tie.Need-returns-2
@@ -39,9 +39,9 @@ returns-2 c =
     let e = c .before .before .before in
     let g = e .before in
     let a = g .before .args in
-    let from = rw (g .g-from .ensures) at (e .if1 .left) in
-    let to = rw (c .before .before .h-from .ensures) at (c .before .if2 .taken) in
-    holds-as _ (entry6-g (a .sizes) (a .p) _ from to) (rw (g .g-from .ensures) at (c .garbage-entry .ensures))
+    let from = rw (g .g-place .ensures) at (e .if1 .left) in
+    let to = rw (c .before .before .h-place .ensures) at (c .before .if2 .taken) in
+    holds-as _ (entry6-g (a .sizes) (a .p) _ from to) (rw (g .g-place .ensures) at (c .garbage-entry .ensures))
 
 additive-identity-requires-2 : tie.Need-additive-identity-requires-2
 additive-identity-requires-2 c κs = search needs
@@ -51,18 +51,18 @@ returns-3 c =
     let e = c .before .before .before in
     let g = e .before in
     let a = g .before .args in
-    let from = rw (g .g-from .ensures) at (e .if1 .left) in
-    let to = rw (c .before .before .h-from .ensures) at (c .before .if2 .left) in
+    let from = rw (g .g-place .ensures) at (e .if1 .left) in
+    let to = rw (c .before .before .h-place .ensures) at (c .before .if2 .left) in
     holds-as _ (entry6-rest (a .sizes) (a .p) _ from to) (c .additive-identity2 .ensures (a .sizes .d))
 
 pub check6-entry-spec : {M : Type 1} → statement M
 check6-entry-spec =
     tie.close
     (tie.spec
-    g-from-requires
+    g-place-requires
     additive-identity-requires
     returns
-    h-from-requires
+    h-place-requires
     garbage-entry-requires
     returns-2
     additive-identity-requires-2

@@ -7,8 +7,8 @@ use borrow.Author.Needs.{needs}
 use Rattle.next_constraints.proofs.coefficients.check7_entry.Statement.{statement}
 use Rattle.next_constraints.proofs.coefficients.check7_entry.Tie as tie
 
-t-from-requires : tie.Need-t-from-requires
-t-from-requires c κs = search needs
+t-place-requires : tie.Need-t-place-requires
+t-place-requires c κs = search needs
 
 z-entry-requires : tie.Need-z-entry-requires
 z-entry-requires c κs = search needs
@@ -16,11 +16,11 @@ z-entry-requires c κs = search needs
 returns : tie.Need-returns
 returns c =
     let a = c .before .before .before .args in
-    let start = c .before .before .t-from .ensures in
+    let start = c .before .before .t-place .ensures in
     holds-as _ (entry7-z (a .sizes) (a .p) _ _ (rw start at (c .before .if1 .taken))) (c .z-entry .ensures)
 
-h-from-requires : tie.Need-h-from-requires
-h-from-requires c κs = search needs
+h-place-requires : tie.Need-h-place-requires
+h-place-requires c κs = search needs
 
 additive-identity-requires : tie.Need-additive-identity-requires
 additive-identity-requires c κs = search needs
@@ -29,8 +29,8 @@ returns-2 : tie.Need-returns-2
 returns-2 c =
     let e = c .before .before .before in
     let a = e .before .before .args in
-    let from = rw (e .before .t-from .ensures) at (e .if1 .left) in
-    let to = rw (c .before .before .h-from .ensures) at (c .before .if2 .taken) in
+    let from = rw (e .before .t-place .ensures) at (e .if1 .left) in
+    let to = rw (c .before .before .h-place .ensures) at (c .before .if2 .taken) in
     holds-as _ (entry7-between (a .sizes) (a .p) _ _ from to) (c .additive-identity .ensures (a .sizes .d))
 
 garbage-entry-requires : tie.Need-garbage-entry-requires
@@ -39,9 +39,9 @@ garbage-entry-requires c κs =
     let s = h .before .before .before in
     let z = s .args .sizes in
     let some = t₁-some z (s .pre .0) in
-    let inside = in-h z (s .args .p) refl refl (h .h-from .ensures) (c .if2 .left) (s .pre .1 .1 .1) in (
+    let inside = in-h z (s .args .p) refl refl (h .h-place .ensures) (c .if2 .left) (s .pre .1 .1 .1) in (
       s .pre .0 .shaped .degree,
-      (s .pre .0 .base₁, (some, garbage-room (z .d) (z .r) (z .t1) (s .args .p - h .h-from .result) _ some inside (s .pre .1 .1 .0))),
+      (s .pre .0 .base₁, (some, garbage-room (z .d) (z .r) (z .t1) (s .args .p - h .h-place .result) _ some inside (s .pre .1 .1 .0))),
     )
 
 returns-3 : tie.Need-returns-3
@@ -49,18 +49,18 @@ returns-3 c =
     let e = c .before .before .before in
     let h = c .before .before in
     let a = e .before .before .args in
-    let from = rw (e .before .t-from .ensures) at (e .if1 .left) in
-    let to = rw (h .h-from .ensures) at (c .before .if2 .left) in
-    holds-as _ (entry7-h (a .sizes) (a .p) _ _ from to) (rw (h .h-from .ensures) at (c .garbage-entry .ensures))
+    let from = rw (e .before .t-place .ensures) at (e .if1 .left) in
+    let to = rw (h .h-place .ensures) at (c .before .if2 .left) in
+    holds-as _ (entry7-h (a .sizes) (a .p) _ _ from to) (rw (h .h-place .ensures) at (c .garbage-entry .ensures))
 
 pub check7-entry-spec : {M : Type 1} → statement M
 check7-entry-spec =
     tie.close
     (tie.spec
-    t-from-requires
+    t-place-requires
     z-entry-requires
     returns
-    h-from-requires
+    h-place-requires
     additive-identity-requires
     returns-2
     garbage-entry-requires

@@ -2,7 +2,8 @@
 use Prim.Native.Nat.{_≤_}
 use native.Mathlib.Omega.{arith}
 use Rattle.verifier.specs.Places.{row-fits, part-fits, element-fits}
-use Rattle.verifier.specs.SizeLaws.{t-size-bound, g-size-bound, t-within, g-within}
+use Rattle.fold.specs.PlaceBounds.{t-size-bound, g-size-bound}
+use Rattle.verifier.specs.SizeLaws.{t-within, g-within}
 use Rattle.verifier.specs.Rows.{first-row}
 use borrow.Author.Needs.{needs}
 use Rattle.verifier.proofs.outer.first_row.Statement.{statement}

@@ -2,7 +2,8 @@
 use Prim.Native.Nat.{_≤_}
 use native.Mathlib.Omega.{arith}
 use Rattle.verifier.specs.Places.{row-fits, part-fits, element-fits}
-use Rattle.verifier.specs.SizeLaws.{h-size-bound, h-within}
+use Rattle.fold.specs.PlaceBounds.{h-size-bound}
+use Rattle.verifier.specs.SizeLaws.{h-within}
 use Rattle.verifier.specs.Rows.{second-row}
 use borrow.Author.Needs.{needs}
 use Rattle.verifier.proofs.outer.second_row.Statement.{statement}

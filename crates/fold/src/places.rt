@@ -1,20 +1,20 @@
 // Where the blocks of an opening start.
 ghost use mathlib.Core.Path.{_≡_};
 ghost use Rattle.fold.specs.Verdict.{tPlace, gPlace, hPlace};
-ghost use Rattle.verifier.specs.Facts.{Fits};
-use fold::Sizes;
-use fold::counts::garbage_size;
-use fold::counts::t_size;
+ghost use Rattle.fold.specs.Arguments.{VerifySized};
+use crate::Sizes;
+use crate::counts::garbage_size;
+use crate::counts::t_size;
 
 pub fn t_place(sizes: Sizes) -> usize
-    requires { ⌜ Fits sizes ⌝ }
+    requires { ⌜ VerifySized sizes ⌝ }
     ensures { λ a. ⌜ a ≡ tPlace 2 (sizes .n) ⌝ }
 {
     2 * sizes.n
 }
 
 pub fn g_place(sizes: Sizes) -> usize
-    requires { ⌜ Fits sizes ⌝ }
+    requires { ⌜ VerifySized sizes ⌝ }
     ensures { λ a. ⌜ a ≡ gPlace 2 (sizes .n) (sizes .r) (sizes .kappa) (sizes .t1) ⌝ }
 {
     let start = t_place(sizes);
@@ -23,7 +23,7 @@ pub fn g_place(sizes: Sizes) -> usize
 }
 
 pub fn h_place(sizes: Sizes) -> usize
-    requires { ⌜ Fits sizes ⌝ }
+    requires { ⌜ VerifySized sizes ⌝ }
     ensures { λ a. ⌜ a ≡ hPlace 2 (sizes .n) (sizes .r) (sizes .kappa) (sizes .t1) (sizes .t2) ⌝ }
 {
     let start = g_place(sizes);

@@ -1,12 +1,12 @@
--- `limits::sizes::opening_size` meets its contract: two digits of z, then t, g and h. Assumes nothing.
+-- `fold::counts::opening_size` meets its contract: two digits of z, then t, g and h. Assumes nothing.
 use mathlib.Core.Path.{refl}
 use borrow.Author.Needs.{needs}
 use native.Mathlib.Omega.{arith}
 use Prim.Native.Nat.{_≤_}
 use Rattle.fold.specs.Sizes.{openingSize, restSize}
-use Rattle.limits.specs.SizeLaws.{openingSize-bound}
-use Rattle.limits.proofs.sizes.opening_size.Statement.{statement}
-use Rattle.limits.proofs.sizes.opening_size.Tie as tie
+use Rattle.fold.specs.SizeBounds.{openingSize-bound}
+use Rattle.fold.proofs.counts.opening_size.Statement.{statement}
+use Rattle.fold.proofs.counts.opening_size.Tie as tie
 
 t-size-requires : tie.Need-t-size-requires
 t-size-requires c κs = search needs

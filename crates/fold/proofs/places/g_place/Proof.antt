@@ -1,12 +1,12 @@
--- `verifier::places::g_place` meets its contract.
+-- `fold::places::g_place` meets its contract.
 use mathlib.Core.Path.{ap₂}
 use Prim.Native.Nat.{ℕ, _+_}
 use native.Mathlib.Omega.{arith}
 use Rattle.fold.specs.Verdict.{tPlace, gPlace}
-use Rattle.verifier.specs.SizeLaws.{t-size-bound, t-place-bound}
+use Rattle.fold.specs.PlaceBounds.{t-size-bound, t-place-bound}
 use borrow.Author.Needs.{needs}
-use Rattle.verifier.proofs.places.g_place.Statement.{statement}
-use Rattle.verifier.proofs.places.g_place.Tie as tie
+use Rattle.fold.proofs.places.g_place.Statement.{statement}
+use Rattle.fold.proofs.places.g_place.Tie as tie
 
 t-place-requires : tie.Need-t-place-requires
 t-place-requires c κs = search needs

@@ -1,12 +1,12 @@
--- `verifier::places::h_place` meets its contract.
+-- `fold::places::h_place` meets its contract.
 use mathlib.Core.Path.{ap₂}
 use Prim.Native.Nat.{ℕ, _+_}
 use native.Mathlib.Omega.{arith}
 use Rattle.fold.specs.Verdict.{hPlace}
-use Rattle.verifier.specs.SizeLaws.{g-size-bound, g-place-bound}
+use Rattle.fold.specs.PlaceBounds.{g-size-bound, g-place-bound}
 use borrow.Author.Needs.{needs}
-use Rattle.verifier.proofs.places.h_place.Statement.{statement}
-use Rattle.verifier.proofs.places.h_place.Tie as tie
+use Rattle.fold.proofs.places.h_place.Statement.{statement}
+use Rattle.fold.proofs.places.h_place.Tie as tie
 
 g-place-requires : tie.Need-g-place-requires
 g-place-requires c κs = search needs

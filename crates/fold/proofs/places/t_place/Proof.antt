@@ -1,9 +1,9 @@
--- `verifier::places::t_place` meets its contract.
+-- `fold::places::t_place` meets its contract.
 use mathlib.Core.Path.{refl}
 use Rattle.fold.specs.Verdict.{tPlace}
 use borrow.Author.Needs.{needs}
-use Rattle.verifier.proofs.places.t_place.Statement.{statement}
-use Rattle.verifier.proofs.places.t_place.Tie as tie
+use Rattle.fold.proofs.places.t_place.Statement.{statement}
+use Rattle.fold.proofs.places.t_place.Tie as tie
 
 mul-result : tie.Need-mul-result
 mul-result c = search needs
