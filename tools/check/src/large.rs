@@ -48,6 +48,9 @@ fn damage(tally: &mut Tally, rng: &mut Random, s: &Sz, l: &Lists) {
         assert_eq!(judged(tally, s, &bad), Answer::Failed(check), "{what}");
     };
     let mut draw = |n: usize| rng.below(n as u64) as usize;
+    // a change that is multiplied by a zero element is not seen
+    let zero = |xs: &[i32], e: usize| xs[e * s.d..(e + 1) * s.d].iter().all(|v| *v == 0);
+    let pairs: Vec<(usize, usize)> = (0..s.r).flat_map(|i| (i..s.r).map(move |j| (i, j))).collect();
     for _ in 0..3 {
         failed("u1", 3, &wide, &mut |x| change(&mut x.u1, draw(s.kappa1 * s.d)));
         failed("u2", 4, &wide, &mut |x| change(&mut x.u2, draw(s.kappa2 * s.d)));
@@ -56,12 +59,15 @@ fn damage(tally: &mut Tally, rng: &mut Random, s: &Sz, l: &Lists) {
         failed("t", 3, &wide, &mut |x| change(&mut x.opening, start[1] + draw(start[2] - start[1])));
         failed("g", 3, &wide, &mut |x| change(&mut x.opening, start[2] + draw(start[3] - start[2])));
         failed("h", 4, &wide, &mut |x| change(&mut x.opening, start[3] + draw(start[4] - start[3])));
-        failed("b'' elsewhere", 8, &wide, &mut |x| change(&mut x.b2, draw(5) * s.d + 1 + draw(s.d - 1)));
+        let k = draw(5);
+        if !zero(&l.delta, k) {
+            failed("b'' elsewhere", 8, &wide, &mut |x| change(&mut x.b2, k * s.d + 1 + draw(s.d - 1)));
+        }
         if s.w > 0 {
             failed("p", 2, &wide, &mut |x| change(&mut x.p, draw(s.w)));
             failed("p far", 1, &wide, &mut |x| x.p.iter_mut().for_each(|v| *v = 2147483598));
         }
-        if s.k > 0 {
+        if s.k > 0 && !zero(&l.alpha, 0) {
             let size = (s.pairs() + s.r * s.n + 1) * s.d;
             failed("constraint's b", 8, &wide, &mut |x| change(&mut x.whole, size - s.d + draw(s.d)));
         }
@@ -72,10 +78,14 @@ fn damage(tally: &mut Tally, rng: &mut Random, s: &Sz, l: &Lists) {
             x.u1 = commit_without_t(s, x);
             change(&mut x.opening, draw(start[1]));
         });
-        failed("D zero, h", 7, &wide, &mut |x| {
-            (x.d_matrix.fill(0), x.u2.fill(0));
-            change(&mut x.opening, start[3] + draw(start[4] - start[3]));
-        });
+        let h = draw(start[4] - start[3]);
+        let (i, j) = pairs[h / (s.t1 * s.d)];
+        if !zero(&l.c, i) && !zero(&l.c, j) {
+            failed("D zero, h", 7, &wide, &mut |x| {
+                (x.d_matrix.fill(0), x.u2.fill(0));
+                change(&mut x.opening, start[3] + h);
+            });
+        }
     }
     if s.bound > 0 {
         failed("bound", 1, &Sz { bound: s.bound - 1, target: s.target, ..*s }, &mut |_| ());
