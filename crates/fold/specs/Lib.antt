@@ -22,6 +22,7 @@ pub mod NextInstanceTheorem
 -- Closed cases
 pub mod Computing
 pub mod WholeCase
+pub mod WorkedValues
 pub mod RefusalCases
 pub mod SecondCaseNumbers
 pub mod SecondCase
