@@ -17,6 +17,7 @@ pub mod Entries
 -- The theorems
 pub mod HonestRuns
 pub mod HonestFormed
+pub mod MessagesTaken
 pub mod TwoOpenings
 pub mod NextInstanceTheorem
 -- Closed cases
