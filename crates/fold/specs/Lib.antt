@@ -18,6 +18,7 @@ pub mod Entries
 pub mod HonestRuns
 pub mod HonestFormed
 pub mod MessagesTaken
+pub mod LowestFirst
 pub mod TwoOpenings
 pub mod NextInstanceTheorem
 -- Closed cases
@@ -25,6 +26,8 @@ pub mod Computing
 pub mod WholeCase
 pub mod WorkedValues
 pub mod RefusalCases
+pub mod LimitCases
+pub mod ListCases
 pub mod SecondCaseNumbers
 pub mod SecondCase
 -- Laws
