@@ -46,7 +46,7 @@ module _ (lengths : List ℕ) where
     abbrev pub with : List Change → ℕ
     with changes = refusal (lists changes)
 
-    -- zeros are taken; each list has its length (7); the first `inputs` lists have a range (8), those written to have none
+    -- zeros are taken; each list has its length (7); the first `inputs` lists have a range (8), the others none
     abbrev pub Tested : (inputs : ℕ) → Type 0
     Tested inputs =
         (with [] ≡ 0)
@@ -169,7 +169,7 @@ pub record ListCases : Type 0 where
   pub material-lists : Tested (given ++ (8 ∷ [])) material 13
   pub verifier-lists : Tested verified verifier 17
   pub next-lists : Tested written nextInstance 16
-  -- "the opening is looked at only for its length"
+  -- the opening is looked at only for its length
   pub part-lists : Tested (46 ∷ []) part 0
   -- "Lowest number first"
   pub order₁ : Ordered lengths₁ message₁ ((7, longer lengths₁ 6) ∷ (8, ending lengths₁ 3 (- 2147483599)) ∷ [])
