@@ -1,6 +1,6 @@
 -- Laws of a list o cut into chunks of w 0, w 1, .. elements, each padded with zeros to n′ elements.
 --     flat-cuts                     the chunks follow one another
---     part-within, part-past        element k of part s is element start w s + k of o, or zero
+--     part-within, part-past        element k of part s is element start w s + k of o, or zero; number-past: its numbers
 --     normSq-padded-cuts            zeros add nothing to the squared norm
 --     block-cuts, trimmed-cuts      each part read back, and all of them with the padding cut off
 use mathlib.Core.Path.{_≡_, refl, sym, ap, ap₂, _∙_}
@@ -81,24 +81,26 @@ module _ (d r n′ : ℕ) (w : ℕ → ℕ) (fits : (s : ℕ) → w s ≤ n′) 
           ∙ getD-drop (start w s * d) o (k * d + x) (pos 0)
           ∙ ap (λ p. getD o p (pos 0)) place
 
-  pub part-past : (s k : ℕ) → s < r → w s ≤ k → k < n′ → el d (flat r (cutPadded d n′ w o)) (s * n′ + k) ≡ R d .zero
+  -- number x of element k past the end of chunk s
+  pub number-past : (s k x : ℕ) → s < r → w s ≤ k → k < n′ → x < d
+      → getD (flat r (cutPadded d n′ w o)) ((s * n′ + k) * d + x) (pos 0) ≡ pos 0
   unfolding cutPadded
-  part-past s k h g l = el-zeros d _ (s * n′ + k) number
+  number-past s k x h g l b =
+      let past : k - w s < n′ - w s = omega arith in
+      let inside : (k - w s) * d + x < (n′ - w s) * d = block-fits (n′ - w s) d (k - w s) x past b in
+      let whole : w s + (k - w s) ≡ k = omega arith in
+      let place : k * d + x ≡ length (cut d w o s) + ((k - w s) * d + x) =
+      rw (length-cut s h) (omega (arith, ap (λ y. y * d) whole, add-mul (w s) (k - w s) d)) in
+      getD-cutPadded s k x h l b
+      ∙ ap (λ p. getD (cut d w o s ++ zeros) p (pos 0)) place
+      ∙ getD-append-add (cut d w o s) zeros ((k - w s) * d + x) (pos 0)
+      ∙ getD-replicate ((n′ - w s) * d) ((k - w s) * d + x) (pos 0) (pos 0) inside
     where
       zeros : List ℤ
       zeros = replicate ((n′ - w s) * d) (pos 0)
 
-      number : (x : ℕ) → x < d → getD (flat r (cutPadded d n′ w o)) ((s * n′ + k) * d + x) (pos 0) ≡ pos 0
-      number x b =
-          let past : k - w s < n′ - w s = omega arith in
-          let inside : (k - w s) * d + x < (n′ - w s) * d = block-fits (n′ - w s) d (k - w s) x past b in
-          let whole : w s + (k - w s) ≡ k = omega arith in
-          let place : k * d + x ≡ length (cut d w o s) + ((k - w s) * d + x) =
-          rw (length-cut s h) (omega (arith, ap (λ y. y * d) whole, add-mul (w s) (k - w s) d)) in
-          getD-cutPadded s k x h l b
-          ∙ ap (λ p. getD (cut d w o s ++ zeros) p (pos 0)) place
-          ∙ getD-append-add (cut d w o s) zeros ((k - w s) * d + x) (pos 0)
-          ∙ getD-replicate ((n′ - w s) * d) ((k - w s) * d + x) (pos 0) (pos 0) inside
+  pub part-past : (s k : ℕ) → s < r → w s ≤ k → k < n′ → el d (flat r (cutPadded d n′ w o)) (s * n′ + k) ≡ R d .zero
+  part-past s k h g l = el-zeros d _ (s * n′ + k) (λ x b. number-past s k x h g l b)
 
   pub length-padded-cuts : length (flat r (cutPadded d n′ w o)) ≡ r * (n′ * d)
   length-padded-cuts = length-flat r (n′ * d) (cutPadded d n′ w o) length-cutPadded

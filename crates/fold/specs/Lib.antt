@@ -17,12 +17,17 @@ pub mod Entries
 -- The theorems
 pub mod HonestRuns
 pub mod HonestFormed
+pub mod MessagesTaken
+pub mod LowestFirst
 pub mod TwoOpenings
 pub mod NextInstanceTheorem
 -- Closed cases
 pub mod Computing
 pub mod WholeCase
+pub mod WorkedValues
 pub mod RefusalCases
+pub mod LimitCases
+pub mod ListCases
 pub mod SecondCaseNumbers
 pub mod SecondCase
 -- Laws

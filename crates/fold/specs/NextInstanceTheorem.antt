@@ -27,7 +27,7 @@ use Rattle.fold.specs.RefusalLaws.{Passes, refusal-passes, passes-refusa
 use Rattle.fold.specs.Verification.{verification}
 use Rattle.fold.specs.VerificationLaws.{judged-accepted}
 use Rattle.fold.specs.Chunks.{unpadded, ZeroPadding}
-use Rattle.fold.specs.PaddingLaws.{normSq-padded, length-unpadded, padded-unpadded, coefficients-unpadded}
+use Rattle.fold.specs.PaddingLaws.{zero-padding, normSq-padded, length-unpadded, padded-unpadded, coefficients-unpadded}
 use Rattle.fold.specs.NextInstance.{m, n′, r′, nextWitness, nextRelation}
 use Rattle.fold.specs.NextSolves.{FirstChecks, solved, accepts-of}
 
@@ -98,6 +98,11 @@ module _ (𝓢 : Statement) (𝓓 : Draws) (𝓣 : Transcript) (ν μ : ℕ) (ou
       λ e. next-instance .0 (judged-accepted (firstRefusal (verifyTests 𝓢 𝓓 𝓣 o)) (verdict 𝓢 𝓓 𝓣 o) e .1),
       λ h. rw (unrefused-opening o size (solving-range h)) (ap Judged (next-instance .1 h)),
     )
+
+    -- a padded opening has zero padding, so that what is said of such solutions below is said of it
+    pub next-padding : ZeroPadding d tz n ν (m 𝓢 𝓓 𝓣 ν μ) μ (nextWitness 𝓢 𝓓 𝓣 ν μ o)
+    unfolding openingSize
+    next-padding = zero-padding d tz n ν (m 𝓢 𝓓 𝓣 ν μ) μ some-ν some-μ o size
 
   -- a list of r' parts of n' elements, with zeros past the end of each chunk
   module _ (s : List ℤ) (sized : length s ≡ r′ 𝓢 𝓓 𝓣 ν μ * n′ 𝓢 𝓓 𝓣 ν μ * d) (zeros : ZeroPadding d tz n ν (m 𝓢 𝓓 𝓣 ν μ) μ s) where

@@ -1,5 +1,6 @@
 -- Laws of the padded opening, for ν and μ above 0 and an opening of tz · n + m elements.
 --     part-padded, part-padding     part s holds its chunk of the opening, then zeros
+--     zero-padding                  its padding is zero, as ZeroPadding says
 --     chunk-padded                the same as a list
 --     normSq-padded                 its squared length is the opening's
 --     unpadded-padded, padded-unpadded     padding is undone, and done again where it is zero
@@ -17,7 +18,7 @@ use Rattle.fold.specs.Sizes.{nextRank, nextParts}
 use Rattle.fold.specs.Statement.{part}
 use Rattle.fold.specs.Chunks.{width, cut, cutPadded, padded, unpadded, ZeroPadding}
 use Rattle.fold.specs.ChunkLaws.{width-bound, widths-cover}
-use Rattle.fold.specs.CutLaws.{part-within, part-past, length-padded-cuts, normSq-padded-cuts, block-cuts, trimmed-cuts}
+use Rattle.fold.specs.CutLaws.{part-within, part-past, number-past, length-padded-cuts, normSq-padded-cuts, block-cuts, trimmed-cuts}
 use Rattle.fold.specs.TrimLaws.{coefficients-trimmed, length-all-trimmed, trimmed-padded}
 
 pub coefficients-unpadded : (d tz n ν m μ : ℕ) (s : List ℤ) → coefficients s ≡ true → coefficients (unpadded d tz n ν m μ s) ≡ true
@@ -48,6 +49,11 @@ module _ (d tz n ν m μ : ℕ) (some-ν : 0 < ν) (some-μ : 0 < μ) where
         → part d (nextRank n ν m μ) (padded d tz n ν m μ o) s k ≡ R d .zero
     unfolding part padded
     part-padding = part-past d (nextParts tz ν μ) (nextRank n ν m μ) (width tz n ν m μ) fitting o covered
+
+    pub zero-padding : ZeroPadding d tz n ν m μ (padded d tz n ν m μ o)
+    unfolding padded
+    zero-padding =
+        record { zero-past = number-past d (nextParts tz ν μ) (nextRank n ν m μ) (width tz n ν m μ) fitting o covered }
 
     -- "the library hands back that stretch of the caller's own slice": with zeros after it, it is that part of the padded opening
     pub chunk-padded : (s : ℕ) → s < nextParts tz ν μ

@@ -1,5 +1,6 @@
--- Document 01, 'Where a call stops' and 'Bench values': the example of each row, and both sides of the limits, computed. What is lent is
--- zero and has the lengths that the sizes give, except where an example says otherwise. Row 12 is the sheet's.
+-- Document 01, 'Where a call stops' and 'Bench values': the example of each row and the sides that it names, computed. What is lent is zero and
+-- has the lengths that the sizes give, except where an example says otherwise. Row 12 is the sheet's. LimitCases has both sides of every
+-- limit in every call, ListCases a fault in every list.
 use mathlib.Core.Bool.{Bool, false}
 use mathlib.Core.Path.{_≡_, refl}
 use mathlib.Core.List.{List, [], _∷_, _++_}
@@ -106,6 +107,7 @@ pub record RefusalCases : Type 0 where
   -- row 11: "m = 3200, μ = 1", "n' 256/257"
   pub rest-3200 : restSize 16 8 8 8 ≡ 3200
   pub rank-3200 : nextRefusal 2 16 8 4 8 8 5 1 1 ≡ 11
+  pub length-before-rank : firstRefusal (nextTests (statement 2 16 8 4 8 8 5) (draws 2 16 8 4 8 8 5) (transcript 2 16 8 4 8 8 5) 1 1 []) ≡ 7
   pub next-rank-256 : nextRank 1 1 (restSize 8 7 4 4) 2 ≡ 256
   pub next-rank-257 : nextRank 1 1 (restSize 9 6 2 7) 2 ≡ 257
   pub rank-256 : nextRefusal 2 8 7 4 4 4 5 1 2 ≡ 0
@@ -144,6 +146,7 @@ refusal-cases =
       challenge-72 = refl;
       rest-3200 = refl;
       rank-3200 = refl;
+      length-before-rank = refl;
       next-rank-256 = refl;
       next-rank-257 = refl;
       rank-256 = refl;

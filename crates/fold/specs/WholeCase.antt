@@ -1,5 +1,5 @@
--- Document 01, 'Bench values' and 'Sheet': the whole case, computed. Its witness is 1+2X. Every field of WholeCase is closed, and holds by
--- computation alone, so this file pins the definitions to numbers that stand in document 01.
+-- Document 01, 'Sheet': the whole case, computed. "Its witness is 1+2X." Every field of WholeCase is closed, and holds by computation
+-- alone, so this file pins the definitions to numbers that stand in document 01. What 'Bench values' says of it stands in WorkedValues.
 use mathlib.Core.Path.{_≡_, refl}
 use mathlib.Core.List.{List, [], _∷_}
 use Prim.Native.Nat.{ℕ, zero, suc, _<_, _≤_}
@@ -10,11 +10,9 @@ use Rattle.integers.specs.Sums.{normSq}
 use Rattle.algebra.specs.DotProduct.{value}
 use Rattle.ring.specs.Element.{R}
 use Rattle.fold.specs.declared.Verdict.{Verdict}
-use Rattle.fold.specs.declared.Verdict.the-variants.{Accepted, Failed}
+use Rattle.fold.specs.declared.Verdict.the-variants.{Accepted}
 use Rattle.fold.specs.Answers.{firstRefusal}
-use Rattle.fold.specs.Sizes.{restSize, nextRank, nextParts, nextCount}
 use Rattle.fold.specs.Statement.{Relation, Meets, Solves, part, function, wholeAt, wholeConstant}
-use Rattle.fold.specs.Messages.{elements, z}
 use Rattle.fold.specs.Verdict.{Statement, Draws, Transcript, verdict}
 use Rattle.fold.specs.Honest.{honestTranscript, honestOpening}
 use Rattle.fold.specs.Refusals.{verifyTests, proverTests}
@@ -82,19 +80,11 @@ pub solves : Solves (case 13 .relation) witness
 solves = record { meets = record { wholly = wholly-met; in-constant-term = λ l h. absurd (omega arith) }; short = short }
 
 pub record WholeCase : Type 0 where
-  -- the honest messages and opening of the witness are those of the sheet; "z = -2+X, squared length 13"
+  -- the honest messages and opening of the witness are those of the sheet
   pub transcript-honest : honestTranscript (case 13) draws witness ≡ transcript
   pub opening-honest : honestOpening (case 13) draws witness ≡ digits
-  pub z-folded : elements 2 1 (z 2 1 1 (draws .c) witness) ≡ - 2 ∷ + 1 ∷ []
-  pub squared-length : normSq digits ≡ 13
-  -- "The program of verdicts prints 0 0 in its two fields", "with β'² = 12, failed 9"
+  -- "The program of verdicts prints 0 0 in its two fields."
   pub accepted : verdict (case 13) draws transcript digits ≡ Accepted
-  pub failed : verdict (case 12) draws transcript digits ≡ Failed 9
-  -- "m = 6, n' = 6, r' = 3, K' = 6"
-  pub m : restSize 1 1 2 2 ≡ 6
-  pub n′ : nextRank 1 1 6 1 ≡ 6
-  pub r′ : nextParts 2 1 1 ≡ 3
-  pub K′ : nextCount 1 1 1 ≡ 6
   -- neither the verifier nor the prover is refused
   pub verifier-not-refused : firstRefusal (verifyTests (case 13) draws transcript digits) ≡ 0
   pub prover-not-refused : firstRefusal (proverTests (case 13) draws witness) ≡ 0
@@ -105,14 +95,7 @@ whole-case =
     record {
       transcript-honest = refl;
       opening-honest = refl;
-      z-folded = refl;
-      squared-length = refl;
       accepted = refl;
-      failed = refl;
-      m = refl;
-      n′ = refl;
-      r′ = refl;
-      K′ = refl;
       verifier-not-refused = refl;
       prover-not-refused = refl;
     }

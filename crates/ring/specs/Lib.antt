@@ -16,4 +16,3 @@ pub mod Short
 pub mod ShortOperand
 pub mod ShortLaws
 pub mod Computing
-pub mod RingCases
