@@ -1,28 +1,23 @@
+-- `judge::judge_into` meets its contract: the reader's promise, and what the verifier makes of it. Assumes nothing.
 use borrow.Author.Needs.{needs}
 use Rattle.judge.specs.ReadLaws.{read-bounded, read-judged}
 use Rattle.judge.proofs.judge_into.Statement.{statement}
 use Rattle.judge.proofs.judge_into.Tie as tie
-use Rattle.judge.proofs.judge_into.Reads as reads
-use Rattle.judge.proofs.judge_into.Lts as lts
 use Rattle.judge.proofs.judge_read.Reads as judge-read-reads
 use Rattle.sheet.proofs.reader.read_sheet.Reads as read-sheet-reads
 
--- src/lib.rt:29:9
 read-sheet-requires : tie.Need-read-sheet-requires
 read-sheet-requires c κs = search needs
 
--- src/lib.rt:30:5
 judge-read-requires : tie.Need-judge-read-requires
 judge-read-requires c κs =
     let read = c .before .before in
     let a = read .before .before .before .args in
     read-bounded (a .text .now) (a .numbers .now) (read .read-sheet .ensures)
 
--- src/lib.rt:26:1
 same-length : tie.Need-same-length
 same-length c = search needs
 
--- src/lib.rt:26:1
 returns : tie.Need-returns
 returns c =
     let read = c .before .before .before in
