@@ -124,9 +124,13 @@ lizkarg_part lizkarg_next_part(lizkarg_part_sizes sizes, size_t part, const int3
  * than 65536 bytes), 1 to 6, 8 to 10. */
 lizkarg_answer lizkarg_judge_sheet(const uint8_t *text, size_t text_len);
 
-/* Reads a sheet: its header is the result, and all numbers after the header are put at the start of numbers, in the sheet's order.
- * Written, or refused, in this order: 12 (header), 1 to 6, 12 (other lines), 7 (numbers has no room), 8 to 10. The text may be of any
- * length; what numbers holds past those of the sheet is not changed. */
+/* How many numbers a sheet with this header holds after it: the numbers_len of lizkarg_read_sheet. 0 where the header is refused, by 12 or
+ * 1 to 6. Only the header is looked at. */
+size_t lizkarg_sheet_numbers(const uint8_t *text, size_t text_len);
+
+/* Reads a sheet: its header is the result, and all numbers after the header are put into numbers, in the sheet's order. Written, or
+ * refused, in this order: 12 (header), 1 to 6, 12 (other lines), 7 (numbers_len is not lizkarg_sheet_numbers), 8 to 10. The text may be of
+ * any length. */
 lizkarg_sheet lizkarg_read_sheet(const uint8_t *text, size_t text_len, int32_t *numbers, size_t numbers_len);
 
 #ifdef __cplusplus

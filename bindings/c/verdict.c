@@ -12,7 +12,9 @@ int main(void) {
     size_t size = fread(text, 1, sizeof text, stdin);
     lizkarg_answer answer = {LIZKARG_REFUSED, 12};
     if (size <= MOST) {
-        lizkarg_sheet h = lizkarg_read_sheet(text, size, numbers, MOST / 16);
+        /* a header that gives more numbers than MOST bytes hold is over broken lines: 12, before 7 */
+        size_t count = lizkarg_sheet_numbers(text, size);
+        lizkarg_sheet h = lizkarg_read_sheet(text, size, numbers, count < MOST / 16 ? count : MOST / 16);
         answer = (lizkarg_answer){h.kind, h.number};
         if (h.kind == LIZKARG_WRITTEN) {
             lizkarg_sizes s = {h.d, h.n, h.r, h.k, h.l, h.w, h.kappa, h.kappa1, h.kappa2, h.b, h.b1, h.b2, h.t1, h.t2, h.bound, h.target};

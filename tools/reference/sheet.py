@@ -21,6 +21,8 @@ FIELD = re.compile(rb" *(0|-?[1-9][0-9]*)")
 # "kind (0 accepted, 1 failed, 2 refused)".
 KINDS = {"accepted": 0, "failed": 1, "refused": 2}
 
+# Row 7: "a slice's length is not what the sizes give"; row 12: "sheet broken".
+SLICE_LENGTH = 7
 SHEET_BROKEN = 12
 
 
@@ -100,22 +102,51 @@ def read_body(s, text, position):
     return x
 
 
-def read_sheet(text):
-    """ "The header's layout is read first (12), then 1 to 6, then the other lines (12), then 8 to 10."
+def read_header(text):
+    """ "The header's layout is read first (12), then 1 to 6". ("refused", number), or ("read", (sizes, where the other lines begin))."""
+    try:
+        header, position = read_line(text, 0, len(Sizes._fields))
+    except Broken:
+        return ("refused", SHEET_BROKEN)
+    s = Sizes(*header)
+    number = size_refusal(Sizes._fields, s)
+    return ("refused", number) if number else ("read", (s, position))
+
+
+def sheet_numbers(text):
+    """How many numbers the header's sizes give; 0 where the header is refused."""
+    kind, content = read_header(text)
+    return 0 if kind == "refused" else sum(line_widths(content[0]))
+
+
+def read_sheet(text, length=None):
+    """ "The header's layout is read first (12), then 1 to 6, then the other lines (12), then 8 to 10." Row 7 stands before 8: "a slice's
+    length is not what the sizes give". `length` is that of the slice that takes the numbers after the header; None where there is no
+    slice to test.
 
     ("refused", number), or ("read", (sizes, lists)).
     """
+    kind, content = read_header(text)
+    if kind == "refused":
+        return (kind, content)
+    s, position = content
     try:
-        header, position = read_line(text, 0, len(Sizes._fields))
-        s = Sizes(*header)
-        number = size_refusal(Sizes._fields, s)
-        if number:
-            return ("refused", number)
         x = read_body(s, text, position)
     except Broken:
         return ("refused", SHEET_BROKEN)
+    if length not in (None, sum(line_widths(s))):
+        return ("refused", SLICE_LENGTH)
     number = number_refusal(s, x)
     return ("refused", number) if number else ("read", (s, x))
+
+
+def read_into(text, numbers):
+    """The reader's call: its answer, the header (all 0 where it refuses), and the lent slice afterwards: "Nothing lent is written"."""
+    kind, content = read_sheet(text, len(numbers))
+    if kind == "refused":
+        return (kind, content), [0] * len(Sizes._fields), numbers
+    s, x = content
+    return ("written", 0), list(s), [number for name in SHEET_LISTS for number in x[name]]
 
 
 # The program

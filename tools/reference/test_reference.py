@@ -510,6 +510,26 @@ def test_sheet_round_trip():
             assert sheet.judge(text) == ("refused", 12)
 
 
+def test_reader_slice():
+    """Row 7: a slice of another length than the sizes give is refused, after the layout (12) and before 8 to 10."""
+    rng = random.Random(13)
+    marked = lambda length: [77] * length
+    for _ in range(20):
+        s, _, y = honest_case(rng)
+        text = sheet.write_sheet(s, y)
+        numbers = [number for name in sizes.SHEET_LISTS for number in y[name]]
+        count = sheet.sheet_numbers(text)
+        assert count == len(numbers)
+        assert sheet.read_into(text, marked(count)) == (("written", 0), list(s), numbers)
+        wide = sheet.write_sheet(s, y | {"u1": [ring.LARGEST + 1] * len(y["u1"])})
+        assert sheet.read_into(wide, marked(count)) == (("refused", 8), [0] * 18, marked(count))
+        for length in {0, count - 1, count + 1, 2 * count}:
+            for given, number in ((text, 7), (wide, 7), (text[:-1], 12), (wide + b" ", 12)):
+                assert sheet.read_into(given, marked(length)) == (("refused", number), [0] * 18, marked(length))
+        assert sheet.sheet_numbers(text[:289]) == count
+        assert sheet.sheet_numbers(text[:288]) == sheet.sheet_numbers(sheet.write_sheet(s._replace(nu=0), y)) == 0
+
+
 def test_sheet_length():
     """The count of bytes that docs/SHEET.md gives."""
     rng = random.Random(10)

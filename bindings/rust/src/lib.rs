@@ -253,7 +253,12 @@ pub fn judge_sheet(text: &[u8]) -> Answer {
     Answer::of(r.kind, r.number)
 }
 
-/// The header of a sheet; the numbers after it are at the start of `numbers`. Or the number of the refusal.
+/// How many numbers a sheet with this header holds after it; 0 where the header is refused.
+pub fn sheet_numbers(text: &[u8]) -> usize {
+    unsafe { raw::lizkarg_sheet_numbers(text.as_ptr(), text.len()) }
+}
+
+/// The header of a sheet; the numbers after it are put into `numbers`, whose length is `sheet_numbers(text)`. Or the number of the refusal.
 pub fn read_sheet(text: &[u8], numbers: &mut [i32]) -> Result<Sheet, u8> {
     let r = unsafe {
         raw::lizkarg_read_sheet(text.as_ptr(), text.len(), numbers.as_mut_ptr(), numbers.len())

@@ -220,5 +220,6 @@ extern "C" {
     pub fn lizkarg_next_part_refusal(sizes: PartSizes, part: usize, opening: In, opening_len: usize) -> u8;
     pub fn lizkarg_next_part(sizes: PartSizes, part: usize, opening: In, opening_len: usize) -> RawPart;
     pub fn lizkarg_judge_sheet(text: *const u8, text_len: usize) -> RawAnswer;
+    pub fn lizkarg_sheet_numbers(text: *const u8, text_len: usize) -> usize;
     pub fn lizkarg_read_sheet(text: *const u8, text_len: usize, numbers: Out, numbers_len: usize) -> Sheet;
 }

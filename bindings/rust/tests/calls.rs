@@ -32,8 +32,9 @@ fn sheet(case: &str) -> Vec<u8> {
 
 /// The header, its sizes for the verifier, and the lists of a case, or the number of its refusal.
 fn read<T>(case: &str, then: impl Fn(Sheet, Sizes, Proof) -> T) -> Result<T, u8> {
-    let mut numbers = [77; 100];
-    let h = read_sheet(&sheet(case), &mut numbers)?;
+    let text = sheet(case);
+    let mut numbers = vec![77; sheet_numbers(&text)];
+    let h = read_sheet(&text, &mut numbers)?;
     let mut at = 0;
     let mut next = |count: usize| {
         let part = &numbers[at..at + count];
@@ -82,6 +83,19 @@ fn whole_case() {
     assert_eq!(verdict(&CASE.replace("2 1 1 1 0 0", "3 1 1 1 0 0")), Answer::Refused(1));
     assert_eq!(verdict(&CASE.replace("-3 4", "-3 a")), Answer::Refused(12));
     assert_eq!(verdict(CASE).code(), (0, 0));
+}
+
+/// Row 7: the slice of 64 numbers has the length that the sizes give.
+#[test]
+fn length_of_the_slice() {
+    let text = sheet(CASE);
+    assert_eq!(sheet_numbers(&text), 64);
+    assert_eq!(sheet_numbers(&text[..288]), 0);
+    for (length, answer) in [(63, Some(7)), (64, None), (65, Some(7))] {
+        let mut numbers = vec![77; length];
+        assert_eq!(read_sheet(&text, &mut numbers).err(), answer);
+        assert_eq!(numbers.iter().all(|x| *x == 77), answer.is_some());
+    }
 }
 
 #[test]

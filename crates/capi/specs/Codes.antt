@@ -1,33 +1,20 @@
 -- The library's answers for C, as the program prints them: kind and number.
 use mathlib.Core.Path.{_≡_}
-use mathlib.Core.List.{[]}
+use mathlib.Core.List.{List}
+use Prim.Native.Nat.{ℕ}
+use lib.ListN.{length}
+use lib.IntN.{ℤ}
 use Rattle.fold.specs.declared.Answer.{Answer}
-use Rattle.fold.specs.declared.Answer.the-variants as answer
-use Rattle.fold.specs.Answers.{kindOf, numberOf}
-use Rattle.sheet.specs.declared.sizes.SheetSizes.{SheetSizes}
+use Rattle.fold.specs.Answers.{kindOf, numberOf, written}
 use Rattle.sheet.specs.declared.reader.SheetAnswer.{SheetAnswer}
-use Rattle.sheet.specs.declared.reader.SheetAnswer.the-variants.{Sheet, Refused}
-use Rattle.sheet.specs.Reading.{sizesOf}
+use Rattle.sheet.specs.Reading.{headerNumbers, sizesOf, bodyNumbers, reading, readingRefusal, answerOf, headerOf}
 use Rattle.capi.specs.declared.types.CAnswer.{CAnswer}
 use Rattle.capi.specs.declared.types.CSheet.{CSheet}
 
 abbrev pub codeOf : Answer → CAnswer
 codeOf answer = record { kind = kindOf answer; number = numberOf answer }
 
--- the header without numbers: every size is 0
-unfoldable pub emptyHeader : SheetSizes
-emptyHeader = sizesOf []
-
--- the reader's answer as that of a call: refused, or all was written
-abbrev pub answerOf : SheetAnswer → Answer
-answerOf (Refused n) = answer.Refused n
-answerOf (Sheet s) = answer.Written
-
--- the header that was read
-abbrev pub headerOf : SheetAnswer → SheetSizes
-headerOf (Refused n) = emptyHeader
-headerOf (Sheet s) = s
-
+-- kind and number of the reader's answer, and its header
 abbrev pub sheetCode : SheetAnswer → CSheet
 sheetCode a = record { kind = kindOf (answerOf a); number = numberOf (answerOf a); header = headerOf a }
 
@@ -36,3 +23,8 @@ pub record Coded (promise : Answer → Type 0) (code : CAnswer) : Type 0 where
   pub answer : Answer
   pub code-is : code ≡ codeOf answer
   pub promised : promise answer
+
+-- the reader's promise: its answer as a code, and the numbers of the lent slice afterwards
+pub record SheetCoded (text : List ℕ) (before : List ℤ) (code : CSheet) (after : List ℤ) : Type 0 where
+  pub code-is : code ≡ sheetCode (reading (length before) text)
+  pub numbers-are : after ≡ written (readingRefusal text before) (bodyNumbers (sizesOf (headerNumbers text)) text) before

@@ -1,15 +1,12 @@
 // The library for C: each call of the library under a name that begins with `lizkarg_`. A call's contract is the library's, with its
 // answer as two numbers. C's rules hold of what is lent: bindings/c/lizkarg.h.
 ghost use mathlib.Core.Path.{_≡_};
-ghost use lib.ListN.{length};
-ghost use Rattle.integers.specs.Over.{over};
-ghost use Rattle.fold.specs.Answers.{firstRefusal, written};
 ghost use Rattle.fold.specs.Arguments.{statementOf, drawsOf, transcriptOf};
 ghost use Rattle.fold.specs.Verification.{verification};
 ghost use Rattle.lizkarg.specs.Calls.{Committed, Projected, Aggregated, GarbageCommitted, Amortized};
-ghost use Rattle.sheet.specs.Reading as reader;
+ghost use Rattle.sheet.specs.Reading.{numberCount};
 ghost use Rattle.judge.specs.Judging.{judgedText};
-ghost use Rattle.capi.specs.Codes.{Coded, codeOf, sheetCode};
+ghost use Rattle.capi.specs.Codes.{Coded, codeOf, SheetCoded};
 use fold::CommitSizes;
 use fold::GarbageSizes;
 use fold::Shape;
@@ -186,15 +183,18 @@ pub extern "C" fn lizkarg_verify(
     types::code(answer)
 }
 
+// How many numbers a sheet holds: `sheet::reader::sheet_numbers`.
+#[no_mangle]
+pub extern "C" fn lizkarg_sheet_numbers(text: &[u8]) -> usize
+    ensures { λ m. ⌜ m ≡ numberCount (now (text .entry)) ⌝ }
+{
+    sheet::reader::sheet_numbers(text)
+}
+
 // The reader: `sheet::reader::read_sheet`.
 #[no_mangle]
 pub extern "C" fn lizkarg_read_sheet(text: &[u8], numbers: &mut [i32]) -> CSheet
-    ensures { λ r. ⌜ (r ≡ sheetCode (reader.reading (length (now (numbers .entry))) (now (text .entry))))
-        × (now (numbers .exit)
-        ≡ written (firstRefusal (reader.readingTests (length (now (numbers .entry))) (now (text .entry))))
-        (over (now (numbers .entry)) 0
-        (reader.bodyNumbers (reader.sizesOf (reader.headerNumbers (now (text .entry)))) (now (text .entry))))
-        (now (numbers .entry))) ⌝ }
+    ensures { λ r. ⌜ SheetCoded (now (text .entry)) (now (numbers .entry)) r (now (numbers .exit)) ⌝ }
 {
     let answer = sheet::reader::read_sheet(text, numbers);
     types::sheet_code(answer)

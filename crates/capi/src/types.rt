@@ -1,6 +1,7 @@
 // What passes between C and the library beside the library's own structs of sizes: answers, as kind and number, and what comes with them.
 ghost use mathlib.Core.Path.{_≡_};
-ghost use Rattle.capi.specs.Codes.{codeOf, emptyHeader, sheetCode};
+ghost use Rattle.sheet.specs.Reading.{emptyHeader};
+ghost use Rattle.capi.specs.Codes.{codeOf, sheetCode};
 use fold::Answer;
 use sheet::reader::SheetAnswer;
 use sheet::sizes::SheetSizes;

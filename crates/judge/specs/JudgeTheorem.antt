@@ -4,7 +4,7 @@
 --     judged-sheet      and a text that is judged is the text of a sheet
 --     refused-text      a text of at most 65536 bytes that the reader refuses is refused by its number; `refused-longer` for a longer one
 --     kind-printed      the kind is 0, 1 or 2: never "written"
---     never-seven       no text is refused by row 7: the room for the numbers is enough for every text
+--     never-seven       no text is refused by row 7: the slice for the numbers has the length that the sizes give
 use mathlib.Core.Path.{_≡_, refl, sym, ap, _∙_, subst}
 use mathlib.Core.Bool.{Bool, true, false, cond}
 use mathlib.Core.List.{List, [], _∷_, _++_}
@@ -38,7 +38,7 @@ use Rattle.judge.specs.PassLaws.{unrefused}
 abbrev pub sheetVerdict : SheetSizes → List ℤ → Verdict
 sheetVerdict s xs = verdict (sheetStatement s xs) (sheetDraws s xs) (sheetTranscript s xs) (sheetOpening s xs)
 
--- room for all numbers that the header's sizes ask for
+-- how many numbers the header's sizes give
 abbrev pub roomOf : List ℕ → ℕ
 roomOf text = total (sizesOf (headerNumbers text))
 
@@ -60,7 +60,7 @@ taken text e =
     rw (unrefused h (bodyNumbers s text) (passed .sizes) (passed .numbers) (length-body s positive text ∙ body-total s)) refl
 
 by-refusal : (text : List ℕ) (n : ℕ) → firstRefusal (readingTests (roomOf text) text) ≡ n
-    → judgedBy (sheetIf n (sizesOf (headerNumbers text))) text
+    → judgedBy (sheetIf n (sizesOf (headerNumbers text))) (bodyNumbers (sizesOf (headerNumbers text)) text)
     ≡ answered n (Judged (sheetVerdict (sizesOf (headerNumbers text)) (bodyNumbers (sizesOf (headerNumbers text)) text)))
 unfolding answered
 by-refusal text zero e = taken text e
@@ -99,7 +99,7 @@ pub sheet-judged : (h xs : List ℤ) → SheetNumbers h xs → length (sheetText
 unfolding answered
 sheet-judged h xs n fits =
     let text = sheetText h xs in
-    let first = sheet-exactly (length xs) text h xs .1 (refl, n, omega arith) in
+    let first = sheet-exactly (length xs) text h xs .1 (refl, n, refl) in
     let room : roomOf text ≡ length xs =
     ap (λ (l : List ℤ). total (sizesOf l)) (first .header) ∙ sym (body-total (sizesOf h)) ∙ sym (n .count) in
     let none : firstRefusal (readingTests (roomOf text) text) ≡ 0 = rw room (no-refusal (length xs) text (sizesOf h) (first .answer)) in
@@ -179,7 +179,7 @@ no-seven (test ∷ tests) holds e = step (no-seven tests) (test .1) (eqb (test .
 
 reading-seven : (text : List ℕ) → sevenHolds (readingTests (roomOf text) text) ≡ true
 unfolding readingTests headerTests bodyTests numberTests
-reading-seven text = rw (le-leb (roomOf text) (roomOf text) (omega arith)) refl
+reading-seven text = rw (eq-eqb (roomOf text) (roomOf text) refl) refl
 
 no-refused-seven : (n : ℕ) (v : Verdict) → (n ≡ 7 → ⊥) → answered n (Judged v) ≡ Refused 7 → ⊥
 unfolding answered

@@ -20,9 +20,8 @@ use Rattle.fold.specs.Answers.{kindOf, numberOf}
 use Rattle.fold.specs.Verification.{verification}
 use Rattle.sheet.specs.declared.sizes.SheetSizes.{SheetSizes}
 use Rattle.sheet.specs.declared.reader.SheetAnswer.{SheetAnswer}
-use Rattle.sheet.specs.declared.reader.SheetAnswer.the-variants.{Sheet, Refused}
 use Rattle.sheet.specs.Sections.{total}
-use Rattle.sheet.specs.Reading.{headerNumbers, sizesOf, bodyNumbers, reading}
+use Rattle.sheet.specs.Reading.{headerNumbers, sizesOf, bodyNumbers, reading, answerOf, headerOf}
 use Rattle.sheet.specs.Layout.{lineText}
 
 -- ---- the lists of a sheet
@@ -99,14 +98,19 @@ module _ (s : SheetSizes) (xs : List ℤ) where
 
 -- ---- the answer
 
--- the reader's refusal, or what the verifier answers
-abbrev pub judgedBy : SheetAnswer → List ℕ → Answer
-judgedBy (Refused n) text = answer.Refused n
-judgedBy (Sheet s) text = judgedNumbers s (bodyNumbers s text)
+-- where the numbers were written, what comes of them; else what was answered
+abbrev pub ifWritten : Answer → Answer → Answer
+ifWritten answer.Written next = next
+ifWritten (answer.Refused n) next = answer.Refused n
+ifWritten (answer.Judged v) next = answer.Judged v
 
--- the room for the numbers is what the header's sizes ask for, so that row 7 refuses no text
+-- the reader's refusal, or what the verifier answers to the numbers
+abbrev pub judgedBy : SheetAnswer → List ℤ → Answer
+judgedBy read numbers = ifWritten (answerOf read) (judgedNumbers (headerOf read) numbers)
+
+-- the numbers' slice has the length that the header's sizes give, so that row 7 refuses no text
 unfoldable pub judged : List ℕ → Answer
-judged text = judgedBy (reading (total (sizesOf (headerNumbers text))) text) text
+judged text = judgedBy (reading (total (sizesOf (headerNumbers text))) text) (bodyNumbers (sizesOf (headerNumbers text)) text)
 
 -- "at most 65536 bytes (longer: 12, before all else)"
 unfoldable pub judgedText : List ℕ → Answer

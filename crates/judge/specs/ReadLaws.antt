@@ -1,75 +1,63 @@
 -- What the judge makes of the reader's answer and the numbers that it wrote.
---     judgedRead       the answer to what was read
 --     ReadBounded      the sizes that were read passed the header's tests
---     read-judged      with room for 4096 numbers it is the answer to the text
-use mathlib.Core.Path.{_≡_, refl, sym, ap, ap₂, _∙_}
+--     Into             the judge's promise on the slice that it is handed
+--     text-judged      with a slice of `lentCount` numbers it is the answer to the text
+use mathlib.Core.Path.{_≡_, refl, ap₂, _∙_}
 use mathlib.Core.List.{List}
 use Prim.Native.Nat.{ℕ, zero, suc, _≤_, _<_}
-use native.Mathlib.Omega.{arith}
-use lib.ListN.{length, take, drop}
+use lib.ListN.{length}
 use lib.IntN.{ℤ}
 use borrow.Author.Tests.{le-leb, lt-leb}
-use Rattle.integers.specs.Over.{over, part-over}
 use Rattle.fold.specs.declared.Answer.{Answer}
 use Rattle.fold.specs.declared.Answer.the-variants as answer
 use Rattle.fold.specs.Answers.{firstRefusal, written}
 use Rattle.sheet.specs.declared.sizes.SheetSizes.{SheetSizes}
 use Rattle.sheet.specs.declared.reader.SheetAnswer.{SheetAnswer}
 use Rattle.sheet.specs.declared.reader.SheetAnswer.the-variants.{Sheet, Refused}
-use Rattle.sheet.specs.Sections.{Bounded, total}
-use Rattle.sheet.specs.Reading.{headerNumbers, sizesOf, bodyNumbers, readingTests, sheetIf, reading}
-use Rattle.sheet.specs.AnswerLaws.{header-bounded, reading-passed}
-use Rattle.sheet.specs.BodyLaws.{body-total}
-use Rattle.sheet.specs.SheetLaws.{length-body}
-use Rattle.judge.specs.Judging.{judgedNumbers, judgedBy, judged, judgedText}
-use Rattle.judge.specs.RoomLaws.{same-reading}
-
-abbrev pub judgedRead : SheetAnswer → List ℤ → Answer
-judgedRead (Refused n) numbers = answer.Refused n
-judgedRead (Sheet s) numbers = judgedNumbers s (take (total s) numbers)
+use Rattle.sheet.specs.Sections.{Bounded}
+use Rattle.sheet.specs.Reading.{headerNumbers, sizesOf, bodyNumbers, readingTests, sheetIf, reading, readingRefusal, SheetRead}
+use Rattle.sheet.specs.AnswerLaws.{header-bounded, reading-passed, read-is}
+use Rattle.judge.specs.Judging.{judgedBy, judged, judgedText}
+use Rattle.judge.specs.RoomLaws.{lentCount, same-reading}
 
 abbrev pub ReadBounded : SheetAnswer → Type 0
 ReadBounded (Refused n) = Unit {0}
 ReadBounded (Sheet s) = Bounded s
+
+-- the answer to a text and the numbers of the slice afterwards, where the slice holds `before`
+pub record Into (text : List ℕ) (before : List ℤ) (r : Answer) (after : List ℤ) : Type 0 where
+  pub answer-is : r ≡ judgedBy (reading (length before) text) (bodyNumbers (sizesOf (headerNumbers text)) text)
+  pub numbers-are : after ≡ written (readingRefusal text before) (bodyNumbers (sizesOf (headerNumbers text)) text) before
+
+module _ (text : List ℕ) (before : List ℤ) {read : SheetAnswer} {after : List ℤ} (p : SheetRead text before read after) where
+  bounded-if : (n : ℕ) → readingRefusal text before ≡ n → ReadBounded (sheetIf n (sizesOf (headerNumbers text)))
+  bounded-if zero e = header-bounded (headerNumbers text) (reading-passed (length before) text e .sizes)
+  bounded-if (suc n) e = tt
+
+  pub read-bounded : ReadBounded read
+  unfolding reading
+  read-bounded = rw (read-is text before p) (bounded-if (readingRefusal text before) refl)
+
+  -- on a refusal no number counts
+  judged-if : (n : ℕ) (numbers : List ℤ)
+      → judgedBy (sheetIf n (sizesOf (headerNumbers text))) (written n numbers before) ≡ judgedBy (sheetIf n (sizesOf (headerNumbers text))) numbers
+  unfolding written
+  judged-if zero numbers = refl
+  judged-if (suc n) numbers = refl
+
+  pub read-judged : {r : Answer} → r ≡ judgedBy read after → Into text before r after
+  unfolding reading
+  read-judged e = record {
+    answer-is = e ∙ ap₂ judgedBy (read-is text before p) (p .numbers-are) ∙ judged-if (readingRefusal text before) _;
+    numbers-are = p .numbers-are;
+  }
 
 -- a text that is longer
 pub longer : (text : List ℕ) → 65536 < length text → answer.Refused 12 ≡ judgedText text
 unfolding judgedText
 longer text h = rw (lt-leb (length text) 65536 h) refl
 
-module _ (text : List ℕ) (fits : length text ≤ 65536) (room : ℕ) (enough : room ≡ 4096) where
-  bounded-if : (n : ℕ) → firstRefusal (readingTests room text) ≡ n → ReadBounded (sheetIf n (sizesOf (headerNumbers text)))
-  bounded-if zero e = header-bounded (headerNumbers text) (reading-passed room text e .sizes)
-  bounded-if (suc n) e = tt
-
-  pub read-bounded : {read : SheetAnswer} → read ≡ reading room text → ReadBounded read
-  unfolding reading
-  read-bounded e = rw e (bounded-if (firstRefusal (readingTests room text)) refl)
-
-  -- the numbers written at the front of the room are those of the text
-  front-numbers : (old : List ℤ) → firstRefusal (readingTests room text) ≡ 0
-      → take (total (sizesOf (headerNumbers text))) (over old 0 (bodyNumbers (sizesOf (headerNumbers text)) text))
-      ≡ bodyNumbers (sizesOf (headerNumbers text)) text
-  front-numbers old e =
-      let s = sizesOf (headerNumbers text) in
-      let positive = header-bounded (headerNumbers text) (reading-passed room text e .sizes) .degree-positive in
-      part-over old 0 (bodyNumbers s text) (total s) (omega arith) (length-body s positive text ∙ body-total s)
-
-  judged-if : (old : List ℤ) (n : ℕ) → firstRefusal (readingTests room text) ≡ n
-      → judgedRead (sheetIf n (sizesOf (headerNumbers text)))
-      (written n (over old 0 (bodyNumbers (sizesOf (headerNumbers text)) text)) old)
-      ≡ judgedBy (sheetIf n (sizesOf (headerNumbers text))) text
-  unfolding written
-  judged-if old zero e = ap (judgedNumbers (sizesOf (headerNumbers text))) (front-numbers old e)
-  judged-if old (suc n) e = refl
-
-  text-judged : judgedBy (reading room text) text ≡ judgedText text
-  unfolding judgedText judged
-  text-judged = rw (enough, le-leb (length text) 65536 fits, same-reading text fits) refl
-
-  pub read-judged : (old numbers : List ℤ) {read : SheetAnswer} → read ≡ reading room text
-      → numbers ≡ written (firstRefusal (readingTests room text)) (over old 0 (bodyNumbers (sizesOf (headerNumbers text)) text)) old
-      → judgedRead read numbers ≡ judgedText text
-  unfolding reading
-  read-judged old numbers e f =
-      ap₂ judgedRead e f ∙ judged-if old (firstRefusal (readingTests room text)) refl ∙ text-judged
+pub text-judged : (text : List ℕ) → length text ≤ 65536 → (before : List ℤ) → length before ≡ lentCount text → {r : Answer} {after : List ℤ}
+    → Into text before r after → r ≡ judgedText text
+unfolding judgedText judged
+text-judged text fits before e p = p .answer-is ∙ rw (e, le-leb (length text) 65536 fits, same-reading text fits) refl

@@ -1,24 +1,26 @@
--- The room for the numbers of a text: a text of at most 65536 bytes that is laid out has at most 4096 numbers after its header, since each has 16
--- columns. So the answer of a reader with that room is the answer with room for any text.
+-- The slice for the numbers of a text: a text of at most 65536 bytes that is laid out has at most 4096 numbers after its header, since each has 16
+-- columns. Where the header asks for more, the other lines are broken, which is 12, before 7. So a slice of 4096 numbers at most, else as many as
+-- the header gives, is answered as one of the length that the sizes give.
 --     few-numbers      at most 4096 numbers
---     same-reading     the reader's answer with that room
-use mathlib.Core.Path.{_≡_, refl, ap}
+--     lentCount        the length of that slice
+--     same-reading     the reader's answer with it
+use mathlib.Core.Path.{_≡_, refl, sym, ap, _∙_}
 use mathlib.Core.Bool.{Bool, true, false, cond}
 use mathlib.Core.List.{List, [], _∷_, _++_}
-use Prim.Native.Nat.{ℕ, zero, suc, _+_, _*_, _≤_}
+use Prim.Native.Nat.{ℕ, zero, suc, _+_, _*_, _≤_, _<_, min}
 use native.Mathlib.Omega.{arith}
-use lib.Dec.{leb}
+use lib.Dec.{eqb}
 use lib.ListN.{length}
-use borrow.Author.Tests.{le-leb}
+use borrow.Author.Tests.{eq-eqb}
 use Rattle.fold.specs.Answers.{firstRefusal}
 use Rattle.sheet.specs.declared.sizes.SheetSizes.{SheetSizes}
 use Rattle.sheet.specs.Sections.{sectionsOf, total, endsLine}
 use Rattle.sheet.specs.Place.{place}
 use Rattle.sheet.specs.PlaceLaws.{place-next, width-least}
 use Rattle.sheet.specs.Reading.{headerLaid, headerNumbers, headerTests, sizesOf, bodyLaid, bodyNumbers, numberTests, bodyTests, readingTests}
-use Rattle.sheet.specs.Reading.{sheetIf, reading}
+use Rattle.sheet.specs.Reading.{frontTests, numberCount, sheetIf, reading}
 use Rattle.sheet.specs.ReadingLaws.{body-within}
-use Rattle.sheet.specs.AnswerLaws.{frontTests}
+use Rattle.sheet.specs.AnswerLaws.{refusal-first}
 
 -- i numbers have at least 16·i bytes
 place-least : (ends : ℕ → Bool) (at i : ℕ) → at + 16 * i ≤ place ends at i
@@ -35,25 +37,46 @@ unfolding firstRefusal
 later-same [] ys zs e = e
 later-same (x ∷ xs) ys zs e = ap (λ (n : ℕ). cond (x .1) n (x .0)) (later-same xs ys zs e)
 
+-- a slice of at most 4096 numbers, and of as many as the header gives where these are fewer
+abbrev pub lentCount : List ℕ → ℕ
+lentCount text = min (numberCount text) 4096
+
 module _ (text : List ℕ) (h : length text ≤ 65536) where
   sizes : SheetSizes
   sizes = sizesOf (headerNumbers text)
 
-  body-same : firstRefusal (bodyTests 4096 sizes text) ≡ firstRefusal (bodyTests (total sizes) sizes text)
+  body-same : numberCount text ≡ total sizes
+      → firstRefusal (bodyTests (lentCount text) sizes text) ≡ firstRefusal (bodyTests (total sizes) sizes text)
   unfolding firstRefusal bodyTests
-  body-same = step (bodyLaid sizes text) refl
+  body-same c = step (bodyLaid sizes text) refl
     where
       step : (t : Bool) → bodyLaid sizes text ≡ t
-          → cond t (cond (leb (total sizes) 4096) (firstRefusal (numberTests sizes (bodyNumbers sizes text))) 7) 12
-          ≡ cond t (cond (leb (total sizes) (total sizes)) (firstRefusal (numberTests sizes (bodyNumbers sizes text))) 7) 12
+          → cond t (cond (eqb (lentCount text) (total sizes)) (firstRefusal (numberTests sizes (bodyNumbers sizes text))) 7) 12
+          ≡ cond t (cond (eqb (total sizes) (total sizes)) (firstRefusal (numberTests sizes (bodyNumbers sizes text))) 7) 12
       step true e =
-          rw (le-leb (total sizes) 4096 (few-numbers sizes text h e), le-leb (total sizes) (total sizes) (omega arith)) refl
+          let few = few-numbers sizes text h e in
+          let same : lentCount text ≡ total sizes = omega (arith, few, c) in
+          rw (same, eq-eqb (total sizes) (total sizes) refl) refl
       step false e = refl
 
-  pub same-refusal : firstRefusal (readingTests 4096 text) ≡ firstRefusal (readingTests (total (sizesOf (headerNumbers text))) text)
-  unfolding readingTests sizes
-  same-refusal = later-same (frontTests text) (bodyTests 4096 sizes text) (bodyTests (total sizes) sizes text) body-same
+  good-count : firstRefusal (frontTests text) ≡ 0 → numberCount text ≡ total sizes
+  unfolding numberCount sizes
+  good-count e = rw (eq-eqb (firstRefusal (frontTests text)) 0 e) refl
 
-  pub same-reading : reading 4096 text ≡ reading (total (sizesOf (headerNumbers text))) text
+  pub same-refusal : firstRefusal (readingTests (lentCount text) text)
+      ≡ firstRefusal (readingTests (total (sizesOf (headerNumbers text))) text)
+  unfolding readingTests sizes
+  same-refusal = step (firstRefusal (frontTests text)) refl
+    where
+      step : (n : ℕ) → firstRefusal (frontTests text) ≡ n
+          → firstRefusal (frontTests text ++ bodyTests (lentCount text) sizes text)
+          ≡ firstRefusal (frontTests text ++ bodyTests (total sizes) sizes text)
+      step zero e = later-same (frontTests text) (bodyTests (lentCount text) sizes text) (bodyTests (total sizes) sizes text) (body-same (good-count e))
+      step (suc n) e =
+          let some : 0 < firstRefusal (frontTests text) = omega (arith, e) in
+          sym (refusal-first (frontTests text) (bodyTests (lentCount text) sizes text) some)
+          ∙ refusal-first (frontTests text) (bodyTests (total sizes) sizes text) some
+
+  pub same-reading : reading (lentCount text) text ≡ reading (total (sizesOf (headerNumbers text))) text
   unfolding reading
   same-reading = ap (λ (n : ℕ). sheetIf n (sizesOf (headerNumbers text))) same-refusal

@@ -1,40 +1,47 @@
 // The judge of a sheet: document 01, 'Sheet'.
 ghost use mathlib.Core.Path.{_≡_};
-ghost use lib.ListN.{take};
-ghost use Rattle.sheet.specs.Sections.{Bounded, total};
-ghost use Rattle.judge.specs.Judging.{judgedNumbers, judgedText, verdictLine};
-ghost use Rattle.judge.specs.ReadLaws.{judgedRead, ReadBounded};
+ghost use Rattle.judge.specs.Judging.{judgedBy, judgedText, verdictLine};
+ghost use Rattle.judge.specs.ReadLaws.{ReadBounded, Into};
+ghost use Rattle.judge.specs.RoomLaws.{lentCount};
 use fold::Answer;
 use sheet::reader::SheetAnswer;
-use sheet::sizes::SheetSizes;
 
 mod lengths;
 pub mod line;
 mod lists;
 mod numbers;
 
-// The answer to the numbers that a sheet of these sizes has.
-fn judge_found(s: SheetSizes, numbers: &[i32]) -> Answer
-    requires { ⌜ Bounded s ⌝ }
-    ensures { λ r. ⌜ r ≡ judgedNumbers s (take (total s) (now (numbers .entry))) ⌝ }
-{
-    let count = sheet::sizes::total_numbers(s);
-    let xs = lists::front(numbers, count);
-    numbers::judge_sheet_numbers(s, xs)
-}
-
 // The answer to what was read.
 fn judge_read(read: SheetAnswer, numbers: &[i32]) -> Answer
     requires { ⌜ ReadBounded read ⌝ }
-    ensures { λ r. ⌜ r ≡ judgedRead read (now (numbers .entry)) ⌝ }
+    ensures { λ r. ⌜ r ≡ judgedBy read (now (numbers .entry)) ⌝ }
 {
     match read {
-        SheetAnswer::Sheet(s) => judge_found(s, numbers),
+        SheetAnswer::Sheet(s) => numbers::judge_sheet_numbers(s, numbers),
         SheetAnswer::Refused(number) => Answer::Refused(number),
     }
 }
 
-// The answer to a text: "at most 65536 bytes (longer: 12, before all else)". That many bytes hold at most 4096 numbers.
+// Reads a text into a slice for its numbers, and answers to them.
+fn judge_into(text: &[u8], numbers: &mut [i32]) -> Answer
+    ensures { λ r. ⌜ Into (now (text .entry)) (now (numbers .entry)) r (now (numbers .exit)) ⌝ }
+{
+    let read = sheet::reader::read_sheet(text, numbers);
+    judge_read(read, numbers)
+}
+
+// How many numbers are lent for a text: those that its header gives, at most 4096. 65536 bytes do not hold more.
+fn lent_count(text: &[u8]) -> usize
+    ensures { λ m. ⌜ m ≡ lentCount (now (text .entry)) ⌝ }
+{
+    let count = sheet::reader::sheet_numbers(text);
+    if 4096 < count {
+        return 4096;
+    }
+    count
+}
+
+// The answer to a text: "at most 65536 bytes (longer: 12, before all else)".
 pub fn judge_sheet(text: &[u8]) -> Answer
     ensures { λ r. ⌜ r ≡ judgedText (now (text .entry)) ⌝ }
 {
@@ -42,8 +49,8 @@ pub fn judge_sheet(text: &[u8]) -> Answer
         return Answer::Refused(12);
     }
     let mut numbers = [0i32; 4096];
-    let read = sheet::reader::read_sheet(text, &mut numbers);
-    judge_read(read, &numbers)
+    let count = lent_count(text);
+    judge_into(text, &mut numbers[..count])
 }
 
 // The line that says the answer to a text.

@@ -2,28 +2,38 @@
 --     refusal-first, refusal-rest    tests in two lists, one after the other
 --     header-bounded                 what rows 1 to 4 leave known of the sizes
 --     Passed                         what a text that is not refused is known to be
+--     count-refused, count-good      how many numbers a header gives
+--     read-refused, read-sheet       the reader's promise, refused or not
+--     read-is                        the promise fixes the answer
 use mathlib.Core.Path.{_≡_, refl, sym, ap, _∙_}
 use mathlib.Core.Bool.{Bool, true, false, cond}
 use mathlib.Core.List.{List, [], _∷_, _++_}
 use Prim.Native.Nat.{ℕ, zero, suc, _+_, _≤_, _<_}
 use native.Mathlib.Omega.{arith}
-use lib.ListN.{getD}
+use lib.ListN.{length, getD}
 use lib.IntN.{ℤ, pos, negsuc, natAbs}
-use borrow.Author.Tests.{leb-true, le-leb}
+use borrow.Author.Tests.{eqb-true, eq-eqb, ne-eqb}
 use Rattle.ring.specs.Element.{Degree}
+use Rattle.integers.specs.Over.{over, over-all}
 use Rattle.residues.specs.Range.{coefficients, projections}
-use Rattle.fold.specs.Answers.{firstRefusal, written}
+use Rattle.fold.specs.declared.Answer.the-variants as answer
+use Rattle.fold.specs.Answers.{kindOf, numberOf, firstRefusal, answered, written}
 use Rattle.fold.specs.Refusals.{degree, rank, parts, constraintCount, projectionCount, commitmentRank, digitCount}
 use Rattle.fold.specs.RefusalLaws.{Passes, refusal-passes, passes-refusal, passes-front, passes-back, passes-join, allOf-all, degree-fits}
 use Rattle.sheet.specs.declared.sizes.SheetSizes.{SheetSizes}
+use Rattle.sheet.specs.declared.reader.SheetAnswer.{SheetAnswer}
 use Rattle.sheet.specs.declared.reader.SheetAnswer.the-variants.{Sheet, Refused}
-use Rattle.sheet.specs.Sections.{Bounded}
-use Rattle.sheet.specs.Sections.{total}
+use Rattle.sheet.specs.declared.sizes.Sections.{Sections}
+use Rattle.sheet.specs.Sections.{Bounded, Sectioned, total, endsLine}
+use Rattle.sheet.specs.Place.{numbersFrom}
 use Rattle.sheet.specs.PlaceLaws.{contradiction}
 use Rattle.sheet.specs.HeaderLaws.{between-size}
 use Rattle.sheet.specs.Reading.{headerLaid, headerNumbers, headerTests, sizesOf, bodyLaid, bodyNumbers}
-use Rattle.sheet.specs.Reading.{numberTests, bodyTests, readingTests, sheetIf, reading}
-use Rattle.sheet.specs.ReadingLaws.{Inside, body-within}
+use Rattle.sheet.specs.Reading.{frontTests, numberCount, numberTests, bodyTests, readingTests, sheetIf, reading}
+use Rattle.sheet.specs.Reading.{answerOf, emptyHeader, headerOf, headerIf, readingRefusal, SheetRead}
+use Rattle.sheet.specs.ReadingLaws.{Inside, body-within, all-numbers}
+use Rattle.sheet.specs.BodyLaws.{body-total}
+use Rattle.sheet.specs.SheetLaws.{length-body}
 
 -- ---- two lists of tests, one after the other
 
@@ -73,9 +83,6 @@ header-bounded h p =
 
 -- ---- the whole text
 
-abbrev pub frontTests : List ℕ → List (ℕ × Bool)
-frontTests text = (12, headerLaid text) ∷ headerTests (headerNumbers text)
-
 pub front-passes : (text : List ℕ) → firstRefusal (frontTests text) ≡ 0 → Passes (frontTests text)
 unfolding headerTests
 front-passes text e = refusal-passes (frontTests text) refl e
@@ -103,7 +110,7 @@ pub record Passed (room : ℕ) (text : List ℕ) : Type 0 where
   pub header : headerLaid text ≡ true
   pub sizes : Passes (headerTests (headerNumbers text))
   pub lines : bodyLaid (sizesOf (headerNumbers text)) text ≡ true
-  pub fits : total (sizesOf (headerNumbers text)) ≤ room
+  pub fits : room ≡ total (sizesOf (headerNumbers text))
   pub numbers : Passes (numberTests (sizesOf (headerNumbers text)) (bodyNumbers (sizesOf (headerNumbers text)) text))
 
 pub reading-passed : (room : ℕ) (text : List ℕ) → firstRefusal (readingTests room text) ≡ 0 → Passed room text
@@ -116,7 +123,7 @@ reading-passed room text e =
       header = front .0;
       sizes = front .1;
       lines = back .0;
-      fits = leb-true (total (sizesOf (headerNumbers text))) room (back .1 .0);
+      fits = eqb-true room (total (sizesOf (headerNumbers text))) (back .1 .0);
       numbers = back .1 .1;
     }
 
@@ -125,51 +132,79 @@ unfolding readingTests bodyTests
 passed-reading room text p =
     passes-refusal (readingTests room text)
     (passes-join (frontTests text) (bodyTests room (sizesOf (headerNumbers text)) text) (p .header, p .sizes)
-    (p .lines, (le-leb (total (sizesOf (headerNumbers text))) room (p .fits), p .numbers)))
+    (p .lines, (eq-eqb room (total (sizesOf (headerNumbers text))) (p .fits), p .numbers)))
 
-module _ (room : ℕ) (text : List ℕ) {r : ℕ} (e : r ≡ firstRefusal (readingTests room text)) where
-  pub answer-refused : 0 < r → Refused r ≡ reading room text
-  unfolding reading
-  answer-refused h = rw (← e) (step r h)
-    where
-      step : (n : ℕ) → 0 < n → Refused n ≡ sheetIf n (sizesOf (headerNumbers text))
-      step zero h = let never : ⊥ = omega arith in absurd never
-      step (suc n) h = refl
+-- ---- how many numbers
 
-  pub written-refused : 0 < r → (new old : List ℤ) → old ≡ written (firstRefusal (readingTests room text)) new old
-  unfolding written
-  written-refused h new old = rw (← e) (step r h)
-    where
-      step : (n : ℕ) → 0 < n → old ≡ written n new old
-      step zero h = let never : ⊥ = omega arith in absurd never
-      step (suc n) h = refl
+module _ (text : List ℕ) {header : ℕ} (e : header ≡ firstRefusal (frontTests text)) where
+  pub count-refused : 0 < header → 0 ≡ numberCount text
+  unfolding numberCount
+  count-refused h = rw (← e, ne-eqb header 0 (λ f. omega arith)) refl
 
-  none : r ≤ 0 → firstRefusal (readingTests room text) ≡ 0
-  none h = omega (arith, e)
+  pub count-good : header ≤ 0 → {s : SheetSizes} {m : ℕ} → s ≡ sizesOf (headerNumbers text) → m ≡ total s → m ≡ numberCount text
+  unfolding numberCount
+  count-good h q f = let none : header ≡ 0 = omega arith in f ∙ rw (← e, eq-eqb header 0 none, q) refl
 
-  pub answer-sheet : r ≤ 0 → {s : SheetSizes} → s ≡ sizesOf (headerNumbers text) → Sheet s ≡ reading room text
-  unfolding reading
-  answer-sheet h q = rw (none h, q) refl
+-- ---- the reader's promise
 
-  pub written-sheet : r ≤ 0 → (new old : List ℤ) {out : List ℤ} → out ≡ new → out ≡ written (firstRefusal (readingTests room text)) new old
-  unfolding written
-  written-sheet h new old q = rw (none h) q
+-- numbers written over all of the slice
+pub stored : (s : SheetSizes) (text : List ℕ) (q : Sections) (i : Inside s text) (e : Sectioned s q) {count : ℕ} (c : count ≡ total s)
+    (before : List ℤ) {after : List ℤ} → length before ≡ total s
+    → after ≡ over before 0 (numbersFrom (endsLine q) 289 text 0 count) → after ≡ bodyNumbers s text
+stored s text q i e c before fits f =
+    let numbers = all-numbers s text q i e c in
+    let size : length (bodyNumbers s text) ≡ length before = length-body s (i .bounded .degree-positive) text ∙ body-total s ∙ sym fits in
+    f ∙ rw numbers (over-all before (bodyNumbers s text) size)
 
-  module _ (h : r ≤ 0) {s : SheetSizes} (q : s ≡ sizesOf (headerNumbers text)) where
-    passed : Passed room text
-    passed = reading-passed room text (none h)
+module _ (text : List ℕ) (before : List ℤ) where
+  promised : (n : ℕ) → readingRefusal text before ≡ n → {read : SheetAnswer} {after : List ℤ}
+      → answerOf read ≡ answered n answer.Written → headerOf read ≡ headerIf n (sizesOf (headerNumbers text))
+      → after ≡ written n (bodyNumbers (sizesOf (headerNumbers text)) text) before → SheetRead text before read after
+  promised n q a h w = record { answer-is = rw q a; header-is = rw q h; numbers-are = rw q w }
 
-    pub sheet-inside : Inside s text
-    sheet-inside =
-        rw q (record {
-          bounded = header-bounded (headerNumbers text) (passed .sizes);
-          inside = body-within
-              (sizesOf (headerNumbers text)) text (passed .lines);
-        })
+  module _ {r : ℕ} (e : r ≡ readingRefusal text before) where
+    pub read-refused : 0 < r → SheetRead text before (Refused r) before
+    unfolding answered written
+    read-refused h = step r h (sym e)
+      where
+        step : (n : ℕ) → 0 < n → readingRefusal text before ≡ n → SheetRead text before (Refused n) before
+        step zero h q = let never : ⊥ = omega arith in absurd never
+        step (suc n) h q = promised (suc n) q refl refl refl
 
-    pub sheet-coefficients : coefficients (bodyNumbers s text) ≡ true
-    unfolding numberTests
-    sheet-coefficients = rw q (passed .numbers .0)
+    module _ (h : r ≤ 0) {s : SheetSizes} (q : s ≡ sizesOf (headerNumbers text)) where
+      none : readingRefusal text before ≡ 0
+      none = omega (arith, e)
 
-    pub sheet-fits : total s ≤ room
-    sheet-fits = rw q (passed .fits)
+      passed : Passed (length before) text
+      passed = reading-passed (length before) text none
+
+      pub read-sheet : {after : List ℤ} → after ≡ bodyNumbers s text → SheetRead text before (Sheet s) after
+      unfolding answered written
+      read-sheet w = promised 0 none refl q (w ∙ ap (λ (s : SheetSizes). bodyNumbers s text) q)
+
+      pub sheet-inside : Inside s text
+      sheet-inside =
+          rw q (record {
+            bounded = header-bounded (headerNumbers text) (passed .sizes);
+            inside = body-within
+                (sizesOf (headerNumbers text)) text (passed .lines);
+          })
+
+      pub sheet-coefficients : coefficients (bodyNumbers s text) ≡ true
+      unfolding numberTests
+      sheet-coefficients = rw q (passed .numbers .0)
+
+      pub sheet-fits : length before ≡ total s
+      sheet-fits = rw q (passed .fits)
+
+pub read-is : (text : List ℕ) (before : List ℤ) {read : SheetAnswer} {after : List ℤ} → SheetRead text before read after
+    → read ≡ reading (length before) text
+unfolding reading answered
+read-is text before {read} p = step (readingRefusal text before) read (p .answer-is) (p .header-is)
+  where
+    step : (n : ℕ) (read : SheetAnswer) → answerOf read ≡ answered n answer.Written
+        → headerOf read ≡ headerIf n (sizesOf (headerNumbers text)) → read ≡ sheetIf n (sizesOf (headerNumbers text))
+    step zero (Sheet s) a h = ap Sheet h
+    step zero (Refused m) a h = let f : _≡_ {A = ℕ} 2 3 = ap kindOf a in absurd (omega arith)
+    step (suc n) (Refused m) a h = ap Refused (ap numberOf a)
+    step (suc n) (Sheet s) a h = let f : _≡_ {A = ℕ} 3 2 = ap kindOf a in absurd (omega arith)

@@ -1,17 +1,24 @@
 -- Document 01, 'Sheet': what a reader answers. "The header's layout is read first (12), then 1 to 6, then the other lines (12), then 8 to 10."
--- Row 7 stands before 8: the slice that takes the numbers is too short. No limit on the text's length here: it is the program's.
+-- Row 7 stands before 8: "a slice's length is not what the sizes give", of the slice that takes the numbers. No limit on the text's length
+-- here: it is the program's.
 --     headerNumbers, sizesOf      the header's numbers, and the sizes that they are
+--     numberCount                 how many numbers the sizes give
 --     bodyNumbers                 the numbers after the header
 --     readingTests, reading       the tests in their order, and the answer
+--     answerOf, headerOf          document 01's number and values of each answer
+--     SheetRead                   the reader's promise
+use mathlib.Core.Path.{_≡_}
 use mathlib.Core.Bool.{Bool, false, cond}
 use mathlib.Core.List.{List, [], _∷_, _++_}
 use Prim.Native.Nat.{ℕ, zero, suc, _*_}
-use lib.Dec.{leb, eqb}
+use lib.Dec.{eqb}
 use lib.ListN.{length, getD, take, drop}
 use lib.IntN.{ℤ, pos, natAbs}
 use Rattle.integers.specs.Lists.{tab}
 use Rattle.residues.specs.Range.{coefficients, projections}
-use Rattle.fold.specs.Answers.{firstRefusal}
+use Rattle.fold.specs.declared.Answer.{Answer}
+use Rattle.fold.specs.declared.Answer.the-variants as answer
+use Rattle.fold.specs.Answers.{firstRefusal, answered, written}
 use Rattle.fold.specs.Refusals.{allOf, degree, rank, parts, constraintCount, projectionCount, commitmentRank, base, digitCount, chunks}
 use Rattle.fold.specs.Refusals.{lengthBound, challenges, projectionLength}
 use Rattle.sheet.specs.declared.sizes.SheetSizes.{SheetSizes}
@@ -71,6 +78,14 @@ sizesOf h = record {
     at : ℕ → ℕ
     at k = natAbs (getD h k (pos 0))
 
+-- "The header's layout is read first (12), then 1 to 6"
+abbrev pub frontTests : List ℕ → List (ℕ × Bool)
+frontTests text = (12, headerLaid text) ∷ headerTests (headerNumbers text)
+
+-- how many numbers the header's sizes give; 0 where the header is refused
+unfoldable pub numberCount : List ℕ → ℕ
+numberCount text = cond (eqb (firstRefusal (frontTests text)) 0) (total (sizesOf (headerNumbers text))) 0
+
 -- ---- the other lines
 
 unfoldable pub bodyLaid : SheetSizes → List ℕ → Bool
@@ -96,13 +111,12 @@ numberTests s xs =
     ∷ []
 
 unfoldable pub bodyTests : ℕ → SheetSizes → List ℕ → List (ℕ × Bool)
-bodyTests room s text = (12, bodyLaid s text) ∷ (7, leb (total s) room) ∷ numberTests s (bodyNumbers s text)
+bodyTests room s text = (12, bodyLaid s text) ∷ (7, eqb room (total s)) ∷ numberTests s (bodyNumbers s text)
 
 -- ---- the answer, where the slice that takes the numbers has the length `room`
 
 unfoldable pub readingTests : ℕ → List ℕ → List (ℕ × Bool)
-readingTests room text =
-    ((12, headerLaid text) ∷ headerTests (headerNumbers text)) ++ bodyTests room (sizesOf (headerNumbers text)) text
+readingTests room text = frontTests text ++ bodyTests room (sizesOf (headerNumbers text)) text
 
 abbrev pub sheetIf : ℕ → SheetSizes → SheetAnswer
 sheetIf zero s = Sheet s
@@ -110,3 +124,35 @@ sheetIf (suc n) s = Refused (suc n)
 
 unfoldable pub reading : ℕ → List ℕ → SheetAnswer
 reading room text = sheetIf (firstRefusal (readingTests room text)) (sizesOf (headerNumbers text))
+
+-- ---- what the answer says
+
+-- a refusal by its number, or "written": the numbers are in the slice
+abbrev pub answerOf : SheetAnswer → Answer
+answerOf (Refused n) = answer.Refused n
+answerOf (Sheet s) = answer.Written
+
+-- the header without numbers: every size is 0
+unfoldable pub emptyHeader : SheetSizes
+emptyHeader = sizesOf []
+
+-- "the answer holds the number only": a refusal has no header
+abbrev pub headerOf : SheetAnswer → SheetSizes
+headerOf (Refused n) = emptyHeader
+headerOf (Sheet s) = s
+
+-- the header, or on a refusal the one without numbers
+abbrev pub headerIf : ℕ → SheetSizes → SheetSizes
+headerIf zero s = s
+headerIf (suc n) s = emptyHeader
+
+-- the refusal of a reader whose slice holds `before`; 0 where there is none
+abbrev pub readingRefusal : List ℕ → List ℤ → ℕ
+readingRefusal text before = firstRefusal (readingTests (length before) text)
+
+-- The reader's promise: its answer's number, the header, and the numbers of the lent slice afterwards. They fix the answer: `read-is` of
+-- AnswerLaws.
+pub record SheetRead (text : List ℕ) (before : List ℤ) (read : SheetAnswer) (after : List ℤ) : Type 0 where
+  pub answer-is : answerOf read ≡ answered (readingRefusal text before) answer.Written
+  pub header-is : headerOf read ≡ headerIf (readingRefusal text before) (sizesOf (headerNumbers text))
+  pub numbers-are : after ≡ written (readingRefusal text before) (bodyNumbers (sizesOf (headerNumbers text)) text) before

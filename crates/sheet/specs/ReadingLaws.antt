@@ -11,7 +11,7 @@ use native.Mathlib.Omega.{arith}
 use lib.Dec.{eqb}
 use lib.ListN.{length, take, drop}
 use lib.IntN.{ℤ}
-use borrow.Author.Tests.{eqb-true, lt-leb, le-leb, not-true, not-false}
+use borrow.Author.Tests.{eqb-true, eq-eqb, ne-eqb, not-true, not-false}
 use Rattle.residues.specs.RangeLaws.{coefficients-part}
 use Rattle.residues.specs.Range.{coefficients, projections}
 use Rattle.fold.specs.Answers.{firstRefusal}
@@ -120,14 +120,14 @@ module _ (s : SheetSizes) (text : List ℕ) (q : Sections) (e : Sectioned s q) {
   unfolding firstRefusal bodyTests
   twelve room t = rw (← laid-is, not-true good t) refl
 
-  pub seven : (room : ℕ) → not good ≡ false → room < count → 7 ≡ firstRefusal (bodyTests room s text)
+  pub seven : (room : ℕ) → not good ≡ false → (room ≡ count → ⊥) → 7 ≡ firstRefusal (bodyTests room s text)
   unfolding firstRefusal bodyTests
-  seven room t h = rw (← laid-is, not-false good t, lt-leb (total s) room (omega (arith, c))) refl
+  seven room t h = rw (← laid-is, not-false good t, ne-eqb room (total s) (λ e. h (e ∙ sym c))) refl
 
-  pub later : (room : ℕ) → not good ≡ false → count ≤ room → {r : ℕ} → r ≡ firstRefusal (numberTests s (bodyNumbers s text))
+  pub later : (room : ℕ) → not good ≡ false → room ≡ count → {r : ℕ} → r ≡ firstRefusal (numberTests s (bodyNumbers s text))
       → r ≡ firstRefusal (bodyTests room s text)
   unfolding firstRefusal bodyTests
-  later room t h n = rw (← laid-is, not-false good t, le-leb (total s) room (omega (arith, c))) n
+  later room t h n = rw (← laid-is, not-false good t, eq-eqb room (total s) (h ∙ c)) n
 
   pub laid-inside : Bounded s → not good ≡ false → Inside s text
   laid-inside b t = record { bounded = b; inside = body-within s text (sym laid-is ∙ not-false good t) }

@@ -3,6 +3,7 @@
 --     header-line        "The header's layout is read first (12)": it passes exactly if the text starts with a line of 18 numbers
 --     other-lines        "then the other lines (12)": they pass exactly if the rest of the text is that of as many numbers as the sizes give
 --     broken-header .. refused-numbers    what the answer is in each other case; one of the cases holds of every text
+--     sheet-count        a sheet has as many numbers as its header gives; none where the header is refused
 -- A field: `read-written`, `read-text` and `read-fits` of FieldLaws.
 use mathlib.Core.Path.{_≡_, refl, sym, ap, _∙_}
 use mathlib.Core.Bool.{Bool, true, false}
@@ -12,16 +13,16 @@ use Prim.Native.Nat.{ℕ, zero, suc, _≤_, _<_}
 use native.Mathlib.Omega.{arith}
 use lib.ListN.{length, drop}
 use lib.IntN.{ℤ}
-use borrow.Author.Tests.{lt-leb, le-leb}
+use borrow.Author.Tests.{eq-eqb, ne-eqb}
 use Rattle.fold.specs.Answers.{firstRefusal}
 use Rattle.fold.specs.RefusalLaws.{refusal-passes, passes-refusal}
 use Rattle.sheet.specs.declared.sizes.SheetSizes.{SheetSizes}
 use Rattle.sheet.specs.declared.reader.SheetAnswer.the-variants.{Sheet, Refused}
 use Rattle.sheet.specs.Sections.{total}
 use Rattle.sheet.specs.Reading.{headerLaid, headerNumbers, headerTests, sizesOf, bodyLaid, bodyNumbers, numberTests, bodyTests}
-use Rattle.sheet.specs.Reading.{readingTests, sheetIf, reading}
-use Rattle.sheet.specs.AnswerLaws.{frontTests, front-passes, refusal-first, refusal-rest}
-use Rattle.sheet.specs.AnswerLaws.{header-bounded, Passed, reading-passed, passed-reading}
+use Rattle.sheet.specs.Reading.{frontTests, numberCount, readingTests, sheetIf, reading}
+use Rattle.sheet.specs.AnswerLaws.{front-passes, refusal-first, refusal-rest}
+use Rattle.sheet.specs.AnswerLaws.{header-bounded, Passed, reading-passed, passed-reading, count-refused, count-good}
 use Rattle.sheet.specs.Layout.{fields, bodyLines, lineText, textOf, sheetText, AllFit, SheetNumbers}
 use Rattle.sheet.specs.BodyLaws.{body-total}
 use Rattle.sheet.specs.SheetLaws.{length-header, header-text, header-fit, HeaderRead, header-read}
@@ -76,7 +77,7 @@ no-refusal (suc n) s t e = let f : _≡_ {A = ℕ} 0 1 = cc in absurd (omega ari
 sound : (room : ℕ) (text : List ℕ) → Passed room text
     → (text ≡ sheetText (headerNumbers text) (bodyNumbers (sizesOf (headerNumbers text)) text))
     × SheetNumbers (headerNumbers text) (bodyNumbers (sizesOf (headerNumbers text)) text)
-    × (length (bodyNumbers (sizesOf (headerNumbers text)) text) ≤ room)
+    × (length (bodyNumbers (sizesOf (headerNumbers text)) text) ≡ room)
 unfolding sheetText headerTests numberTests
 sound room text p =
     let h = headerNumbers text in
@@ -93,7 +94,7 @@ sound room text p =
       omega (arith, p .fits, length-body s d text, body-total s),
     )
 
-complete : (room : ℕ) (text : List ℕ) (h xs : List ℤ) → text ≡ sheetText h xs → SheetNumbers h xs → length xs ≤ room → Read room text h xs
+complete : (room : ℕ) (text : List ℕ) (h xs : List ℤ) → text ≡ sheetText h xs → SheetNumbers h xs → length xs ≡ room → Read room text h xs
 unfolding sheetText headerTests numberTests reading
 complete room text h xs t n fits =
     let s = sizesOf h in
@@ -113,12 +114,12 @@ complete room text h xs t n fits =
 carried : (room : ℕ) (text : List ℕ) (h xs : List ℤ) → headerNumbers text ≡ h → bodyNumbers (sizesOf h) text ≡ xs
     → ((text ≡ sheetText (headerNumbers text) (bodyNumbers (sizesOf (headerNumbers text)) text))
     × SheetNumbers (headerNumbers text) (bodyNumbers (sizesOf (headerNumbers text)) text)
-    × (length (bodyNumbers (sizesOf (headerNumbers text)) text) ≤ room))
-    → (text ≡ sheetText h xs) × SheetNumbers h xs × (length xs ≤ room)
+    × (length (bodyNumbers (sizesOf (headerNumbers text)) text) ≡ room))
+    → (text ≡ sheetText h xs) × SheetNumbers h xs × (length xs ≡ room)
 carried room text h xs e f g = rw (← f, ← e) g
 
 pub sheet-exactly : (room : ℕ) (text : List ℕ) (h xs : List ℤ)
-    → Read room text h xs ↔ ((text ≡ sheetText h xs) × SheetNumbers h xs × (length xs ≤ room))
+    → Read room text h xs ↔ ((text ≡ sheetText h xs) × SheetNumbers h xs × (length xs ≡ room))
 unfolding reading
 sheet-exactly room text h xs = (
   λ r. let none = no-refusal (firstRefusal (readingTests room text)) _ _ (r .answer) in
@@ -183,14 +184,32 @@ module _ (room : ℕ) (text : List ℕ) (h : List ℤ) (rest : List ℕ) (size :
       lines : (bodyLaid (sizesOf h) text ≡ true) × (bodyNumbers (sizesOf h) text ≡ xs)
       lines = body-read (sizesOf h) (positive h good) text xs (head .inside) count xs-fit (head .after ∙ rest-is)
 
-      -- 7: the slice is too short for the numbers
-      pub no-room : room < length xs → reading room text ≡ Refused 7
+      length-total : length xs ≡ total (sizesOf h)
+      length-total = count ∙ body-total (sizesOf h)
+
+      -- 7: the slice has another length than the numbers
+      pub other-length : (length xs ≡ room → ⊥) → reading room text ≡ Refused 7
       unfolding firstRefusal bodyTests
-      no-room short = body 6 (rw (lines .0, lt-leb (total (sizesOf h)) room (omega (arith, count, body-total (sizesOf h)))) refl)
+      other-length never = body 6 (rw (lines .0, ne-eqb room (total (sizesOf h)) (λ e. never (length-total ∙ sym e))) refl)
 
       -- 8 to 10, "lowest number first": a number is refused
-      pub refused-numbers : length xs ≤ room → (n : ℕ) → firstRefusal (numberTests (sizesOf h) xs) ≡ suc n
+      pub refused-numbers : length xs ≡ room → (n : ℕ) → firstRefusal (numberTests (sizesOf h) xs) ≡ suc n
           → reading room text ≡ Refused (suc n)
       unfolding firstRefusal bodyTests
       refused-numbers fits n e =
-          body n (rw (lines .0, le-leb (total (sizesOf h)) room (omega (arith, count, body-total (sizesOf h)))) (rw (lines .1) e))
+          body n (rw (lines .0, eq-eqb room (total (sizesOf h)) (sym fits ∙ length-total)) (rw (lines .1) e))
+
+-- ---- how many numbers
+
+-- a header that is refused, whatever follows, gives no numbers
+pub refused-count : (text : List ℕ) (n : ℕ) → firstRefusal (frontTests text) ≡ suc n → numberCount text ≡ 0
+refused-count text n e = sym (count-refused text (sym e) (omega arith))
+
+-- a sheet has the numbers that its header gives
+pub sheet-count : (h xs : List ℤ) → SheetNumbers h xs → numberCount (sheetText h xs) ≡ length xs
+unfolding sheetText
+sheet-count h xs n =
+    let text = sheetText h xs in
+    let head = header-read text h (textOf (bodyLines (sizesOf h)) xs) (n .header) (n .fit) refl in
+    let none = front 0 text h (textOf (bodyLines (sizesOf h)) xs) (n .header) (n .fit) refl ∙ n .sizes in
+    sym (count-good text (sym none) (omega arith) (ap sizesOf (sym (head .numbers))) (n .count ∙ body-total (sizesOf h)))

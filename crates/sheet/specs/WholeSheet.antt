@@ -72,7 +72,7 @@ whole-numbers = record {
 
 -- the reader takes the whole case and gives its numbers back
 pub whole-read : Read 64 (sheetText header numbers) header numbers
-whole-read = sheet-exactly 64 (sheetText header numbers) header numbers .1 (refl, whole-numbers, omega arith)
+whole-read = sheet-exactly 64 (sheetText header numbers) header numbers .1 (refl, whole-numbers, refl)
 
 -- lines for sizes that differ, with two constant-term constraints, one projection row and three g digits; the second implementation
 -- gives the same

@@ -130,8 +130,9 @@ fn header_laid(text: &[u8]) -> bool
 pub fn header_refusal(text: &[u8]) -> u8
     ensures { λ r. ⌜ r ≡ firstRefusal ((12, headerLaid (now (text .entry))) ∷ headerTests (headerNumbers (now (text .entry)))) ⌝ }
 {
-    let six = first(bounds_ok(text), 6, 0);
+    let bounds = bounds_ok(text);
     let chunks = are_chunks(number_at(text, 224), number_at(text, 240));
+    let six = first(bounds, 6, 0);
     let five = first(chunks, 5, six);
     let four = first(bases_ok(text), 4, five);
     let three = first(ranks_ok(text), 3, four);

@@ -1,15 +1,13 @@
 // The reader of a sheet: document 01, 'Sheet'. Every test comes before the first number is written.
 ghost use mathlib.Core.Path.{_≡_};
 ghost use mathlib.Core.Bool.{true};
-ghost use Prim.Native.Nat.{_≤_};
 ghost use lib.ListN.{length};
-ghost use Rattle.integers.specs.Over.{over};
 ghost use Rattle.residues.specs.Range.{coefficients, projections};
-ghost use Rattle.fold.specs.Answers.{firstRefusal, written};
+ghost use Rattle.fold.specs.Answers.{firstRefusal};
 ghost use Rattle.fold.specs.Refusals.{challenges, projectionLength};
 ghost use Rattle.sheet.specs.Sections.{Bounded, sectionsOf, total, endsLine};
 ghost use Rattle.sheet.specs.Place.{place};
-ghost use Rattle.sheet.specs.Reading.{headerNumbers, sizesOf, bodyNumbers, rowsIn, challengesIn, numberTests, bodyTests, readingTests, reading};
+ghost use Rattle.sheet.specs.Reading.{numberCount, bodyNumbers, rowsIn, challengesIn, numberTests, bodyTests, readingTests, SheetRead};
 ghost use Rattle.sheet.specs.ReadingLaws.{endsAt, Inside};
 use crate::header::first;
 use crate::header::header_refusal;
@@ -84,8 +82,10 @@ fn number_refusal(s: SheetSizes, text: &[u8]) -> u8
     if !numbers_ok(s, text) {
         return 8;
     }
-    let ten = first(challenges_ok(s, text), 10, 0);
-    first(rows_ok(s, text), 9, ten)
+    let challenges = challenges_ok(s, text);
+    let rows = rows_ok(s, text);
+    let ten = first(challenges, 10, 0);
+    first(rows, 9, ten)
 }
 
 fn ends_at(end: End, n: usize) -> bool
@@ -109,7 +109,7 @@ fn body_refusal(s: SheetSizes, text: &[u8], room: usize) -> u8
     if !ends_at(end, size) {
         return 12;
     }
-    if room < count {
+    if room != count {
         return 7;
     }
     number_refusal(s, text)
@@ -127,26 +127,34 @@ pub fn sheet_refusal(text: &[u8], room: usize) -> u8
     body_refusal(s, text, room)
 }
 
+// How many numbers the header's sizes give, which is the length of the slice that `read_sheet` takes; 0 where the header is refused.
+pub fn sheet_numbers(text: &[u8]) -> usize
+    ensures { λ m. ⌜ m ≡ numberCount (now (text .entry)) ⌝ }
+{
+    let header = header_refusal(text);
+    if 0 < header {
+        return 0;
+    }
+    let s = sheet_sizes(text);
+    total_numbers(s)
+}
+
 // The numbers after the header, in the sheet's order.
 fn store(s: SheetSizes, text: &[u8], numbers: &mut [i32])
     requires { ⌜ Inside s (now text) ⌝ }
     requires { ⌜ coefficients (bodyNumbers s (now text)) ≡ true ⌝ }
-    requires { ⌜ total s ≤ length (now numbers) ⌝ }
-    ensures { λ r. ⌜ now (numbers .exit) ≡ over (now (numbers .entry)) 0 (bodyNumbers s (now (text .entry))) ⌝ }
+    requires { ⌜ length (now numbers) ≡ total s ⌝ }
+    ensures { λ r. ⌜ now (numbers .exit) ≡ bodyNumbers s (now (text .entry)) ⌝ }
 {
     let q = sections_of(s);
     let count = total_numbers(s);
     fill(q, text, 0, 289, count, numbers);
 }
 
-// Reads a sheet: the sizes, and in `numbers` all numbers after the header. Numbers past those are left as they are, and on a
-// refusal all are.
+// Reads a sheet: the sizes, and in `numbers` all numbers after the header, which it must have room for exactly. On a refusal they are
+// left as they are.
 pub fn read_sheet(text: &[u8], numbers: &mut [i32]) -> SheetAnswer
-    ensures { λ r. ⌜ (r ≡ reading (length (now (numbers .entry))) (now (text .entry)))
-        × (now (numbers .exit)
-        ≡ written (firstRefusal (readingTests (length (now (numbers .entry))) (now (text .entry))))
-        (over (now (numbers .entry)) 0 (bodyNumbers (sizesOf (headerNumbers (now (text .entry)))) (now (text .entry))))
-        (now (numbers .entry))) ⌝ }
+    ensures { λ r. ⌜ SheetRead (now (text .entry)) (now (numbers .entry)) r (now (numbers .exit)) ⌝ }
 {
     let refusal = sheet_refusal(text, numbers.len());
     if 0 < refusal {

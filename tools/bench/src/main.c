@@ -241,10 +241,12 @@ static void growth_line(const char *what, size_t v, lizkarg_sizes s, int repetit
 /* A sheet as the program of verdicts reads it: read, and judged as a whole by the call that the program makes. */
 static void sheet_line(const char *what, const char *text, size_t length, lizkarg_answer expected) {
     static int32_t numbers[8192];
+    size_t count = lizkarg_sheet_numbers((const uint8_t *)text, length);
+    if (count > 8192) differ("sheet", "ours");
     double read = 1e30, judge = 1e30;
     for (int round = 0; round < 100; round++) {
         double from = now();
-        lizkarg_sheet h = lizkarg_read_sheet((const uint8_t *)text, length, numbers, 8192);
+        lizkarg_sheet h = lizkarg_read_sheet((const uint8_t *)text, length, numbers, count);
         double middle = now();
         lizkarg_answer x = lizkarg_judge_sheet((const uint8_t *)text, length);
         double end = now();

@@ -103,7 +103,7 @@ pub fn judge(tally: &mut Tally, text: &[u8]) -> Answer {
     answer
 }
 
-/// The sheet of a case, whole and damaged, judged, and read into a slice with some numbers too many or too few.
+/// The sheet of a case, whole and damaged, judged, and read into slices of one number less, as many as its header gives, and one more.
 fn sheets(tally: &mut Tally, rng: &mut Random, s: &Sz, l: &Lists) {
     let (nu, mu) = (rng.between(1, 4) as usize, rng.between(1, 8) as usize);
     let mut text = sheet::write(s, nu, mu, l);
@@ -137,26 +137,31 @@ fn sheets(tally: &mut Tally, rng: &mut Random, s: &Sz, l: &Lists) {
         }
     }
     judge(tally, &text);
-    let exact = l.in_sheet_order().len();
-    let room = match rng.below(4) {
-        0 => exact,
-        1 => exact.saturating_sub(1),
-        _ => exact + 5,
-    };
-    let mut numbers = vec![1234567891; room];
-    let answer = lizkarg::read_sheet(&text, &mut numbers);
-    match sheet::read(&text, room) {
+    let count = lizkarg::sheet_numbers(&text);
+    assert_eq!(count, sheet::count(&text), "sheet_numbers: {}", String::from_utf8_lossy(&text));
+    // a damaged header may give millions of numbers, and then the other lines are broken
+    for length in [count.saturating_sub(1), count, count + 1, l.in_sheet_order().len()] {
+        read(tally, &text, length.min(1 << 20));
+    }
+}
+
+/// A text read into a slice of some length, filled before.
+fn read(tally: &mut Tally, text: &[u8], length: usize) {
+    const FILL: i32 = 1234567891;
+    let mut numbers = vec![FILL; length];
+    let answer = lizkarg::read_sheet(text, &mut numbers);
+    match sheet::read(text, Some(length)) {
         Ok((s, nu, mu, should)) => {
             let h = answer.expect("a sheet");
             let got: Vec<i128> = [h.d, h.n, h.r, h.k, h.l, h.w, h.kappa, h.kappa1, h.kappa2, h.b, h.b1, h.b2, h.t1, h.t2, h.nu, h.mu]
                 .iter().map(|v| *v as i128).chain([h.bound as i128, h.target as i128]).collect();
             assert_eq!(got, sheet::header(&s, nu, mu));
-            assert!(numbers[..should.len()] == should && numbers[should.len()..].iter().all(|v| *v == 1234567891));
+            assert_eq!(numbers, should);
             tally.count("read_sheet", Answer::Written);
         }
         Err(number) => {
-            assert_eq!(answer, Err(number), "read_sheet: {}", String::from_utf8_lossy(&text));
-            assert!(numbers.iter().all(|v| *v == 1234567891));
+            assert_eq!(answer, Err(number), "read_sheet: {}", String::from_utf8_lossy(text));
+            assert!(numbers.iter().all(|v| *v == FILL));
             tally.count("read_sheet", Answer::Refused(number));
         }
     }

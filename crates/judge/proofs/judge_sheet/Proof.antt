@@ -1,43 +1,44 @@
--- `judge::judge_sheet` meets its contract: the room is enough for every text that is not too long. Assumes nothing.
-use mathlib.Core.Path.{refl, _∙_}
-use Rattle.judge.specs.ReadLaws.{longer, read-bounded, read-judged}
+-- `judge::judge_sheet` meets its contract: the slice that is lent is answered as one of the sizes' length. Assumes nothing.
 use borrow.Author.Needs.{needs}
+use mathlib.Core.Path.{sym, _∙_}
+use native.Mathlib.Omega.{arith}
+use lib.Seq.{length-take-le}
+use Rattle.judge.specs.ReadLaws.{longer, text-judged}
 use Rattle.judge.proofs.judge_sheet.Statement.{statement}
 use Rattle.judge.proofs.judge_sheet.Tie as tie
-use Rattle.judge.proofs.judge_read.Reads as judge-read-reads
-use Rattle.sheet.proofs.reader.read_sheet.Reads as read-sheet-reads
+use Rattle.judge.proofs.judge_into.Reads as judge-into-reads
+use Rattle.judge.proofs.lent_count.Reads as lent-count-reads
 
 returns : tie.Need-returns
-returns c = longer (c .before .before .args .text .now) (c .if1 .taken)
+returns c = longer (c .before .before .args .text .now) (omega (arith, c .if1 .taken))
 
-slice-aggregate-read-sheet : tie.Need-slice-aggregate-read-sheet
-slice-aggregate-read-sheet c = search needs
+lent-count-requires : tie.Need-lent-count-requires
+lent-count-requires c κs = search needs
 
-read-sheet-requires : tie.Need-read-sheet-requires
-read-sheet-requires c κs = search needs
+array-borrow-prefix-numbers : tie.Need-array-borrow-prefix-numbers
+array-borrow-prefix-numbers c = search needs
 
-slice-aggregate-judge-read : tie.Need-slice-aggregate-judge-read
-slice-aggregate-judge-read c = search needs
+slice-aggregate-judge-into : tie.Need-slice-aggregate-judge-into
+slice-aggregate-judge-into c = sym (length-take-le (c .before .lent-count .result) _ (omega (arith, c .before .lent-count .ensures)))
 
-judge-read-requires : tie.Need-judge-read-requires
-judge-read-requires c κs =
-    let c1 = c .before .before in
-    let c2 = c1 .before .before in
-    read-bounded (c2 .before .before .args .text .now) (c2 .if1 .left) 4096 refl (c1 .read-sheet .ensures .0)
+judge-into-requires : tie.Need-judge-into-requires
+judge-into-requires c κs = search needs
 
 returns-2 : tie.Need-returns-2
 returns-2 c =
-    let c1 = c .before .before .before in
-    let c2 = c1 .before .before in
-    c .judge-read .ensures ∙ read-judged (c2 .before .before .args .text .now) (c2 .if1 .left) 4096 refl _ _ (c1 .read-sheet .ensures .0) (c1 .read-sheet .ensures .1)
+    let lent = c .before .before .before in
+    let start = lent .before .before .before in
+    text-judged (start .args .text .now) (omega (arith, lent .before .if1 .left)) _
+    (length-take-le (lent .lent-count .result) _ (omega (arith, lent .lent-count .ensures)) ∙ lent .lent-count .ensures)
+    (c .before .judge-into .ensures)
 
 pub judge-sheet-spec : {M : Type 1} → statement M
 judge-sheet-spec =
     tie.close
     (tie.spec
     returns
-    slice-aggregate-read-sheet
-    read-sheet-requires
-    slice-aggregate-judge-read
-    judge-read-requires
+    lent-count-requires
+    array-borrow-prefix-numbers
+    slice-aggregate-judge-into
+    judge-into-requires
     returns-2)

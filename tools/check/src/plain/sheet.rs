@@ -61,7 +61,7 @@ pub fn judged(text: &[u8]) -> Result<(Sz, Lists), u8> {
     if text.len() > 65536 {
         return Err(12);
     }
-    let (s, _, _, numbers) = read(text, usize::MAX)?;
+    let (s, _, _, numbers) = read(text, None)?;
     let lists = Lists::from_sheet_order(&s, &numbers);
     Ok((s, lists))
 }
@@ -94,12 +94,15 @@ fn line(text: &[u8], at: &mut usize, width: usize) -> Option<Vec<i128>> {
     all
 }
 
-/// The sizes, ν, μ and the numbers after the header, or the number of the refusal. `room` is the length of the slice that takes them.
-pub fn read(text: &[u8], room: usize) -> Result<(Sz, usize, usize, Vec<i32>), u8> {
+fn row(number: u8, passes: bool) -> Result<(), u8> {
+    if passes { Ok(()) } else { Err(number) }
+}
+
+/// The sizes, ν, μ, and where the other lines begin, or the number of the refusal.
+fn read_header(text: &[u8]) -> Result<(Sz, usize, usize, usize), u8> {
     let mut at = 0;
     let h = line(text, &mut at, 18).ok_or(12)?;
     let is = |k: usize, low: i128, high: i128| low <= h[k] && h[k] <= high;
-    let row = |number: u8, passes: bool| if passes { Ok(()) } else { Err(number) };
     row(1, [2, 4, 8, 16, 32, 64].contains(&h[0]))?;
     row(2, is(1, 1, 256) && is(2, 1, 16) && is(3, 0, 32) && is(4, 0, 32) && is(5, 0, 256))?;
     row(3, is(6, 1, 8) && is(7, 1, 8) && is(8, 1, 8))?;
@@ -111,17 +114,29 @@ pub fn read(text: &[u8], room: usize) -> Result<(Sz, usize, usize, Vec<i32>), u8
         d: n(0), n: n(1), r: n(2), k: n(3), l: n(4), w: n(5), kappa: n(6), kappa1: n(7), kappa2: n(8), b: n(9), b1: n(10), b2: n(11),
         t1: n(12), t2: n(13), bound: h[16] as u64, target: h[17] as u64,
     };
+    Ok((s, n(14), n(15), at))
+}
+
+/// How many numbers the header's sizes give; 0 where the header is refused.
+pub fn count(text: &[u8]) -> usize {
+    read_header(text).map_or(0, |(s, ..)| line_widths(&s).iter().sum())
+}
+
+/// The sizes, ν, μ and the numbers after the header, or the number of the refusal. "A slice's length is not what the sizes give" (7): `length` is that
+/// of the slice that takes the numbers; None where there is none to test.
+pub fn read(text: &[u8], length: Option<usize>) -> Result<(Sz, usize, usize, Vec<i32>), u8> {
+    let (s, nu, mu, mut at) = read_header(text)?;
     let mut numbers = vec![];
     for width in line_widths(&s) {
         numbers.extend(line(text, &mut at, width).ok_or(12)?);
     }
     row(12, at == text.len())?;
-    row(7, numbers.len() <= room)?;
+    row(7, length.is_none_or(|length| length == numbers.len()))?;
     row(8, numbers.iter().all(|v| v.abs() <= super::ring::MOST))?;
     let narrow: Vec<i32> = numbers.iter().map(|v| *v as i32).collect();
     let lists = Lists::from_sheet_order(&s, &narrow);
     match super::refusals::sheet_numbers(&s, &lists) {
-        0 => Ok((s, n(14), n(15), narrow)),
+        0 => Ok((s, nu, mu, narrow)),
         number => Err(number),
     }
 }

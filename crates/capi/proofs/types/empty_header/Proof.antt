@@ -1,7 +1,6 @@
 -- `capi::types::empty_header` meets its contract: every number is 0. Assumes nothing.
 use mathlib.Core.Path.{refl}
-use Rattle.sheet.specs.Reading.{sizesOf}
-use Rattle.capi.specs.Codes.{emptyHeader}
+use Rattle.sheet.specs.Reading.{sizesOf, emptyHeader}
 use Rattle.capi.proofs.types.empty_header.Statement.{statement}
 use Rattle.capi.proofs.types.empty_header.Tie as tie
 

@@ -10,9 +10,6 @@ use Rattle.sheet.proofs.header.header_refusal.Tie as tie
 bounds-ok-requires : tie.Need-bounds-ok-requires
 bounds-ok-requires c κs = search needs
 
-first-requires : tie.Need-first-requires
-first-requires c κs = search needs
-
 number-at-requires : tie.Need-number-at-requires
 number-at-requires c κs = search needs
 
@@ -21,6 +18,9 @@ number-at-requires-2 c κs = search needs
 
 are-chunks-requires : tie.Need-are-chunks-requires
 are-chunks-requires c κs = search needs
+
+first-requires : tie.Need-first-requires
+first-requires c κs = search needs
 
 first-requires-2 : tie.Need-first-requires-2
 first-requires-2 c κs = search needs
@@ -60,48 +60,44 @@ first-requires-7 c κs = search needs
 
 returns : tie.Need-returns
 returns c =
-    header-nest
-    (c .before .before .before .before .before .before .before .before .before .before .before .before .before .before .before
-    .before .before .before .args .text .now)
-    (c .first7 .ensures) (c .before .header-laid .ensures)
-    (c .before .before .first6 .ensures)
-    (c .before .before .before .is-degree .ensures ∙ ap degree
-    (toZ-ofZ
-    (record { sfits = c .before .before .before .before .number-at3 .ok }) ∙ c .before .before .before .before .number-at3 .ensures))
-    (c .before .before .before .before .before .first5 .ensures) (c .before .before .before .before .before .before .counts-ok .ensures)
-    (c .before .before .before .before .before .before .before .first4 .ensures)
-    (c .before .before .before .before .before .before .before .before .ranks-ok .ensures)
-    (c .before .before .before .before .before .before .before .before .before .first3 .ensures)
-    (c .before .before .before .before .before .before .before .before .before .before .bases-ok .ensures)
-    (c .before .before .before .before .before .before .before .before .before .before .before .first2 .ensures)
-    (c .before .before .before .before .before .before .before .before .before .before .before .before .are-chunks .ensures ∙ ap₂
-    (chunks 2)
-    (toZ-ofZ
-    (record {
-      sfits = c .before .before .before .before .before .before .before .before .before .before .before .before .before
-          .before .number-at .ok;
-    }) ∙ c .before .before .before .before .before .before .before .before .before .before .before .before
-    .before .before .number-at .ensures)
-    (toZ-ofZ
-    (record {
-      sfits = c .before .before .before .before .before .before .before .before .before .before .before .before .before
-          .number-at2 .ok;
-    }) ∙ c .before .before .before .before .before .before .before .before .before .before .before .before .before
-    .number-at2 .ensures))
-    (c .before .before .before .before .before .before .before .before .before .before .before .before .before .before .before .first
-    .ensures)
-    (c .before .before .before .before .before .before .before .before .before .before .before .before .before .before .before
-    .before .bounds-ok .ensures)
+    let c1 = c .before in
+    let c2 = c1 .before in
+    let c3 = c2 .before in
+    let c4 = c3 .before in
+    let c5 = c4 .before in
+    let c6 = c5 .before in
+    let c7 = c6 .before in
+    let c8 = c7 .before in
+    let c9 = c8 .before in
+    let c10 = c9 .before in
+    let c11 = c10 .before in
+    let c12 = c11 .before in
+    let c13 = c12 .before in
+    let c14 = c13 .before in
+    let c15 = c14 .before in
+    let c16 = c15 .before in
+    header-nest (c16 .before .before .args .text .now)
+    (c .first7 .ensures) (c1 .header-laid .ensures)
+    (c2 .first6 .ensures)
+    (c3 .is-degree .ensures ∙ ap degree (toZ-ofZ (record { sfits = c4 .number-at3 .ok }) ∙ c4 .number-at3 .ensures))
+    (c5 .first5 .ensures) (c6 .counts-ok .ensures)
+    (c7 .first4 .ensures) (c8 .ranks-ok .ensures)
+    (c9 .first3 .ensures) (c10 .bases-ok .ensures)
+    (c11 .first2 .ensures)
+    (c13 .are-chunks .ensures ∙ ap₂ (chunks 2)
+    (toZ-ofZ (record { sfits = c15 .number-at .ok }) ∙ c15 .number-at .ensures)
+    (toZ-ofZ (record { sfits = c14 .number-at2 .ok }) ∙ c14 .number-at2 .ensures))
+    (c12 .first .ensures) (c16 .bounds-ok .ensures)
 
 pub header-refusal-spec : {M : Type 1} → statement M
 header-refusal-spec =
     tie.close
     (tie.spec
     bounds-ok-requires
-    first-requires
     number-at-requires
     number-at-requires-2
     are-chunks-requires
+    first-requires
     first-requires-2
     bases-ok-requires
     first-requires-3

@@ -1,4 +1,5 @@
 -- `sheet::reader::body_refusal` meets its contract.
+use native.Mathlib.Omega.{arith}
 use Rattle.sheet.specs.ReadingLaws.{lines-positive, twelve, seven, later, laid-inside}
 use borrow.Author.Needs.{needs}
 use Rattle.sheet.proofs.reader.body_refusal.Statement.{statement}
@@ -29,7 +30,7 @@ returns-2 c =
     seven (start .args .s) (start .args .text .now) (c .before .before .before .before .before .sections-of .result)
     (c .before .before .before .before .before .sections-of .ensures) (c .before .before .before .before .total-numbers .ensures)
     (c .before .before .before .laid-end .ensures) (c .before .before .ends-at .ensures) (start .args .room) (c .before .if1 .left)
-    (c .if2 .taken)
+    (λ same. omega (arith, same, c .if2 .taken))
 
 number-refusal-requires : tie.Need-number-refusal-requires
 number-refusal-requires c κs =
@@ -44,7 +45,7 @@ returns-3 c =
     later (start .args .s) (start .args .text .now) (c .before .before .before .before .before .before .sections-of .result)
     (c .before .before .before .before .before .before .sections-of .ensures)
     (c .before .before .before .before .before .total-numbers .ensures) (c .before .before .before .before .laid-end .ensures)
-    (c .before .before .before .ends-at .ensures) (start .args .room) (c .before .before .if1 .left) (c .before .if2 .left)
+    (c .before .before .before .ends-at .ensures) (start .args .room) (c .before .before .if1 .left) (omega (arith, c .before .if2 .left))
     (c .number-refusal .ensures)
 
 pub body-refusal-spec : {M : Type 1} → statement M

@@ -15,20 +15,23 @@ returns c = eight _ _ (c .before .numbers-ok .ensures) (c .if1 .taken)
 challenges-ok-requires : tie.Need-challenges-ok-requires
 challenges-ok-requires c κs = (c .before .before .before .pre, sym (c .before .numbers-ok .ensures) ∙ not-false _ (c .if1 .left))
 
+rows-ok-requires : tie.Need-rows-ok-requires
+rows-ok-requires c κs = c .before .before .before .before .pre
+
 first-requires : tie.Need-first-requires
 first-requires c κs = search needs
-
-rows-ok-requires : tie.Need-rows-ok-requires
-rows-ok-requires c κs = c .before .before .before .before .before .pre
 
 first-requires-2 : tie.Need-first-requires-2
 first-requires-2 c κs = search needs
 
 returns-2 : tie.Need-returns-2
 returns-2 c =
-    nine-ten _ _ (c .before .before .before .before .before .numbers-ok .ensures) (c .before .before .before .before .if1 .left)
-    (c .first2 .ensures) (c .before .rows-ok .ensures) (c .before .before .first .ensures)
-    (c .before .before .before .challenges-ok .ensures)
+    let c1 = c .before in
+    let c2 = c1 .before in
+    let c3 = c2 .before in
+    let c4 = c3 .before in
+    nine-ten _ _ (c4 .before .numbers-ok .ensures) (c4 .if1 .left) (c .first2 .ensures) (c2 .rows-ok .ensures)
+    (c1 .first .ensures) (c3 .challenges-ok .ensures)
 
 pub number-refusal-spec : {M : Type 1} → statement M
 number-refusal-spec =
@@ -37,7 +40,7 @@ number-refusal-spec =
     numbers-ok-requires
     returns
     challenges-ok-requires
-    first-requires
     rows-ok-requires
+    first-requires
     first-requires-2
     returns-2)

@@ -1,9 +1,9 @@
 -- `sheet::reader::store` meets its contract.
 use mathlib.Core.Path.{ap, _∙_}
 use native.Mathlib.Omega.{arith}
-use Rattle.integers.specs.Over.{over}
 use Rattle.residues.specs.Range.{coefficients}
 use Rattle.sheet.specs.ReadingLaws.{lines-positive, front-span, all-numbers}
+use Rattle.sheet.specs.AnswerLaws.{stored}
 use borrow.Author.Needs.{needs}
 use Rattle.sheet.proofs.reader.store.Statement.{statement}
 use Rattle.sheet.proofs.reader.store.Tie as tie
@@ -39,9 +39,10 @@ same-length c = search needs
 returns : tie.Need-returns
 returns c =
     let start = c .before .before .before .before .before .before in
-    c .before .fill .ensures ∙ ap (over (start .args .numbers .now) 0)
-    (all-numbers (start .args .s) (start .args .text .now) (c .before .before .before .before .sections-of .result) (start .pre .0)
-    (c .before .before .before .before .sections-of .ensures) (c .before .before .before .total-numbers .ensures))
+    let sections = c .before .before .before .before .sections-of in
+    let count = c .before .before .before .total-numbers .ensures in
+    stored (start .args .s) (start .args .text .now) (sections .result) (start .pre .0) (sections .ensures) count
+    (start .args .numbers .now) (start .pre .1 .1) (c .before .fill .ensures)
 
 pub store-spec : {M : Type 1} → statement M
 store-spec =

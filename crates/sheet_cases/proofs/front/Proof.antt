@@ -1,0 +1,44 @@
+-- `sheet_cases::front` meets its contract: past the end nothing is left out. Assumes nothing.
+use mathlib.Core.Path.{sym, _∙_}
+use native.Mathlib.Omega.{arith}
+use Prim.Native.Nat.{_-_, _≤_}
+use lib.ListN.{length}
+use lib.Seq.{take-all, length-take-le}
+use borrow.Author.Needs.{needs}
+use Rattle.sheet_cases.proofs.front.Statement.{statement}
+use Rattle.sheet_cases.proofs.front.Tie as tie
+
+sub-result : tie.Need-sub-result
+sub-result c = search needs
+
+part-result-start : tie.Need-part-result-start
+part-result-start c = search needs
+
+part-result-end : tie.Need-part-result-end
+part-result-end c = search needs
+
+returns : tie.Need-returns
+returns c =
+    let s = c .before .before in
+    let xs = s .args .text .now in
+    let all : length xs ≤ length xs - 0 = omega arith in
+    take-all (length xs - 0) xs all ∙ sym (take-all (s .args .count) (s .args .text .now) (omega arith))
+
+slice-aggregate-result : tie.Need-slice-aggregate-result
+slice-aggregate-result c =
+    let s = c .before .before in
+    sym (length-take-le (s .args .count) (s .args .text .now) (omega arith))
+
+returns-2 : tie.Need-returns-2
+returns-2 c = search needs
+
+pub front-spec : {M : Type 1} → statement M
+front-spec =
+    tie.close
+    (tie.spec
+    sub-result
+    part-result-start
+    part-result-end
+    returns
+    slice-aggregate-result
+    returns-2)

@@ -1,0 +1,91 @@
+"""Stored input and output of the test program for the reader's call: `python3 reader_cases.py DIR` writes DIR/stdin and DIR/stdout.
+
+Input: a line with the count of cases, then for each a line with the count of the sheet's bytes, these bytes, a line feed. Each count is one
+field of 16 columns. Output: five lines for each case.
+
+    count                           how many numbers the header's sizes give
+    kind number header shown(X)     three times, for a slice of one number less than the count, of as many, and of one more: the reader's
+                                    answer (kind 2 refused, 3 written), the header's 18 numbers (0 where it refuses), and the slice X
+                                    afterwards, which the program fills with FILL before the call; shown(X) as in next_cases.py
+    kind number                     the judge's answer (kind 0 accepted, 1 failed, 2 refused)
+
+With a second argument `names` the script prints a line for each case: its name and its answers.
+"""
+
+import random
+import sys
+from pathlib import Path
+
+import sheet
+from next_cases import shown
+from sheet_faults import ROWS, header_with
+from sheet_fixtures import SMALL, honest, replaced
+from test_reference import whole_case_text
+
+FILL = 77
+
+KINDS = {"accepted": 0, "failed": 1, "refused": 2, "written": 3}
+
+
+def good_sheets(rng):
+    """Sheets of several sizes, accepted or failed; K = L = w = 0; more numbers than are printed."""
+    yield "whole case", whole_case_text()
+    yield "whole case, β'² = 12", whole_case_text(target_beta_squared=12)
+    for changes in (
+        {"K": 0}, {"K": 0, "L": 2}, {"K": 0, "w": 3}, {"n": 3, "r": 2, "L": 1, "w": 2, "nu": 7, "mu": 2},
+        {"d": 4, "n": 2, "r": 3, "K": 2, "kappa": 2, "kappa1": 3, "t1": 3, "t2": 4}, {"d": 8, "kappa2": 4, "w": 1}, {"d": 32, "r": 2, "L": 1},
+    ):
+        s, y = honest(rng, SMALL._replace(**changes))
+        yield ", ".join(f"{size} = {value}" for size, value in changes.items()), sheet.write_sheet(s, y)
+
+
+def refused_sheets(rng):
+    """The header broken, or refused by each of 1 to 6; other lines broken; numbers refused by 8, 9 and 10; two of these at once."""
+    text = whole_case_text()
+    yield "no text", b""
+    yield "header without its line feed", text[:288]
+    yield "a letter in the header", text[:15] + b"a" + text[16:]
+    for number, fault in ROWS.items():
+        yield f"row {number}", b"".join(header_with(**fault))
+    yield "rows 5 and 6", b"".join(header_with(**ROWS[5], **ROWS[6]))
+    yield "header alone", text[:289]
+    yield "a letter in the last field", text[:-2] + b"a\n"
+    yield "a line feed more", text + b"\n"
+    yield "a header of more numbers than 65536 bytes hold", b"".join(header_with(d=64, K=12))
+    s, y = honest(rng, SMALL._replace(r=2, L=1, w=1))
+    wide, row, challenge = ("opening", -1, 2147483599), ("rows", 0, 2), ("c", -1, 3)
+    for name, faults in (("8", (wide,)), ("9", (row,)), ("10", (challenge,)), ("8, 10", (wide, challenge)), ("9, 10", (row, challenge))):
+        numbers = y
+        for fault in faults:
+            numbers = replaced(numbers, *fault)
+        yield f"numbers refused by {name}", sheet.write_sheet(s, numbers)
+        yield f"numbers refused by {name}, a byte more", sheet.write_sheet(s, numbers) + b" "
+
+
+def case_lines(text):
+    """The output of a case, as lists of numbers."""
+    count = sheet.sheet_numbers(text)
+    lines = [[count]]
+    for length in (max(count - 1, 0), count, count + 1):
+        (kind, number), header, numbers = sheet.read_into(text, [FILL] * length)
+        lines.append([KINDS[kind], number] + header + shown(numbers))
+    kind, number = sheet.judge(text)
+    return lines + [[KINDS[kind], number]]
+
+
+def main():
+    rng = random.Random(14)
+    folder = Path(sys.argv[1])
+    cases = [case for group in (good_sheets, refused_sheets) for case in group(rng)]
+    answers = [(name, case_lines(text)) for name, text in cases]
+    stream = sheet.line_text([len(cases)]) + b"".join(sheet.line_text([len(text)]) + text + b"\n" for _, text in cases)
+    (folder / "stdin").write_bytes(stream)
+    (folder / "stdout").write_text("".join(" ".join(map(str, line)) + "\n" for _, lines in answers for line in lines))
+    if sys.argv[2:] == ["names"]:
+        for name, lines in answers:
+            print(lines[0][0], *(f"{line[0]} {line[1]}" for line in lines[1:]), name, sep=", ")
+    print(f"{len(cases)} cases, {len(stream)} bytes")
+
+
+if __name__ == "__main__":
+    main()
