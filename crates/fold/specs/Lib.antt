@@ -23,6 +23,7 @@ pub mod NextInstanceTheorem
 pub mod Computing
 pub mod WholeCase
 pub mod RefusalCases
+pub mod ProductCases
 pub mod SecondCaseNumbers
 pub mod SecondCase
 -- Laws
@@ -47,6 +48,7 @@ pub mod PaddingLaws
 pub mod ReadingLaws
 pub mod RecomposedLength
 pub mod RefusalLaws
+pub mod TestLaws
 pub mod SelfProduct
 pub mod SizeBounds
 pub mod PlaceBounds
