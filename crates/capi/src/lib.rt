@@ -186,7 +186,7 @@ pub extern "C" fn lizkarg_verify(
     types::code(answer)
 }
 
-// The reader: `sheet::reader::read_sheet`.
+// The reader: `lizkarg::read_sheet`.
 #[no_mangle]
 pub extern "C" fn lizkarg_read_sheet(text: &[u8], numbers: &mut [i32]) -> CSheet
     ensures { λ r. ⌜ (r ≡ sheetCode (reader.reading (length (now (numbers .entry))) (now (text .entry))))
@@ -196,15 +196,15 @@ pub extern "C" fn lizkarg_read_sheet(text: &[u8], numbers: &mut [i32]) -> CSheet
         (reader.bodyNumbers (reader.sizesOf (reader.headerNumbers (now (text .entry)))) (now (text .entry))))
         (now (numbers .entry))) ⌝ }
 {
-    let answer = sheet::reader::read_sheet(text, numbers);
+    let answer = lizkarg::read_sheet(text, numbers);
     types::sheet_code(answer)
 }
 
-// The judge of a sheet: `judge::judge_sheet`.
+// The judge of a sheet: `lizkarg::judge_sheet`.
 #[no_mangle]
 pub extern "C" fn lizkarg_judge_sheet(text: &[u8]) -> CAnswer
     ensures { λ x. ⌜ x ≡ codeOf (judgedText (now (text .entry))) ⌝ }
 {
-    let answer = judge::judge_sheet(text);
+    let answer = lizkarg::judge_sheet(text);
     types::code(answer)
 }
