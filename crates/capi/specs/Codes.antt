@@ -8,11 +8,22 @@ use Rattle.fold.specs.declared.Answer.{Answer}
 use Rattle.fold.specs.Answers.{kindOf, numberOf, written}
 use Rattle.sheet.specs.declared.reader.SheetAnswer.{SheetAnswer}
 use Rattle.sheet.specs.Reading.{headerNumbers, sizesOf, bodyNumbers, reading, readingRefusal, answerOf, headerOf}
+use Rattle.lizkarg.specs.declared.Product.{Product}
 use Rattle.capi.specs.declared.types.CAnswer.{CAnswer}
+use Rattle.capi.specs.declared.types.CProduct.{CProduct}
 use Rattle.capi.specs.declared.types.CSheet.{CSheet}
 
 abbrev pub codeOf : Answer → CAnswer
 codeOf answer = record { kind = kindOf answer; number = numberOf answer }
+
+-- a product: its answer, and the sixty-four numbers of its element
+abbrev pub productCode : Product → CProduct
+productCode p =
+    record {
+      kind = kindOf (p .answer);
+      number = numberOf (p .answer);
+      element = record { coefficients = p .element .coefficients };
+    }
 
 -- kind and number of the reader's answer, and its header
 abbrev pub sheetCode : SheetAnswer → CSheet

@@ -1,6 +1,4 @@
 pub mod Codes
-pub mod Product
 pub mod Places
 -- Laws
-pub mod ProductLaws
 pub mod PlaceLaws

@@ -183,28 +183,28 @@ pub extern "C" fn lizkarg_verify(
     types::code(answer)
 }
 
-// How many numbers a sheet holds: `sheet::reader::sheet_numbers`.
+// How many numbers a sheet holds: `lizkarg::sheet_numbers`.
 #[no_mangle]
 pub extern "C" fn lizkarg_sheet_numbers(text: &[u8]) -> usize
     ensures { λ m. ⌜ m ≡ numberCount (now (text .entry)) ⌝ }
 {
-    sheet::reader::sheet_numbers(text)
+    lizkarg::sheet_numbers(text)
 }
 
-// The reader: `sheet::reader::read_sheet`.
+// The reader: `lizkarg::read_sheet`.
 #[no_mangle]
 pub extern "C" fn lizkarg_read_sheet(text: &[u8], numbers: &mut [i32]) -> CSheet
     ensures { λ r. ⌜ SheetCoded (now (text .entry)) (now (numbers .entry)) r (now (numbers .exit)) ⌝ }
 {
-    let answer = sheet::reader::read_sheet(text, numbers);
+    let answer = lizkarg::read_sheet(text, numbers);
     types::sheet_code(answer)
 }
 
-// The judge of a sheet: `judge::judge_sheet`.
+// The judge of a sheet: `lizkarg::judge_sheet`.
 #[no_mangle]
 pub extern "C" fn lizkarg_judge_sheet(text: &[u8]) -> CAnswer
     ensures { λ x. ⌜ x ≡ codeOf (judgedText (now (text .entry))) ⌝ }
 {
-    let answer = judge::judge_sheet(text);
+    let answer = lizkarg::judge_sheet(text);
     types::code(answer)
 }

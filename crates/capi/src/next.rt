@@ -9,13 +9,13 @@ use crate::types;
 use crate::types::CAnswer;
 use crate::types::CPart;
 use chunks::part::PartSizes;
-use chunks::part::next_part_refusal;
 use chunks::sizes::chunk_start;
 use chunks::sizes::chunk_width;
 use chunks::sizes::rest_size;
 use fold::Sizes;
+use lizkarg::next_part_refusal;
 
-// The next instance: `next_instance::next_instance`.
+// The next instance: `lizkarg::next_instance`.
 #[no_mangle]
 pub extern "C" fn lizkarg_next_instance(
     sizes: Sizes,
@@ -46,7 +46,7 @@ pub extern "C" fn lizkarg_next_instance(
         (now (c .entry))) (transcriptOf (now (u1 .entry)) (now (p .entry)) (now (b2 .entry)) (now (u2 .entry))) nu mu
         (now (out .entry)) answer (now (out .exit))) x ⌝ }
 {
-    let answer = next_instance::next_instance(
+    let answer = lizkarg::next_instance(
         sizes,
         nu,
         mu,
@@ -71,7 +71,7 @@ pub extern "C" fn lizkarg_next_instance(
     types::code(answer)
 }
 
-// The number with which part `part`, from 1, is refused, else 0: `chunks::part::next_part_refusal`.
+// The number with which part `part`, from 1, is refused, else 0: `lizkarg::next_part_refusal`.
 #[no_mangle]
 pub extern "C" fn lizkarg_next_part_refusal(sizes: PartSizes, part: usize, opening: &[i32]) -> u8
     ensures { λ x. ⌜ x ≡ partRefusalOf sizes part (now (opening .entry)) ⌝ }
@@ -79,7 +79,7 @@ pub extern "C" fn lizkarg_next_part_refusal(sizes: PartSizes, part: usize, openi
     next_part_refusal(sizes, part, opening)
 }
 
-// The place in the opening of what `chunks::part::next_part` hands back.
+// The place in the opening of what `lizkarg::next_part` hands back.
 #[no_mangle]
 pub extern "C" fn lizkarg_next_part(sizes: PartSizes, part: usize, opening: &[i32]) -> CPart
     ensures { λ x. ⌜ Placed sizes part (now (opening .entry)) x ⌝ }

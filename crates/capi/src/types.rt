@@ -1,8 +1,9 @@
 // What passes between C and the library beside the library's own structs of sizes: answers, as kind and number, and what comes with them.
 ghost use mathlib.Core.Path.{_≡_};
 ghost use Rattle.sheet.specs.Reading.{emptyHeader};
-ghost use Rattle.capi.specs.Codes.{codeOf, sheetCode};
+ghost use Rattle.capi.specs.Codes.{codeOf, productCode, sheetCode};
 use fold::Answer;
+use lizkarg::Product;
 use sheet::reader::SheetAnswer;
 use sheet::sizes::SheetSizes;
 
@@ -48,6 +49,22 @@ pub fn code(answer: Answer) -> CAnswer
     CAnswer {
         kind: answer.kind(),
         number: answer.number(),
+    }
+}
+
+pub fn product_code(product: Product) -> CProduct
+    ensures { λ r. ⌜ r ≡ productCode product ⌝ }
+{
+    let answer = product.answer;
+    let element = product.element;
+    let numbers = element.coefficients;
+    let coded = code(answer);
+    CProduct {
+        kind: coded.kind,
+        number: coded.number,
+        element: CElement {
+            coefficients: numbers,
+        },
     }
 }
 

@@ -10,7 +10,7 @@ use Rattle.fold.specs.declared.Sizes.{Sizes}
 use Rattle.fold.specs.Answers.{firstRefusal}
 use Rattle.fold.specs.Verdict.{Statement, Draws, Transcript}
 use Rattle.fold.specs.CallLimits.{CommitLimits, GarbageLimits, VerifyLimits}
-use Rattle.fold.specs.Refusals.{commitTests, projectTests, aggregateTests, garbageTests, amortizeTests, verifyTests}
+use Rattle.fold.specs.Refusals.{commitTests, projectTests, aggregateTests, garbageTests, amortizeTests, verifyTests, productTests}
 
 abbrev pub statementOf : Sizes → (A B C D whole term : List ℤ) → Statement
 statementOf sizes A B C D whole term =
@@ -72,6 +72,9 @@ amortizeRefusal m b c s zs = firstRefusal (amortizeTests (m .d) (m .n) (m .r) 2 
 
 abbrev pub verifyRefusal : Statement → Draws → Transcript → List ℤ → ℕ
 verifyRefusal 𝓢 𝓓 𝓣 o = firstRefusal (verifyTests 𝓢 𝓓 𝓣 o)
+
+abbrev pub productRefusal : ℕ → (x y : List ℤ) → ℕ
+productRefusal d x y = firstRefusal (productTests d x y)
 
 -- ---- the limits of sizes that stand in a struct
 

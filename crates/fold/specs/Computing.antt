@@ -10,7 +10,7 @@ use Rattle.fold.specs.Verdict.{check₁, check₂, check₃, check₄, c
 use Rattle.fold.specs.Refusals.{allOf, anyOf, between, degree, rank, parts, constraintCount, projectionCount, commitmentRank}
 use Rattle.fold.specs.Refusals.{base, digitCount, chunks, lengthBound, sized, challenges, wholeLength, termLength, projectionLength}
 use Rattle.fold.specs.Refusals.{commitTests, projectTests, aggregateTests, garbageTests, amortizeTests}
-use Rattle.fold.specs.Refusals.{proverTests, verifyTests, nextTests, partTests}
+use Rattle.fold.specs.Refusals.{proverTests, verifyTests, nextTests, partTests, isElement, productTests}
 use Rattle.fold.specs.Chunks.{chunk, width, cut, cutPadded, padded, trimmed, unpadded}
 use Rattle.fold.specs.NextInstance.{zTable, tTable, garbageTable, product, squares, constraint, φ′, laidOut, nextWhole}
 
@@ -43,7 +43,7 @@ unfolding ranges-compute sized challenges wholeLength termLength projectionLengt
 lengths-compute = tt
 
 unfoldable pub refusals-compute : Unit {0}
-unfolding lengths-compute commitTests projectTests aggregateTests garbageTests amortizeTests proverTests verifyTests nextTests partTests
+unfolding lengths-compute commitTests projectTests aggregateTests garbageTests amortizeTests proverTests verifyTests nextTests partTests isElement productTests
 refusals-compute = tt
 
 unfoldable pub next-instance-computes : Unit {0}

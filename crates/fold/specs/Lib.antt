@@ -28,6 +28,7 @@ pub mod WorkedValues
 pub mod RefusalCases
 pub mod LimitCases
 pub mod ListCases
+pub mod ProductCases
 pub mod SecondCaseNumbers
 pub mod SecondCase
 -- Laws
@@ -52,6 +53,7 @@ pub mod PaddingLaws
 pub mod ReadingLaws
 pub mod RecomposedLength
 pub mod RefusalLaws
+pub mod TestLaws
 pub mod SelfProduct
 pub mod SizeBounds
 pub mod PlaceBounds

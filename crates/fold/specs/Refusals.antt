@@ -7,7 +7,7 @@ use lib.Dec.{leb, eqb}
 use lib.ListN.{length, take, drop}
 use lib.IntN.{ℤ, pos, negsuc}
 use Rattle.ring.specs.Element.{every}
-use Rattle.residues.specs.Range.{coefficients, projections, challenge}
+use Rattle.residues.specs.Range.{allWithin, coefficients, projections, challenge}
 use Rattle.fold.specs.Sizes.{functionSize, tSize, garbageSize, restSize, openingSize, nextRank, nextParts, nextCount}
 use Rattle.fold.specs.Statement.{Relation}
 use Rattle.fold.specs.Verdict.{Statement, Draws, Transcript}
@@ -294,3 +294,11 @@ partTests d n r κ t₁ t₂ tz ν μ i o =
     ∷ (5, chunks tz (pos ν) (pos μ))
     ∷ (7, sized o (openingSize tz n r κ t₁ t₂ * d))
     ∷ []
+
+-- row 8 for "sixty-four numbers; those past d are zero": "coefficient .. out of range; a ring element with a nonzero number past d"
+unfoldable pub isElement : ℕ → List ℤ → Bool
+isElement d xs = allOf (coefficients xs ∷ allWithin 0 (drop d xs) ∷ [])
+
+-- the ring product, of elements by value
+unfoldable pub productTests : ℕ → (x y : List ℤ) → List (ℕ × Bool)
+productTests d x y = (1, degree (pos d)) ∷ (8, allOf (isElement d x ∷ isElement d y ∷ [])) ∷ []

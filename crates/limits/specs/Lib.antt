@@ -3,3 +3,4 @@ pub mod SizeLaws
 pub mod Stages
 pub mod StageLaws
 pub mod StageLimits
+pub mod ProductLaws

@@ -8,7 +8,7 @@ pub mod rows;
 pub mod sizes;
 
 ghost use mathlib.Core.Path.{_≡_};
-ghost use Rattle.fold.specs.Arguments.{commitRefusal, projectRefusal, aggregateRefusal, garbageRefusal, amortizeRefusal, verifyRefusal};
+ghost use Rattle.fold.specs.Arguments.{commitRefusal, projectRefusal, aggregateRefusal, garbageRefusal, amortizeRefusal, verifyRefusal, productRefusal};
 ghost use Rattle.fold.specs.Arguments.{statementOf, drawsOf, transcriptOf};
 use bounds::aggregate_bounds;
 use bounds::amortize_bounds;
@@ -30,11 +30,14 @@ use lengths::matrix_lengths;
 use lengths::message_lengths;
 use lengths::project_lengths;
 use ranges::constraint_ranges;
+use ranges::is_element;
 use ranges::message_ranges;
 use ranges::rows_in_range;
 use residues::range::are_coefficients;
 use residues::range::are_projection_entries;
+use ring::element::Element;
 use rows::challenges;
+use rows::degree;
 use rows::first;
 
 // Message 1: A, B, C and the witness; t, g and u1 are looked at only for their lengths.
@@ -229,4 +232,14 @@ pub fn verify_refusal(
         & are_coefficients(c);
     let rule = challenges(sizes.d, sizes.r, c);
     first(ranges, 8, first(entries, 9, first(rule, 10, 0)))
+}
+
+// The ring product: the degree and two elements by value.
+pub fn product_refusal(d: usize, x: Element, y: Element) -> u8
+    ensures { λ r. ⌜ r ≡ productRefusal d (x .coefficients) (y .coefficients) ⌝ }
+{
+    let a = x.coefficients;
+    let b = y.coefficients;
+    let elements = is_element(d, &a) & is_element(d, &b);
+    first(degree(d), 1, first(elements, 8, 0))
 }

@@ -1,8 +1,10 @@
-// Row 8 of document 01's table for the projection rows and for the lists that two calls share.
+// Row 8 of document 01's table for the projection rows, for the lists that two calls share and for elements by value.
 ghost use mathlib.Core.Path.{_≡_};
-ghost use Rattle.residues.specs.Range.{coefficients, projections};
-ghost use Rattle.fold.specs.Refusals.{allOf};
+ghost use lib.ListN.{drop};
+ghost use Rattle.residues.specs.Range.{allWithin, coefficients, projections};
+ghost use Rattle.fold.specs.Refusals.{allOf, isElement};
 ghost use Rattle.limits.specs.Stages as spec;
+use residues::range::all_between;
 use residues::range::are_coefficients;
 
 // The projection rows, where `entries` says whether row 9 holds. Entries of -1, 0 and 1 are in coefficient range, so that the rows are
@@ -67,4 +69,21 @@ pub fn message_ranges(
         & are_coefficients(b)
         & are_coefficients(c_matrix)
         & are_coefficients(d_matrix)
+}
+
+// The numbers of xs from d on are zero.
+fn vanishes_from(d: usize, xs: &[i32]) -> bool
+    ensures { λ r. ⌜ r ≡ allWithin 0 (drop d (now (xs .entry))) ⌝ }
+{
+    if xs.len() < d {
+        return true;
+    }
+    all_between(0, 0, &xs[d..])
+}
+
+// Every number is in range, and those past d are zero.
+pub fn is_element(d: usize, xs: &[i32]) -> bool
+    ensures { λ r. ⌜ r ≡ isElement d (now (xs .entry)) ⌝ }
+{
+    are_coefficients(xs) & vanishes_from(d, xs)
 }

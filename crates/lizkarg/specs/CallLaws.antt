@@ -3,8 +3,10 @@ use mathlib.Core.Path.{_≡_, refl, sym, ap, ap₂, _∙_}
 use mathlib.Core.List.{List}
 use Prim.Native.Nat.{ℕ, zero, suc, _*_}
 use native.Mathlib.Omega.{arith}
-use lib.ListN.{length}
-use lib.IntN.{ℤ}
+use lib.ListN.{length, replicate}
+use lib.IntN.{ℤ, pos}
+use Rattle.ring.specs.declared.element.Element.{Element}
+use Rattle.ring.specs.Element.{R, lift, array}
 use Rattle.fold.specs.declared.Answer.{Answer}
 use Rattle.fold.specs.declared.Answer.the-variants.{Refused}
 use Rattle.fold.specs.declared.Answer.the-variants.{Written}
@@ -12,7 +14,7 @@ use Rattle.fold.specs.declared.CommitSizes.{CommitSizes}
 use Rattle.fold.specs.declared.GarbageSizes.{GarbageSizes}
 use Rattle.fold.specs.declared.Shape.{Shape}
 use Rattle.fold.specs.Answers.{answered, written}
-use Rattle.fold.specs.Arguments.{commitRefusal, projectRefusal, aggregateRefusal, garbageRefusal, amortizeRefusal}
+use Rattle.fold.specs.Arguments.{productRefusal, commitRefusal, projectRefusal, aggregateRefusal, garbageRefusal, amortizeRefusal}
 use Rattle.fold.specs.CallFacts as CallFacts
 use Rattle.fold.specs.Messages.{p, b″, u₂, zDigits}
 use Rattle.prover.specs.Facts.{TFacts, GFacts, OuterFacts, ProjectFacts, AmortizeFacts}
@@ -20,7 +22,8 @@ use Rattle.prover.specs.Facts as ProverFacts
 use Rattle.prover.specs.Outputs.{tOf, gOf, u₁Of}
 use Rattle.aggregation.specs.Facts.{ValueFacts, HFacts}
 use Rattle.aggregation.specs.Facts as AggregationFacts
-use Rattle.lizkarg.specs.Calls.{Committed, Projected, Aggregated, GarbageCommitted, Amortized, hOf}
+use Rattle.lizkarg.specs.declared.Product.{Product}
+use Rattle.lizkarg.specs.Calls.{productOf, Committed, Projected, Aggregated, GarbageCommitted, Amortized, hOf}
 
 -- where the number is not 0, the call refuses with it and writes nothing
 refused-number : (n : ℕ) (answer : Answer) → (n ≡ 0 → ⊥) → Refused n ≡ answered n answer
@@ -47,6 +50,24 @@ answers answer e = rw e refl
 pub writes : {n : ℕ} {out new : List ℤ} (old : List ℤ) → n ≡ 0 → out ≡ new → out ≡ written n new old
 unfolding written
 writes old e new-is = rw e new-is
+
+-- ---- the ring product
+
+module _ (d : ℕ) (x y : List ℤ) {n : ℕ} (number : n ≡ productRefusal d x y) where
+  pub product-refused : (n ≡ 0 → ⊥) → _≡_ {A = Product} (record { answer = Refused n; element = record { coefficients = replicate 64 (pos 0) } }) (productOf d x y)
+  product-refused some =
+      λ i. record {
+        answer = refused Written number some i;
+        element = record { coefficients = kept (array d (R d .mul (lift d x) (lift d y))) (replicate 64 (pos 0)) number some i };
+      }
+
+  pub product-written : {product : Element} → n ≡ 0 → product .coefficients ≡ array d (R d .mul (lift d x) (lift d y))
+      → _≡_ {A = Product} (record { answer = Written; element = product }) (productOf d x y)
+  product-written none new =
+      λ i. record {
+        answer = answers Written (sym number ∙ none) i;
+        element = record { coefficients = writes (replicate 64 (pos 0)) (sym number ∙ none) new i };
+      }
 
 -- ---- message 1
 

@@ -1,20 +1,31 @@
--- What each message's call promises: its answer, and every lent number afterwards. "Nothing lent is written" on a refusal.
+-- What the ring product answers, and what each message's call promises: its answer, and every lent number afterwards. "Nothing lent is
+-- written" on a refusal.
 -- A list is followed by a mark, as t′, where it stands for the lent numbers after the call.
 use mathlib.Core.Path.{_≡_}
 use mathlib.Core.List.{List}
 use Prim.Native.Nat.{ℕ}
-use lib.IntN.{ℤ}
+use lib.IntN.{ℤ, pos}
+use lib.ListN.{replicate}
 use Rattle.fold.specs.declared.Answer.{Answer}
 use Rattle.fold.specs.declared.Answer.the-variants.{Written}
 use Rattle.fold.specs.declared.CommitSizes.{CommitSizes}
 use Rattle.fold.specs.declared.GarbageSizes.{GarbageSizes}
 use Rattle.fold.specs.declared.Shape.{Shape}
 use Rattle.algebra.specs.DotProduct.{Function}
-use Rattle.ring.specs.Element.{R}
+use Rattle.ring.specs.Element.{R, lift, array}
 use Rattle.fold.specs.Answers.{answered, written}
-use Rattle.fold.specs.Arguments.{commitRefusal, projectRefusal, aggregateRefusal, garbageRefusal, amortizeRefusal}
+use Rattle.fold.specs.Arguments.{productRefusal, commitRefusal, projectRefusal, aggregateRefusal, garbageRefusal, amortizeRefusal}
 use Rattle.fold.specs.Messages.{p, b″, aggregate, hDigits, u₂, zDigits}
 use Rattle.prover.specs.Outputs.{tOf, gOf, u₁Of}
+use Rattle.lizkarg.specs.declared.Product.{Product}
+
+-- The ring product of elements by value: the sixty-four numbers of the product, or zeros where the call is refused
+abbrev pub productOf : ℕ → (x y : List ℤ) → Product
+productOf d x y =
+    record {
+      answer = answered (productRefusal d x y) Written;
+      element = record { coefficients = written (productRefusal d x y) (array d (R d .mul (lift d x) (lift d y))) (replicate 64 (pos 0)) };
+    }
 
 -- Message 1
 pub record Committed (sizes : CommitSizes) (A B C s t g u : List ℤ) (answer : Answer) (t′ g′ u′ : List ℤ) : Type 0 where

@@ -1,6 +1,7 @@
 -- Demand 3 for the calls themselves: what the five messages wrote is the honest transcript and opening, so `verify` answers as the theorem
--- says; and two answers `accepted` of `verify` give the two cases. Each hypothesis is a call's promise (Calls.antt), not its code.
-use mathlib.Core.Path.{_≡_, refl, sym, ap, subst₂, _∙_}
+-- says; and two answers `accepted` of `verify` give the two cases. Each hypothesis is a call's promise, not its code: those of the messages
+-- stand in Calls.antt, `answer ≡ verification ..` is that of `verify`.
+use mathlib.Core.Path.{_≡_, refl, sym, ap, ap₂, subst₂, _∙_}
 use mathlib.Core.Logic.{_↔_, _≢_}
 use mathlib.Core.List.{List}
 use Prim.Native.Nat.{ℕ, zero, suc, _+_, _*_, _≤_, _<_}
@@ -21,7 +22,8 @@ use Rattle.fold.specs.Statement.{Meets}
 use Rattle.fold.specs.Messages.{opening}
 use Rattle.fold.specs.Verdict.{Statement, Draws, Transcript}
 use Rattle.fold.specs.Verification.{verification}
-use Rattle.fold.specs.Refusals.{proverTests}
+use Rattle.fold.specs.Refusals.{boundTests, proverTests}
+use Rattle.fold.specs.TestLaws.{messages-test-all}
 use Rattle.fold.specs.Honest.{honestTranscript, honestOpening}
 use Rattle.fold.specs.HonestRuns.{honest-runs}
 use Rattle.fold.specs.HonestFormed.{honest-formed}
@@ -41,9 +43,9 @@ unfolding written
 left n new before e is = is ∙ rw (written-zero n e) refl
 
 -- an answer that is no refusal is the judgement
-judged : (n : ℕ) (v w : Verdict) → n ≡ 0 → (answered n (Judged v) ≡ Judged w) ↔ (v ≡ w)
+judged : (n : ℕ) (v w : Verdict) {answer : Answer} → answer ≡ answered n (Judged v) → n ≡ 0 → (answer ≡ Judged w) ↔ (v ≡ w)
 unfolding answered
-judged n v w e = rw e (λ h. cc, λ h. ap Judged h)
+judged n v w e none = let f : _ ≡ Judged v = e ∙ rw none refl in (λ h. cc, λ h. f ∙ ap Judged h)
 
 through : {X Y Z : Type 0} → X ↔ Y → Y ↔ Z → X ↔ Z
 through e f = (λ x. f .0 (e .0 x), λ z. e .1 (f .1 z))
@@ -86,21 +88,21 @@ module _ (sizes : Sizes) (A B C D whole term rows ψ ω α δ c s : List ℤ) wh
   abbrev pub 𝓓 : Draws
   𝓓 = drawsOf rows ψ ω α δ c
 
-  -- what `verify` answers on a transcript and an opening, by their squared lengths
-  pub record HonestAnswer (𝓣 : Transcript) (o : List ℤ) : Type 0 where
-    pub failed-1 : (verification 𝓢 𝓓 𝓣 o ≡ Judged (Failed 1)) ↔ (sizes .w * sizes .bound < 2 * normSq (𝓣 .p))
-    pub failed-9 : (verification 𝓢 𝓓 𝓣 o ≡ Judged (Failed 9))
-        ↔ ((2 * normSq (𝓣 .p) ≤ sizes .w * sizes .bound) × (sizes .target < normSq o))
-    pub accepted : (verification 𝓢 𝓓 𝓣 o ≡ Judged Accepted)
-        ↔ ((2 * normSq (𝓣 .p) ≤ sizes .w * sizes .bound) × (normSq o ≤ sizes .target))
+  -- an answer of `verify` by the squared lengths of p and of an opening o
+  pub record HonestAnswer (p o : List ℤ) (answer : Answer) : Type 0 where
+    pub failed-1 : (answer ≡ Judged (Failed 1)) ↔ (sizes .w * sizes .bound < 2 * normSq p)
+    pub failed-9 : (answer ≡ Judged (Failed 9)) ↔ ((2 * normSq p ≤ sizes .w * sizes .bound) × (sizes .target < normSq o))
+    pub accepted : (answer ≡ Judged Accepted) ↔ ((2 * normSq p ≤ sizes .w * sizes .bound) × (normSq o ≤ sizes .target))
 
   -- demand 3, second half: two answers `accepted` of `verify` for this statement and one u1, whatever else came with them
-  pub two-accepted : (𝓓₁ 𝓓₂ : Draws) (𝓣₁ 𝓣₂ : Transcript) (o₁ o₂ : List ℤ)
-      → verification 𝓢 𝓓₁ 𝓣₁ o₁ ≡ Judged Accepted → verification 𝓢 𝓓₂ 𝓣₂ o₂ ≡ Judged Accepted → 𝓣₁ .u₁ ≡ 𝓣₂ .u₁
+  pub two-accepted : (𝓓₁ 𝓓₂ : Draws) (𝓣₁ 𝓣₂ : Transcript) (o₁ o₂ : List ℤ) (answer₁ answer₂ : Answer)
+      → answer₁ ≡ verification 𝓢 𝓓₁ 𝓣₁ o₁ → answer₂ ≡ verification 𝓢 𝓓₂ 𝓣₂ o₂
+      → answer₁ ≡ Judged Accepted → answer₂ ≡ Judged Accepted → 𝓣₁ .u₁ ≡ 𝓣₂ .u₁
       → (i : ℕ) → i < sizes .r → ((j : ℕ) → j < sizes .r → j ≢ i → el (sizes .d) (𝓓₁ .c) j ≡ el (sizes .d) (𝓓₂ .c) j)
       → (tgDigits 𝓢 o₁ ≢ tgDigits 𝓢 o₂ → ShortKernel 𝓢 (difference (tgDigits 𝓢 o₁) (tgDigits 𝓢 o₂)))
       × (tgDigits 𝓢 o₁ ≡ tgDigits 𝓢 o₂ → ShortPreimage 𝓢 𝓓₁ 𝓓₂ 𝓣₁ 𝓣₂ o₁ o₂ i (1 + sizes .b * sizes .b))
-  two-accepted 𝓓₁ 𝓓₂ 𝓣₁ 𝓣₂ o₁ o₂ one two same = two-openings 𝓢 𝓓₁ 𝓓₂ 𝓣₁ 𝓣₂ o₁ o₂ one two same refl
+  two-accepted 𝓓₁ 𝓓₂ 𝓣₁ 𝓣₂ o₁ o₂ answer₁ answer₂ is₁ is₂ one two same =
+      two-openings 𝓢 𝓓₁ 𝓓₂ 𝓣₁ 𝓣₂ o₁ o₂ (sym is₁ ∙ one) (sym is₂ ∙ two) same refl
 
   -- the five calls, all from one statement, one witness and one set of draws, answered `Written` and left these numbers
   pub record Sent (u₁ p b″ u₂ z t g h : List ℤ) : Type 0 where
@@ -130,15 +132,24 @@ module _ (sizes : Sizes) (A B C D whole term rows ψ ω α δ c s : List ℤ) wh
         λ i. opening (left _ _ _ (sent .message-5 .answer-is) (sent .message-5 .z-is) i) (left _ _ _ (one .answer-is) (one .t-is) i)
         (left _ _ _ (one .answer-is) (one .g-is) i) (left _ _ _ (four .answer-is) (four .h-is) i)
 
-    -- demand 3, first half: `verify` on what the calls wrote
-    pub honest-calls : firstRefusal (proverTests 𝓢 𝓓 s) ≡ 0 → Meets (𝓢 .relation) s
-        → HonestAnswer (transcriptOf u₁ p b″ u₂) (opening z t g h)
-    honest-calls unrefused meets =
+    -- the calls tested all of the statement, the draws and the witness but the two bounds, which none of them takes
+    pub all-tested : firstRefusal (boundTests 𝓢 𝓓) ≡ 0 → firstRefusal (proverTests 𝓢 𝓓 s) ≡ 0
+    all-tested bounds =
+        messages-test-all 𝓢 𝓓 s _ _ _ _ _ _ (written-zero _ (sent .message-1 .answer-is)) (written-zero _ (sent .message-4 .answer-is))
+        (written-zero _ (sent .message-5 .answer-is)) bounds
+
+    -- demand 3, first half: what `verify` answered on what the calls wrote, where β² and β'² keep row 6
+    pub honest-calls : firstRefusal (boundTests 𝓢 𝓓) ≡ 0 → Meets (𝓢 .relation) s
+        → (answer : Answer) → answer ≡ verification 𝓢 𝓓 (transcriptOf u₁ p b″ u₂) (opening z t g h)
+        → HonestAnswer p (opening z t g h) answer
+    honest-calls bounds meets answer e =
+        let unrefused = all-tested bounds in
         let formed = honest-formed 𝓢 𝓓 s unrefused in
         let run = honest-runs 𝓢 𝓓 s refl unrefused meets in
-        let honest : HonestAnswer (honestTranscript 𝓢 𝓓 s) (honestOpening 𝓢 𝓓 s) = record {
-          failed-1 = through (judged _ _ _ formed) (run .failed-1);
-          failed-9 = through (judged _ _ _ formed) (run .failed-9);
-          accepted = through (judged _ _ _ formed) (run .accepted);
+        let is = e ∙ ap₂ (verification 𝓢 𝓓) transcript-honest opening-honest in
+        let honest : HonestAnswer (honestTranscript 𝓢 𝓓 s .p) (honestOpening 𝓢 𝓓 s) answer = record {
+          failed-1 = through (judged _ _ _ is formed) (run .failed-1);
+          failed-9 = through (judged _ _ _ is formed) (run .failed-9);
+          accepted = through (judged _ _ _ is formed) (run .accepted);
         } in
-        subst₂ HonestAnswer (sym transcript-honest) (sym opening-honest) honest
+        subst₂ (λ v o. HonestAnswer v o answer) (ap (λ (𝓣 : Transcript). 𝓣 .p) (sym transcript-honest)) (sym opening-honest) honest

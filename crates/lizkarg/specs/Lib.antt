@@ -1,3 +1,4 @@
 pub mod Calls
 pub mod CallLaws
+pub mod ProductCases
 pub mod Demand3

@@ -1,13 +1,42 @@
-// The library's calls: document 01's messages, the verifier and the next instance. None has a `requires`: what it cannot take it refuses by number.
-ghost use Rattle.lizkarg.specs.Calls.{Committed, Projected, Aggregated, GarbageCommitted, Amortized};
+// The library's calls: the ring product, document 01's messages, the verifier, the next instance and the sheet. None has a `requires`: what it
+// cannot take it refuses by number.
+ghost use mathlib.Core.Path.{_≡_};
+ghost use Rattle.lizkarg.specs.Calls.{productOf, Committed, Projected, Aggregated, GarbageCommitted, Amortized};
 pub use chunks::part::next_part;
 pub use chunks::part::next_part_refusal;
 use fold::Answer;
 use fold::CommitSizes;
 use fold::GarbageSizes;
 use fold::Shape;
+pub use judge::judge_sheet;
 pub use next_instance::next_instance;
+use ring::element::Element;
+pub use sheet::reader::read_sheet;
+pub use sheet::reader::sheet_numbers;
 pub use verifier::verify;
+
+// An answer and a ring element, which is zero where the call is refused.
+pub struct Product {
+    pub answer: Answer,
+    pub element: Element,
+}
+
+// The product of two ring elements in Z_q[X]/(X^d+1).
+pub fn multiply(d: usize, x: Element, y: Element) -> Product
+    ensures { λ r. ⌜ r ≡ productOf d (x .coefficients) (y .coefficients) ⌝ }
+{
+    let refusal = limits::product_refusal(d, x, y);
+    if refusal != 0 {
+        return Product {
+            answer: Answer::Refused(refusal),
+            element: Element::ZERO,
+        };
+    }
+    Product {
+        answer: Answer::Written,
+        element: x.product(d, y),
+    }
+}
 
 // Message 1: the inner commitments t and the products g, in digits, and the outer commitment u1.
 pub fn commit(

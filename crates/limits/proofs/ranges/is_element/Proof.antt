@@ -1,8 +1,8 @@
--- `capi::multiply::is_element` meets its contract. Assumes nothing.
+-- `limits::ranges::is_element` meets its contract. Assumes nothing.
 use borrow.Author.Needs.{needs}
-use Rattle.capi.specs.ProductLaws.{element-tests}
-use Rattle.capi.proofs.multiply.is_element.Statement.{statement}
-use Rattle.capi.proofs.multiply.is_element.Tie as tie
+use Rattle.limits.specs.ProductLaws.{element-tests}
+use Rattle.limits.proofs.ranges.is_element.Statement.{statement}
+use Rattle.limits.proofs.ranges.is_element.Tie as tie
 
 are-coefficients-requires : tie.Need-are-coefficients-requires
 are-coefficients-requires c κs = search needs

@@ -1,10 +1,10 @@
--- `capi::multiply::vanishes_from` meets its contract. Assumes nothing.
+-- `limits::ranges::vanishes_from` meets its contract. Assumes nothing.
 use mathlib.Core.Path.{_∙_}
 use borrow.Author.Needs.{needs}
 use Rattle.residues.specs.RangeLaws.{between-zero}
-use Rattle.capi.specs.ProductLaws.{none-from, rest-from}
-use Rattle.capi.proofs.multiply.vanishes_from.Statement.{statement}
-use Rattle.capi.proofs.multiply.vanishes_from.Tie as tie
+use Rattle.limits.specs.ProductLaws.{none-from, rest-from}
+use Rattle.limits.proofs.ranges.vanishes_from.Statement.{statement}
+use Rattle.limits.proofs.ranges.vanishes_from.Tie as tie
 
 returns : tie.Need-returns
 returns c = none-from _ _ (c .if1 .taken)

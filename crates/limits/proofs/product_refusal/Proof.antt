@@ -1,8 +1,8 @@
--- `capi::multiply::product_refusal` meets its contract: rows 1 and 8 in order. Assumes nothing.
+-- `limits::product_refusal` meets its contract: rows 1 and 8 in order. Assumes nothing.
 use borrow.Author.Needs.{needs}
-use Rattle.capi.specs.ProductLaws.{product-tests}
-use Rattle.capi.proofs.multiply.product_refusal.Statement.{statement}
-use Rattle.capi.proofs.multiply.product_refusal.Tie as tie
+use Rattle.limits.specs.ProductLaws.{product-tests}
+use Rattle.limits.proofs.product_refusal.Statement.{statement}
+use Rattle.limits.proofs.product_refusal.Tie as tie
 
 slice-aggregate-is-element : tie.Need-slice-aggregate-is-element
 slice-aggregate-is-element c = search needs
