@@ -53,7 +53,6 @@ pub mod PaddingLaws
 pub mod ReadingLaws
 pub mod RecomposedLength
 pub mod RefusalLaws
-pub mod TestLaws
 pub mod SelfProduct
 pub mod SizeBounds
 pub mod PlaceBounds

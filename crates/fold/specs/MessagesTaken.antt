@@ -7,8 +7,8 @@
 use mathlib.Core.Path.{_≡_, refl}
 use mathlib.Core.Bool.{Bool, true}
 use mathlib.Core.List.{List, [], _∷_}
-use Prim.Native.Nat.{ℕ, _+_, _*_, _≤_}
-use lib.ListN.{length}
+use Prim.Native.Nat.{ℕ, zero, suc, _+_, _*_, _≤_}
+use lib.ListN.{length, take}
 use lib.IntN.{ℤ, pos}
 use borrow.Author.Tests.{le-leb}
 use Rattle.residues.specs.Range.{coefficients}
@@ -16,11 +16,11 @@ use Rattle.fold.specs.Answers.{firstRefusal}
 use Rattle.fold.specs.Sizes.{tSize, garbageSize, openingSize, nextParts, nextCount}
 use Rattle.fold.specs.Statement.{Relation}
 use Rattle.fold.specs.Verdict.{Statement, Draws, Transcript}
-use Rattle.fold.specs.Refusals.{allOf, rank, parts, constraintCount, projectionCount, commitmentRank, base, digitCount, chunks, lengthBound}
-use Rattle.fold.specs.Refusals.{sized, wholeLength, sizeTests, givenLengths, givenRanges}
+use Rattle.fold.specs.Refusals.{allOf, rank, parts, constraintCount, projectionCount, commitmentRank, base, digitCount, chunks}
+use Rattle.fold.specs.Refusals.{sized, wholeLength, sizeTests, boundTests, givenLengths, givenRanges}
 use Rattle.fold.specs.Refusals.{commitTests, projectTests, aggregateTests, garbageTests, amortizeTests}
 use Rattle.fold.specs.Refusals.{proverTests, verifyTests, nextTests, partTests}
-use Rattle.fold.specs.RefusalLaws.{Passes, passes-refusal, refusal-passes, All, allOf-all, all-allOf, allOf-cons, allOf-tail}
+use Rattle.fold.specs.RefusalLaws.{Passes, passes-refusal, refusal-passes, All, allOf-all, all-allOf, allOf-cons, allOf-head, allOf-tail}
 use Rattle.fold.specs.RefusalLaws.{between-iff, sized-iff}
 use Rattle.fold.specs.NextInstance.{n′, r′}
 
@@ -146,42 +146,49 @@ module _ (𝓢 : Statement) (𝓓 : Draws) (s : List ℤ) (taken : firstRefusal 
       & tests .1 .1 .1 .1 .1 .1 .1 .1 .0
       & tt)
 
+-- the first k tests of a row that passes
+all-first : (k : ℕ) (ts : List Bool) → allOf ts ≡ true → All (take k ts)
+all-first zero ts e = tt
+all-first (suc k) [] e = tt
+all-first (suc k) (t ∷ ts) e = (allOf-head t ts e, all-first k ts (allOf-tail t ts e))
+
+-- row 7 or row 8 of three messages: a test for each list that they are lent to read
+lists : {A B C s whole term rows ψ ω α δ D c : Bool} → All (A ∷ B ∷ C ∷ s ∷ [])
+    → All (whole ∷ term ∷ rows ∷ ψ ∷ ω ∷ α ∷ δ ∷ D ∷ []) → All (c ∷ [])
+    → All (s ∷ A ∷ B ∷ C ∷ D ∷ whole ∷ term ∷ rows ∷ ψ ∷ ω ∷ α ∷ δ ∷ c ∷ [])
+lists (A, (B, (C, (s, _)))) (whole, (term, (rows, (ψ, (ω, (α, (δ, (D, _)))))))) five =
+    (s, (A, (B, (C, (D, (whole, (term, (rows, (ψ, (ω, (α, (δ, five))))))))))))
+
 -- whatever they write to, where messages 1, 4 and 5 refuse nothing and row 6 holds, the statement, the draws and the witness are taken
 module _ (𝓢 : Statement) (𝓓 : Draws) (s : List ℤ) where
-  open Statement 𝓢 using (relation, w, tz, κ, κ₁, κ₂, b, b₁, b₂, t₁, t₂, target, A, B, C, D)
-  open Relation relation using (d, n, r, K, L, bound, whole, term)
+  open Statement 𝓢 using (relation, w, tz, κ, κ₁, κ₂, b, b₁, b₂, t₁, t₂, A, B, C, D)
+  open Relation relation using (d, n, r, K, L, whole, term)
   open Draws 𝓓 using (projections as rows, ψ, ω, α, δ, c)
 
+  -- ts, gs, u₁, hs, u₂ and zs are what messages 1, 4 and 5 were lent to write to
   pub messages-test-all : (ts gs u₁ hs u₂ zs : List ℤ)
-      → allOf (lengthBound (pos bound) ∷ lengthBound (pos target) ∷ []) ≡ true
       → firstRefusal (commitTests d n r κ κ₁ b₁ b₂ t₁ t₂ A B C s ts gs u₁) ≡ 0
       → firstRefusal (garbageTests d n r K L w κ₂ b₁ t₁ whole term rows ψ ω α δ D s hs u₂) ≡ 0
       → firstRefusal (amortizeTests d n r tz b c s zs) ≡ 0
+      → firstRefusal (boundTests 𝓢 𝓓) ≡ 0
       → firstRefusal (proverTests 𝓢 𝓓 s) ≡ 0
-  unfolding proverTests commitTests garbageTests amortizeTests
-  messages-test-all ts gs u₁ hs u₂ zs bounds one four five =
-      let tests₁ = refusal-passes (commitTests d n r κ κ₁ b₁ b₂ t₁ t₂ A B C s ts gs u₁) refl one in
-      let tests₄ = refusal-passes (garbageTests d n r K L w κ₂ b₁ t₁ whole term rows ψ ω α δ D s hs u₂) refl four in
-      let tests₅ = refusal-passes (amortizeTests d n r tz b c s zs) refl five in
-      let (κ-in, (κ₁-in, _)) = allOf-all _ (tests₁ .1 .1 .0) in
-      let (A-long, (B-long, (C-long, (s-long, _)))) = allOf-all _ (tests₁ .1 .1 .1 .1 .0) in
-      let (A-in, (B-in, (C-in, (s-in, _)))) = allOf-all _ (tests₁ .1 .1 .1 .1 .1 .0) in
-      let (whole-long, (term-long, (rows-long, (ψ-long, (ω-long, (α-long, (δ-long, (D-long, _)))))))) = allOf-all _ (tests₄ .1 .1 .1 .1 .0) in
-      let (whole-in, (term-in, (rows-in, (ψ-in, (ω-in, (α-in, (δ-in, (D-in, _)))))))) = allOf-all _ (tests₄ .1 .1 .1 .1 .1 .0) in
-      let (c-long, _) = allOf-all _ (tests₅ .1 .1 .1 .0) in
-      let (c-in, _) = allOf-all _ (tests₅ .1 .1 .1 .1 .0) in
-      passes-refusal (proverTests 𝓢 𝓓 s)
-      (tests₄ .0
-      & tests₄ .1 .0
-      & all-allOf _ (κ-in & κ₁-in & tests₄ .1 .1 .0 & tt)
-      & allOf-cons _ _ (tests₅ .1 .1 .0) (tests₁ .1 .1 .1 .0)
-      & bounds
-      & all-allOf _
-      (s-long & A-long & B-long & C-long & D-long & whole-long & term-long & rows-long & ψ-long & ω-long & α-long & δ-long & c-long & tt)
-      & all-allOf _ (s-in & A-in & B-in & C-in & D-in & whole-in & term-in & rows-in & ψ-in & ω-in & α-in & δ-in & c-in & tt)
-      & tests₄ .1 .1 .1 .1 .1 .1 .0
-      & tests₅ .1 .1 .1 .1 .1 .0
-      & tt)
+  unfolding commitTests garbageTests amortizeTests proverTests
+  messages-test-all ts gs u₁ hs u₂ zs one four five bounds =
+      let (_, (_, (ranks₁, (digits₁, (lengths₁, (ranges₁, _)))))) =
+      refusal-passes (commitTests d n r κ κ₁ b₁ b₂ t₁ t₂ A B C s ts gs u₁) refl one in
+      let (degree, (sizes, (rank₂, (_, (lengths₄, (ranges₄, (entries, _))))))) =
+      refusal-passes (garbageTests d n r K L w κ₂ b₁ t₁ whole term rows ψ ω α δ D s hs u₂) refl four in
+      let (_, (_, (base₅, (lengths₅, (ranges₅, (challenges, _)))))) = refusal-passes (amortizeTests d n r tz b c s zs) refl five in
+      let (bound, _) = refusal-passes (boundTests 𝓢 𝓓) refl bounds in
+      let (rank, (rank₁, _)) = allOf-all _ ranks₁ in
+      let ranks : allOf (commitmentRank (pos κ) ∷ commitmentRank (pos κ₁) ∷ commitmentRank (pos κ₂) ∷ []) ≡ true =
+      all-allOf _ (rank, (rank₁, (rank₂, tt))) in
+      let digits = allOf-cons _ _ base₅ digits₁ in
+      let lengths : allOf (sized s (r * n * d) ∷ givenLengths 𝓢 𝓓) ≡ true =
+      all-allOf _ (lists (all-first 4 _ lengths₁) (all-first 8 _ lengths₄) (all-first 1 _ lengths₅)) in
+      let ranges : allOf (coefficients s ∷ givenRanges 𝓢 𝓓) ≡ true =
+      all-allOf _ (lists (all-first 4 _ ranges₁) (all-first 8 _ ranges₄) (all-first 1 _ ranges₅)) in
+      passes-refusal (proverTests 𝓢 𝓓 s) (degree, (sizes, (ranks, (digits, (bound, (lengths, (ranges, (entries, (challenges, tt)))))))))
 
 -- ---- the next instance and its parts
 

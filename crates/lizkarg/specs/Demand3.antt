@@ -23,7 +23,7 @@ use Rattle.fold.specs.Messages.{opening}
 use Rattle.fold.specs.Verdict.{Statement, Draws, Transcript}
 use Rattle.fold.specs.Verification.{verification}
 use Rattle.fold.specs.Refusals.{boundTests, proverTests}
-use Rattle.fold.specs.TestLaws.{messages-test-all}
+use Rattle.fold.specs.MessagesTaken.{messages-test-all}
 use Rattle.fold.specs.Honest.{honestTranscript, honestOpening}
 use Rattle.fold.specs.HonestRuns.{honest-runs}
 use Rattle.fold.specs.HonestFormed.{honest-formed}
