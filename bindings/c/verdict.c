@@ -11,7 +11,7 @@ static int32_t numbers[MOST / 16];
 int main(void) {
     size_t size = fread(text, 1, sizeof text, stdin);
     lizkarg_answer answer = {LIZKARG_REFUSED, 12};
-    if (size <= MOST) {
+    if (size <= MOST && !ferror(stdin)) {
         lizkarg_sheet h = lizkarg_read_sheet(text, size, numbers, MOST / 16);
         answer = (lizkarg_answer){h.kind, h.number};
         if (h.kind == LIZKARG_WRITTEN) {
