@@ -1,8 +1,9 @@
 /* Lizkarg for C: the calls of crates/capi, built by `rt staticlib capi` as target/staticlib/libcapi.a (x86-64, System V).
  *
  * Every call tests what it is given and refuses by the number of document 01, 'Where a call stops'; on a refusal nothing lent is changed.
- * What no call can test is what C cannot say: each pointer must be valid, not null and aligned for as many numbers as the length after
- * it says, also where that is 0, and a list that a call writes must overlap no other list of the same call.
+ * What no call can test is what C cannot say: each pointer must be valid and aligned for as many numbers as the length after it says,
+ * and a list that a call writes must overlap no other list of the same call. A list of no numbers (k, l or w is 0) may be NULL with length
+ * 0: nothing is read or written through it.
  *
  * A list holds ring elements one after another, d numbers each, lowest power first, numbers from -2147483598 to 2147483598. Lengths are
  * counts of numbers (bytes for a sheet). P below is r(r+1)/2, the number of pairs i <= j. No call needs more than a megabyte of stack. */

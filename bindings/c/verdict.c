@@ -11,7 +11,7 @@ static int32_t numbers[MOST / 16];
 int main(void) {
     size_t size = fread(text, 1, sizeof text, stdin);
     lizkarg_answer answer = {LIZKARG_REFUSED, 12};
-    if (size <= MOST) {
+    if (size <= MOST && !ferror(stdin)) {
         /* a header that gives more numbers than MOST bytes hold is over broken lines: 12, before 7 */
         size_t count = lizkarg_sheet_numbers(text, size);
         lizkarg_sheet h = lizkarg_read_sheet(text, size, numbers, count < MOST / 16 ? count : MOST / 16);

@@ -5,32 +5,39 @@ mod raw;
 
 pub use raw::{CommitSizes, Element, GarbageSizes, PartSizes, Shape, Sheet, Sizes};
 
+/// A judgement: accepted, or failed with a check.
+#[derive(Clone, Copy, Debug, PartialEq, Eq)]
+pub enum Verdict {
+    Accepted,
+    /// The first check that fails.
+    Failed(u8),
+}
+
 /// What a call answers.
 #[derive(Clone, Copy, Debug, PartialEq, Eq)]
 pub enum Answer {
     /// The number of document 01's table.
     Refused(u8),
-    Accepted,
-    /// The first check that fails.
-    Failed(u8),
+    Judged(Verdict),
     Written,
 }
 
 impl Answer {
     fn of(kind: u8, number: u8) -> Answer {
         match kind {
-            0 => Answer::Accepted,
-            1 => Answer::Failed(number),
+            0 => Answer::Judged(Verdict::Accepted),
+            1 => Answer::Judged(Verdict::Failed(number)),
             2 => Answer::Refused(number),
-            _ => Answer::Written,
+            3 => Answer::Written,
+            _ => unreachable!("the library's answers have kinds 0 to 3"),
         }
     }
 
     /// The two numbers that the program prints: 0 accepted, 1 failed, 2 refused, 3 written; and the number, or 0.
     pub fn code(self) -> (u8, u8) {
         match self {
-            Answer::Accepted => (0, 0),
-            Answer::Failed(check) => (1, check),
+            Answer::Judged(Verdict::Accepted) => (0, 0),
+            Answer::Judged(Verdict::Failed(check)) => (1, check),
             Answer::Refused(number) => (2, number),
             Answer::Written => (3, 0),
         }

@@ -1,5 +1,7 @@
 // Document 01's whole case and its first bench values, through the C interface.
 use lizkarg::*;
+use lizkarg::Answer::Judged;
+use lizkarg::Verdict::{Accepted, Failed};
 
 fn element(xs: &[i32]) -> Element {
     let mut e = Element { coefficients: [0; 64] };
@@ -78,8 +80,8 @@ fn verdict(case: &str) -> Answer {
 
 #[test]
 fn whole_case() {
-    assert_eq!(verdict(CASE), Answer::Accepted);
-    assert_eq!(verdict(&CASE.replace("5 13/", "5 12/")), Answer::Failed(9));
+    assert_eq!(verdict(CASE), Judged(Accepted));
+    assert_eq!(verdict(&CASE.replace("5 13/", "5 12/")), Judged(Failed(9)));
     assert_eq!(verdict(&CASE.replace("2 1 1 1 0 0", "3 1 1 1 0 0")), Answer::Refused(1));
     assert_eq!(verdict(&CASE.replace("-3 4", "-3 a")), Answer::Refused(12));
     assert_eq!(verdict(CASE).code(), (0, 0));
@@ -133,7 +135,7 @@ fn next_instance_of_the_whole_case() {
         let old = vec![77; should.len() + 1];
         let mut out = old.clone();
         let bad = Proof { b2: &[1, 0, 0, 0, 0, 0, 0, 0, 0, 0], ..proof };
-        assert_eq!(next_instance(sizes, 1, 1, &bad, &mut out[1..]), Answer::Failed(2));
+        assert_eq!(next_instance(sizes, 1, 1, &bad, &mut out[1..]), Judged(Failed(2)));
         assert_eq!(next_instance(sizes, 1, 1, &proof, &mut out), Answer::Refused(7));
         assert_eq!(next_instance(sizes, 8, 1, &proof, &mut out), Answer::Refused(5));
         assert_eq!(next_instance(sizes, 1, usize::MAX, &proof, &mut out), Answer::Refused(5));

@@ -3,6 +3,8 @@ use crate::case::{Lists, Sz};
 use crate::plain::fold::Function;
 use crate::plain::{fold, refusals};
 use lizkarg::{Answer, CommitSizes, GarbageSizes, Proof, Shape, Sizes};
+use lizkarg::Answer::Judged;
+use lizkarg::Verdict::{Accepted, Failed};
 use std::collections::BTreeMap;
 
 /// What a call's outputs hold before it.
@@ -175,5 +177,5 @@ pub fn plain_verify(s: &Sz, l: &Lists, second: Option<&[Function]>) -> Answer {
         Some(second) => fold::verdict(s, l, second),
         None => fold::verdict(s, l, &fold::second(s, l)),
     };
-    if check == 0 { Answer::Accepted } else { Answer::Failed(check) }
+    if check == 0 { Judged(Accepted) } else { Judged(Failed(check)) }
 }

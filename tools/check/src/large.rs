@@ -5,7 +5,8 @@ use crate::next_calls::*;
 use crate::plain::ring::square_length;
 use crate::plain::{fold, next};
 use crate::random::Random;
-use lizkarg::Answer;
+use lizkarg::Answer::Judged;
+use lizkarg::Verdict::{Accepted, Failed};
 use std::time::Instant;
 
 /// (what, sizes, ν, μ); bounds are set to what the honest fold needs. Between them every limit is reached.
@@ -45,7 +46,7 @@ fn damage(tally: &mut Tally, rng: &mut Random, s: &Sz, l: &Lists) {
         if bad == *l && what != "bound" && what != "target" {
             return;
         }
-        assert_eq!(judged(tally, s, &bad), Answer::Failed(check), "{what}");
+        assert_eq!(judged(tally, s, &bad), Judged(Failed(check)), "{what}");
     };
     let mut draw = |n: usize| rng.below(n as u64) as usize;
     // a change that is multiplied by a zero element is not seen
@@ -161,7 +162,7 @@ pub fn run(tally: &mut Tally, seed: u64) {
         }
         let second = honest(tally, &mut s, &mut l);
         let answer = verify(tally, &s, &l, Some(&second));
-        assert_eq!(answer, Answer::Accepted, "{what}");
+        assert_eq!(answer, Judged(Accepted), "{what}");
         println!("{what}: d {} n {} r {} K {} L {} w {}: accepted, {:.1} s", s.d, s.n, s.r, s.k, s.l, s.w, from.elapsed().as_secs_f64());
         damage(tally, &mut rng, &s, &l);
         again(tally, &mut rng, &s, nu, mu, &l, &second);

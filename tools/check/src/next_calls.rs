@@ -6,6 +6,8 @@ use crate::plain::ring::square_length;
 use crate::plain::{fold, next, refusals};
 use crate::random::Random;
 use lizkarg::{Answer, PartSizes};
+use lizkarg::Answer::Judged;
+use lizkarg::Verdict::{Accepted, Failed};
 
 /// The numbers of the next instance's constraints.
 pub fn instance_room(s: &Sz, nu: usize, mu: usize) -> usize {
@@ -22,8 +24,8 @@ pub fn next_instance(
     tally.count("next_instance", answer);
     let number = refusals::next(s, nu, mu, l, room);
     let should = match (number, second) {
-        (0, Some(second)) => next::instance(s, nu, mu, l, second).map_err(Answer::Failed),
-        (0, None) => next::instance(s, nu, mu, l, &fold::second(s, l)).map_err(Answer::Failed),
+        (0, Some(second)) => next::instance(s, nu, mu, l, second).map_err(|check| Judged(Failed(check))),
+        (0, None) => next::instance(s, nu, mu, l, &fold::second(s, l)).map_err(|check| Judged(Failed(check))),
         _ => Err(Answer::Refused(number)),
     };
     match should {
@@ -118,10 +120,10 @@ pub fn second_fold(
     if solved {
         let short = 2 * square_length(&m.p) <= t.bound as i128 * t.w as i128;
         let small = square_length(&m.opening) <= t.target as i128;
-        let should = if !short { Answer::Failed(1) } else if !small { Answer::Failed(9) } else { Answer::Accepted };
+        let should = if !short { Judged(Failed(1)) } else if !small { Judged(Failed(9)) } else { Judged(Accepted) };
         assert_eq!(answer, should, "second fold");
     } else {
-        assert!(matches!(answer, Answer::Failed(1) | Answer::Failed(8)), "second fold of a witness that solves nothing: {answer:?}");
+        assert!(matches!(answer, Judged(Failed(1 | 8))), "second fold of a witness that solves nothing: {answer:?}");
     }
     (t, answer)
 }

@@ -6,6 +6,8 @@ use crate::plain::{next, sheet};
 use crate::random::Random;
 use crate::small::judge;
 use lizkarg::Answer;
+use lizkarg::Answer::Judged;
+use lizkarg::Verdict::{Accepted, Failed};
 
 fn base() -> Sz {
     Sz {
@@ -34,7 +36,7 @@ fn challenges(tally: &mut Tally) {
     for x in 0..64 {
         l.c[x] = if x < 31 { 1 } else if x < 41 { -2 } else { 0 };
     }
-    assert_eq!(honest(tally, &s, &mut l), Answer::Accepted);
+    assert_eq!(honest(tally, &s, &mut l), Judged(Accepted));
     l.c[50] = 1;
     assert_eq!(verify(tally, &s, &l, None), Answer::Refused(10));
     amortize(tally, &s, &l, &room(&s));
@@ -44,7 +46,7 @@ fn challenges(tally: &mut Tally) {
 fn sizes(tally: &mut Tally) {
     let s = Sz { d: 2, n: 1, r: 16, ..base() };
     let mut l = case::random(&mut Random::new(4), &s, true);
-    assert_eq!(honest(tally, &s, &mut l), Answer::Accepted);
+    assert_eq!(honest(tally, &s, &mut l), Judged(Accepted));
     assert_eq!(verify(tally, &Sz { r: 17, ..s }, &l, None), Answer::Refused(2));
     assert_eq!(verify(tally, &Sz { bound: 1000000000000000, ..s }, &l, None), Answer::Refused(6));
     assert_eq!(verify(tally, &Sz { target: 1000000000000000, ..s }, &l, None), Answer::Refused(6));
@@ -72,7 +74,7 @@ fn ranks(tally: &mut Tally) {
         }
         let (s, mu) = found.expect("sizes with this rank");
         let mut l = case::random(&mut Random::new(5), &s, true);
-        assert_eq!(honest(tally, &s, &mut l), Answer::Accepted);
+        assert_eq!(honest(tally, &s, &mut l), Judged(Accepted));
         let size = instance_room(&s, 1, mu);
         assert_eq!(next_instance(tally, &s, 1, mu, &l, size, None).is_some(), wanted == 256);
         next_instance(tally, &s, 1, mu, &l, size + 1, None);
@@ -101,16 +103,16 @@ fn whole_case(tally: &mut Tally) {
     l.alpha = vec![1, 0];
     l.c = vec![0, 1];
     l.witness = vec![1, 2];
-    assert_eq!(honest(tally, &s, &mut l), Answer::Accepted);
+    assert_eq!(honest(tally, &s, &mut l), Judged(Accepted));
     assert_eq!(l.u1, vec![2, 2]);
     assert_eq!(l.opening, vec![-2, 1, 0, 0, 1, 2, 0, 0, 1, 0, -1, 1, 0, 0, 0, 0]);
-    assert_eq!(verify(tally, &Sz { target: 12, ..s }, &l, None), Answer::Failed(9));
+    assert_eq!(verify(tally, &Sz { target: 12, ..s }, &l, None), Judged(Failed(9)));
     assert_eq!((next::rest_size(&s), next::rank(&s, 1, 1)), (6, 6));
     let after = next::sizes(&s, 1, 1);
     assert_eq!((after.r, after.k), (3, 6));
     assert!(next_instance(tally, &s, 1, 1, &l, instance_room(&s, 1, 1), None).is_some());
-    assert_eq!(judge(tally, &sheet::write(&s, 1, 1, &l)), Answer::Accepted);
-    assert_eq!(judge(tally, &sheet::write(&Sz { target: 12, ..s }, 1, 1, &l)), Answer::Failed(9));
+    assert_eq!(judge(tally, &sheet::write(&s, 1, 1, &l)), Judged(Accepted));
+    assert_eq!(judge(tally, &sheet::write(&Sz { target: 12, ..s }, 1, 1, &l)), Judged(Failed(9)));
 }
 
 /// Valid sheets of 65536 and of 65537 bytes.
@@ -120,10 +122,10 @@ fn long_sheets(tally: &mut Tally) {
         let mut all = all.map(|(n, k, l, w)| Sz { d: 4, n, k, l, w, ..base() });
         let s = all.find(|s| sheet::bytes(s) == wanted).expect("sizes with this many bytes");
         let mut l = case::random(&mut Random::new(6), &s, true);
-        assert_eq!(honest(tally, &s, &mut l), Answer::Accepted);
+        assert_eq!(honest(tally, &s, &mut l), Judged(Accepted));
         let text = sheet::write(&s, 1, 1, &l);
         assert_eq!(text.len(), wanted);
-        assert_eq!(judge(tally, &text), if wanted == 65536 { Answer::Accepted } else { Answer::Refused(12) });
+        assert_eq!(judge(tally, &text), if wanted == 65536 { Judged(Accepted) } else { Answer::Refused(12) });
     }
 }
 

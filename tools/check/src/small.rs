@@ -5,6 +5,8 @@ use crate::next_calls::*;
 use crate::plain::{next, ring, sheet};
 use crate::random::Random;
 use lizkarg::{Answer, Element};
+use lizkarg::Answer::Judged;
+use lizkarg::Verdict::{Accepted, Failed};
 
 /// A value near a limit, or any.
 fn odd_size(rng: &mut Random) -> u64 {
@@ -179,7 +181,7 @@ fn next_of(tally: &mut Tally, rng: &mut Random, s: &Sz, l: &Lists, answer: Answe
     let Some(written) = next_instance(tally, s, nu, mu, l, room + off, None) else { return };
     let after = next::sizes(s, nu, mu);
     let solved = next::meets(&after, &written, &next::witness(s, nu, mu, &l.opening));
-    assert_eq!(solved, matches!(answer, Answer::Accepted | Answer::Failed(9)), "next instance");
+    assert_eq!(solved, matches!(answer, Judged(Accepted | Failed(9))), "next instance");
     let free = case::small(rng);
     if rng.below(4) == 0 && after.r * after.n * after.d * (after.k + free.w) < 200_000 {
         let least = rng.below(2) == 0;
@@ -222,7 +224,7 @@ fn statement(tally: &mut Tally, seed: u64, number: u64, sizes: fn(&mut Random) -
     l.opening = [z, t, g, h].concat();
     (l.u1, l.u2) = (u1, u2);
     let answer = verify(tally, &s, &l, None);
-    assert!(matches!(answer, Answer::Accepted | Answer::Failed(1) | Answer::Failed(9)), "case {number}: an honest fold is {answer:?}");
+    assert!(matches!(answer, Judged(Accepted | Failed(1 | 9))), "case {number}: an honest fold is {answer:?}");
     next_of(tally, &mut rng, &s, &l, answer);
     refused_next(tally, &mut rng, &s, &s, &l);
     sheets(tally, &mut rng, &s, &l);

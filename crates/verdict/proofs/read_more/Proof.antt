@@ -1,44 +1,36 @@
 -- `verdict::read_more` meets its contract: only the part that was lent to the read may change. Assumes nothing.
-use lib.ListN.{take}
+use mathlib.Core.Path.{_≡_}
+use Prim.Native.Nat.{ℕ, _≤_}
+use lib.ListN.{length, take}
+use lib.IntN.{ℤ}
 use lib.Seq.{take-at, length-take-le}
 use borrow.Author.Needs.{needs}
+use Rattle.verdict.specs.Reads.{placeAfter}
+use Rattle.verdict.specs.ReadLaws.{place-between}
 use Rattle.verdict.proofs.read_more.Statement.{statement}
 use Rattle.verdict.proofs.read_more.Tie as tie
-use Rattle.libc.proofs.read.Reads as read-reads
-use Rattle.verdict.proofs.after.Reads as after-reads
-
-sub-read : tie.Need-sub-read
-sub-read c = search needs
-
-part-read-start : tie.Need-part-read-start
-part-read-start c = search needs
-
-part-read-end : tie.Need-part-read-end
-part-read-end c = search needs
-
-read-requires : tie.Need-read-requires
-read-requires c κs = search needs
-
-after-requires : tie.Need-after-requires
-after-requires c κs = search needs
 
 same-length : tie.Need-same-length
 same-length c = search needs
+
+between : (r : ℕ) (got : ℤ) (from size : ℕ) → from ≤ size → r ≡ placeAfter got from size → (from ≤ r) × (r ≤ size)
+between r got from size h e = rw e (place-between got from size h)
 
 returns : tie.Need-returns
 returns c =
     let start = c .before .before .before .before .before .before in
     let text = start .args .text .now in
-    (c .after .ensures, take-at (take (start .args .from) text) _ (start .args .from) (length-take-le (start .args .from) text (start .pre)))
+    let from = start .args .from in
+    (between (c .after .result) _ from (length text) (start .pre) (c .after .ensures), take-at (take from text) _ from (length-take-le from text (start .pre)))
 
 pub read-more-spec : {M : Type 1} → statement M
 read-more-spec =
     tie.close
     (tie.spec
-    sub-read
-    part-read-start
-    part-read-end
-    read-requires
-    after-requires
+    (λ c. search needs)
+    (λ c. search needs)
+    (λ c. search needs)
+    (λ c κs. search needs)
+    (λ c κs. search needs)
     same-length
     returns)

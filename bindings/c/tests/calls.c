@@ -1,0 +1,296 @@
+/* Every call of lizkarg.h on stored cases: the layout of its structs, the order of its arguments, each number that a call writes. The
+ * cases come from tools/reference/binding_cases.py; `run` beside this file builds and runs the test. A list of no numbers is passed as NULL. */
+#include "../lizkarg.h"
+#include <stdio.h>
+#include <stdlib.h>
+#include <string.h>
+
+/* ---- layout: x86-64, System V */
+
+#define AT(type, field, place) _Static_assert(offsetof(type, field) == (place), #type "." #field)
+#define SIZE(type, size) _Static_assert(sizeof(type) == (size), #type)
+
+SIZE(lizkarg_answer, 2); AT(lizkarg_answer, kind, 0); AT(lizkarg_answer, number, 1);
+SIZE(lizkarg_part, 16); AT(lizkarg_part, start, 0); AT(lizkarg_part, length, 8);
+SIZE(lizkarg_shape, 24); AT(lizkarg_shape, d, 0); AT(lizkarg_shape, n, 8); AT(lizkarg_shape, r, 16);
+SIZE(lizkarg_commit_sizes, 72); AT(lizkarg_commit_sizes, kappa, 24); AT(lizkarg_commit_sizes, b1, 40); AT(lizkarg_commit_sizes, t2, 64);
+SIZE(lizkarg_garbage_sizes, 72); AT(lizkarg_garbage_sizes, k, 24); AT(lizkarg_garbage_sizes, kappa2, 48); AT(lizkarg_garbage_sizes, t1, 64);
+SIZE(lizkarg_sizes, 128); AT(lizkarg_sizes, kappa, 48); AT(lizkarg_sizes, b, 72); AT(lizkarg_sizes, bound, 112); AT(lizkarg_sizes, target, 120);
+SIZE(lizkarg_part_sizes, 64); AT(lizkarg_part_sizes, kappa, 24); AT(lizkarg_part_sizes, nu, 48); AT(lizkarg_part_sizes, mu, 56);
+SIZE(lizkarg_sheet, 152); AT(lizkarg_sheet, kind, 0); AT(lizkarg_sheet, number, 1); AT(lizkarg_sheet, d, 8); AT(lizkarg_sheet, nu, 120);
+AT(lizkarg_sheet, mu, 128); AT(lizkarg_sheet, bound, 136); AT(lizkarg_sheet, target, 144);
+SIZE(lizkarg_element, 256);
+SIZE(lizkarg_product, 260); AT(lizkarg_product, kind, 0); AT(lizkarg_product, number, 1); AT(lizkarg_product, element, 4);
+
+/* ---- what is held */
+
+static const char *name;
+static int failures, held;
+
+static void hold(int right, int line, const char *what) {
+    held++;
+    if (!right) {
+        failures++;
+        printf("%s: calls.c:%d: %s\n", name, line, what);
+    }
+}
+
+#define HOLD(right) hold(right, __LINE__, #right)
+#define ANSWER(answer, k, no) do { lizkarg_answer x = answer; hold(x.kind == (k) && x.number == (no), __LINE__, #answer); } while (0)
+
+/* ---- lists */
+
+typedef struct { int32_t *at; size_t length; } list;
+
+#define LIST(x) (x).at, (x).length
+
+static void *room(size_t count, size_t size) {
+    void *at = calloc(count, size);
+    if (!at) exit(2);
+    return at;
+}
+
+static list filled(size_t length, int32_t number) {
+    list x = {length ? room(length, sizeof(int32_t)) : NULL, length};
+    for (size_t i = 0; i < length; i++) x.at[i] = number;
+    return x;
+}
+
+/* A list to be written: `length` numbers, each 77. */
+static list blank(size_t length) { return filled(length, 77); }
+
+static int equal(list x, list y) {
+    return x.length == y.length && (x.length == 0 || !memcmp(x.at, y.at, x.length * sizeof(int32_t)));
+}
+
+static int is_blank(list x) {
+    for (size_t i = 0; i < x.length; i++)
+        if (x.at[i] != 77) return 0;
+    return 1;
+}
+
+/* Holds that the call wrote what it should, and frees it. */
+#define WRITTEN(x, should) do { hold(equal(x, should), __LINE__, #x " is " #should); free((x).at); } while (0)
+#define UNTOUCHED(x) do { hold(is_blank(x), __LINE__, #x " is as it was"); free((x).at); } while (0)
+
+/* ---- stored numbers */
+
+static char *read_file(const char *folder, const char *ending, size_t *size) {
+    char path[4096];
+    snprintf(path, sizeof path, "%s/%s%s", folder, name, ending);
+    FILE *file = fopen(path, "rb");
+    if (!file) { perror(path); exit(2); }
+    char *text = room(1 << 20, 1);
+    *size = fread(text, 1, (1 << 20) - 1, file);
+    fclose(file);
+    return text;
+}
+
+static list next_list(char **at, size_t length) {
+    list x = filled(length, 0);
+    for (size_t i = 0; i < length; i++) x.at[i] = (int32_t)strtol(*at, at, 10);
+    return x;
+}
+
+typedef struct {
+    size_t d, n, r, k, l, w, kappa, kappa1, kappa2, b, b1, b2, t1, t2, nu, mu;
+    uint64_t bound, target;
+} header;
+
+typedef struct {
+    header h;
+    list a, b, c_matrix, d_matrix, whole, term, u1, rows, p, psi, omega, b2, alpha, delta, u2, c, opening;
+    list z, t, g, hd; /* the opening's digits of z, t, g, h */
+    list witness, places, next;
+    uint8_t *text;
+    size_t text_length;
+} stored;
+
+static stored read_case(const char *folder) {
+    stored s;
+    size_t size;
+    s.text = (uint8_t *)read_file(folder, ".sheet", &s.text_length);
+    char *at = (char *)s.text, *more = read_file(folder, ".more", &size), *rest = more;
+    unsigned long long numbers[18];
+    for (int i = 0; i < 18; i++) numbers[i] = strtoull(at, &at, 10);
+    memcpy(&s.h, numbers, sizeof s.h);
+    header h = s.h;
+    size_t d = h.d, pairs = h.r * (h.r + 1) / 2, function = (pairs + h.r * h.n) * d;
+    size_t t = h.r * h.t1 * h.kappa * d, g = pairs * h.t2 * d, hd = pairs * h.t1 * d;
+    s.a = next_list(&at, h.kappa * h.n * d);
+    s.b = next_list(&at, h.kappa1 * t);
+    s.c_matrix = next_list(&at, h.kappa1 * g);
+    s.d_matrix = next_list(&at, h.kappa2 * hd);
+    s.whole = next_list(&at, h.k * (function + d));
+    s.term = next_list(&at, h.l * (function + 1));
+    s.u1 = next_list(&at, h.kappa1 * d);
+    s.rows = next_list(&at, h.w * h.r * h.n * d);
+    s.p = next_list(&at, h.w);
+    s.psi = next_list(&at, 5 * h.l);
+    s.omega = next_list(&at, 5 * h.w);
+    s.b2 = next_list(&at, 5 * d);
+    s.alpha = next_list(&at, h.k * d);
+    s.delta = next_list(&at, 5 * d);
+    s.u2 = next_list(&at, h.kappa2 * d);
+    s.c = next_list(&at, h.r * d);
+    s.opening = next_list(&at, 2 * h.n * d + t + g + hd);
+    s.z = (list){s.opening.at, 2 * h.n * d};
+    s.t = (list){s.z.at + s.z.length, t};
+    s.g = (list){s.t.at + t, g};
+    s.hd = (list){s.g.at + g, hd};
+    size_t parts = 2 * h.nu + h.mu, m = (t + g + hd) / d;
+    size_t z_rank = (h.n + h.nu - 1) / h.nu, rest_rank = (m + h.mu - 1) / h.mu, rank = z_rank > rest_rank ? z_rank : rest_rank;
+    s.witness = next_list(&rest, h.r * h.n * d);
+    s.places = next_list(&rest, 2 * parts);
+    s.next = next_list(&rest, (h.kappa + h.kappa1 + h.kappa2 + 3) * (parts * (parts + 1) / 2 + parts * rank + 1) * d);
+    free(more);
+    return s;
+}
+
+static lizkarg_sizes sizes_of(const stored *s) {
+    header h = s->h;
+    return (lizkarg_sizes){.d = h.d, .n = h.n, .r = h.r, .k = h.k, .l = h.l, .w = h.w, .kappa = h.kappa, .kappa1 = h.kappa1,
+        .kappa2 = h.kappa2, .b = h.b, .b1 = h.b1, .b2 = h.b2, .t1 = h.t1, .t2 = h.t2, .bound = h.bound, .target = h.target};
+}
+
+/* ---- the calls */
+
+static void messages(const stored *s) {
+    header h = s->h;
+    lizkarg_shape shape = {.d = h.d, .n = h.n, .r = h.r};
+    lizkarg_commit_sizes first = {.d = h.d, .n = h.n, .r = h.r, .kappa = h.kappa, .kappa1 = h.kappa1, .b1 = h.b1, .b2 = h.b2, .t1 = h.t1, .t2 = h.t2};
+    lizkarg_garbage_sizes fourth = {.d = h.d, .n = h.n, .r = h.r, .k = h.k, .l = h.l, .w = h.w, .kappa2 = h.kappa2, .b1 = h.b1, .t1 = h.t1};
+    list t = blank(s->t.length), g = blank(s->g.length), u1 = blank(s->u1.length), p = blank(s->p.length), b2 = blank(s->b2.length);
+    list hd = blank(s->hd.length), u2 = blank(s->u2.length), z = blank(s->z.length);
+    ANSWER(lizkarg_commit(first, LIST(s->a), LIST(s->b), LIST(s->c_matrix), LIST(s->witness), LIST(t), LIST(g), LIST(u1)), LIZKARG_WRITTEN, 0);
+    WRITTEN(t, s->t);
+    WRITTEN(g, s->g);
+    WRITTEN(u1, s->u1);
+    ANSWER(lizkarg_project(shape, h.w, LIST(s->rows), LIST(s->witness), LIST(p)), LIZKARG_WRITTEN, 0);
+    WRITTEN(p, s->p);
+    ANSWER(lizkarg_aggregate(shape, h.l, h.w, LIST(s->term), LIST(s->rows), LIST(s->psi), LIST(s->omega), LIST(s->witness), LIST(b2)), LIZKARG_WRITTEN, 0);
+    WRITTEN(b2, s->b2);
+    ANSWER(lizkarg_commit_garbage(fourth, LIST(s->whole), LIST(s->term), LIST(s->rows), LIST(s->psi), LIST(s->omega), LIST(s->alpha),
+        LIST(s->delta), LIST(s->d_matrix), LIST(s->witness), LIST(hd), LIST(u2)), LIZKARG_WRITTEN, 0);
+    WRITTEN(hd, s->hd);
+    WRITTEN(u2, s->u2);
+    ANSWER(lizkarg_amortize(shape, h.b, LIST(s->c), LIST(s->witness), LIST(z)), LIZKARG_WRITTEN, 0);
+    WRITTEN(z, s->z);
+}
+
+static void refused_messages(const stored *s) {
+    header h = s->h;
+    lizkarg_shape shape = {.d = h.d, .n = h.n, .r = h.r};
+    list p = blank(s->p.length + 1), z = blank(s->z.length), none = {NULL, 0};
+    ANSWER(lizkarg_project(shape, h.w, LIST(s->rows), LIST(s->witness), LIST(p)), LIZKARG_REFUSED, 7);
+    UNTOUCHED(p);
+    ANSWER(lizkarg_amortize(shape, 1, LIST(s->c), LIST(s->witness), LIST(z)), LIZKARG_REFUSED, 4);
+    ANSWER(lizkarg_amortize(shape, h.b, LIST(none), LIST(none), LIST(none)), LIZKARG_REFUSED, 7);
+    ANSWER(lizkarg_amortize((lizkarg_shape){.d = 3, .n = h.n, .r = h.r}, h.b, LIST(none), LIST(none), LIST(none)), LIZKARG_REFUSED, 1);
+    UNTOUCHED(z);
+}
+
+static lizkarg_answer verify(const stored *s, lizkarg_sizes sizes) {
+    return lizkarg_verify(sizes, LIST(s->a), LIST(s->b), LIST(s->c_matrix), LIST(s->d_matrix), LIST(s->whole), LIST(s->term), LIST(s->u1),
+        LIST(s->rows), LIST(s->p), LIST(s->psi), LIST(s->omega), LIST(s->b2), LIST(s->alpha), LIST(s->delta), LIST(s->u2), LIST(s->c),
+        LIST(s->opening));
+}
+
+static void verdicts(const stored *s) {
+    lizkarg_sizes sizes = sizes_of(s), other = sizes;
+    ANSWER(verify(s, sizes), LIZKARG_ACCEPTED, 0);
+    other.target = sizes.target - 1;
+    ANSWER(verify(s, other), LIZKARG_FAILED, 9);
+    other = sizes, other.bound = sizes.bound - 1;
+    if (s->h.w) ANSWER(verify(s, other), LIZKARG_FAILED, 1); else ANSWER(verify(s, other), LIZKARG_REFUSED, 6);
+    other = sizes, other.b2 = 1;
+    ANSWER(verify(s, other), LIZKARG_REFUSED, 4);
+    /* one number more in a list, and the first check that it breaks */
+    const list *lists[] = {&s->b2, &s->u1, &s->u2};
+    for (int i = 0; i < 3; i++) {
+        lists[i]->at[0]++;
+        ANSWER(verify(s, sizes), LIZKARG_FAILED, 2 + i);
+        lists[i]->at[0]--;
+    }
+}
+
+static lizkarg_answer next_instance(const stored *s, lizkarg_sizes sizes, size_t nu, size_t mu, list out) {
+    return lizkarg_next_instance(sizes, nu, mu, LIST(s->a), LIST(s->b), LIST(s->c_matrix), LIST(s->d_matrix), LIST(s->whole), LIST(s->term),
+        LIST(s->u1), LIST(s->rows), LIST(s->p), LIST(s->psi), LIST(s->omega), LIST(s->b2), LIST(s->alpha), LIST(s->delta), LIST(s->u2),
+        LIST(s->c), LIST(out));
+}
+
+static void next(const stored *s) {
+    header h = s->h;
+    list out = blank(s->next.length), other = blank(s->next.length), none = {NULL, 0};
+    ANSWER(next_instance(s, sizes_of(s), h.nu, h.mu, out), LIZKARG_WRITTEN, 0);
+    WRITTEN(out, s->next);
+    s->b2.at[0]++;
+    ANSWER(next_instance(s, sizes_of(s), h.nu, h.mu, other), LIZKARG_FAILED, 2);
+    s->b2.at[0]--;
+    ANSWER(next_instance(s, sizes_of(s), 8, 1, other), LIZKARG_REFUSED, 5);
+    ANSWER(next_instance(s, sizes_of(s), h.nu, h.mu, none), LIZKARG_REFUSED, 7);
+    UNTOUCHED(other);
+    lizkarg_part_sizes cut = {.d = h.d, .n = h.n, .r = h.r, .kappa = h.kappa, .t1 = h.t1, .t2 = h.t2, .nu = h.nu, .mu = h.mu};
+    size_t parts = 2 * h.nu + h.mu;
+    for (size_t i = 1; i <= parts; i++) {
+        lizkarg_part part = lizkarg_next_part(cut, i, LIST(s->opening));
+        HOLD(part.start == (size_t)s->places.at[2 * i - 2] && part.length == (size_t)s->places.at[2 * i - 1]);
+        HOLD(lizkarg_next_part_refusal(cut, i, LIST(s->opening)) == 0);
+    }
+    lizkarg_part past = lizkarg_next_part(cut, parts + 1, LIST(s->opening)), empty = lizkarg_next_part(cut, parts, LIST(none));
+    HOLD(past.start == 0 && past.length == 0 && lizkarg_next_part_refusal(cut, parts + 1, LIST(s->opening)) == 2);
+    HOLD(empty.start == 0 && empty.length == 0 && lizkarg_next_part_refusal(cut, parts, LIST(none)) == 7);
+}
+
+static void sheets(const stored *s) {
+    list numbers = blank(65536 / 16), none = {NULL, 0};
+    ANSWER(lizkarg_judge_sheet(s->text, s->text_length), LIZKARG_ACCEPTED, 0);
+    ANSWER(lizkarg_judge_sheet(s->text, s->text_length - 1), LIZKARG_REFUSED, 12);
+    ANSWER(lizkarg_judge_sheet(NULL, 0), LIZKARG_REFUSED, 12);
+    lizkarg_sheet broken = lizkarg_read_sheet(NULL, 0, LIST(none)), full = lizkarg_read_sheet(s->text, s->text_length, LIST(none));
+    HOLD(broken.kind == LIZKARG_REFUSED && broken.number == 12 && broken.d == 0 && broken.target == 0);
+    HOLD(full.kind == LIZKARG_REFUSED && full.number == 7 && full.d == 0 && full.target == 0);
+    lizkarg_sheet sheet = lizkarg_read_sheet(s->text, s->text_length, LIST(numbers));
+    header found = {sheet.d, sheet.n, sheet.r, sheet.k, sheet.l, sheet.w, sheet.kappa, sheet.kappa1, sheet.kappa2, sheet.b, sheet.b1, sheet.b2,
+        sheet.t1, sheet.t2, sheet.nu, sheet.mu, sheet.bound, sheet.target};
+    HOLD(sheet.kind == LIZKARG_WRITTEN && sheet.number == 0 && !memcmp(&found, &s->h, sizeof found));
+    const list *lists[] = {&s->a, &s->b, &s->c_matrix, &s->d_matrix, &s->whole, &s->term, &s->u1, &s->rows, &s->p, &s->psi, &s->omega, &s->b2,
+        &s->alpha, &s->delta, &s->u2, &s->c, &s->opening};
+    list rest = numbers;
+    for (int i = 0; i < 17; i++) {
+        HOLD(equal((list){rest.at, lists[i]->length}, *lists[i]));
+        rest.at += lists[i]->length, rest.length -= lists[i]->length;
+    }
+    HOLD(is_blank(rest));
+    free(numbers.at);
+}
+
+static lizkarg_element element(int32_t zeroth, int32_t first, int32_t second) { return (lizkarg_element){{zeroth, first, second}}; }
+
+/* (1+2X)(3+4X) is -5+10X modulo X^2+1, 3+10X+8X^2 modulo X^4+1. */
+static void products(void) {
+    name = "products";
+    lizkarg_element x = element(1, 2, 0), y = element(3, 4, 0), low = element(-5, 10, 0), high = element(3, 10, 8), zero = element(0, 0, 0);
+    lizkarg_product two = lizkarg_multiply(2, x, y), four = lizkarg_multiply(4, x, y), no = lizkarg_multiply(3, x, y), past = lizkarg_multiply(2, x, high);
+    HOLD(two.kind == LIZKARG_WRITTEN && two.number == 0 && !memcmp(&two.element, &low, sizeof low));
+    HOLD(four.kind == LIZKARG_WRITTEN && four.number == 0 && !memcmp(&four.element, &high, sizeof high));
+    HOLD(no.kind == LIZKARG_REFUSED && no.number == 1 && !memcmp(&no.element, &zero, sizeof zero));
+    HOLD(past.kind == LIZKARG_REFUSED && past.number == 8 && !memcmp(&past.element, &zero, sizeof zero));
+}
+
+int main(int argc, char **argv) {
+    const char *folder = argc > 1 ? argv[1] : ".", *names[] = {"alike", "apart", "empty"};
+    for (int i = 0; i < 3; i++) {
+        name = names[i];
+        stored s = read_case(folder);
+        messages(&s);
+        refused_messages(&s);
+        verdicts(&s);
+        next(&s);
+        sheets(&s);
+    }
+    products();
+    printf("%d passed, %d failed\n", held - failures, failures);
+    return failures != 0;
+}

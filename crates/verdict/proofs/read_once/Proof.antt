@@ -1,0 +1,67 @@
+-- `verdict::read_once` meets its contract: its answer is the last read's, or -1. Assumes nothing.
+use mathlib.Core.Path.{_≡_, refl, _∙_}
+use native.Mathlib.Omega.{arith}
+use lib.ListN.{length}
+use mir.Facts.{toZ-ofZ}
+use Rattle.libc.specs.Io.{Moved}
+use Rattle.verdict.proofs.read_once.Statement.{statement}
+use Rattle.verdict.proofs.read_once.Tie as tie
+
+abbrev Inv-loop : tie.InvT-loop
+Inv-loop part₀ tries₀ part tries = length part ≡ length part₀
+
+abbrev μ-loop : tie.MeasureT-loop
+μ-loop part₀ tries₀ part tries = tries
+
+loop-holds : tie.Need-loop-holds Inv-loop μ-loop
+loop-holds c = refl
+
+same-length : tie.Need-same-length Inv-loop μ-loop
+same-length c =
+    let read = c .before .before .before .before .before in
+    read .read .kept .1 .0 ∙ read .before .before .before .loop .inv
+
+returns : tie.Need-returns Inv-loop μ-loop
+returns c =
+    let read = c .before .before .before .before .before in
+    let moved : Moved (length (read .before .before .before .loop .part)) (read .read .result) = read .read .ensures in
+    rw (toZ-ofZ (record { sfits = read .read .ok }), ← (read .before .before .before .loop .inv)) moved
+
+sub-tries : tie.Need-sub-tries Inv-loop μ-loop
+sub-tries c =
+    let turn = c .before .before .before .before .before .before .before in
+    omega (arith, turn .loop-test .taken)
+
+loop-less : tie.Need-loop-less Inv-loop μ-loop
+loop-less c =
+    let turn = c .before .before .before .before .before .before .before in
+    omega (arith, turn .loop-test .taken)
+
+loop-again : tie.Need-loop-again Inv-loop μ-loop
+loop-again c =
+    let read = c .before .before .before .before .before in
+    read .read .kept .1 .0 ∙ read .before .before .before .loop .inv
+
+same-length-2 : tie.Need-same-length-2 Inv-loop μ-loop
+same-length-2 c = c .before .loop .inv
+
+returns-2 : tie.Need-returns-2 Inv-loop μ-loop
+returns-2 c = refl
+
+pub read-once-spec : {M : Type 1} → statement M
+read-once-spec =
+    tie.close
+    (tie.spec
+    Inv-loop
+    μ-loop
+    loop-holds
+    (λ c κs. tt)
+    (λ c κs. tt)
+    (λ c κs. tt)
+    same-length
+    returns
+    sub-tries
+    loop-less
+    loop-again
+    same-length-2
+    returns-2)

@@ -1,0 +1,3 @@
+pub mod Reads
+-- Laws
+pub mod ReadLaws
