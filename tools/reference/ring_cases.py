@@ -4,6 +4,8 @@
 Input: one case a line, decimal integers parted by blanks, first the operation's number, then its arguments.
 Output: one line a case, the results parted by single blanks. A result of yes or no is 1 or 0.
 Elements given to operations 2 to 8 and 12 are any signed 32-bit numbers, and the results are those modulo q, centred.
+Operation 19 is the product for C: `d x[64] y[64]`. Its results are the answer's kind (2 refused, 3 written) and number, and the sixty-four
+numbers of the product, which are zero where it is refused: 1 where d is not listed, 8 where a number is out of range or not zero past d.
 """
 
 import pathlib
@@ -19,9 +21,10 @@ COUNTS = range(2, 9)
 LEAST_I32, LARGEST_I32 = -(2**31), 2**31 - 1
 LEAST_I64, LARGEST_I64 = -(2**63), 2**63 - 1
 
-LARGEST_INPUT_BYTES = 200000
-LARGEST_INPUT_NUMBERS = 30000
-LARGEST_LINE_NUMBERS = 1500
+# The program's room
+LARGEST_INPUT_BYTES = 262144
+LARGEST_LINE_NUMBERS = 2048
+LARGEST_RESULTS = 512
 
 
 # Operations: the results of one case from its arguments
@@ -51,6 +54,28 @@ def element_digits(d, base, count, *a):
     return [x for element in ring.element_digits(base, count, list(a)) for x in element]
 
 
+ELEMENT = 64
+
+
+def fits(d, x):
+    """Sixty-four numbers are an element of degree d."""
+    return ring.in_range(x) and not any(x[d:])
+
+
+def c_product(d, *numbers):
+    """`d x[64] y[64]`"""
+    x, y = cut(list(numbers), ELEMENT)
+    refusal = 1 if d not in DEGREES else 0 if fits(d, x) and fits(d, y) else 8
+    if refusal:
+        return [2, refusal] + [0] * ELEMENT
+    return [3, 0] + padded(ring.multiply(x[:d], y[:d]))
+
+
+def padded(numbers):
+    """An element's numbers, and zeros after them."""
+    return list(numbers) + [0] * (ELEMENT - len(numbers))
+
+
 OPERATIONS = {
     1: lambda x: [ring.centred(x)],
     2: on_two_elements(ring.add),
@@ -70,6 +95,7 @@ OPERATIONS = {
     16: lambda bound, n, *x: [int(ring.squared_norm(x) <= bound)],
     17: lambda bound, n, m, *xy: [int(ring.squared_norm(xy) <= bound)],
     18: lambda d, *a: [ring.constant_term(a)],
+    19: c_product,
 }
 
 
@@ -223,12 +249,39 @@ def constant_term_cases(rng):
     return [(18, d, *coefficients(rng, d)) for d in DEGREES] + [(18, 2, LARGEST, 1), (18, 2, -LARGEST, 0)]
 
 
+def c_product_cases(rng):
+    """Operation 19: products at every degree, and rows 1 and 8, the lower number first."""
+    cases = []
+    for d in DEGREES:
+        for kind in (small, coefficients, ends):
+            cases.append((19, d, *padded(kind(rng, d)), *padded(kind(rng, d))))
+        # both ends of the range, and one number past each, at the last place
+        for number in (LARGEST, -LARGEST, LARGEST + 1, -LARGEST - 1):
+            x, y = small(rng, d), small(rng, d)
+            cases.append((19, d, *padded(x[:-1] + [number]), *padded(y)))
+            cases.append((19, d, *padded(x), *padded(y[:-1] + [number])))
+        # a number past d that is not zero
+        if d < ELEMENT:
+            for place in sorted({d, ELEMENT - 1}):
+                x, y = padded(small(rng, d)), padded(small(rng, d))
+                beyond = padded(small(rng, d))
+                beyond[place] = rng.choice((1, -1, LARGEST))
+                cases.append((19, d, *x, *beyond))
+                cases.append((19, d, *beyond, *y))
+    # a degree that is not listed, also where row 8 applies
+    for d in (0, 1, 3, 5, 63, 65, 128, 2**32, LARGEST_I64):
+        cases.append((19, d, *padded(small(rng, 2)), *padded(small(rng, 2))))
+        cases.append((19, d, *coefficients(rng, ELEMENT), *padded([LARGEST + 1])))
+    return cases
+
+
 def all_cases():
     """Every case, in the order of the operations."""
     rng = random.Random(20)
     cases = []
     for group in (
         centring_cases, element_cases, digit_cases, inner_product_cases, predicate_cases, norm_cases, constant_term_cases,
+        c_product_cases,
     ):
         cases += group(rng)
     return cases
@@ -244,9 +297,9 @@ def main():
     cases = all_cases()
     results = [OPERATIONS[operation](*arguments) for operation, *arguments in cases]
     stdin, stdout = text(cases), text(results)
-    assert len(stdin) < LARGEST_INPUT_BYTES, len(stdin)
-    assert sum(map(len, cases)) < LARGEST_INPUT_NUMBERS
+    assert len(stdin) <= LARGEST_INPUT_BYTES, len(stdin)
     assert max(map(len, cases)) <= LARGEST_LINE_NUMBERS
+    assert max(map(len, results)) <= LARGEST_RESULTS
     (directory / "stdin").write_text(stdin)
     (directory / "stdout").write_text(stdout)
     print(f"{len(cases)} cases, {sum(map(len, cases))} numbers, {len(stdin)} and {len(stdout)} bytes")

@@ -1,118 +1,118 @@
-// The operations on ring elements. Each takes the numbers after the operation's own, prints its results and answers how many numbers it
-// used: 0 where they are not a case.
-ghost use Prim.Native.Nat.{_≤_};
+// The operations whose result is a ring element. A case is its operation, its degree d, and its arguments.
+ghost use mathlib.Core.Path.{_≡_};
 ghost use lib.ListN.{length};
-ghost use Rattle.ring.specs.Element.{Degree};
+ghost use Rattle.ring.specs.Element.{Degree, array, lift};
+ghost use Rattle.ring_cases.specs.Input.{degreeAt};
+ghost use Rattle.ring_cases.specs.Results.{isTwo, ofOne, ofTwo, oneAt, twoAt, scaledAt, innerAt, elementOf, elementNumbers, Results};
+use crate::input::degree_at;
+use cases::lists::past_numbers;
+use cases::numbers::number_at;
 use cases::numbers::size;
-use cases::printing;
 use ring::element::Element;
 use ring::product;
 
-fn of_two(operation: i32, d: usize, a: Element, b: Element) -> Element
+fn of_one(operation: usize, d: usize, a: Element) -> Element
     requires { ⌜ Degree d ⌝ }
+    ensures { λ r. ⌜ r .coefficients ≡ array d (ofOne operation d (lift d (a .coefficients))) ⌝ }
 {
-    match operation {
-        2 => a.sum(d, b),
-        3 => a.difference(d, b),
-        _ => a.product(d, b),
+    if operation == 4 {
+        return a.negation(d);
     }
+    if operation == 6 {
+        return a.conjugate(d);
+    }
+    a.half(d)
 }
 
-fn of_one(operation: i32, d: usize, a: Element) -> Element
+fn of_two(operation: usize, d: usize, a: Element, b: Element) -> Element
     requires { ⌜ Degree d ⌝ }
+    ensures { λ r. ⌜ r .coefficients ≡ array d (ofTwo operation d (lift d (a .coefficients)) (lift d (b .coefficients))) ⌝ }
 {
-    match operation {
-        4 => a.negation(d),
-        6 => a.conjugate(d),
-        _ => a.half(d),
+    if operation == 2 {
+        return a.sum(d, b);
     }
-}
-
-// Operations 2, 3 and 5: `d a[d] b[d]`.
-pub fn run_two(operation: i32, xs: &[i32]) -> usize
-    ensures { λ r. ⌜ r ≤ length (now (xs .entry)) ⌝ }
-{
-    let d = size(xs, 0, 64);
-    let used = 1 + 2 * d;
-    if d == 0 {
-        return 0;
+    if operation == 3 {
+        return a.difference(d, b);
     }
-    if xs.len() < used {
-        return 0;
-    }
-    let a = Element::from_slice(d, &xs[1..], 0);
-    let b = Element::from_slice(d, &xs[1..], 1);
-    printing::print_element(d, of_two(operation, d, a, b));
-    used
+    a.product(d, b)
 }
 
 // Operations 4, 6 and 8: `d a[d]`.
-pub fn run_one(operation: i32, xs: &[i32]) -> usize
-    ensures { λ r. ⌜ r ≤ length (now (xs .entry)) ⌝ }
+fn one(operation: usize, d: usize, xs: &[i32]) -> Element
+    requires { ⌜ Degree d ⌝ }
+    requires { ⌜ length (now xs) ≡ 2048 ⌝ }
+    ensures { λ r. ⌜ r .coefficients ≡ array d (oneAt operation d (now (xs .entry))) ⌝ }
 {
-    let d = size(xs, 0, 64);
-    let used = 1 + d;
-    if d == 0 {
-        return 0;
-    }
-    if xs.len() < used {
-        return 0;
-    }
-    let a = Element::from_slice(d, &xs[1..], 0);
-    printing::print_element(d, of_one(operation, d, a));
-    used
+    let a = Element::from_slice(d, past_numbers(xs, 2), 0);
+    of_one(operation, d, a)
+}
+
+// Operations 2, 3 and 5: `d a[d] b[d]`.
+fn two(operation: usize, d: usize, xs: &[i32]) -> Element
+    requires { ⌜ Degree d ⌝ }
+    requires { ⌜ length (now xs) ≡ 2048 ⌝ }
+    ensures { λ r. ⌜ r .coefficients ≡ array d (twoAt operation d (now (xs .entry))) ⌝ }
+{
+    let both = past_numbers(xs, 2);
+    let a = Element::from_slice(d, both, 0);
+    let b = Element::from_slice(d, both, 1);
+    of_two(operation, d, a, b)
 }
 
 // Operation 7: `d c a[d]`.
-pub fn run_scale(xs: &[i32]) -> usize
-    ensures { λ r. ⌜ r ≤ length (now (xs .entry)) ⌝ }
+fn scaled(d: usize, xs: &[i32]) -> Element
+    requires { ⌜ Degree d ⌝ }
+    requires { ⌜ length (now xs) ≡ 2048 ⌝ }
+    ensures { λ r. ⌜ r .coefficients ≡ array d (scaledAt d (now (xs .entry))) ⌝ }
 {
-    let d = size(xs, 0, 64);
-    let used = 2 + d;
-    if d == 0 {
-        return 0;
-    }
-    if xs.len() < used {
-        return 0;
-    }
-    let a = Element::from_slice(d, &xs[2..], 0);
-    let scaled = a.scale(d, xs[1]);
-    printing::print_element(d, scaled);
-    used
-}
-
-// Operation 18: `d a[d]`.
-pub fn run_constant_term(xs: &[i32]) -> usize
-    ensures { λ r. ⌜ r ≤ length (now (xs .entry)) ⌝ }
-{
-    let d = size(xs, 0, 64);
-    let used = 1 + d;
-    if d == 0 {
-        return 0;
-    }
-    if xs.len() < used {
-        return 0;
-    }
-    let a = Element::from_slice(d, &xs[1..], 0);
-    printing::print_word(a.constant_term());
-    used
+    let a = Element::from_slice(d, past_numbers(xs, 3), 0);
+    let factor = number_at(xs, 2);
+    a.scale(d, factor)
 }
 
 // Operation 12: `d n u[n*d] v[n*d]`.
-pub fn run_inner(xs: &[i32]) -> usize
-    ensures { λ r. ⌜ r ≤ length (now (xs .entry)) ⌝ }
+fn inner(d: usize, xs: &[i32]) -> Element
+    requires { ⌜ Degree d ⌝ }
+    requires { ⌜ length (now xs) ≡ 2048 ⌝ }
+    ensures { λ r. ⌜ r .coefficients ≡ array d (innerAt d (now (xs .entry))) ⌝ }
 {
-    let d = size(xs, 0, 64);
-    let n = size(xs, 1, 64);
-    let used = 2 + (n + n) * d;
-    if d == 0 {
-        return 0;
+    let n = size(xs, 2, 8);
+    let both = past_numbers(xs, 3);
+    Element {
+        coefficients: product::inner(d, n, both, 0, both, n),
     }
-    if xs.len() < used {
-        return 0;
+}
+
+fn is_two(operation: usize) -> bool
+    ensures { λ r. ⌜ r ≡ isTwo operation ⌝ }
+{
+    (operation == 2) | (operation == 3) | (operation == 5)
+}
+
+fn element_of(operation: usize, d: usize, xs: &[i32]) -> Element
+    requires { ⌜ Degree d ⌝ }
+    requires { ⌜ length (now xs) ≡ 2048 ⌝ }
+    ensures { λ r. ⌜ r .coefficients ≡ array d (elementOf operation d (now (xs .entry))) ⌝ }
+{
+    if operation == 7 {
+        return scaled(d, xs);
     }
-    let both = &xs[2..];
-    let numbers = product::inner(d, n, both, 0, both, n);
-    printing::print_words(&numbers[..d]);
-    used
+    if operation == 12 {
+        return inner(d, xs);
+    }
+    if is_two(operation) {
+        return two(operation, d, xs);
+    }
+    one(operation, d, xs)
+}
+
+// The numbers of the result, and how many they are.
+pub fn write_element(operation: usize, xs: &[i32], out: &mut [i32]) -> usize
+    requires { ⌜ (length (now xs) ≡ 2048) × (length (now out) ≡ 512) ⌝ }
+    ensures { λ r. ⌜ Results (elementNumbers operation (now (xs .entry))) (now (out .entry)) (now (out .exit)) r ⌝ }
+{
+    let d = degree_at(xs);
+    let element = element_of(operation, d, xs);
+    element.store(d, out, 0);
+    d
 }

@@ -1,70 +1,85 @@
 // The cases one after another.
-ghost use Prim.Native.Nat.{_≤_};
+ghost use mathlib.Core.Path.{_≡_};
+ghost use mathlib.Core.List.{[]};
 ghost use lib.ListN.{length};
+ghost use Rattle.cases.specs.Text.{pastLines, Lines};
+ghost use Rattle.ring_cases.specs.Results.{isElement, resultsOf, lineResults, Results};
 use crate::digits;
 use crate::elements;
-use crate::tests;
+use crate::product;
+use crate::values;
+use cases::numbers;
 use cases::printing;
+use cases::text;
 
-fn run_element(operation: i32, xs: &[i32]) -> usize
-    ensures { λ r. ⌜ r ≤ length (now (xs .entry)) ⌝ }
+fn is_element(operation: usize) -> bool
+    ensures { λ r. ⌜ r ≡ isElement operation ⌝ }
 {
-    match operation {
-        2 | 3 | 5 => elements::run_two(operation, xs),
-        4 | 6 | 8 => elements::run_one(operation, xs),
-        7 => elements::run_scale(xs),
-        12 => elements::run_inner(xs),
-        18 => elements::run_constant_term(xs),
-        _ => 0,
-    }
+    ((1 < operation) & (operation < 9)) | (operation == 12)
 }
 
-fn run_digits(operation: i32, xs: &[i32]) -> usize
-    ensures { λ r. ⌜ r ≤ length (now (xs .entry)) ⌝ }
+// The results of a case, and how many they are.
+fn run(operation: usize, xs: &[i32], wides: &[i64], out: &mut [i32]) -> usize
+    requires { ⌜ (length (now xs) ≡ 2048) × (length (now out) ≡ 512) ⌝ }
+    ensures { λ r. ⌜ Results (resultsOf operation (now (xs .entry)) (now (wides .entry))) (now (out .entry)) (now (out .exit)) r ⌝ }
 {
-    match operation {
-        9 => digits::run_number_digits(xs),
-        10 => digits::run_element_digits(xs),
-        11 => digits::run_recompose(xs),
-        _ => run_element(operation, xs),
+    if operation == 9 {
+        return digits::write_number_digits(xs, out);
     }
+    if operation == 10 {
+        return digits::write_element_digits(xs, out);
+    }
+    if operation == 19 {
+        return product::write_product(xs, wides, out);
+    }
+    if is_element(operation) {
+        return elements::write_element(operation, xs, out);
+    }
+    values::write_value(operation, xs, wides, out)
 }
 
-// One case: its numbers after the operation's own, and the first of them with all its bits.
-fn run(operation: i32, xs: &[i32], first: i64) -> usize
-    ensures { λ r. ⌜ r ≤ length (now (xs .entry)) ⌝ }
+// The results of a line.
+fn run_line(line: &[u8], out: &mut [i32]) -> usize
+    requires { ⌜ length (now out) ≡ 512 ⌝ }
+    ensures { λ r. ⌜ Results (lineResults (now (line .entry))) (now (out .entry)) (now (out .exit)) r ⌝ }
 {
-    match operation {
-        1 => tests::run_centre(xs, first),
-        13 | 14 | 15 => tests::run_test(operation, xs),
-        16 => tests::run_norm(xs, first),
-        17 => tests::run_two_norms(xs, first),
-        _ => run_digits(operation, xs),
-    }
+    let mut wides = [0i64; 2048];
+    let mut words = [0i32; 2048];
+    text::scan(line, &mut wides);
+    numbers::narrow(&wides, &mut words);
+    let operation = numbers::size(&words, 0, 19);
+    run(operation, &words, &wides, out)
 }
 
-fn wide_at(wides: &[i64], place: usize) -> i64 {
-    if place < wides.len() {
-        return wides[place];
-    }
-    0
+// The results of a line on standard output.
+fn print_results(line: &[u8]) -> usize
+    ensures { λ r. ⌜ r ≡ length (lineResults (now (line .entry))) ⌝ }
+{
+    let mut out = [0i32; 512];
+    let count = run_line(line, &mut out);
+    printing::print_words(&out[..count])
 }
 
-// All cases, up to the first that is none: the answer is the place where that begins, or the end.
-pub fn run_all(words: &[i32], wides: &[i64]) -> usize
-    ensures { λ r. ⌜ r ≤ length (now (words .entry)) ⌝ }
+// Every line of a text; the answer is how many there are.
+fn run_all(lines: &[u8]) -> usize
+    ensures { λ r. ⌜ pastLines r (now (lines .entry)) ≡ [] ⌝ }
 {
     let mut at = 0;
-    while at < words.len() {
-        let operation = words[at];
-        let next = at + 1;
-        let first = wide_at(wides, next);
-        let used = run(operation, &words[next..], first);
-        if used == 0 {
-            return at;
-        }
+    let mut count = 0;
+    while at < lines.len() {
+        let end = at + text::line_length(&lines[at..]);
+        print_results(&lines[at..end]);
         printing::print_line_end();
-        at = next + used;
+        at = end;
+        count += 1;
     }
-    at
+    count
+}
+
+// Reads a text into the buffer and runs its lines; the answer is how many there are.
+pub fn run_text(buffer: &mut [u8]) -> usize
+    ensures { λ r. ⌜ Lines (now (buffer .exit)) r ⌝ }
+{
+    let length = io::read_full(0, buffer);
+    run_all(&buffer[..length])
 }

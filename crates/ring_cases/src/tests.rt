@@ -1,73 +1,69 @@
-// The operations whose result is yes or no, and the one on a single number. Each takes the numbers after the operation's own, prints its
-// result and answers how many numbers it used: 0 where they are not a case.
-ghost use Prim.Native.Nat.{_≤_};
+// The operations whose result is yes or no.
+ghost use mathlib.Core.Path.{_≡_};
 ghost use lib.ListN.{length};
+ghost use Rattle.ring_cases.specs.Results.{listTest, listAt, normAt, twoNormsAt, testOf};
+use cases::lists::past_numbers;
 use cases::numbers::natural;
 use cases::numbers::size;
-use cases::printing;
+use cases::numbers::wide_at;
 use residues::length;
-use residues::modulus;
 use residues::range;
 
-// Operation 1: `x`.
-pub fn run_centre(xs: &[i32], x: i64) -> usize
-    ensures { λ r. ⌜ r ≤ length (now (xs .entry)) ⌝ }
+// The n numbers from a place on.
+fn part(xs: &[i32], place: usize, n: usize) -> &[i32]
+    ensures { λ r. ⌜ now r ≡ listAt n place (now (xs .entry)) ⌝ }
 {
-    if xs.len() == 0 {
-        return 0;
+    let rest = past_numbers(xs, place);
+    if rest.len() < n {
+        return rest;
     }
-    printing::print_word(modulus::centre(x));
-    1
+    &rest[0..n]
 }
 
-fn test(operation: i32, xs: &[i32]) -> bool {
-    match operation {
-        13 => range::are_coefficients(xs),
-        14 => range::are_projection_entries(xs),
-        _ => range::is_challenge(xs),
-    }
-}
-
-// Operations 13, 14 and 15: `n x[n]`.
-pub fn run_test(operation: i32, xs: &[i32]) -> usize
-    ensures { λ r. ⌜ r ≤ length (now (xs .entry)) ⌝ }
+fn list_test(operation: usize, xs: &[i32]) -> bool
+    ensures { λ r. ⌜ r ≡ listTest operation (now (xs .entry)) ⌝ }
 {
-    let n = size(xs, 0, 64);
-    let used = 1 + n;
-    if xs.len() < used {
-        return 0;
+    if operation == 13 {
+        return range::are_coefficients(xs);
     }
-    printing::print_flag(test(operation, &xs[1..used]));
-    used
+    if operation == 14 {
+        return range::are_projection_entries(xs);
+    }
+    range::is_challenge(xs)
 }
 
 // Operation 16: `bound n x[n]`.
-pub fn run_norm(xs: &[i32], x: i64) -> usize
-    ensures { λ r. ⌜ r ≤ length (now (xs .entry)) ⌝ }
+fn norm(xs: &[i32], wides: &[i64]) -> bool
+    ensures { λ r. ⌜ r ≡ normAt (now (xs .entry)) (now (wides .entry)) ⌝ }
 {
-    let n = size(xs, 1, 64);
-    let used = 2 + n;
-    if xs.len() < used {
-        return 0;
-    }
-    let margin = length::compare(natural(x), &xs[2..used]);
-    printing::print_flag(length::is_within(margin));
-    used
+    let bound = natural(wide_at(wides, 1));
+    let n = size(xs, 2, 64);
+    let margin = length::compare(bound, part(xs, 3, n));
+    length::is_within(margin)
 }
 
 // Operation 17: `bound n m x[n] y[m]`.
-pub fn run_two_norms(xs: &[i32], x: i64) -> usize
-    ensures { λ r. ⌜ r ≤ length (now (xs .entry)) ⌝ }
+fn two_norms(xs: &[i32], wides: &[i64]) -> bool
+    ensures { λ r. ⌜ r ≡ twoNormsAt (now (xs .entry)) (now (wides .entry)) ⌝ }
 {
-    let n = size(xs, 1, 64);
-    let m = size(xs, 2, 64);
-    let middle = 3 + n;
-    let used = middle + m;
-    if xs.len() < used {
-        return 0;
+    let bound = natural(wide_at(wides, 1));
+    let n = size(xs, 2, 64);
+    let m = size(xs, 3, 64);
+    let margin = length::compare(bound, part(xs, 4, n));
+    let both = length::lessen(margin, part(xs, 4 + n, m));
+    length::is_within(both)
+}
+
+// Operations 13, 14 and 15 besides: `n x[n]`.
+pub fn test_of(operation: usize, xs: &[i32], wides: &[i64]) -> bool
+    ensures { λ r. ⌜ r ≡ testOf operation (now (xs .entry)) (now (wides .entry)) ⌝ }
+{
+    if operation == 16 {
+        return norm(xs, wides);
     }
-    let margin = length::compare(natural(x), &xs[3..middle]);
-    let both = length::lessen(margin, &xs[middle..used]);
-    printing::print_flag(length::is_within(both));
-    used
+    if operation == 17 {
+        return two_norms(xs, wides);
+    }
+    let n = size(xs, 1, 64);
+    list_test(operation, part(xs, 2, n))
 }

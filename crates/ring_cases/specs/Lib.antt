@@ -1,0 +1,4 @@
+pub mod Input
+pub mod Results
+-- Laws
+pub mod ResultLaws
