@@ -21,7 +21,8 @@ use Rattle.residues.specs.Length.{remaining, lessened, holds}
 use Rattle.residues.specs.Range.{coefficients, projections, challenge}
 use Rattle.ring.specs.Element.{R, el, array, coeffs, number}
 use Rattle.capi.specs.declared.types.CProduct.{CProduct}
-use Rattle.capi.specs.Product.{productOf}
+use Rattle.capi.specs.Codes.{productCode}
+use Rattle.lizkarg.specs.Calls.{productOf}
 use Rattle.cases.specs.Numbers.{padded, word, sizeAt}
 use Rattle.cases.specs.Text.{lineNumbers}
 use Rattle.ring_cases.specs.Input.{degreeAt, baseAt, countAt}
@@ -117,7 +118,7 @@ valueOf op xs wides =
 -- ---- the product under the name that C uses: `d x[64] y[64]`
 
 unfoldable pub productAt : (xs wides : List ℤ) → CProduct
-productAt xs wides = productOf (P (getD wides 1 (pos 0))) (padded 64 (drop 2 xs)) (padded 64 (drop 66 xs))
+productAt xs wides = productCode (productOf (P (getD wides 1 (pos 0))) (padded 64 (drop 2 xs)) (padded 64 (drop 66 xs)))
 
 unfoldable pub productNumbers : CProduct → List ℤ
 productNumbers x = pos (x .kind) ∷ pos (x .number) ∷ padded 64 (x .element .coefficients)
