@@ -244,13 +244,17 @@ static void next(const stored *s) {
 }
 
 static void sheets(const stored *s) {
-    list numbers = blank(65536 / 16), none = {NULL, 0};
+    size_t count = lizkarg_sheet_numbers(s->text, s->text_length);
+    list numbers = blank(count), longer = blank(count + 1), shorter = {longer.at, count - 1}, none = {NULL, 0};
+    HOLD(lizkarg_sheet_numbers(NULL, 0) == 0);
     ANSWER(lizkarg_judge_sheet(s->text, s->text_length), LIZKARG_ACCEPTED, 0);
     ANSWER(lizkarg_judge_sheet(s->text, s->text_length - 1), LIZKARG_REFUSED, 12);
     ANSWER(lizkarg_judge_sheet(NULL, 0), LIZKARG_REFUSED, 12);
     lizkarg_sheet broken = lizkarg_read_sheet(NULL, 0, LIST(none)), full = lizkarg_read_sheet(s->text, s->text_length, LIST(none));
     HOLD(broken.kind == LIZKARG_REFUSED && broken.number == 12 && broken.d == 0 && broken.target == 0);
     HOLD(full.kind == LIZKARG_REFUSED && full.number == 7 && full.d == 0 && full.target == 0);
+    lizkarg_sheet less = lizkarg_read_sheet(s->text, s->text_length, LIST(shorter)), more = lizkarg_read_sheet(s->text, s->text_length, LIST(longer));
+    HOLD(less.kind == LIZKARG_REFUSED && less.number == 7 && more.kind == LIZKARG_REFUSED && more.number == 7 && is_blank(longer));
     lizkarg_sheet sheet = lizkarg_read_sheet(s->text, s->text_length, LIST(numbers));
     header found = {sheet.d, sheet.n, sheet.r, sheet.k, sheet.l, sheet.w, sheet.kappa, sheet.kappa1, sheet.kappa2, sheet.b, sheet.b1, sheet.b2,
         sheet.t1, sheet.t2, sheet.nu, sheet.mu, sheet.bound, sheet.target};
@@ -262,8 +266,8 @@ static void sheets(const stored *s) {
         HOLD(equal((list){rest.at, lists[i]->length}, *lists[i]));
         rest.at += lists[i]->length, rest.length -= lists[i]->length;
     }
-    HOLD(is_blank(rest));
-    free(numbers.at);
+    HOLD(rest.length == 0);
+    free(numbers.at), free(longer.at);
 }
 
 static lizkarg_element element(int32_t zeroth, int32_t first, int32_t second) { return (lizkarg_element){{zeroth, first, second}}; }

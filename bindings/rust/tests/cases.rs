@@ -1,4 +1,4 @@
-// Every call on the stored cases of bindings/c/tests: each number that a call writes is the second implementation's.
+// The messages, the verifier and the next instance on the stored cases of bindings/c/tests: each number that a call writes is the second implementation's.
 use lizkarg::Answer::{Judged, Refused, Written};
 use lizkarg::Verdict::{Accepted, Failed};
 use lizkarg::*;

@@ -195,6 +195,7 @@ pub record LimitCases : Type 0 where
       ∷ (4, 2, 8, λ t₂. part 2 1 1 1 2 t₂ 1 1 1)
       ∷ (5, 1, 7, λ ν. part 2 1 1 1 2 2 ν 1 1)
       ∷ (5, 1, 14, λ μ. part 2 1 1 1 2 2 1 μ 1)
+      ∷ (5, 1, 2, λ μ. part 2 1 1 1 2 2 7 μ 1)
       ∷ [])
   -- row 2 compares a part's number with 2ν+μ as these are given, also where row 5 refuses them
   pub part-beyond : part 2 1 1 1 2 2 8 1 17 ∷ part 2 1 1 1 2 2 8 1 18 ∷ [] ≡ 5 ∷ 2 ∷ []

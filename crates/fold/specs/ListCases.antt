@@ -1,4 +1,4 @@
--- Document 01, 'Where a call stops', rows 7 to 10: each list of each call in turn too long, then out of range, computed; and the lowest number
+-- Document 01, 'Where a call stops', rows 7 to 10: each list of each call in turn too long, too short, then out of range, computed; and the lowest number
 -- where two rows apply. Sizes that differ give lengths that differ: d = 2, n = 2, r = 2, K = 3, L = 2, w = 3, κ = 1, κ1 = 2, κ2 = 3, t1 = 2,
 -- t2 = 3, ν = 1, μ = 2. All other numbers are zero.
 use mathlib.Core.Path.{_≡_, refl}
@@ -35,9 +35,12 @@ module _ (lengths : List ℕ) where
   lists [] i = getD lengths i 0 zeros∷ []
   lists (change ∷ changes) i = cond (eqb i (change .0)) (change .1) (lists changes i)
 
-  -- list k one number longer, or with x as its last number
+  -- list k one number longer, one shorter, or with x as its last number
   abbrev pub longer : ℕ → Change
   longer k = (k, (getD lengths k 0 + 1) zeros∷ [])
+
+  abbrev pub shorter : ℕ → Change
+  shorter k = (k, (getD lengths k 0 - 1) zeros∷ [])
 
   abbrev pub ending : ℕ → ℤ → Change
   ending k x = (k, (getD lengths k 0 - 1) zeros∷ x ∷ [])
@@ -51,6 +54,7 @@ module _ (lengths : List ℕ) where
     Tested inputs =
         (with [] ≡ 0)
         × (tab (length lengths) (λ k. with (longer k ∷ [])) ≡ replicate (length lengths) 7)
+        × (tab (length lengths) (λ k. with (shorter k ∷ [])) ≡ replicate (length lengths) 7)
         × (tab (length lengths) (λ k. with (ending k (+ 2147483599) ∷ [])) ≡ replicate inputs 8 ++ replicate (length lengths - inputs) 0)
 
     -- each fault is refused by its row, and of two faults, the rows rising, by that of the first
@@ -184,15 +188,15 @@ pub list-cases : ListCases
 unfolding fold-computes
 list-cases =
     record {
-      lists₁ = (refl, refl, refl);
-      lists₂ = (refl, refl, refl);
-      lists₃ = (refl, refl, refl);
-      lists₄ = (refl, refl, refl);
-      lists₅ = (refl, refl, refl);
-      material-lists = (refl, refl, refl);
-      verifier-lists = (refl, refl, refl);
-      next-lists = (refl, refl, refl);
-      part-lists = (refl, refl, refl);
+      lists₁ = (refl, refl, refl, refl);
+      lists₂ = (refl, refl, refl, refl);
+      lists₃ = (refl, refl, refl, refl);
+      lists₄ = (refl, refl, refl, refl);
+      lists₅ = (refl, refl, refl, refl);
+      material-lists = (refl, refl, refl, refl);
+      verifier-lists = (refl, refl, refl, refl);
+      next-lists = (refl, refl, refl, refl);
+      part-lists = (refl, refl, refl, refl);
       order₁ = (refl, refl);
       order₂ = (refl, refl);
       order₃ = (refl, refl);

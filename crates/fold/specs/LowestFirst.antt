@@ -14,7 +14,7 @@ use borrow.Author.Tests.{ltb-true}
 use Rattle.fold.specs.Answers.{firstRefusal}
 use Rattle.fold.specs.Verdict.{Statement, Draws, Transcript}
 use Rattle.fold.specs.Refusals.{commitTests, projectTests, aggregateTests, garbageTests, amortizeTests}
-use Rattle.fold.specs.Refusals.{proverTests, verifyTests, nextTests, partTests}
+use Rattle.fold.specs.Refusals.{proverTests, verifyTests, nextTests, partTests, productTests}
 use Rattle.fold.specs.RefusalLaws.{both-left, both-right}
 
 -- a test with number j fails
@@ -105,6 +105,10 @@ verify-rising 𝓢 𝓓 𝓣 o = refl
 pub next-rising : (𝓢 : Statement) (𝓓 : Draws) (𝓣 : Transcript) (ν μ : ℕ) (out : List ℤ) → rising 0 (nextTests 𝓢 𝓓 𝓣 ν μ out) ≡ true
 unfolding nextTests
 next-rising 𝓢 𝓓 𝓣 ν μ out = refl
+
+pub product-rising : (d : ℕ) (x y : List ℤ) → rising 0 (productTests d x y) ≡ true
+unfolding productTests
+product-rising d x y = refl
 
 pub part-rising : (d n r κ t₁ t₂ tz ν μ i : ℕ) (o : List ℤ) → rising 0 (partTests d n r κ t₁ t₂ tz ν μ i o) ≡ true
 unfolding partTests

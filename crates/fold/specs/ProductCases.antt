@@ -1,7 +1,7 @@
 -- Document 01, 'Where a call stops', for the ring product: both sides of "a ring element with a nonzero number past d" and of the range,
 -- computed. An element has sixty-four numbers.
 use mathlib.Core.Path.{_≡_, refl}
-use mathlib.Core.List.{List, [], _∷_}
+use mathlib.Core.List.{List, [], _∷_, map}
 use Prim.Native.Nat.{ℕ}
 use lib.IntN.{ℤ}
 use Rattle.integers.specs.Literals.{+_, -_, _zeros∷_}
@@ -21,7 +21,8 @@ from x = x ∷ + 2 ∷ 62 zeros∷ []
 pub record ProductCases : Type 0 where
   pub taken : productRefusal 2 (from (+ 1)) (from (+ 1)) ≡ 0
   -- "d not listed", before all else
-  pub degree-3 : productRefusal 3 (from (+ 1)) (from (+ 1)) ≡ 1
+  pub listed : map (λ (d : ℕ). productRefusal d one one) (2 ∷ 4 ∷ 8 ∷ 16 ∷ 32 ∷ 64 ∷ []) ≡ 0 ∷ 0 ∷ 0 ∷ 0 ∷ 0 ∷ 0 ∷ []
+  pub not-listed : map (λ (d : ℕ). productRefusal d one one) (0 ∷ 1 ∷ 3 ∷ 63 ∷ 65 ∷ 128 ∷ []) ≡ 1 ∷ 1 ∷ 1 ∷ 1 ∷ 1 ∷ 1 ∷ []
   pub degree-first : productRefusal 3 (from (+ 2147483599)) third ≡ 1
   -- the third number is past 2, in either factor, and the last is past 32; the third is not past 4, and nothing is past 64
   pub past-2 : productRefusal 2 third one ≡ 8
@@ -40,7 +41,8 @@ unfolding fold-computes
 product-cases =
     record {
       taken = refl;
-      degree-3 = refl;
+      listed = refl;
+      not-listed = refl;
       degree-first = refl;
       past-2 = refl;
       past-2-right = refl;

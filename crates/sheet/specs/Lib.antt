@@ -8,6 +8,7 @@ pub mod HeaderTests
 pub mod Layout
 -- The theorems
 pub mod SheetTheorems
+pub mod HeaderTheorem
 -- Closed cases
 pub mod WholeSheet
 -- Laws of fields
