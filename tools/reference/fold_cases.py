@@ -1,6 +1,6 @@
 """Stored input and output of the test program for the fold's calls: `python3 fold_cases.py DIR` writes DIR/stdin and DIR/stdout.
 
-Input: whitespace-separated decimal numbers, one case a line. A case is the number of a call, then the sixteen sizes
+Input: decimal numbers parted by single blanks, one case a line. A case is the number of a call, then the sixteen sizes
     d n r K L w κ κ1 κ2 b b1 b2 t1 t2 β² β'²
 and then the call's lists in the order of CALLS below, each as its length and its numbers; of a list that the call writes only
 the length is given, and the program fills it with FILL before the call.
@@ -17,6 +17,10 @@ import sizes
 from test_reference import bounded, honest_case, random_lists, random_sizes
 
 FILL = 77
+
+# the program's room
+LARGEST_INPUT_BYTES = 1048576
+LARGEST_LINE_NUMBERS = 16384
 
 SIZES = [name for name in sizes.Sizes._fields if name not in ("nu", "mu")]
 
@@ -186,7 +190,10 @@ def text(lines):
 def main():
     directory = Path(sys.argv[1])
     cases = list(all_cases())
-    (directory / "stdin").write_text(text(line for line, _ in cases))
+    stdin = text(line for line, _ in cases)
+    assert len(stdin) <= LARGEST_INPUT_BYTES, len(stdin)
+    assert max(len(line) for line, _ in cases) <= LARGEST_LINE_NUMBERS
+    (directory / "stdin").write_text(stdin)
     (directory / "stdout").write_text(text(output for _, output in cases))
 
 

@@ -1,7 +1,7 @@
 """The stored input and output of the test program of the ring layer.
 
 `python3 tools/reference/ring_cases.py DIR` writes DIR/stdin and DIR/stdout. The cases are always the same (fixed seed).
-Input: one case a line, decimal integers parted by blanks, first the operation's number, then its arguments.
+Input: one case a line, decimal integers parted by single blanks, first the operation's number, then its arguments.
 Output: one line a case, the results parted by single blanks. A result of yes or no is 1 or 0.
 Elements given to operations 2 to 8 and 12 are any signed 32-bit numbers, and the results are those modulo q, centred.
 Operation 19 is the product for C: `d x[64] y[64]`. Its results are the answer's kind (2 refused, 3 written) and number, and the sixty-four

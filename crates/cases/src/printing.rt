@@ -1,11 +1,8 @@
 // Results on standard output. Each call answers what it printed: a magnitude, or how many numbers, blanks or line ends.
 ghost use mathlib.Core.Path.{_≡_};
-ghost use mathlib.Core.Bool.{cond};
 ghost use Prim.Native.Nat.{min};
 ghost use lib.IntN.{natAbs};
 ghost use lib.ListN.{length};
-ghost use Rattle.ring.specs.Element.{Degree};
-use ring::element::Element;
 
 pub fn print_word(x: i32) -> u64
     ensures { λ r. ⌜ r ≡ natAbs x ⌝ }
@@ -16,17 +13,6 @@ pub fn print_word(x: i32) -> u64
     let number = residues::range::magnitude(x);
     io::print_decimal(1, number);
     number
-}
-
-pub fn print_flag(flag: bool) -> u64
-    ensures { λ r. ⌜ r ≡ cond flag 1 0 ⌝ }
-{
-    if flag {
-        io::print_decimal(1, 1);
-        return 1;
-    }
-    io::print_decimal(1, 0);
-    0
 }
 
 // A blank between two results, and none before the first.
@@ -57,13 +43,4 @@ pub fn print_words(xs: &[i32]) -> usize
         i += 1;
     }
     i
-}
-
-pub fn print_element(d: usize, a: Element) -> usize
-    requires { ⌜ Degree d ⌝ }
-    ensures { λ r. ⌜ r ≡ d ⌝ }
-{
-    let mut numbers = [0i32; 64];
-    a.store(d, &mut numbers, 0);
-    print_words(&numbers[..d])
 }

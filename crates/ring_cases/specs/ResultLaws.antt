@@ -115,7 +115,8 @@ module _ (out out₁ l block : List ℤ) (b t w n : ℕ) (some : 1 ≤ t) (wide 
   rest-is : drop n out₁ ≡ drop n out
   rest-is = rw (← last, stored) (drop-over out ((t - 1) * w) l (omega (arith, last)))
 
-  pub digits-out : block ≡ split b t (drop ((t - 1) * w) (take (n - 0) (drop 0 out₁))) → Results (split b t l) out (block ++ drop (n - 0) out₁) n
+  pub digits-out : block ≡ split b t (drop ((t - 1) * w) (take (n - 0) (drop 0 out₁)))
+      → Results (split b t l) out (block ++ drop (n - 0) out₁) n
   digits-out e =
       let is : block ≡ split b t l = e ∙ ap (λ (k : List ℤ). split b t k) (rw (sub-zero n) part-is) in
       let size : length (split b t l) ≡ n = length-split b t l ∙ ap (λ (k : ℕ). t * k) wide ∙ sym all in
@@ -129,7 +130,8 @@ set-over out k x h =
     let step : set (over out k []) (k + length {A = ℤ} []) x ≡ over out k ([] ++ (x ∷ [])) = over-step out k [] x (omega arith) in
     rw (mul-one k) (rw (over-nil out k, add-zero k) at step)
 
-pub number-digits-out : (xs out block : List ℤ) {b t : ℕ} {x : ℤ} → length out ≡ 512 → b ≡ baseAt xs 1 → t ≡ countAt xs 2 → x ≡ getD xs 3 (pos 0)
+pub number-digits-out : (xs out block : List ℤ) {b t : ℕ} {x : ℤ} → length out ≡ 512 → b ≡ baseAt xs 1
+    → t ≡ countAt xs 2 → x ≡ getD xs 3 (pos 0)
     → block ≡ split b t (drop ((t - 1) * 1) (take (t - 0) (set out (t - 1) x)))
     → Results (numberDigits xs) out (block ++ drop (t - 0) (set out (t - 1) x)) t
 unfolding numberDigits
@@ -137,10 +139,12 @@ number-digits-out xs out block {b} {t} {x} size base count number e =
     let some = count-fits xs 2 count .0 in
     let fits : t ≤ length out = omega (arith, count-fits xs 2 count .1, size) in
     rw (← base, ← count, ← number)
-    (digits-out out (set out (t - 1) x) (x ∷ []) block b t 1 t some refl (sym (mul-one t)) fits (set-over out (t - 1) x (omega (arith, some, fits))) e)
+    (digits-out out (set out (t - 1) x) (x ∷ []) block b t 1 t some refl (sym (mul-one t)) fits
+    (set-over out (t - 1) x (omega (arith, some, fits))) e)
 
-pub element-digits-out : (xs out out₁ block numbers rest : List ℤ) {d b t : ℕ} → length out ≡ 512 → d ≡ degreeAt xs → b ≡ baseAt xs 2
-    → t ≡ countAt xs 3 → rest ≡ drop 4 xs → numbers ≡ array d (el d rest 0) → out₁ ≡ over out ((t - 1) * d) (take d numbers)
+pub element-digits-out : (xs out out₁ block numbers rest : List ℤ) {d b t : ℕ} → length out ≡ 512 → d ≡ degreeAt xs
+    → b ≡ baseAt xs 2 → t ≡ countAt xs 3 → rest ≡ drop 4 xs → numbers ≡ array d (el d rest 0)
+    → out₁ ≡ over out ((t - 1) * d) (take d numbers)
     → block ≡ split b t (drop ((t - 1) * d) (take (t * d - 0) out₁))
     → Results (elementDigits xs) out (block ++ drop (t * d - 0) out₁) (t * d)
 unfolding elementDigits

@@ -63,7 +63,7 @@ fn value_of(operation: usize, xs: &[i32], wides: &[i64]) -> i32
 }
 
 // One number as the results.
-pub fn write_one(x: i32, out: &mut [i32]) -> usize
+fn write_one(x: i32, out: &mut [i32]) -> usize
     requires { ⌜ 0 < length (now out) ⌝ }
     ensures { λ r. ⌜ Results (x ∷ []) (now (out .entry)) (now (out .exit)) r ⌝ }
 {

@@ -29,7 +29,8 @@ store-requires c κs =
     let s = count .before .before .before in
     let degree = degree-fits (s .args .xs .now) (count .before .before .degree-at .ensures) in
     let range = count-fits (s .args .xs .now) 3 (count .count-at .ensures) in
-    (degree, omega (arith, last-fits (count .count-at .result) (count .before .before .degree-at .result) (range .0), block-fits _ _ (range .1) (degree .small), s .pre .1))
+    let last = last-fits (count .count-at .result) (count .before .before .degree-at .result) (range .0) in
+    (degree, omega (arith, last, block-fits _ _ (range .1) (degree .small), s .pre .1))
 
 part-split-digits-end : tie.Need-part-split-digits-end
 part-split-digits-end c =
@@ -60,7 +61,8 @@ returns c =
     let base = count .before in
     let degree = base .before in
     let s = degree .before in
-    element-digits-out (s .args .xs .now) (s .args .out .now) _ _ _ _ (s .pre .1) (degree .degree-at .ensures) (base .base-at .ensures) (count .count-at .ensures)
+    element-digits-out (s .args .xs .now) (s .args .out .now) _ _ _ _ (s .pre .1) (degree .degree-at .ensures)
+    (base .base-at .ensures) (count .count-at .ensures)
     (past .past-numbers .ensures) (element .from-slice .ensures) (stored .store .ensures) (split .split-digits .ensures)
 
 pub write-element-digits-spec : {M : Type 1} → statement M

@@ -26,7 +26,8 @@ slice-set-from-x c =
 part-split-digits-end : tie.Need-part-split-digits-end
 part-split-digits-end c =
     let s = c .before .before .before in
-    omega (arith, length-set (s .args .out .now) (c .before .count-at .result - 1) (toZ w32 (ofZ w32 (c .number-at .result))), s .pre .1, count-fits (s .args .xs .now) 2 (c .before .count-at .ensures) .1)
+    let kept = length-set (s .args .out .now) (c .before .count-at .result - 1) (toZ w32 (ofZ w32 (c .number-at .result))) in
+    omega (arith, kept, s .pre .1, count-fits (s .args .xs .now) 2 (c .before .count-at .ensures) .1)
 
 split-digits-requires : tie.Need-split-digits-requires
 split-digits-requires c κs =
@@ -44,7 +45,8 @@ written c =
     let number = split .before .before in
     let s = number .before .before .before in
     let is = toZ-ofZ {w = w32} (record { sfits = number .number-at .ok }) ∙ number .number-at .ensures in
-    number-digits-out (s .args .xs .now) (s .args .out .now) _ (s .pre .1) (number .before .before .base-at .ensures) (number .before .count-at .ensures) is
+    number-digits-out (s .args .xs .now) (s .args .out .now) _ (s .pre .1) (number .before .before .base-at .ensures)
+    (number .before .count-at .ensures) is
     (split .split-digits .ensures)
 
 same-length : tie.Need-same-length

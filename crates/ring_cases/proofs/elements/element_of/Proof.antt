@@ -19,7 +19,11 @@ unfolding elementOf
 returns-3 c =
     let tested = c .before .before in
     let op = tested .before .before .before .args .operation in
-    rw (ne-eqb op 7 (tested .before .before .if1 .left), ne-eqb op 12 (tested .before .if2 .left), sym (tested .is-two .ensures) ∙ c .before .if3 .taken)
+    rw (
+      ne-eqb op 7 (tested .before .before .if1 .left),
+      ne-eqb op 12 (tested .before .if2 .left),
+      sym (tested .is-two .ensures) ∙ c .before .if3 .taken,
+    )
     (c .two .ensures)
 
 returns-4 : tie.Need-returns-4
@@ -27,7 +31,11 @@ unfolding elementOf
 returns-4 c =
     let tested = c .before .before in
     let op = tested .before .before .before .args .operation in
-    rw (ne-eqb op 7 (tested .before .before .if1 .left), ne-eqb op 12 (tested .before .if2 .left), sym (tested .is-two .ensures) ∙ c .before .if3 .left)
+    rw (
+      ne-eqb op 7 (tested .before .before .if1 .left),
+      ne-eqb op 12 (tested .before .if2 .left),
+      sym (tested .is-two .ensures) ∙ c .before .if3 .left,
+    )
     (c .one .ensures)
 
 pub element-of-spec : {M : Type 1} → statement M

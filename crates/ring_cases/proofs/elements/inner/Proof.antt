@@ -20,7 +20,9 @@ inner-requires c κs =
     let s = c .before .before in
     let degree = s .pre .0 in
     let size : c .before .size .result ≤ 8 = rw (c .before .size .ensures) (size-bound 8 (s .args .xs .now) 2) in
-    let fits = inner-fits (c .before .size .result) (s .args .d) _ size (degree .small) (rest-length (s .args .xs .now) 3 (s .pre .1) (c .past-numbers .ensures)) in
+    let fits =
+    inner-fits (c .before .size .result) (s .args .d) _ size (degree .small)
+    (rest-length (s .args .xs .now) 3 (s .pre .1) (c .past-numbers .ensures)) in
     (degree, (omega (arith, size), fits .0, fits .1))
 
 returns : tie.Need-returns

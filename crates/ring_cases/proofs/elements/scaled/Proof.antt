@@ -14,7 +14,9 @@ past-numbers-requires : tie.Need-past-numbers-requires
 past-numbers-requires c κs = search needs
 
 from-slice-requires : tie.Need-from-slice-requires
-from-slice-requires c κs = (c .before .pre .0, omega (arith, c .before .pre .0 .small, rest-length (c .before .args .xs .now) 3 (c .before .pre .1) (c .past-numbers .ensures)))
+from-slice-requires c κs =
+    let s = c .before in
+    (s .pre .0, omega (arith, s .pre .0 .small, rest-length (s .args .xs .now) 3 (s .pre .1) (c .past-numbers .ensures)))
 
 number-at-requires : tie.Need-number-at-requires
 number-at-requires c κs = search needs

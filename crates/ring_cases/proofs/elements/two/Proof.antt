@@ -9,7 +9,9 @@ use Rattle.ring_cases.proofs.elements.two.Statement.{statement}
 use Rattle.ring_cases.proofs.elements.two.Tie as tie
 
 from-slice-requires : tie.Need-from-slice-requires
-from-slice-requires c κs = (c .before .pre .0, omega (arith, c .before .pre .0 .small, rest-length (c .before .args .xs .now) 2 (c .before .pre .1) (c .past-numbers .ensures)))
+from-slice-requires c κs =
+    let s = c .before in
+    (s .pre .0, omega (arith, s .pre .0 .small, rest-length (s .args .xs .now) 2 (s .pre .1) (c .past-numbers .ensures)))
 
 from-slice-requires-2 : tie.Need-from-slice-requires-2
 from-slice-requires-2 c κs = (
@@ -29,7 +31,14 @@ returns c =
     let s = first .before .before in
     let small = s .pre .0 .small in
     c .of-two .ensures
-    ∙ rw (first .from-slice .ensures, second .from-slice2 .ensures, lift-array (s .args .d) _ small, lift-array (s .args .d) _ small, first .before .past-numbers .ensures) refl
+    ∙ rw (
+      first .from-slice .ensures,
+      second .from-slice2 .ensures,
+      lift-array (s .args .d) _ small,
+      lift-array (s .args .d) _ small,
+      first .before .past-numbers .ensures,
+    )
+    refl
 
 pub two-spec : {M : Type 1} → statement M
 two-spec =

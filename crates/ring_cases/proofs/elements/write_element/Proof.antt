@@ -25,7 +25,8 @@ returns c =
     let stored = c .before in
     let element = stored .before .before in
     let s = element .before .before in
-    element-out (s .args .operation) (s .args .xs .now) (s .args .out .now) _ _ (element .before .degree-at .ensures) (element .element-of .ensures) (stored .store .ensures)
+    element-out (s .args .operation) (s .args .xs .now) (s .args .out .now) _ _
+    (element .before .degree-at .ensures) (element .element-of .ensures) (stored .store .ensures)
 
 pub write-element-spec : {M : Type 1} → statement M
 write-element-spec =

@@ -33,8 +33,10 @@ slice-aggregate-run-2 c = sym (read-length 2048 _ _ (c .before .before .before .
 run-requires : tie.Need-run-requires
 run-requires c κs =
     let narrowed = c .before .before .before .before .before .before in
-    let read = narrowed .before .before .before .before in
-    (words-length 2048 (read .scan .last .1 .0) _ (read-length 2048 _ _ (read .scan .ensures)) (narrowed .narrow .ensures), read .before .before .before .pre)
+    let read = narrowed .before .before .before .before in (
+      words-length 2048 (read .scan .last .1 .0) _ (read-length 2048 _ _ (read .scan .ensures)) (narrowed .narrow .ensures),
+      read .before .before .before .pre,
+    )
 
 returns : tie.Need-returns
 returns c =

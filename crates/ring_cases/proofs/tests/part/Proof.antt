@@ -8,7 +8,9 @@ past-numbers-requires : tie.Need-past-numbers-requires
 past-numbers-requires c κs = search needs
 
 returns : tie.Need-returns
-returns c = list-short (c .before .before .args .n) (c .before .before .args .place) (c .before .before .args .xs .now) (c .before .past-numbers .ensures) (c .if1 .taken)
+returns c =
+    let s = c .before .before in
+    list-short (s .args .n) (s .args .place) (s .args .xs .now) (c .before .past-numbers .ensures) (c .if1 .taken)
 
 sub-result : tie.Need-sub-result
 sub-result c = search needs

@@ -16,7 +16,9 @@ same-length : tie.Need-same-length
 same-length c = search needs
 
 returns : tie.Need-returns
-returns c = rw (← toZ-ofZ {w = w32} (record { sfits = c .before .before .before .value-of .ok }) ∙ c .before .before .before .value-of .ensures) (c .before .write-one .ensures)
+returns c =
+    let value = c .before .before .before in
+    rw (← toZ-ofZ {w = w32} (record { sfits = value .value-of .ok }) ∙ value .value-of .ensures) (c .before .write-one .ensures)
 
 pub write-value-spec : {M : Type 1} → statement M
 write-value-spec = tie.close (tie.spec value-of-requires write-one-requires same-length returns)
