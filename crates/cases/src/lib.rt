@@ -1,5 +1,6 @@
-// What the test programs over the layers share: numbers and lists read from a text, and results printed.
+// What the test programs over the layers share: the numbers and lists of a case, which is one line of a text, and results printed.
 pub mod lists;
 pub mod numbers;
 pub mod printing;
 pub mod sums;
+pub mod text;

@@ -1,7 +1,10 @@
 // Lists on standard output as their length and a checksum. Each printing call answers how many numbers the list has.
 ghost use mathlib.Core.Path.{_≡_};
-ghost use Prim.Native.Nat.{_<_, _≤_};
+ghost use Prim.Native.Nat.{_<_};
+ghost use lib.IntN.{pos, _+ℤ_, _*ℤ_};
 ghost use lib.ListN.{length};
+ghost use Rattle.integers.specs.Remainder.{emod};
+ghost use Rattle.cases.specs.Sums.{checksum};
 use crate::printing::print_gap;
 use crate::printing::print_words;
 use residues::range;
@@ -12,13 +15,13 @@ const MODULUS: u64 = 2147483647;
 // The longest list whose numbers are printed.
 const SHOWN: usize = 1000;
 
-// A number congruent to x modulo the checksums' modulus.
+// x modulo the checksums' modulus.
 fn residue(x: i32) -> u64
-    ensures { λ r. ⌜ r ≤ 2147483647 ⌝ }
+    ensures { λ r. ⌜ r ≡ emod x 2147483647 ⌝ }
 {
     let rest = range::magnitude(x) % MODULUS;
     if x < 0 {
-        return MODULUS - rest;
+        return (MODULUS - rest) % MODULUS;
     }
     rest
 }
@@ -26,7 +29,7 @@ fn residue(x: i32) -> u64
 // The sum with the number x, counted `times` times, modulo the checksums' modulus.
 fn with_number(sum: u64, times: u64, x: i32) -> u64
     requires { ⌜ sum < 2147483647 ⌝ }
-    ensures { λ r. ⌜ r < 2147483647 ⌝ }
+    ensures { λ r. ⌜ r ≡ emod (pos sum +ℤ pos times *ℤ x) 2147483647 ⌝ }
 {
     let factor = times % MODULUS;
     let product = factor * residue(x);
@@ -35,7 +38,7 @@ fn with_number(sum: u64, times: u64, x: i32) -> u64
 
 // The first number once, the second twice, and so on, modulo 2^31 - 1.
 fn checksum(xs: &[i32]) -> u64
-    ensures { λ r. ⌜ r < 2147483647 ⌝ }
+    ensures { λ r. ⌜ r ≡ checksum (now (xs .entry)) ⌝ }
 {
     let mut sum: u64 = 0;
     let mut i = 0;

@@ -1,46 +1,44 @@
--- `cases::lists::past_lists` meets its contract: each place is inside the list. Assumes nothing.
-use Prim.Native.Nat.{_-_, _≤_}
+-- `cases::lists::past_lists` meets its contract. The loop's invariant: `at` is the place after i lists. Assumes nothing.
+use mathlib.Core.Path.{_≡_, refl, ap, _∙_}
+use Prim.Native.Nat.{ℕ, _-_, _≤_}
 use native.Mathlib.Omega.{arith}
-use lib.ListN.{length}
+use lib.ListN.{length, drop}
 use borrow.Author.Needs.{needs}
+use Rattle.cases.specs.Lists.{pastLists}
+use Rattle.cases.specs.ListLaws.{past-some, width-fits, lists-next}
 use Rattle.cases.proofs.lists.past_lists.Statement.{statement}
 use Rattle.cases.proofs.lists.past_lists.Tie as tie
 
 abbrev Inv-loop : tie.InvT-loop
-Inv-loop xs count at₀ i₀ at i = at ≤ length xs
+Inv-loop xs count at₀ i₀ at i = (i ≤ count) × (at ≤ length xs) × (drop at xs ≡ pastLists i xs)
 
 abbrev μ-loop : tie.MeasureT-loop
 μ-loop xs count at₀ i₀ at i = count - i
 
 loop-holds : tie.Need-loop-holds Inv-loop μ-loop
-loop-holds c = omega arith
+unfolding pastLists
+loop-holds c = (omega arith, omega arith, refl)
 
-after-list-requires : tie.Need-after-list-requires Inv-loop μ-loop
-after-list-requires c κs = tt
-
-add-i : tie.Need-add-i Inv-loop μ-loop
-add-i c = omega arith
-
-loop-less : tie.Need-loop-less Inv-loop μ-loop
-loop-less c = omega arith
+add-at : tie.Need-add-at Inv-loop μ-loop
+add-at c =
+    let l = c .before .before .before in
+    omega (arith, c .before .before .before .loop .inv .1, width-fits (l .before .args .xs .now) (l .loop .at) (l .loop .inv .1) (c .first-width .ensures))
 
 loop-again : tie.Need-loop-again Inv-loop μ-loop
-loop-again c = omega arith
-
-mul-result : tie.Need-mul-result Inv-loop μ-loop
-mul-result c = omega arith
-
-sub-result : tie.Need-sub-result Inv-loop μ-loop
-sub-result c = omega arith
-
-part-result-start : tie.Need-part-result-start Inv-loop μ-loop
-part-result-start c = search needs
-
-part-result-end : tie.Need-part-result-end Inv-loop μ-loop
-part-result-end c = search needs
+loop-again c =
+    let l = c .before .before .before in
+    let xs = l .before .args .xs .now in (
+      omega arith,
+      width-fits xs (l .loop .at) (l .loop .inv .1) (c .first-width .ensures),
+      lists-next xs (l .loop .i) (l .loop .at) (l .loop .inv .2) (c .first-width .ensures),
+    )
 
 returns : tie.Need-returns Inv-loop μ-loop
-returns c = search needs
+returns c =
+    let l = c .before .before in
+    let xs = l .before .args .xs .now in
+    let all : l .loop .i ≡ l .before .args .count = omega arith in
+    past-some (l .loop .at) xs ∙ l .loop .inv .2 ∙ ap (λ (k : ℕ). pastLists k xs) all
 
 pub past-lists-spec : {M : Type 1} → statement M
 past-lists-spec =
@@ -49,12 +47,17 @@ past-lists-spec =
     Inv-loop
     μ-loop
     loop-holds
-    after-list-requires
-    add-i
-    loop-less
+    (λ c. omega arith)
+    (λ c. omega arith)
+    (λ c. search needs)
+    (λ c. search needs)
+    (λ c κs. tt)
+    add-at
+    (λ c. omega arith)
+    (λ c. omega arith)
     loop-again
-    mul-result
-    sub-result
-    part-result-start
-    part-result-end
+    (λ c. omega arith)
+    (λ c. omega arith)
+    (λ c. search needs)
+    (λ c. search needs)
     returns)

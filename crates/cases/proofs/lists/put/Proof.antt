@@ -1,52 +1,47 @@
--- `cases::lists::put` meets its contract: it stays inside the list. Assumes nothing.
-use mathlib.Core.Path.{_≡_, refl}
+-- `cases::lists::put` meets its contract. Assumes nothing.
+use mathlib.Core.Path.{_≡_, refl, sym, _∙_}
 use Prim.Native.Nat.{_-_, _≤_}
 use native.Mathlib.Omega.{arith}
-use lib.ListN.{length, length-set}
+use lib.ListN.{length, getD, length-set}
+use lib.IntN.{pos}
+use mir.Facts.{toZ-ofZ}
+use Rattle.integers.specs.Over.{over, over-nil}
+use Rattle.integers.specs.Lists.{tab}
+use Rattle.cases.specs.ListLaws.{put-next, put-end}
 use Rattle.cases.proofs.lists.put.Statement.{statement}
 use Rattle.cases.proofs.lists.put.Tie as tie
 
 abbrev Inv-loop : tie.InvT-loop
-Inv-loop out₀ at part width to₀ i₀ out to i = (length out ≡ length out₀) × (to ≤ length out)
+Inv-loop out₀ at part width count i₀ out i =
+    (i ≤ count) × (out ≡ over out₀ at (tab i (λ k. getD part k (pos 0)))) × (length out ≡ length out₀)
 
 abbrev μ-loop : tie.MeasureT-loop
-μ-loop out₀ at part width to₀ i₀ out to i = width - i
+μ-loop out₀ at part width count i₀ out i = count - i
 
 loop-holds : tie.Need-loop-holds Inv-loop μ-loop
-loop-holds c = (refl, omega arith)
+unfolding tab
+loop-holds c = (omega arith, sym (over-nil (c .before .args .out .now) (c .before .args .at)), refl)
 
-same-length : tie.Need-same-length Inv-loop μ-loop
-same-length c = c .before .before .loop .inv .0
-
-returns : tie.Need-returns Inv-loop μ-loop
-returns c = omega arith
-
-padded-requires : tie.Need-padded-requires Inv-loop μ-loop
-padded-requires c κs = tt
-
-mul-t8 : tie.Need-mul-t8 Inv-loop μ-loop
-mul-t8 c = omega arith
-
-slice-set-from-out : tie.Need-slice-set-from-out Inv-loop μ-loop
-slice-set-from-out c = omega arith
-
-add-to : tie.Need-add-to Inv-loop μ-loop
-add-to c = omega arith
-
-add-i : tie.Need-add-i Inv-loop μ-loop
-add-i c = omega arith
-
-loop-less : tie.Need-loop-less Inv-loop μ-loop
-loop-less c = omega arith
+add-x : tie.Need-add-x Inv-loop μ-loop
+add-x c = omega arith
 
 loop-again : tie.Need-loop-again Inv-loop μ-loop
-loop-again c = simp length-set (omega arith, omega arith)
+loop-again c =
+    let l = c .before .before in
+    let s = l .before .before in
+    let number = toZ-ofZ (record { sfits = c .number-at .ok }) ∙ c .number-at .ensures in (
+      omega arith,
+      put-next (s .args .out .now) (l .loop .out) (s .args .part .now) (s .args .at) (l .loop .i) (l .loop .inv .1) (omega arith) number,
+      simp length-set (l .loop .inv .2),
+    )
 
-same-length-2 : tie.Need-same-length-2 Inv-loop μ-loop
-same-length-2 c = c .before .loop .inv .0
-
-returns-2 : tie.Need-returns-2 Inv-loop μ-loop
-returns-2 c = omega arith
+returns : tie.Need-returns Inv-loop μ-loop
+returns c =
+    let l = c .before in
+    let s = l .before .before in (
+      omega arith,
+      put-end (s .args .out .now) (l .loop .out) (s .args .part .now) (s .args .at) (l .loop .i) (l .loop .inv .1) (omega arith),
+    )
 
 pub put-spec : {M : Type 1} → statement M
 put-spec =
@@ -54,15 +49,16 @@ put-spec =
     (tie.spec
     Inv-loop
     μ-loop
+    (λ c. omega arith)
+    (λ c κs. tt)
     loop-holds
-    same-length
-    returns
-    padded-requires
-    mul-t8
-    slice-set-from-out
-    add-to
-    add-i
-    loop-less
+    (λ c κs. tt)
+    add-x
+    (λ c. omega arith)
+    (λ c. omega arith)
+    (λ c. omega arith)
+    (λ c. omega arith)
     loop-again
-    same-length-2
-    returns-2)
+    (λ c. omega arith)
+    (λ c. c .before .loop .inv .2)
+    returns)
