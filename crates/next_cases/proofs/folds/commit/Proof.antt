@@ -1,0 +1,34 @@
+-- `next_cases::folds::commit` meets its contract. Assumes nothing.
+use Rattle.next_cases.specs.MessageLaws.{blank-inside, blank-fits, kept-again}
+use Rattle.next_cases.specs.RunLaws.{committing}
+use borrow.Author.Needs.{needs}
+use Rattle.next_cases.proofs.folds.commit.Statement.{statement}
+use Rattle.next_cases.proofs.folds.commit.Tie as tie
+
+array-borrow-prefix-t-room : tie.Need-array-borrow-prefix-t-room
+array-borrow-prefix-t-room c = blank-inside 32768 _ 1 (c .before .before .size .ensures)
+
+slice-aggregate-t : tie.Need-slice-aggregate-t
+slice-aggregate-t c = blank-fits 32768 _ 1 (c .before .before .before .size .ensures)
+
+array-borrow-prefix-g-room : tie.Need-array-borrow-prefix-g-room
+array-borrow-prefix-g-room c = blank-inside 32768 _ 2 (c .before .before .size2 .ensures)
+
+slice-aggregate-g : tie.Need-slice-aggregate-g
+slice-aggregate-g c = blank-fits 32768 _ 2 (c .before .before .before .size2 .ensures)
+
+array-borrow-prefix-u1-room : tie.Need-array-borrow-prefix-u1-room
+array-borrow-prefix-u1-room c = blank-inside 32768 _ 4 (c .before .before .size3 .ensures)
+
+slice-aggregate-u1 : tie.Need-slice-aggregate-u1
+slice-aggregate-u1 c = blank-fits 32768 _ 4 (c .before .before .before .size3 .ensures)
+
+returns : tie.Need-returns
+returns c =
+    committing (c .before .before .before .before .before .before .before .before .before .before .before .before .before .before .before .before .before .before .before .before .before .before .before .before .before .before .commit-sizes .ensures) (c .before .before .before .before .before .before .before .before .before .before .before .before .before .before .before .before .before .before .before .before .before .before .before .before .before .nth-list .ensures) (c .before .before .before .before .before .before .before .before .before .before .before .before .before .before .before .before .before .before .before .before .before .before .before .before .nth-list2 .ensures)
+    (c .before .before .before .before .before .before .before .before .before .before .before .before .before .before .before .before .before .before .before .before .before .before .before .nth-list3 .ensures) (c .before .before .before .before .before .before .before .before .before .before .before .before .before .before .before .before .before .before .before .before .before .before .before .before .before .before .before .before .before .before .before .before .size .ensures) (c .before .before .before .before .before .before .before .before .before .before .before .before .before .before .before .before .before .before .before .before .before .before .before .before .before .before .before .before .before .before .before .size2 .ensures) (c .before .before .before .before .before .before .before .before .before .before .before .before .before .before .before .before .before .before .before .before .before .before .before .before .before .before .before .before .before .before .size3 .ensures)
+    (c .before .before .before .before .before .before .before .before .before .before .before .before .before .before .before .before .before .before .before .lizkarg-commit .ensures)
+    (kept-again (c .before .before .before .before .before .before .before .before .before .before .before .before .before .before .before .before .before .before .before .before .before .before .before .before .before .before .before .before .before .before .before .before .before .args .lengths .now) 4 _ (kept-again (c .before .before .before .before .before .before .before .before .before .before .before .before .before .before .before .before .before .before .before .before .before .before .before .before .before .before .before .before .before .before .before .before .before .args .lengths .now) 2 _ (c .before .before .before .before .before .before .before .before .before .before .before .before .keep .ensures) (c .before .before .before .before .before .before .before .keep2 .ensures)) (c .before .before .keep3 .ensures))
+
+pub commit-spec : {M : Type 1} → statement M
+commit-spec = tie.close (tie.spec (λ c κs. tt) (λ c κs. tt) (λ c κs. tt) array-borrow-prefix-t-room slice-aggregate-t array-borrow-prefix-g-room slice-aggregate-g array-borrow-prefix-u1-room slice-aggregate-u1 (λ c κs. tt) (λ c κs. tt) (λ c κs. tt) (λ c κs. tt) (λ c κs. tt) (λ c κs. tt) (λ c κs. tt) (λ c κs. tt) (λ c κs. tt) (λ c. search needs) returns)

@@ -1,0 +1,27 @@
+-- `next_cases::folds::commit_garbage` meets its contract. Assumes nothing.
+use Rattle.next_cases.specs.MessageLaws.{blank-inside, blank-fits, kept-again}
+use Rattle.next_cases.specs.RunLaws.{garbage-committing}
+use borrow.Author.Needs.{needs}
+use Rattle.next_cases.proofs.folds.commit_garbage.Statement.{statement}
+use Rattle.next_cases.proofs.folds.commit_garbage.Tie as tie
+
+array-borrow-prefix-h-room : tie.Need-array-borrow-prefix-h-room
+array-borrow-prefix-h-room c = blank-inside 32768 _ 3 (c .before .size .ensures)
+
+slice-aggregate-h : tie.Need-slice-aggregate-h
+slice-aggregate-h c = blank-fits 32768 _ 3 (c .before .before .size .ensures)
+
+array-borrow-prefix-u2-room : tie.Need-array-borrow-prefix-u2-room
+array-borrow-prefix-u2-room c = blank-inside 32768 _ 7 (c .before .size2 .ensures)
+
+slice-aggregate-u2 : tie.Need-slice-aggregate-u2
+slice-aggregate-u2 c = blank-fits 32768 _ 7 (c .before .before .size2 .ensures)
+
+returns : tie.Need-returns
+returns c =
+    garbage-committing (c .before .before .before .before .before .before .before .before .before .before .before .before .before .before .before .before .before .before .before .before .garbage-sizes .ensures) (c .before .before .before .before .before .before .before .before .before .before .before .before .before .before .before .before .before .before .before .nth-list .ensures) (c .before .before .before .before .before .before .before .before .before .before .before .before .before .before .before .before .before .before .nth-list2 .ensures)
+    (c .before .before .before .before .before .before .before .before .before .before .before .before .before .before .before .before .before .nth-list3 .ensures) (c .before .before .before .before .before .before .before .before .before .before .before .before .before .before .before .before .nth-list4 .ensures) (c .before .before .before .before .before .before .before .before .before .before .before .before .before .before .before .before .before .before .before .before .before .before .before .before .size .ensures) (c .before .before .before .before .before .before .before .before .before .before .before .before .before .before .before .before .before .before .before .before .before .before .before .size2 .ensures)
+    (c .before .before .before .before .before .before .before .before .before .before .before .before .before .lizkarg-commit-garbage .ensures) (kept-again (c .before .before .before .before .before .before .before .before .before .before .before .before .before .before .before .before .before .before .before .before .before .before .before .before .before .args .lengths .now) 7 _ (c .before .before .before .before .before .before .before .keep .ensures) (c .before .before .keep2 .ensures))
+
+pub commit-garbage-spec : {M : Type 1} → statement M
+commit-garbage-spec = tie.close (tie.spec (λ c κs. tt) (λ c κs. tt) array-borrow-prefix-h-room slice-aggregate-h array-borrow-prefix-u2-room slice-aggregate-u2 (λ c κs. tt) (λ c κs. tt) (λ c κs. tt) (λ c κs. tt) (λ c κs. tt) (λ c κs. tt) (λ c κs. tt) (λ c κs. tt) (λ c κs. tt) (λ c. search needs) returns)

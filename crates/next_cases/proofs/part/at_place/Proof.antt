@@ -1,0 +1,17 @@
+-- `next_cases::part::at_place` meets its contract. Assumes nothing.
+use mathlib.Core.Path.{_≡_, ap}
+use Prim.Native.Nat.{ℕ, _+_, _-_}
+use native.Mathlib.Omega.{arith}
+use lib.ListN.{take, drop}
+use borrow.Author.Needs.{needs}
+use Rattle.next_cases.proofs.part.at_place.Statement.{statement}
+use Rattle.next_cases.proofs.part.at_place.Tie as tie
+
+returns : tie.Need-returns
+returns c =
+    let a = c .before .before .args in
+    let count : a .place .start + a .place .length - a .place .start ≡ a .place .length = omega arith in
+    ap (λ (n : ℕ). take n (drop (a .place .start) (a .opening .now))) count
+
+pub at-place-spec : {M : Type 1} → statement M
+at-place-spec = tie.close (tie.spec (λ c. search needs) (λ c. search needs) (λ c. search needs) (λ c. search needs) (λ c. search needs) returns)
