@@ -30,7 +30,8 @@ unfolding firstSize
 size-inside xs = size-bound (length xs - 1) xs 0
 
 -- the place after one more list, of which the slice from `at` on tells the width
-pub width-fits : (xs : List ℤ) (at : ℕ) {w : ℕ} → at ≤ length xs → w ≡ firstWidth (take (length xs - at) (drop at xs)) → at + w ≤ length xs
+pub width-fits : (xs : List ℤ) (at : ℕ) {w : ℕ} → at ≤ length xs → w ≡ firstWidth (take (length xs - at) (drop at xs))
+    → at + w ≤ length xs
 unfolding firstWidth
 width-fits xs at h e = omega (arith, e, ap (λ (l : List ℤ). length l) (past-some at xs), length-drop at xs)
 

@@ -47,7 +47,8 @@ module _ (wides words₀ words : List ℤ) (i : ℕ) (e : words ≡ over words�
 
   pub narrow-end : i ≡ length wides → length wides ≡ length words₀ → words ≡ map word wides
   narrow-end q fits =
-      let whole : length (tab i (λ k. word (getD wides k (pos 0)))) ≡ length words₀ = omega (arith, length-tab i (λ k. word (getD wides k (pos 0)))) in
+      let whole : length (tab i (λ k. word (getD wides k (pos 0)))) ≡ length words₀ =
+      omega (arith, length-tab i (λ k. word (getD wides k (pos 0)))) in
       e ∙ over-all words₀ _ whole ∙ ap (λ (k : ℕ). tab k (λ j. word (getD wides j (pos 0)))) q ∙ word-tab wides
 
 -- ---- sizes

@@ -1,5 +1,6 @@
 -- Numbers in a text: decimal, with a minus sign or without. A byte of at most 32, a blank or a line feed, ends a number, and a line feed ends
 -- a line.
+use mathlib.Core.Path.{_≡_}
 use mathlib.Core.Bool.{Bool, true, false, cond, _||_}
 use mathlib.Core.List.{List, [], _∷_}
 use Prim.Native.Nat.{ℕ, zero, suc, _+_, _*_, _-_, min}
@@ -39,3 +40,8 @@ pastLine text = drop (lineLength text) text
 unfoldable pub pastLines : ℕ → List ℕ → List ℕ
 pastLines zero text = text
 pastLines (suc n) text = pastLine (pastLines n text)
+
+-- the first bytes of a buffer are a text of so many lines
+pub record Lines (buffer : List ℕ) (count : ℕ) : Type 0 where
+  pub size : ℕ
+  pub all : pastLines count (take size buffer) ≡ []

@@ -1,18 +1,19 @@
 -- Laws of texts: numbers read byte by byte, and lines found.
 use mathlib.Core.Path.{_≡_, refl, sym, ap, _∙_}
 use mathlib.Core.Bool.{Bool, true, false, cond, _||_}
-use mathlib.Core.List.{List, [], _∷_}
+use mathlib.Core.List.{List, [], _∷_, map}
 use Prim.Native.Nat.{ℕ, zero, suc, _+_, _*_, _-_, _≤_, _<_, min}
 use native.Mathlib.Numerals.{add-one}
 use native.Mathlib.Nat.{zero-add, add-zero}
 use native.Mathlib.Omega.{arith}
 use lib.Dec.{eqb, leb, ltb}
 use lib.IntN.{ℤ, pos, negℤ}
-use lib.ListN.{length, getD, take, drop, replicate, set, length-drop, drop-of-length-le, List·getD-eq-default}
+use lib.ListN.{length, getD, take, drop, replicate, set, length-drop, length-replicate, length-map, drop-of-length-le}
+use lib.ListN.{List·getD-eq-default}
 use lib.Seq.{drop-cons, drop-drop, getD-drop, take-all}
 use borrow.Author.Tests.{ltb-true, ltb-false, lt-ltb, le-ltb, le-leb, lt-leb, eq-eqb, ne-eqb}
-use Rattle.integers.specs.Lists.{tab, tab-cong, upto, upto-below, upto-above, fill-start, fill-step}
-use Rattle.cases.specs.Numbers.{padded}
+use Rattle.integers.specs.Lists.{tab, length-tab, tab-cong, upto, upto-below, upto-above, fill-start, fill-step}
+use Rattle.cases.specs.Numbers.{padded, word}
 use Rattle.cases.specs.Text.{withDigit, withSign, numbersFrom, lineNumbers, lineLength, pastLine, pastLines}
 
 -- ---- one more digit
@@ -205,3 +206,20 @@ module _ (text : List ℕ) (at : ℕ) {k : ℕ} (e : k ≡ lineLength (take (len
 
 pub lines-end : (text : List ℕ) (count at : ℕ) → drop at text ≡ pastLines count text → length text ≤ at → pastLines count text ≡ []
 lines-end text count at e h = sym e ∙ drop-of-length-le text h
+
+-- ---- a line's numbers in arrays of zeros, whose length is any n, so that they are not written out
+
+pub zeros : (n : ℕ) → replicate n (pos 0) ≡ replicate (length (replicate n (pos 0))) (pos 0)
+zeros n = ap (λ (k : ℕ). replicate k (pos 0)) (sym (length-replicate n (pos 0)))
+
+-- the type is given too, for the same reason
+pub filled : (A : Type 0) (n : ℕ) (x : A) → n ≡ length (replicate n x)
+filled A n x = sym (length-replicate n x)
+
+pub read-length : (n : ℕ) (xs wides : List ℤ) → wides ≡ padded (length (replicate n (pos 0))) xs → length wides ≡ n
+unfolding padded
+read-length n xs wides e =
+    ap (λ (l : List ℤ). length l) e ∙ length-tab (length (replicate n (pos 0))) (λ i. getD xs i (pos 0)) ∙ length-replicate n (pos 0)
+
+pub words-length : (n : ℕ) (wides words : List ℤ) → length wides ≡ n → words ≡ map word wides → length words ≡ n
+words-length n wides words e f = ap (λ (l : List ℤ). length l) f ∙ length-map wides word ∙ e

@@ -1,10 +1,15 @@
-// The numbers of a case: the number of its call, its sizes, then its lists. What is missing counts as 0.
+// The numbers of a case: the number of its call, its sizes, then its lists, and then the lengths of the lists that the call writes.
 ghost use mathlib.Core.Path.{_≡_};
-ghost use Prim.Native.Nat.{_≤_};
 ghost use lib.IntN.{pos};
 ghost use lib.ListN.{length, replicate, take};
+ghost use Rattle.cases.specs.Numbers.{sizeAt};
+ghost use Rattle.fold_cases.specs.Input.{naturalAt, sizesOf, shapeOf, commitSizesOf, garbageSizesOf};
 use cases::numbers::natural;
 use cases::numbers::size;
+use cases::numbers::wide_at;
+use fold::CommitSizes;
+use fold::GarbageSizes;
+use fold::Shape;
 use fold::Sizes;
 
 // Where the lists of a case begin: after its call and sixteen sizes.
@@ -17,21 +22,20 @@ pub const ROOM: usize = 8192;
 pub const FILL: i32 = 77;
 
 fn bound_at(wides: &[i64], place: usize) -> u64
-    ensures { λ r. ⌜ r ≤ 9223372036854775807 ⌝ }
+    ensures { λ r. ⌜ r ≡ naturalAt (now (wides .entry)) place ⌝ }
 {
-    if wides.len() <= place {
-        return 0;
-    }
-    natural(wides[place])
+    natural(wide_at(wides, place))
 }
 
-fn size_at(wides: &[i64], place: usize) -> usize {
+fn size_at(wides: &[i64], place: usize) -> usize
+    ensures { λ r. ⌜ r ≡ naturalAt (now (wides .entry)) place ⌝ }
+{
     bound_at(wides, place) as usize
 }
 
 // The sizes of a case: they may be any that an i64 holds, so that the calls refuse them.
 pub fn read_sizes(wides: &[i64]) -> Sizes
-    ensures { λ r. ⌜ (r .bound ≤ 9223372036854775807) × (r .target ≤ 9223372036854775807) ⌝ }
+    ensures { λ r. ⌜ r ≡ sizesOf (now (wides .entry)) ⌝ }
 {
     Sizes {
         d: size_at(wides, 1),
@@ -53,9 +57,51 @@ pub fn read_sizes(wides: &[i64]) -> Sizes
     }
 }
 
-// The length of a list to write, 0 where it is too long. The filled array has a part that long.
-pub fn count_at(xs: &[i32], place: usize) -> usize
-    ensures { λ r. ⌜ (r ≤ 8192) × (r ≡ length (take r (replicate 8192 (pos 77)))) ⌝ }
+pub fn shape(sizes: Sizes) -> Shape
+    ensures { λ r. ⌜ r ≡ shapeOf sizes ⌝ }
 {
-    size(xs, place, ROOM)
+    Shape {
+        d: sizes.d,
+        n: sizes.n,
+        r: sizes.r,
+    }
+}
+
+pub fn commit_sizes(sizes: Sizes) -> CommitSizes
+    ensures { λ r. ⌜ r ≡ commitSizesOf sizes ⌝ }
+{
+    CommitSizes {
+        d: sizes.d,
+        n: sizes.n,
+        r: sizes.r,
+        kappa: sizes.kappa,
+        kappa1: sizes.kappa1,
+        b1: sizes.b1,
+        b2: sizes.b2,
+        t1: sizes.t1,
+        t2: sizes.t2,
+    }
+}
+
+pub fn garbage_sizes(sizes: Sizes) -> GarbageSizes
+    ensures { λ r. ⌜ r ≡ garbageSizesOf sizes ⌝ }
+{
+    GarbageSizes {
+        d: sizes.d,
+        n: sizes.n,
+        r: sizes.r,
+        k: sizes.k,
+        l: sizes.l,
+        w: sizes.w,
+        kappa2: sizes.kappa2,
+        b1: sizes.b1,
+        t1: sizes.t1,
+    }
+}
+
+// The length of a list to write, 0 where it is too long. The filled array has a part that long.
+pub fn count_at(lengths: &[i32], place: usize) -> usize
+    ensures { λ r. ⌜ (r ≡ sizeAt 8192 (now (lengths .entry)) place) × (r ≡ length (take r (replicate 8192 (pos 77)))) ⌝ }
+{
+    size(lengths, place, ROOM)
 }

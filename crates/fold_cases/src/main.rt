@@ -1,14 +1,13 @@
-// Runs the fold's calls on the cases of tools/reference/fold_cases.py: standard input has one case a line, standard output gets the
-// answer and what the call wrote, one line for each. The check compares them with the results of the second implementation.
+// Runs the fold's calls, under the names that C uses, on the cases of tools/reference/fold_cases.py: standard input has one case a line,
+// standard output gets the answer and what the call wrote, one line for each. The check compares them with the results of the second
+// implementation.
 mod input;
 mod messages;
 mod output;
 mod runs;
-mod verifier;
+mod verification;
 
 fn main() {
     let mut text = [0u8; 1048576];
-    let mut words = [0i32; 163840];
-    let mut wides = [0i64; 163840];
-    runs::run_text(&mut text, &mut words, &mut wides);
+    runs::run_text(&mut text);
 }

@@ -1,16 +1,15 @@
 // Answers and lists on standard output. Each call answers what it printed: the answer's number, or how many numbers.
 ghost use mathlib.Core.Path.{_≡_};
 ghost use lib.ListN.{length};
-ghost use Rattle.fold.specs.Answers.{numberOf};
+use capi::types::CAnswer;
 use cases::printing;
-use fold::Answer;
 
 // The answer's kind and number.
-pub fn print_answer(answer: Answer) -> u8
-    ensures { λ r. ⌜ r ≡ numberOf answer ⌝ }
+pub fn print_answer(answer: CAnswer) -> u8
+    ensures { λ r. ⌜ r ≡ answer .number ⌝ }
 {
-    let kind = answer.kind();
-    let number = answer.number();
+    let kind = answer.kind;
+    let number = answer.number;
     io::print_decimal(1, kind as u64);
     printing::print_gap(1);
     io::print_decimal(1, number as u64);

@@ -1,49 +1,73 @@
 // The cases one after another.
-ghost use Prim.Native.Nat.{_≤_};
-ghost use lib.ListN.{length};
+ghost use mathlib.Core.Path.{_≡_};
+ghost use mathlib.Core.List.{[]};
+ghost use Rattle.capi.specs.Codes.{codeOf};
+ghost use Rattle.cases.specs.Text.{pastLines, Lines};
+ghost use Rattle.fold_cases.specs.Answers.{callAnswer, caseAnswer, lineAnswer};
 use crate::input;
 use crate::messages;
-use crate::verifier;
-use cases::lists;
+use crate::verification;
+use capi::types::CAnswer;
+use cases::lists::past_numbers;
 use cases::numbers;
 use cases::printing;
+use cases::text;
 use fold::Sizes;
 
-// One case: its call, its sizes, and all numbers from its first on. It answers how many the case has; 0 where the call is none.
-fn run(call: i32, sizes: Sizes, xs: &[i32]) -> usize
-    ensures { λ r. ⌜ r ≤ length (now (xs .entry)) ⌝ }
+// A call by its number: every other than 1 to 5 is the verifier's.
+fn run_call(call: usize, sizes: Sizes, lists: &[i32]) -> CAnswer
+    ensures { λ x. ⌜ x ≡ codeOf (callAnswer call sizes (now (lists .entry))) ⌝ }
 {
     match call {
-        1 => messages::run_commit(sizes, xs),
-        2 => messages::run_project(sizes, xs),
-        3 => messages::run_aggregate(sizes, xs),
-        4 => messages::run_commit_garbage(sizes, xs),
-        5 => messages::run_amortize(sizes, xs),
-        6 => verifier::run_verify(sizes, xs),
-        _ => 0,
+        1 => messages::run_commit(sizes, lists),
+        2 => messages::run_project(sizes, lists),
+        3 => messages::run_aggregate(sizes, lists),
+        4 => messages::run_commit_garbage(sizes, lists),
+        5 => messages::run_amortize(sizes, lists),
+        _ => verification::run_verify(sizes, lists),
     }
 }
 
-fn run_all(words: &[i32], wides: &[i64]) {
-    let mut at = 0;
-    while at < words.len() {
-        let call = words[at];
-        let sizes = input::read_sizes(lists::rest(wides, at));
-        let used = run(call, sizes, &words[at..]);
-        if used == 0 {
-            return;
-        }
-        printing::print_line_end();
-        at = at + used;
-    }
-}
-
-// Reads the text, runs its cases and answers how many numbers it has. The slices have room for it and for its numbers.
-pub fn run_text(text: &mut [u8], words: &mut [i32], wides: &mut [i64]) -> usize
-    ensures { λ r. ⌜ r ≤ length (now (words .exit)) ⌝ }
+// One case: its numbers, with all their bits and as numbers of 32 bits.
+fn run_case(wides: &[i64], words: &[i32]) -> CAnswer
+    ensures { λ x. ⌜ x ≡ codeOf (caseAnswer (now (wides .entry)) (now (words .entry))) ⌝ }
 {
-    let length = io::read_full(0, text);
-    let count = numbers::scan(&text[..length], words, wides);
-    run_all(&words[..count], wides);
+    let call = numbers::size(words, 0, 6);
+    let sizes = input::read_sizes(wides);
+    run_call(call, sizes, past_numbers(words, input::LISTS))
+}
+
+// The case of one line.
+fn run_line(line: &[u8]) -> CAnswer
+    ensures { λ x. ⌜ x ≡ codeOf (lineAnswer (now (line .entry))) ⌝ }
+{
+    let mut wides = [0i64; 16384];
+    let mut words = [0i32; 16384];
+    text::scan(line, &mut wides);
+    numbers::narrow(&wides, &mut words);
+    run_case(&wides, &words)
+}
+
+// Every line of a text; the answer is how many there are.
+fn run_all(lines: &[u8]) -> usize
+    ensures { λ r. ⌜ pastLines r (now (lines .entry)) ≡ [] ⌝ }
+{
+    let mut at = 0;
+    let mut count = 0;
+    while at < lines.len() {
+        let end = at + text::line_length(&lines[at..]);
+        run_line(&lines[at..end]);
+        printing::print_line_end();
+        at = end;
+        count += 1;
+    }
     count
+}
+
+// Reads a text into the buffer and runs its lines; the answer is how many there are.
+pub fn run_text(buffer: &mut [u8]) -> usize
+    ensures { λ r. ⌜ Lines (now (buffer .exit)) r ⌝ }
+{
+    let length = io::read_full(0, buffer);
+    run_all(&buffer[..length])
 }

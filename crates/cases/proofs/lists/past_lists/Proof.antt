@@ -22,7 +22,7 @@ loop-holds c = (omega arith, omega arith, refl)
 add-at : tie.Need-add-at Inv-loop μ-loop
 add-at c =
     let l = c .before .before .before in
-    omega (arith, c .before .before .before .loop .inv .1, width-fits (l .before .args .xs .now) (l .loop .at) (l .loop .inv .1) (c .first-width .ensures))
+    omega (arith, width-fits (l .before .args .xs .now) (l .loop .at) (l .loop .inv .1) (c .first-width .ensures))
 
 loop-again : tie.Need-loop-again Inv-loop μ-loop
 loop-again c =

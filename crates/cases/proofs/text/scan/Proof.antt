@@ -25,8 +25,10 @@ with-digit-requires c κs = c .before .before .before .loop .inv .0 .small
 
 loop-again : tie.Need-loop-again Inv-loop μ-loop
 loop-again c =
-    let l = c .before .before .before .before in
-    (rw (c .with-digit .ensures) (scan-digit (l .loop .inv .0) (c .before .before .before .loop-test .taken) (c .before .if1 .taken)), l .loop .inv .1)
+    let l = c .before .before .before .before in (
+      rw (c .with-digit .ensures) (scan-digit (l .loop .inv .0) (c .before .before .before .loop-test .taken) (c .before .if1 .taken)),
+      l .loop .inv .1,
+    )
 
 same-length : tie.Need-same-length Inv-loop μ-loop
 same-length c = c .before .before .before .before .loop .inv .1

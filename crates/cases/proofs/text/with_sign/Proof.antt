@@ -30,7 +30,8 @@ sub-result c = rw (toZ-pos w64 {n = c .before .before .args .magnitude} (omega a
 returns-3 : tie.Need-returns-3
 returns-3 c =
     let m = c .before .before .args .magnitude in
-    rw (c .if3 .taken, toZ-pos w64 {n = m} (omega arith)) (toZ-ofZ (opposite-fits m (c .before .if1 .left)) ∙ opposite m ∙ sign-minus m (c .before .if1 .left))
+    rw (c .if3 .taken, toZ-pos w64 {n = m} (omega arith))
+    (toZ-ofZ (opposite-fits m (c .before .if1 .left)) ∙ opposite m ∙ sign-minus m (c .before .if1 .left))
 
 returns-4 : tie.Need-returns-4
 returns-4 c =

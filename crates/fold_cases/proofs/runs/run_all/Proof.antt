@@ -1,64 +1,61 @@
--- `fold_cases::runs::run_all` is safe and ends: each case has a number at least. Assumes nothing.
+-- `fold_cases::runs::run_all` meets its contract. The loop's invariant: `at` is the place after `count` lines. Assumes nothing.
+use mathlib.Core.Path.{_≡_, refl}
 use Prim.Native.Nat.{_-_, _≤_}
 use native.Mathlib.Omega.{arith}
-use lib.ListN.{length, length-take, length-drop}
+use lib.ListN.{length, drop}
 use borrow.Author.Needs.{needs}
+use Rattle.cases.specs.Text.{pastLines}
+use Rattle.cases.specs.TextLaws.{line-fits, line-ahead, lines-next, lines-end}
 use Rattle.fold_cases.proofs.runs.run_all.Statement.{statement}
 use Rattle.fold_cases.proofs.runs.run_all.Tie as tie
 
 abbrev Inv-loop : tie.InvT-loop
-Inv-loop words wides at₀ at = at ≤ length words
+Inv-loop lines at₀ count₀ at count = (count ≤ at) × (at ≤ length lines) × (drop at lines ≡ pastLines count lines)
 
 abbrev μ-loop : tie.MeasureT-loop
-μ-loop words wides at₀ at = length words - at
+μ-loop lines at₀ count₀ at count = length lines - at
 
 loop-holds : tie.Need-loop-holds Inv-loop μ-loop
-loop-holds c = omega arith
+unfolding pastLines
+loop-holds c = (omega arith, omega arith, refl)
 
-mul-call : tie.Need-mul-call Inv-loop μ-loop
-mul-call c = omega arith
+add-end : tie.Need-add-end Inv-loop μ-loop
+add-end c =
+    let l = c .before .before .before in
+    let lines = l .before .before .args .lines .now in
+    omega (arith, line-fits lines (l .loop .at) (c .line-length .ensures) (l .loop .inv .1))
 
-shared-slice-copy-out-call : tie.Need-shared-slice-copy-out-call Inv-loop μ-loop
-shared-slice-copy-out-call c = omega arith
-
-rest-requires : tie.Need-rest-requires Inv-loop μ-loop
-rest-requires c κs = tt
-
-read-sizes-requires : tie.Need-read-sizes-requires Inv-loop μ-loop
-read-sizes-requires c κs = tt
-
-mul-run : tie.Need-mul-run Inv-loop μ-loop
-mul-run c = omega arith
-
-sub-run : tie.Need-sub-run Inv-loop μ-loop
-sub-run c = omega arith
-
-part-run-start : tie.Need-part-run-start Inv-loop μ-loop
-part-run-start c = search needs
-
-part-run-end : tie.Need-part-run-end Inv-loop μ-loop
-part-run-end c = search needs
-
-run-requires : tie.Need-run-requires Inv-loop μ-loop
-run-requires c κs = tt
-
-returns : tie.Need-returns Inv-loop μ-loop
-returns c = tt
-
-print-line-end-requires : tie.Need-print-line-end-requires Inv-loop μ-loop
-print-line-end-requires c κs = tt
-
-add-at : tie.Need-add-at Inv-loop μ-loop
-add-at c = omega (arith, simp (length-take, length-drop) at (c .before .before .run .ensures))
+part-run-line-end : tie.Need-part-run-line-end Inv-loop μ-loop
+part-run-line-end c =
+    let l = c .before .before .before in
+    let lines = l .before .before .args .lines .now in
+    line-fits lines (l .loop .at) (c .line-length .ensures) (l .loop .inv .1)
 
 loop-less : tie.Need-loop-less Inv-loop μ-loop
-loop-less c = omega (arith, simp (length-take, length-drop) at (c .before .before .run .ensures))
+loop-less c =
+    let found = c .before .before .before in
+    let l = found .before .before .before in
+    let lines = l .before .before .args .lines .now in
+    omega (
+      arith,
+      line-ahead lines (l .loop .at) (found .line-length .ensures) (found .before .before .loop-test .taken),
+      line-fits lines (l .loop .at) (found .line-length .ensures) (l .loop .inv .1),
+    )
 
 loop-again : tie.Need-loop-again Inv-loop μ-loop
-loop-again c = omega (arith, simp (length-take, length-drop) at (c .before .before .run .ensures))
+loop-again c =
+    let found = c .before .before .before in
+    let l = found .before .before .before in
+    let lines = l .before .before .args .lines .now in (
+      omega (arith, l .loop .inv .0, line-ahead lines (l .loop .at) (found .line-length .ensures) (found .before .before .loop-test .taken)),
+      line-fits lines (l .loop .at) (found .line-length .ensures) (l .loop .inv .1),
+      lines-next lines (l .loop .at) (found .line-length .ensures) (l .loop .count) (l .loop .inv .2),
+    )
 
-returns-2 : tie.Need-returns-2 Inv-loop μ-loop
-returns-2 c = tt
+returns : tie.Need-returns Inv-loop μ-loop
+returns c =
+    let l = c .before in
+    lines-end (l .before .before .args .lines .now) (l .loop .count) (l .loop .at) (l .loop .inv .2) (c .loop-test .left)
 
 pub run-all-spec : {M : Type 1} → statement M
 run-all-spec =
@@ -67,18 +64,17 @@ run-all-spec =
     Inv-loop
     μ-loop
     loop-holds
-    mul-call
-    shared-slice-copy-out-call
-    rest-requires
-    read-sizes-requires
-    mul-run
-    sub-run
-    part-run-start
-    part-run-end
-    run-requires
-    returns
-    print-line-end-requires
-    add-at
+    (λ c. omega arith)
+    (λ c. search needs)
+    (λ c. search needs)
+    (λ c κs. tt)
+    add-end
+    (λ c. omega arith)
+    (λ c. search needs)
+    part-run-line-end
+    (λ c κs. tt)
+    (λ c κs. tt)
+    (λ c. omega arith)
     loop-less
     loop-again
-    returns-2)
+    returns)

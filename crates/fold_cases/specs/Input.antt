@@ -1,0 +1,74 @@
+-- The numbers of a case: the number of its call, sixteen sizes d n r K L w κ κ1 κ2 b b1 b2 t1 t2 β² β'², then its lists.
+use mathlib.Core.List.{List}
+use Prim.Native.Nat.{ℕ}
+use lib.IntN.{ℤ, pos}
+use lib.ListN.{getD, take, replicate}
+use Rattle.integers.specs.Bridge.{P}
+use Rattle.fold.specs.declared.Sizes.{Sizes}
+use Rattle.fold.specs.declared.Shape.{Shape}
+use Rattle.fold.specs.declared.CommitSizes.{CommitSizes}
+use Rattle.fold.specs.declared.GarbageSizes.{GarbageSizes}
+use Rattle.cases.specs.Numbers.{sizeAt}
+use Rattle.cases.specs.Lists.{pastLists}
+
+-- the number at a place, 0 where it is negative
+abbrev pub naturalAt : List ℤ → ℕ → ℕ
+naturalAt xs k = P (getD xs k (pos 0))
+
+unfoldable pub sizesOf : List ℤ → Sizes
+sizesOf xs =
+    record {
+      d = naturalAt xs 1;
+      n = naturalAt xs 2;
+      r = naturalAt xs 3;
+      k = naturalAt xs 4;
+      l = naturalAt xs 5;
+      w = naturalAt xs 6;
+      kappa = naturalAt xs 7;
+      kappa1 = naturalAt xs 8;
+      kappa2 = naturalAt xs 9;
+      b = naturalAt xs 10;
+      b1 = naturalAt xs 11;
+      b2 = naturalAt xs 12;
+      t1 = naturalAt xs 13;
+      t2 = naturalAt xs 14;
+      bound = naturalAt xs 15;
+      target = naturalAt xs 16;
+    }
+
+-- ---- the sizes that a call takes
+
+abbrev pub shapeOf : Sizes → Shape
+shapeOf s = record { d = s .d; n = s .n; r = s .r }
+
+abbrev pub commitSizesOf : Sizes → CommitSizes
+commitSizesOf s =
+    record {
+      d = s .d;
+      n = s .n;
+      r = s .r;
+      kappa = s .kappa;
+      kappa1 = s .kappa1;
+      b1 = s .b1;
+      b2 = s .b2;
+      t1 = s .t1;
+      t2 = s .t2;
+    }
+
+abbrev pub garbageSizesOf : Sizes → GarbageSizes
+garbageSizesOf s =
+    record {
+      d = s .d;
+      n = s .n;
+      r = s .r;
+      k = s .k;
+      l = s .l;
+      w = s .w;
+      kappa2 = s .kappa2;
+      b1 = s .b1;
+      t1 = s .t1;
+    }
+
+-- list i to be written, of those whose lengths follow k lists: filled with 77, and empty where it is longer than 8192
+unfoldable pub room : (k i : ℕ) → List ℤ → List ℤ
+room k i lists = take (sizeAt 8192 (pastLists k lists) i) (replicate 8192 (pos 77))

@@ -1,0 +1,4 @@
+pub mod Input
+pub mod Answers
+-- Laws
+pub mod AnswerLaws

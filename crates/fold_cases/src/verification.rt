@@ -1,0 +1,54 @@
+// The verifier's call.
+ghost use mathlib.Core.Path.{_≡_};
+ghost use Rattle.capi.specs.Codes.{codeOf};
+ghost use Rattle.fold_cases.specs.Answers.{verifyAnswer};
+use crate::output;
+use capi::types::CAnswer;
+use cases::lists::nth_list;
+use fold::Sizes;
+
+// Call 6: A, B, C, D, the whole and the constant-term functions, u1, the rows, p, psi, omega, b'', alpha, delta, u2, the challenges, the
+// opening.
+pub fn run_verify(sizes: Sizes, lists: &[i32]) -> CAnswer
+    ensures { λ x. ⌜ x ≡ codeOf (verifyAnswer sizes (now (lists .entry))) ⌝ }
+{
+    let a = nth_list(lists, 0);
+    let b = nth_list(lists, 1);
+    let c_matrix = nth_list(lists, 2);
+    let d_matrix = nth_list(lists, 3);
+    let whole = nth_list(lists, 4);
+    let term = nth_list(lists, 5);
+    let u1 = nth_list(lists, 6);
+    let rows = nth_list(lists, 7);
+    let p = nth_list(lists, 8);
+    let psi = nth_list(lists, 9);
+    let omega = nth_list(lists, 10);
+    let b2 = nth_list(lists, 11);
+    let alpha = nth_list(lists, 12);
+    let delta = nth_list(lists, 13);
+    let u2 = nth_list(lists, 14);
+    let c = nth_list(lists, 15);
+    let opening = nth_list(lists, 16);
+    let answer = capi::lizkarg_verify(
+        sizes,
+        a,
+        b,
+        c_matrix,
+        d_matrix,
+        whole,
+        term,
+        u1,
+        rows,
+        p,
+        psi,
+        omega,
+        b2,
+        alpha,
+        delta,
+        u2,
+        c,
+        opening,
+    );
+    output::print_answer(answer);
+    answer
+}
