@@ -7,9 +7,6 @@ use native.Mathlib.Omega.{arith}
 use lib.IntN.{ℤ, pos}
 use lib.ListN.{length, take, drop, replicate, length-replicate, length-drop}
 use Rattle.integers.specs.Over.{over}
-use Rattle.fold.specs.declared.Shape.{Shape}
-use Rattle.fold.specs.declared.CommitSizes.{CommitSizes}
-use Rattle.fold.specs.declared.GarbageSizes.{GarbageSizes}
 use Rattle.fold.specs.declared.Sizes.{Sizes}
 use Rattle.fold.specs.Arguments.{statementOf, drawsOf, transcriptOf}
 use Rattle.fold.specs.Verification.{verification}
@@ -65,12 +62,12 @@ module _ {sizes : Sizes} {ν μ : ℕ} {code : CAnswer} {out′ : List ℤ} wher
 -- ---- a fold
 
 module _ {sizes : Sizes} {s lengths m : List ℤ} {code : CAnswer} {m′ : List ℤ} where
-  pub committing : {setup A B C t′ g′ u′ : List ℤ} {its : CommitSizes} {k l n : ℕ} → its ≡ commitSizesOf sizes
+  pub committing : {setup A B C t′ g′ u′ : List ℤ} {k l n : ℕ}
       → A ≡ nthList 0 setup → B ≡ nthList 1 setup → C ≡ nthList 2 setup
       → k ≡ sizeAt 32768 lengths 1 → l ≡ sizeAt 32768 lengths 2 → n ≡ sizeAt 32768 lengths 4
-      → Coded (λ answer. Committed its A B C s (front k) (front l) (front n) answer t′ g′ u′) code
+      → Coded (λ answer. Committed (commitSizesOf sizes) A B C s (front k) (front l) (front n) answer t′ g′ u′) code
       → m′ ≡ kept (kept (kept m lengths 1 t′) lengths 2 g′) lengths 4 u′ → Committing sizes setup s lengths m code m′
-  committing {t′ = t′} {g′ = g′} {u′ = u′} its A B C k l n called keeps =
+  committing {t′ = t′} {g′ = g′} {u′ = u′} A B C k l n called keeps =
       let t = blank-is 32768 lengths 1 k in
       let g = blank-is 32768 lengths 2 l in
       let u = blank-is 32768 lengths 4 n in
@@ -78,39 +75,39 @@ module _ {sizes : Sizes} {s lengths m : List ℤ} {code : CAnswer} {m′ : List 
         t′ = t′;
         g′ = g′;
         u′ = u′;
-        called = coe 0 1 (i. Coded (λ answer. Committed (its i) (A i) (B i) (C i) s (t i) (g i) (u i) answer t′ g′ u′) code) called;
+        called = coe 0 1 (i. Coded (λ answer. Committed (commitSizesOf sizes) (A i) (B i) (C i) s (t i) (g i) (u i) answer t′ g′ u′) code) called;
         keeps = keeps;
       }
 
-  pub projecting : {rows p′ : List ℤ} {shape : Shape} {n : ℕ} → shape ≡ shapeOf sizes → n ≡ sizeAt 32768 lengths 5
-      → Coded (λ answer. Projected shape (sizes .w) rows s (front n) answer p′) code → m′ ≡ kept m lengths 5 p′
+  pub projecting : {rows p′ : List ℤ} {n : ℕ} → n ≡ sizeAt 32768 lengths 5
+      → Coded (λ answer. Projected (shapeOf sizes) (sizes .w) rows s (front n) answer p′) code → m′ ≡ kept m lengths 5 p′
       → Projecting sizes rows s lengths m code m′
-  projecting {rows} {p′} shape n called keeps =
+  projecting {rows} {p′} n called keeps =
       let p = blank-is 32768 lengths 5 n in
       record {
         p′ = p′;
-        called = coe 0 1 (i. Coded (λ answer. Projected (shape i) (sizes .w) rows s (p i) answer p′) code) called;
+        called = coe 0 1 (i. Coded (λ answer. Projected (shapeOf sizes) (sizes .w) rows s (p i) answer p′) code) called;
         keeps = keeps;
       }
 
-  pub aggregating : {term rows ψ draws ω b′ : List ℤ} {shape : Shape} {n : ℕ} → shape ≡ shapeOf sizes → ω ≡ nthList 0 draws
+  pub aggregating : {term rows ψ draws ω b′ : List ℤ} {n : ℕ} → ω ≡ nthList 0 draws
       → n ≡ sizeAt 32768 lengths 6
-      → Coded (λ answer. Aggregated shape (sizes .l) (sizes .w) term rows ψ ω s (front n) answer b′) code → m′ ≡ kept m lengths 6 b′
+      → Coded (λ answer. Aggregated (shapeOf sizes) (sizes .l) (sizes .w) term rows ψ ω s (front n) answer b′) code → m′ ≡ kept m lengths 6 b′
       → Aggregating sizes term rows ψ draws s lengths m code m′
-  aggregating {term} {rows} {ψ} {b′ = b′} shape ω n called keeps =
+  aggregating {term} {rows} {ψ} {b′ = b′} ω n called keeps =
       let b = blank-is 32768 lengths 6 n in
       record {
         b′ = b′;
-        called = coe 0 1 (i. Coded (λ answer. Aggregated (shape i) (sizes .l) (sizes .w) term rows ψ (ω i) s (b i) answer b′) code) called;
+        called = coe 0 1 (i. Coded (λ answer. Aggregated (shapeOf sizes) (sizes .l) (sizes .w) term rows ψ (ω i) s (b i) answer b′) code) called;
         keeps = keeps;
       }
 
-  pub garbage-committing : {setup whole term rows ψ draws ω α δ D h′ u′ : List ℤ} {its : GarbageSizes} {k n : ℕ} → its ≡ garbageSizesOf sizes
+  pub garbage-committing : {setup whole term rows ψ draws ω α δ D h′ u′ : List ℤ} {k n : ℕ}
       → ω ≡ nthList 0 draws → α ≡ nthList 1 draws → δ ≡ nthList 2 draws → D ≡ nthList 3 setup
       → k ≡ sizeAt 32768 lengths 3 → n ≡ sizeAt 32768 lengths 7
-      → Coded (λ answer. GarbageCommitted its whole term rows ψ ω α δ D s (front k) (front n) answer h′ u′) code
+      → Coded (λ answer. GarbageCommitted (garbageSizesOf sizes) whole term rows ψ ω α δ D s (front k) (front n) answer h′ u′) code
       → m′ ≡ kept (kept m lengths 3 h′) lengths 7 u′ → GarbageCommitting sizes setup whole term rows ψ draws s lengths m code m′
-  garbage-committing {whole = whole} {term = term} {rows = rows} {ψ = ψ} {h′ = h′} {u′ = u′} its ω α δ D k n called keeps =
+  garbage-committing {whole = whole} {term = term} {rows = rows} {ψ = ψ} {h′ = h′} {u′ = u′} ω α δ D k n called keeps =
       let h = blank-is 32768 lengths 3 k in
       let u = blank-is 32768 lengths 7 n in
       record {
@@ -118,19 +115,19 @@ module _ {sizes : Sizes} {s lengths m : List ℤ} {code : CAnswer} {m′ : List 
         u′ = u′;
         called =
             coe 0 1
-            (i. Coded (λ answer. GarbageCommitted (its i) whole term rows ψ (ω i) (α i) (δ i) (D i) s (h i) (u i) answer h′ u′) code)
+            (i. Coded (λ answer. GarbageCommitted (garbageSizesOf sizes) whole term rows ψ (ω i) (α i) (δ i) (D i) s (h i) (u i) answer h′ u′) code)
             called;
         keeps = keeps;
       }
 
-  pub amortizing : {draws c z′ : List ℤ} {shape : Shape} {n : ℕ} → shape ≡ shapeOf sizes → c ≡ nthList 3 draws
-      → n ≡ sizeAt 32768 lengths 0 → Coded (λ answer. Amortized shape (sizes .b) c s (front n) answer z′) code
+  pub amortizing : {draws c z′ : List ℤ} {n : ℕ} → c ≡ nthList 3 draws
+      → n ≡ sizeAt 32768 lengths 0 → Coded (λ answer. Amortized (shapeOf sizes) (sizes .b) c s (front n) answer z′) code
       → m′ ≡ kept m lengths 0 z′ → Amortizing sizes draws s lengths m code m′
-  amortizing {z′ = z′} shape c n called keeps =
+  amortizing {z′ = z′} c n called keeps =
       let z = blank-is 32768 lengths 0 n in
       record {
         z′ = z′;
-        called = coe 0 1 (i. Coded (λ answer. Amortized (shape i) (sizes .b) (c i) s (z i) answer z′) code) called;
+        called = coe 0 1 (i. Coded (λ answer. Amortized (shapeOf sizes) (sizes .b) (c i) s (z i) answer z′) code) called;
         keeps = keeps;
       }
 

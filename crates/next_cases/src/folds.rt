@@ -16,12 +16,12 @@ use crate::messages::keep;
 use crate::messages::message;
 use crate::messages::opening;
 use crate::output::print_answer;
-use crate::structs::commit_sizes;
-use crate::structs::garbage_sizes;
-use crate::structs::shape;
 use capi::types::CAnswer;
 use cases::lists::nth_list;
 use cases::numbers::size;
+use fold::CommitSizes;
+use fold::GarbageSizes;
+use fold::Shape;
 use fold::Sizes;
 
 fn commit(
@@ -45,8 +45,19 @@ fn commit(
     let t = &mut t_room[..t_count];
     let g = &mut g_room[..g_count];
     let u1 = &mut u1_room[..u1_count];
+    let its = CommitSizes {
+        d: sizes.d,
+        n: sizes.n,
+        r: sizes.r,
+        kappa: sizes.kappa,
+        kappa1: sizes.kappa1,
+        b1: sizes.b1,
+        b2: sizes.b2,
+        t1: sizes.t1,
+        t2: sizes.t2,
+    };
     let answer = capi::lizkarg_commit(
-        commit_sizes(sizes),
+        its,
         nth_list(setup, 0),
         nth_list(setup, 1),
         nth_list(setup, 2),
@@ -76,7 +87,12 @@ fn project(
     let count = size(lengths, P, ROOM);
     let mut room = [FILL; ROOM];
     let p = &mut room[..count];
-    let answer = capi::lizkarg_project(shape(sizes), sizes.w, rows, witness, p);
+    let shape = Shape {
+        d: sizes.d,
+        n: sizes.n,
+        r: sizes.r,
+    };
+    let answer = capi::lizkarg_project(shape, sizes.w, rows, witness, p);
     print_answer(1, answer);
     keep(messages, lengths, P, p);
     answer
@@ -99,8 +115,13 @@ fn aggregate(
     let count = size(lengths, B2, ROOM);
     let mut room = [FILL; ROOM];
     let b2 = &mut room[..count];
+    let shape = Shape {
+        d: sizes.d,
+        n: sizes.n,
+        r: sizes.r,
+    };
     let answer = capi::lizkarg_aggregate(
-        shape(sizes),
+        shape,
         sizes.l,
         sizes.w,
         term,
@@ -138,8 +159,19 @@ fn commit_garbage(
     let mut u2_room = [FILL; ROOM];
     let h = &mut h_room[..h_count];
     let u2 = &mut u2_room[..u2_count];
+    let its = GarbageSizes {
+        d: sizes.d,
+        n: sizes.n,
+        r: sizes.r,
+        k: sizes.k,
+        l: sizes.l,
+        w: sizes.w,
+        kappa2: sizes.kappa2,
+        b1: sizes.b1,
+        t1: sizes.t1,
+    };
     let answer = capi::lizkarg_commit_garbage(
-        garbage_sizes(sizes),
+        its,
         whole,
         term,
         rows,
@@ -173,7 +205,12 @@ fn amortize(
     let mut room = [FILL; ROOM];
     let z = &mut room[..count];
     let c = nth_list(draws, 3);
-    let answer = capi::lizkarg_amortize(shape(sizes), sizes.b, c, witness, z);
+    let shape = Shape {
+        d: sizes.d,
+        n: sizes.n,
+        r: sizes.r,
+    };
+    let answer = capi::lizkarg_amortize(shape, sizes.b, c, witness, z);
     print_answer(1, answer);
     keep(messages, lengths, Z, z);
     answer

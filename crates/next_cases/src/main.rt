@@ -8,7 +8,6 @@ mod messages;
 mod output;
 mod part;
 mod runs;
-mod structs;
 mod twice;
 mod witness;
 

@@ -5,7 +5,6 @@ ghost use lib.ListN.{length, take, drop};
 ghost use Rattle.chunks.specs.Parts.{partRefusalOf, nextPartOf};
 ghost use Rattle.cases.specs.Lists.{nthList};
 ghost use Rattle.next_cases.specs.Input.{partSizesOf};
-use crate::structs::part_sizes;
 use capi::next::lizkarg_next_part;
 use capi::next::lizkarg_next_part_refusal;
 use capi::types::CPart;
@@ -17,6 +16,22 @@ use fold::Sizes;
 
 // Where the opening stands, after the part's number.
 const OPENING: usize = 20;
+
+// The sizes of an opening and of its cut.
+pub fn part_sizes(sizes: Sizes, nu: usize, mu: usize) -> PartSizes
+    ensures { λ x. ⌜ x ≡ partSizesOf sizes nu mu ⌝ }
+{
+    PartSizes {
+        d: sizes.d,
+        n: sizes.n,
+        r: sizes.r,
+        kappa: sizes.kappa,
+        t1: sizes.t1,
+        t2: sizes.t2,
+        nu,
+        mu,
+    }
+}
 
 // The numbers of the opening at a place.
 fn at_place(opening: &[i32], place: CPart) -> &[i32]

@@ -1,7 +1,7 @@
 // The cases one after another.
 ghost use mathlib.Core.Path.{_≡_};
 ghost use mathlib.Core.List.{[]};
-ghost use Rattle.cases.specs.Text.{pastLines};
+ghost use Rattle.cases.specs.Text.{pastLines, Lines};
 ghost use Rattle.next_cases.specs.Runs.{CaseRun, LineRun};
 use crate::input;
 use crate::instance;
@@ -16,7 +16,7 @@ use cases::text;
 const NUMBERS: usize = 4096;
 
 // A case of this kind: all its numbers, with all their bits and with 32. It answers the number of the last answer; 0 where the kind is none.
-fn run_kind(kind: usize, wides: &[i64], xs: &[i32]) -> u8
+fn run_case(kind: usize, wides: &[i64], xs: &[i32]) -> u8
     ensures { λ r. ⌜ CaseRun (now (wides .entry)) (now (xs .entry)) kind r ⌝ }
 {
     let sizes = input::read_sizes(lists::past_wides(wides, input::SIZES));
@@ -37,7 +37,7 @@ fn run_kind(kind: usize, wides: &[i64], xs: &[i32]) -> u8
     0
 }
 
-// One line.
+// The case of one line.
 fn run_line(line: &[u8]) -> u8
     ensures { λ r. ⌜ LineRun (now (line .entry)) r ⌝ }
 {
@@ -46,28 +46,29 @@ fn run_line(line: &[u8]) -> u8
     text::scan(line, &mut wides);
     numbers::narrow(&wides, &mut words);
     let kind = numbers::size(&words, 0, 3);
-    let number = run_kind(kind, &wides, &words);
-    printing::print_line_end();
-    number
+    run_case(kind, &wides, &words)
 }
 
-// Every line; it answers how many there are.
-fn run_lines(text: &[u8]) -> usize
-    ensures { λ r. ⌜ pastLines r (now (text .entry)) ≡ [] ⌝ }
+// Every line of a text; the answer is how many there are.
+fn run_all(lines: &[u8]) -> usize
+    ensures { λ r. ⌜ pastLines r (now (lines .entry)) ≡ [] ⌝ }
 {
     let mut at = 0;
     let mut count = 0;
-    while at < text.len() {
-        let end = at + text::line_length(&text[at..]);
-        run_line(&text[at..end]);
+    while at < lines.len() {
+        let end = at + text::line_length(&lines[at..]);
+        run_line(&lines[at..end]);
+        printing::print_line_end();
         at = end;
         count += 1;
     }
     count
 }
 
-// Reads the text, which has room for it, and runs its cases.
-pub fn run_text(text: &mut [u8]) -> usize {
-    let length = io::read_full(0, text);
-    run_lines(&text[..length])
+// Reads a text into the buffer and runs its lines; the answer is how many there are.
+pub fn run_text(buffer: &mut [u8]) -> usize
+    ensures { λ r. ⌜ Lines (now (buffer .exit)) r ⌝ }
+{
+    let length = io::read_full(0, buffer);
+    run_all(&buffer[..length])
 }

@@ -19,7 +19,7 @@ use crate::messages::U2;
 use crate::messages::message;
 use crate::messages::opening;
 use crate::output::print_answer;
-use crate::structs::part_sizes;
+use crate::part::part_sizes;
 use crate::witness::write_witness;
 use capi::next::lizkarg_next_instance;
 use capi::types::CAnswer;

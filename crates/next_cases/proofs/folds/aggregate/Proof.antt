@@ -13,8 +13,23 @@ slice-aggregate-b2 c = blank-fits 32768 _ 6 (c .before .size .ensures)
 
 returns : tie.Need-returns
 returns c =
-    aggregating (c .before .before .before .before .before .before .before .before .before .before .shape .ensures) (c .before .before .before .before .before .before .before .before .before .nth-list .ensures) (c .before .before .before .before .before .before .before .before .before .before .before .before .size .ensures) (c .before .before .before .before .before .before .before .lizkarg-aggregate .ensures)
-    (c .before .before .keep .ensures)
+    let keep = c .before .before in
+    let lizkarg-aggregate = keep .before .before .before .before .before in
+    let nth-list = lizkarg-aggregate .before .before in
+    let size = nth-list .before .before in
+    aggregating (nth-list .nth-list .ensures) (size .size .ensures) (lizkarg-aggregate .lizkarg-aggregate .ensures)
+    (keep .keep .ensures)
 
 pub aggregate-spec : {M : Type 1} → statement M
-aggregate-spec = tie.close (tie.spec (λ c κs. tt) array-borrow-prefix-room slice-aggregate-b2 (λ c κs. tt) (λ c κs. tt) (λ c κs. tt) (λ c κs. tt) (λ c κs. tt) (λ c. search needs) returns)
+aggregate-spec =
+    tie.close
+    (tie.spec
+    (λ c κs. tt)
+    array-borrow-prefix-room
+    slice-aggregate-b2
+    (λ c κs. tt)
+    (λ c κs. tt)
+    (λ c κs. tt)
+    (λ c κs. tt)
+    (λ c. search needs)
+    returns)

@@ -13,8 +13,23 @@ slice-aggregate-z c = blank-fits 32768 _ 0 (c .before .size .ensures)
 
 returns : tie.Need-returns
 returns c =
-    amortizing (c .before .before .before .before .before .before .before .before .before .shape .ensures) (c .before .before .before .before .before .before .before .before .before .before .nth-list .ensures) (c .before .before .before .before .before .before .before .before .before .before .before .before .size .ensures) (c .before .before .before .before .before .before .before .lizkarg-amortize .ensures)
-    (c .before .before .keep .ensures)
+    let keep = c .before .before in
+    let lizkarg-amortize = keep .before .before .before .before .before in
+    let nth-list = lizkarg-amortize .before .before in
+    let size = nth-list .before .before in
+    amortizing (nth-list .nth-list .ensures) (size .size .ensures) (lizkarg-amortize .lizkarg-amortize .ensures)
+    (keep .keep .ensures)
 
 pub amortize-spec : {M : Type 1} → statement M
-amortize-spec = tie.close (tie.spec (λ c κs. tt) array-borrow-prefix-room slice-aggregate-z (λ c κs. tt) (λ c κs. tt) (λ c κs. tt) (λ c κs. tt) (λ c κs. tt) (λ c. search needs) returns)
+amortize-spec =
+    tie.close
+    (tie.spec
+    (λ c κs. tt)
+    array-borrow-prefix-room
+    slice-aggregate-z
+    (λ c κs. tt)
+    (λ c κs. tt)
+    (λ c κs. tt)
+    (λ c κs. tt)
+    (λ c. search needs)
+    returns)

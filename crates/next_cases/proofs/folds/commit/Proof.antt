@@ -25,10 +25,42 @@ slice-aggregate-u1 c = blank-fits 32768 _ 4 (c .before .before .before .size3 .e
 
 returns : tie.Need-returns
 returns c =
-    committing (c .before .before .before .before .before .before .before .before .before .before .before .before .before .before .before .before .before .before .before .before .before .before .before .before .before .before .commit-sizes .ensures) (c .before .before .before .before .before .before .before .before .before .before .before .before .before .before .before .before .before .before .before .before .before .before .before .before .before .nth-list .ensures) (c .before .before .before .before .before .before .before .before .before .before .before .before .before .before .before .before .before .before .before .before .before .before .before .before .nth-list2 .ensures)
-    (c .before .before .before .before .before .before .before .before .before .before .before .before .before .before .before .before .before .before .before .before .before .before .before .nth-list3 .ensures) (c .before .before .before .before .before .before .before .before .before .before .before .before .before .before .before .before .before .before .before .before .before .before .before .before .before .before .before .before .before .before .before .before .size .ensures) (c .before .before .before .before .before .before .before .before .before .before .before .before .before .before .before .before .before .before .before .before .before .before .before .before .before .before .before .before .before .before .before .size2 .ensures) (c .before .before .before .before .before .before .before .before .before .before .before .before .before .before .before .before .before .before .before .before .before .before .before .before .before .before .before .before .before .before .size3 .ensures)
-    (c .before .before .before .before .before .before .before .before .before .before .before .before .before .before .before .before .before .before .before .lizkarg-commit .ensures)
-    (kept-again (c .before .before .before .before .before .before .before .before .before .before .before .before .before .before .before .before .before .before .before .before .before .before .before .before .before .before .before .before .before .before .before .before .before .args .lengths .now) 4 _ (kept-again (c .before .before .before .before .before .before .before .before .before .before .before .before .before .before .before .before .before .before .before .before .before .before .before .before .before .before .before .before .before .before .before .before .before .args .lengths .now) 2 _ (c .before .before .before .before .before .before .before .before .before .before .before .before .keep .ensures) (c .before .before .before .before .before .before .before .keep2 .ensures)) (c .before .before .keep3 .ensures))
+    let keep3 = c .before .before in
+    let keep2 = keep3 .before .before .before .before .before in
+    let keep = keep2 .before .before .before .before .before in
+    let lizkarg-commit = keep .before .before .before .before .before .before .before in
+    let nth-list3 = lizkarg-commit .before .before .before .before in
+    let nth-list2 = nth-list3 .before in
+    let nth-list = nth-list2 .before in
+    let size3 = nth-list .before .before .before .before in
+    let size2 = size3 .before in
+    let size = size2 .before in
+    let start = size .before in
+    committing (nth-list .nth-list .ensures) (nth-list2 .nth-list2 .ensures)
+    (nth-list3 .nth-list3 .ensures) (size .size .ensures) (size2 .size2 .ensures) (size3 .size3 .ensures)
+    (lizkarg-commit .lizkarg-commit .ensures)
+    (kept-again (start .args .lengths .now) 4 _ (kept-again (start .args .lengths .now) 2 _ (keep .keep .ensures) (keep2 .keep2 .ensures)) (keep3 .keep3 .ensures))
 
 pub commit-spec : {M : Type 1} → statement M
-commit-spec = tie.close (tie.spec (λ c κs. tt) (λ c κs. tt) (λ c κs. tt) array-borrow-prefix-t-room slice-aggregate-t array-borrow-prefix-g-room slice-aggregate-g array-borrow-prefix-u1-room slice-aggregate-u1 (λ c κs. tt) (λ c κs. tt) (λ c κs. tt) (λ c κs. tt) (λ c κs. tt) (λ c κs. tt) (λ c κs. tt) (λ c κs. tt) (λ c κs. tt) (λ c. search needs) returns)
+commit-spec =
+    tie.close
+    (tie.spec
+    (λ c κs. tt)
+    (λ c κs. tt)
+    (λ c κs. tt)
+    array-borrow-prefix-t-room
+    slice-aggregate-t
+    array-borrow-prefix-g-room
+    slice-aggregate-g
+    array-borrow-prefix-u1-room
+    slice-aggregate-u1
+    (λ c κs. tt)
+    (λ c κs. tt)
+    (λ c κs. tt)
+    (λ c κs. tt)
+    (λ c κs. tt)
+    (λ c κs. tt)
+    (λ c κs. tt)
+    (λ c κs. tt)
+    (λ c. search needs)
+    returns)

@@ -19,9 +19,38 @@ slice-aggregate-u2 c = blank-fits 32768 _ 7 (c .before .before .size2 .ensures)
 
 returns : tie.Need-returns
 returns c =
-    garbage-committing (c .before .before .before .before .before .before .before .before .before .before .before .before .before .before .before .before .before .before .before .before .garbage-sizes .ensures) (c .before .before .before .before .before .before .before .before .before .before .before .before .before .before .before .before .before .before .before .nth-list .ensures) (c .before .before .before .before .before .before .before .before .before .before .before .before .before .before .before .before .before .before .nth-list2 .ensures)
-    (c .before .before .before .before .before .before .before .before .before .before .before .before .before .before .before .before .before .nth-list3 .ensures) (c .before .before .before .before .before .before .before .before .before .before .before .before .before .before .before .before .nth-list4 .ensures) (c .before .before .before .before .before .before .before .before .before .before .before .before .before .before .before .before .before .before .before .before .before .before .before .before .size .ensures) (c .before .before .before .before .before .before .before .before .before .before .before .before .before .before .before .before .before .before .before .before .before .before .before .size2 .ensures)
-    (c .before .before .before .before .before .before .before .before .before .before .before .before .before .lizkarg-commit-garbage .ensures) (kept-again (c .before .before .before .before .before .before .before .before .before .before .before .before .before .before .before .before .before .before .before .before .before .before .before .before .before .args .lengths .now) 7 _ (c .before .before .before .before .before .before .before .keep .ensures) (c .before .before .keep2 .ensures))
+    let keep2 = c .before .before in
+    let keep = keep2 .before .before .before .before .before in
+    let lizkarg-commit-garbage = keep .before .before .before .before .before .before in
+    let nth-list4 = lizkarg-commit-garbage .before .before .before in
+    let nth-list3 = nth-list4 .before in
+    let nth-list2 = nth-list3 .before in
+    let nth-list = nth-list2 .before in
+    let size2 = nth-list .before .before .before in
+    let size = size2 .before in
+    let start = size .before in
+    garbage-committing (nth-list .nth-list .ensures) (nth-list2 .nth-list2 .ensures)
+    (nth-list3 .nth-list3 .ensures) (nth-list4 .nth-list4 .ensures) (size .size .ensures) (size2 .size2 .ensures)
+    (lizkarg-commit-garbage .lizkarg-commit-garbage .ensures)
+    (kept-again (start .args .lengths .now) 7 _ (keep .keep .ensures) (keep2 .keep2 .ensures))
 
 pub commit-garbage-spec : {M : Type 1} → statement M
-commit-garbage-spec = tie.close (tie.spec (λ c κs. tt) (λ c κs. tt) array-borrow-prefix-h-room slice-aggregate-h array-borrow-prefix-u2-room slice-aggregate-u2 (λ c κs. tt) (λ c κs. tt) (λ c κs. tt) (λ c κs. tt) (λ c κs. tt) (λ c κs. tt) (λ c κs. tt) (λ c κs. tt) (λ c κs. tt) (λ c. search needs) returns)
+commit-garbage-spec =
+    tie.close
+    (tie.spec
+    (λ c κs. tt)
+    (λ c κs. tt)
+    array-borrow-prefix-h-room
+    slice-aggregate-h
+    array-borrow-prefix-u2-room
+    slice-aggregate-u2
+    (λ c κs. tt)
+    (λ c κs. tt)
+    (λ c κs. tt)
+    (λ c κs. tt)
+    (λ c κs. tt)
+    (λ c κs. tt)
+    (λ c κs. tt)
+    (λ c κs. tt)
+    (λ c. search needs)
+    returns)

@@ -13,8 +13,21 @@ slice-aggregate-p c = blank-fits 32768 _ 5 (c .before .size .ensures)
 
 returns : tie.Need-returns
 returns c =
-    projecting (c .before .before .before .before .before .before .before .before .before .shape .ensures) (c .before .before .before .before .before .before .before .before .before .before .before .size .ensures) (c .before .before .before .before .before .before .before .lizkarg-project .ensures)
-    (c .before .before .keep .ensures)
+    let keep = c .before .before in
+    let lizkarg-project = keep .before .before .before .before .before in
+    let size = lizkarg-project .before .before .before in
+    projecting (size .size .ensures) (lizkarg-project .lizkarg-project .ensures)
+    (keep .keep .ensures)
 
 pub project-spec : {M : Type 1} → statement M
-project-spec = tie.close (tie.spec (λ c κs. tt) array-borrow-prefix-room slice-aggregate-p (λ c κs. tt) (λ c κs. tt) (λ c κs. tt) (λ c κs. tt) (λ c. search needs) returns)
+project-spec =
+    tie.close
+    (tie.spec
+    (λ c κs. tt)
+    array-borrow-prefix-room
+    slice-aggregate-p
+    (λ c κs. tt)
+    (λ c κs. tt)
+    (λ c κs. tt)
+    (λ c. search needs)
+    returns)

@@ -5,12 +5,22 @@ use Rattle.next_cases.proofs.folds.run_fold.Tie as tie
 
 same-length : tie.Need-same-length
 same-length c =
-    c .before .before .before .amortize .kept .1 .1 .1 .1 .0 ∙ c .before .before .before .before .before .before .commit-garbage .kept .1 .1 .1 .1 .1 .1 .1 .1 .1 .0
-    ∙ c .before .before .before .before .before .before .before .before .before .aggregate .kept .1 .1 .1 .1 .1 .1 .1 .0 ∙ c .before .before .before .before .before .before .before .before .before .before .before .before .project .kept .1 .1 .1 .1 .0
-    ∙ c .before .before .before .before .before .before .before .before .before .before .before .before .before .before .before .commit .kept .1 .1 .1 .1 .1 .0
+    let amortize = c .before .before .before in
+    let commit-garbage = amortize .before .before .before in
+    let aggregate = commit-garbage .before .before .before in
+    let project = aggregate .before .before .before in
+    let commit = project .before .before .before in
+    amortize .amortize .kept .1 .1 .1 .1 .0 ∙ commit-garbage .commit-garbage .kept .1 .1 .1 .1 .1 .1 .1 .1 .1 .0
+    ∙ aggregate .aggregate .kept .1 .1 .1 .1 .1 .1 .1 .0 ∙ project .project .kept .1 .1 .1 .1 .0
+    ∙ commit .commit .kept .1 .1 .1 .1 .1 .0
 
 returns : tie.Need-returns
 returns c =
+    let amortize = c .before .before .before in
+    let commit-garbage = amortize .before .before .before in
+    let aggregate = commit-garbage .before .before .before in
+    let project = aggregate .before .before .before in
+    let commit = project .before .before .before in
     record {
       code₁ = _;
       code₂ = _;
@@ -21,13 +31,23 @@ returns c =
       m₂ = _;
       m₃ = _;
       m₄ = _;
-      message₁ = c .before .before .before .before .before .before .before .before .before .before .before .before .before .before .before .commit .ensures;
-      message₂ = c .before .before .before .before .before .before .before .before .before .before .before .before .project .ensures;
-      message₃ = c .before .before .before .before .before .before .before .before .before .aggregate .ensures;
-      message₄ = c .before .before .before .before .before .before .commit-garbage .ensures;
-      message₅ = c .before .before .before .amortize .ensures;
+      message₁ = commit .commit .ensures;
+      message₂ = project .project .ensures;
+      message₃ = aggregate .aggregate .ensures;
+      message₄ = commit-garbage .commit-garbage .ensures;
+      message₅ = amortize .amortize .ensures;
       verdict-is = c .verify .ensures;
     }
 
 pub run-fold-spec : {M : Type 1} → statement M
-run-fold-spec = tie.close (tie.spec (λ c κs. tt) (λ c κs. tt) (λ c κs. tt) (λ c κs. tt) (λ c κs. tt) (λ c κs. tt) same-length returns)
+run-fold-spec =
+    tie.close
+    (tie.spec
+    (λ c κs. tt)
+    (λ c κs. tt)
+    (λ c κs. tt)
+    (λ c κs. tt)
+    (λ c κs. tt)
+    (λ c κs. tt)
+    same-length
+    returns)

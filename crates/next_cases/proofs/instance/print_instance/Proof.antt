@@ -6,24 +6,65 @@ use Rattle.next_cases.proofs.instance.print_instance.Tie as tie
 
 returns : tie.Need-returns
 returns c =
-    next-of-lists (c .before .before .before .before .before .before .before .before .before .before .before .before .before .before .before .before .before .before .before .before .before .before .args .lists .now)
-    (c .before .before .before .before .before .before .before .before .before .before .before .before .before .before .before .before .before .before .before .before .before .nth-list .ensures)
-    (c .before .before .before .before .before .before .before .before .before .before .before .before .before .before .before .before .before .before .before .before .nth-list2 .ensures)
-    (c .before .before .before .before .before .before .before .before .before .before .before .before .before .before .before .before .before .before .before .nth-list3 .ensures)
-    (c .before .before .before .before .before .before .before .before .before .before .before .before .before .before .before .before .before .before .nth-list4 .ensures)
-    (c .before .before .before .before .before .before .before .before .before .before .before .before .before .before .before .before .before .nth-list5 .ensures)
-    (c .before .before .before .before .before .before .before .before .before .before .before .before .before .before .before .before .nth-list6 .ensures)
-    (c .before .before .before .before .before .before .before .before .before .before .before .before .before .before .before .nth-list7 .ensures)
-    (c .before .before .before .before .before .before .before .before .before .before .before .before .before .before .nth-list8 .ensures)
-    (c .before .before .before .before .before .before .before .before .before .before .before .before .before .nth-list9 .ensures)
-    (c .before .before .before .before .before .before .before .before .before .before .before .before .nth-list10 .ensures)
-    (c .before .before .before .before .before .before .before .before .before .before .before .nth-list11 .ensures)
-    (c .before .before .before .before .before .before .before .before .before .before .nth-list12 .ensures)
-    (c .before .before .before .before .before .before .before .before .before .nth-list13 .ensures)
-    (c .before .before .before .before .before .before .before .before .nth-list14 .ensures)
-    (c .before .before .before .before .before .before .before .nth-list15 .ensures)
-    (c .before .before .before .before .before .before .nth-list16 .ensures)
-    (c .before .before .before .before .lizkarg-next-instance .ensures)
+    let lizkarg-next-instance = c .before .before .before .before in
+    let nth-list16 = lizkarg-next-instance .before .before in
+    let nth-list15 = nth-list16 .before in
+    let nth-list14 = nth-list15 .before in
+    let nth-list13 = nth-list14 .before in
+    let nth-list12 = nth-list13 .before in
+    let nth-list11 = nth-list12 .before in
+    let nth-list10 = nth-list11 .before in
+    let nth-list9 = nth-list10 .before in
+    let nth-list8 = nth-list9 .before in
+    let nth-list7 = nth-list8 .before in
+    let nth-list6 = nth-list7 .before in
+    let nth-list5 = nth-list6 .before in
+    let nth-list4 = nth-list5 .before in
+    let nth-list3 = nth-list4 .before in
+    let nth-list2 = nth-list3 .before in
+    let nth-list = nth-list2 .before in
+    let start = nth-list .before in
+    next-of-lists (start .args .lists .now)
+    (nth-list .nth-list .ensures)
+    (nth-list2 .nth-list2 .ensures)
+    (nth-list3 .nth-list3 .ensures)
+    (nth-list4 .nth-list4 .ensures)
+    (nth-list5 .nth-list5 .ensures)
+    (nth-list6 .nth-list6 .ensures)
+    (nth-list7 .nth-list7 .ensures)
+    (nth-list8 .nth-list8 .ensures)
+    (nth-list9 .nth-list9 .ensures)
+    (nth-list10 .nth-list10 .ensures)
+    (nth-list11 .nth-list11 .ensures)
+    (nth-list12 .nth-list12 .ensures)
+    (nth-list13 .nth-list13 .ensures)
+    (nth-list14 .nth-list14 .ensures)
+    (nth-list15 .nth-list15 .ensures)
+    (nth-list16 .nth-list16 .ensures)
+    (lizkarg-next-instance .lizkarg-next-instance .ensures)
 
 pub print-instance-spec : {M : Type 1} → statement M
-print-instance-spec = tie.close (tie.spec (λ c κs. tt) (λ c κs. tt) (λ c κs. tt) (λ c κs. tt) (λ c κs. tt) (λ c κs. tt) (λ c κs. tt) (λ c κs. tt) (λ c κs. tt) (λ c κs. tt) (λ c κs. tt) (λ c κs. tt) (λ c κs. tt) (λ c κs. tt) (λ c κs. tt) (λ c κs. tt) (λ c κs. tt) (λ c κs. tt) (λ c κs. tt) (λ c. search needs) returns)
+print-instance-spec =
+    tie.close
+    (tie.spec
+    (λ c κs. tt)
+    (λ c κs. tt)
+    (λ c κs. tt)
+    (λ c κs. tt)
+    (λ c κs. tt)
+    (λ c κs. tt)
+    (λ c κs. tt)
+    (λ c κs. tt)
+    (λ c κs. tt)
+    (λ c κs. tt)
+    (λ c κs. tt)
+    (λ c κs. tt)
+    (λ c κs. tt)
+    (λ c κs. tt)
+    (λ c κs. tt)
+    (λ c κs. tt)
+    (λ c κs. tt)
+    (λ c κs. tt)
+    (λ c κs. tt)
+    (λ c. search needs)
+    returns)

@@ -12,8 +12,21 @@ slice-aggregate-print-instance c = blank-fits 32768 _ 0 (c .before .size .ensure
 
 returns : tie.Need-returns
 returns c =
-    instance-run (c .before .before .before .before .before .past-numbers .ensures) (c .before .before .before .before .past-lists .ensures) (c .before .before .before .size .ensures)
-    (c .before .print-instance .ensures)
+    let print-instance = c .before in
+    let size = print-instance .before .before in
+    let past-lists = size .before in
+    let past-numbers = past-lists .before in
+    instance-run (past-numbers .past-numbers .ensures) (past-lists .past-lists .ensures) (size .size .ensures)
+    (print-instance .print-instance .ensures)
 
 pub run-instance-spec : {M : Type 1} → statement M
-run-instance-spec = tie.close (tie.spec (λ c κs. tt) (λ c κs. tt) (λ c κs. tt) array-borrow-prefix-out slice-aggregate-print-instance (λ c κs. tt) returns)
+run-instance-spec =
+    tie.close
+    (tie.spec
+    (λ c κs. tt)
+    (λ c κs. tt)
+    (λ c κs. tt)
+    array-borrow-prefix-out
+    slice-aggregate-print-instance
+    (λ c κs. tt)
+    returns)

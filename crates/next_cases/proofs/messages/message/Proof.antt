@@ -14,25 +14,45 @@ sub-size c =
 
 add-end : tie.Need-add-end
 add-end c =
-    let a = c .before .before .args in
-    let h = message-inside (a .messages .now) (a .lengths .now) (a .number) (c .before .total .ensures) (c .size .ensures) in
+    let total = c .before in
+    let start = total .before in
+    let a = start .args in
+    let h = message-inside (a .messages .now) (a .lengths .now) (a .number) (total .total .ensures) (c .size .ensures) in
     search needs
 
 mul-result : tie.Need-mul-result
 mul-result c =
-    let a = c .before .before .args in
-    let h = message-inside (a .messages .now) (a .lengths .now) (a .number) (c .before .total .ensures) (c .size .ensures) in
+    let total = c .before in
+    let start = total .before in
+    let a = start .args in
+    let h = message-inside (a .messages .now) (a .lengths .now) (a .number) (total .total .ensures) (c .size .ensures) in
     search needs
 
 part-result-end : tie.Need-part-result-end
 part-result-end c =
-    let a = c .before .before .args in
-    message-inside (a .messages .now) (a .lengths .now) (a .number) (c .before .total .ensures) (c .size .ensures)
+    let total = c .before in
+    let start = total .before in
+    let a = start .args in
+    message-inside (a .messages .now) (a .lengths .now) (a .number) (total .total .ensures) (c .size .ensures)
 
 returns : tie.Need-returns
 returns c =
-    let a = c .before .before .before .args in
-    message-is (a .messages .now) (a .lengths .now) (a .number) (c .before .before .total .ensures) (c .before .size .ensures)
+    let size = c .before in
+    let total = size .before in
+    let start = total .before in
+    let a = start .args in
+    message-is (a .messages .now) (a .lengths .now) (a .number) (total .total .ensures) (size .size .ensures)
 
 pub message-spec : {M : Type 1} → statement M
-message-spec = tie.close (tie.spec (λ c κs. tt) sub-size (λ c κs. tt) add-end mul-result (λ c. search needs) (λ c. search needs) part-result-end returns)
+message-spec =
+    tie.close
+    (tie.spec
+    (λ c κs. tt)
+    sub-size
+    (λ c κs. tt)
+    add-end
+    mul-result
+    (λ c. search needs)
+    (λ c. search needs)
+    part-result-end
+    returns)

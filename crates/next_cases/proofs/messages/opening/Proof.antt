@@ -9,7 +9,17 @@ part-result-end : tie.Need-part-result-end
 part-result-end c = start-fits (length (c .before .args .messages .now)) (c .before .args .lengths .now) 4 (c .total .ensures)
 
 returns : tie.Need-returns
-returns c = opening-is (c .before .before .args .messages .now) (c .before .before .args .lengths .now) (c .before .total .ensures)
+returns c =
+    let total = c .before in
+    let start = total .before in
+    opening-is (start .args .messages .now) (start .args .lengths .now) (total .total .ensures)
 
 pub opening-spec : {M : Type 1} → statement M
-opening-spec = tie.close (tie.spec (λ c κs. tt) (λ c. search needs) (λ c. search needs) part-result-end returns)
+opening-spec =
+    tie.close
+    (tie.spec
+    (λ c κs. tt)
+    (λ c. search needs)
+    (λ c. search needs)
+    part-result-end
+    returns)

@@ -17,13 +17,18 @@ loop-holds : tie.Need-loop-holds Inv-loop μ-loop
 loop-holds c = (omega arith, start-none _ _)
 
 sub-size : tie.Need-sub-size Inv-loop μ-loop
-sub-size c = start-fits (c .before .before .args .room) (c .before .before .args .lengths .now) (c .before .loop .i) (c .before .loop .inv .1)
+sub-size c =
+    let round = c .before in
+    let start = round .before in
+    start-fits (start .args .room) (start .args .lengths .now) (round .loop .i) (round .loop .inv .1)
 
 add-sum : tie.Need-add-sum Inv-loop μ-loop
 add-sum c =
-    let a = c .before .before .before .args in
-    let i = c .before .before .loop .i in
-    let next = start-next (a .room) (a .lengths .now) i (c .before .before .loop .inv .1) (c .size .ensures) in
+    let round = c .before .before in
+    let start = round .before in
+    let a = start .args in
+    let i = round .loop .i in
+    let next = start-next (a .room) (a .lengths .now) i (round .loop .inv .1) (c .size .ensures) in
     omega (arith, next, start-inside (a .room) (a .lengths .now) (i + 1))
 
 add-i : tie.Need-add-i Inv-loop μ-loop
@@ -34,14 +39,30 @@ loop-less c = omega arith
 
 loop-again : tie.Need-loop-again Inv-loop μ-loop
 loop-again c =
-    let a = c .before .before .before .args in
-    (omega arith, start-next (a .room) (a .lengths .now) (c .before .before .loop .i) (c .before .before .loop .inv .1) (c .size .ensures))
+    let round = c .before .before in
+    let start = round .before in
+    let a = start .args in
+    (omega arith, start-next (a .room) (a .lengths .now) (round .loop .i) (round .loop .inv .1) (c .size .ensures))
 
 returns : tie.Need-returns Inv-loop μ-loop
 returns c =
-    let a = c .before .before .args in
-    let all : c .before .loop .i ≡ a .lists = omega arith in
-    c .before .loop .inv .1 ∙ ap (λ (k : ℕ). startOf (a .room) (a .lengths .now) k) all
+    let round = c .before in
+    let start = round .before in
+    let a = start .args in
+    let all : round .loop .i ≡ a .lists = omega arith in
+    round .loop .inv .1 ∙ ap (λ (k : ℕ). startOf (a .room) (a .lengths .now) k) all
 
 pub total-spec : {M : Type 1} → statement M
-total-spec = tie.close (tie.spec Inv-loop μ-loop loop-holds sub-size (λ c κs. tt) add-sum add-i loop-less loop-again returns)
+total-spec =
+    tie.close
+    (tie.spec
+    Inv-loop
+    μ-loop
+    loop-holds
+    sub-size
+    (λ c κs. tt)
+    add-sum
+    add-i
+    loop-less
+    loop-again
+    returns)

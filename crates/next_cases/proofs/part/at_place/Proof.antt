@@ -14,4 +14,12 @@ returns c =
     ap (λ (n : ℕ). take n (drop (a .place .start) (a .opening .now))) count
 
 pub at-place-spec : {M : Type 1} → statement M
-at-place-spec = tie.close (tie.spec (λ c. search needs) (λ c. search needs) (λ c. search needs) (λ c. search needs) (λ c. search needs) returns)
+at-place-spec =
+    tie.close
+    (tie.spec
+    (λ c. search needs)
+    (λ c. search needs)
+    (λ c. search needs)
+    (λ c. search needs)
+    (λ c. search needs)
+    returns)

@@ -5,8 +5,13 @@ use Rattle.next_cases.proofs.part.run_part.Tie as tie
 
 returns : tie.Need-returns
 returns c =
-    let a = c .before .before .before .before .args in
-    part-number (a .sizes) (a .nu) (a .mu) (a .part) (a .xs .now) (c .before .part-sizes .ensures) (c .before .before .before .past-numbers .ensures) (c .before .before .nth-list .ensures) (c .print-part .ensures)
+    let part-sizes = c .before in
+    let nth-list = part-sizes .before in
+    let past-numbers = nth-list .before in
+    let start = past-numbers .before in
+    let a = start .args in
+    part-number (a .sizes) (a .nu) (a .mu) (a .part) (a .xs .now) (part-sizes .part-sizes .ensures)
+    (past-numbers .past-numbers .ensures) (nth-list .nth-list .ensures) (c .print-part .ensures)
 
 pub run-part-spec : {M : Type 1} → statement M
 run-part-spec = tie.close (tie.spec (λ c κs. tt) (λ c κs. tt) (λ c κs. tt) (λ c κs. tt) returns)

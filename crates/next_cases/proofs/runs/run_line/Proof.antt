@@ -22,14 +22,34 @@ narrow-requires c κs = c .before .before .before .scan .kept .1 .0
 slice-aggregate-size : tie.Need-slice-aggregate-size
 slice-aggregate-size c = sym (c .before .before .narrow .kept .1 .0)
 
-slice-aggregate-run-kind : tie.Need-slice-aggregate-run-kind
-slice-aggregate-run-kind c = sym (c .before .before .before .before .before .before .before .before .scan .kept .1 .0)
+slice-aggregate-run-case : tie.Need-slice-aggregate-run-case
+slice-aggregate-run-case c =
+    let scan = c .before .before .before .before .before .before .before .before in
+    sym (scan .scan .kept .1 .0)
 
-slice-aggregate-run-kind-2 : tie.Need-slice-aggregate-run-kind-2
-slice-aggregate-run-kind-2 c = sym (c .before .before .before .before .before .narrow .kept .1 .0)
+slice-aggregate-run-case-2 : tie.Need-slice-aggregate-run-case-2
+slice-aggregate-run-case-2 c = sym (c .before .before .before .before .before .narrow .kept .1 .0)
 
 returns : tie.Need-returns
-returns c = line-run (c .before .before .before .before .before .before .before .before .before .before .before .before .before .before .args .line .now) (c .before .before .before .before .before .before .before .before .before .before .before .scan .ensures) (c .before .before .before .before .before .before .before .narrow .ensures) (c .before .before .before .before .size .ensures) (c .before .run-kind .ensures)
+returns c =
+    let size = c .before .before .before in
+    let narrow = size .before .before .before in
+    let scan = narrow .before .before .before .before in
+    let start = scan .before .before .before in
+    line-run (start .args .line .now) (scan .scan .ensures) (narrow .narrow .ensures) (size .size .ensures) (c .run-case .ensures)
 
 pub run-line-spec : {M : Type 1} → statement M
-run-line-spec = tie.close (tie.spec slice-aggregate-scan scan-requires slice-aggregate-narrow slice-aggregate-narrow-2 narrow-requires slice-aggregate-size (λ c κs. tt) slice-aggregate-run-kind slice-aggregate-run-kind-2 (λ c κs. tt) (λ c κs. tt) returns)
+run-line-spec =
+    tie.close
+    (tie.spec
+    slice-aggregate-scan
+    scan-requires
+    slice-aggregate-narrow
+    slice-aggregate-narrow-2
+    narrow-requires
+    slice-aggregate-size
+    (λ c κs. tt)
+    slice-aggregate-run-case
+    slice-aggregate-run-case-2
+    (λ c κs. tt)
+    returns)

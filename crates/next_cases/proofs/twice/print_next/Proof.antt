@@ -6,21 +6,55 @@ use Rattle.next_cases.proofs.twice.print_next.Tie as tie
 
 returns : tie.Need-returns
 returns c =
-    let a = c .before .before .before .before .before .before .before .before .before .before .before .before .before .before .before .before .before .before .args in
-    next-of-fold (a .sizes) (a .setup .now) (a .whole .now) (a .term .now) (a .rows .now) (a .psi .now) (a .draws .now) (a .lengths .now) (a .messages .now)
-    (c .before .before .before .before .before .before .before .before .before .before .before .before .before .before .before .before .before .nth-list .ensures)
-    (c .before .before .before .before .before .before .before .before .before .before .before .before .before .before .before .before .nth-list2 .ensures)
-    (c .before .before .before .before .before .before .before .before .before .before .before .before .before .before .before .nth-list3 .ensures)
-    (c .before .before .before .before .before .before .before .before .before .before .before .before .before .before .nth-list4 .ensures)
-    (c .before .before .before .before .before .before .before .before .before .before .before .nth-list5 .ensures)
-    (c .before .before .before .before .before .before .before .before .before .nth-list6 .ensures)
-    (c .before .before .before .before .before .before .before .before .nth-list7 .ensures)
-    (c .before .before .before .before .before .before .nth-list8 .ensures)
-    (c .before .before .before .before .before .before .before .before .before .before .before .before .before .message .ensures)
-    (c .before .before .before .before .before .before .before .before .before .before .before .before .message2 .ensures)
-    (c .before .before .before .before .before .before .before .before .before .before .message3 .ensures)
-    (c .before .before .before .before .before .before .before .message4 .ensures)
-    (c .before .before .before .before .lizkarg-next-instance .ensures)
+    let lizkarg-next-instance = c .before .before .before .before in
+    let nth-list8 = lizkarg-next-instance .before .before in
+    let message4 = nth-list8 .before in
+    let nth-list7 = message4 .before in
+    let nth-list6 = nth-list7 .before in
+    let message3 = nth-list6 .before in
+    let nth-list5 = message3 .before in
+    let message2 = nth-list5 .before in
+    let message = message2 .before in
+    let nth-list4 = message .before in
+    let nth-list3 = nth-list4 .before in
+    let nth-list2 = nth-list3 .before in
+    let nth-list = nth-list2 .before in
+    let start = nth-list .before in
+    let a = start .args in
+    next-of-fold (a .sizes) (a .setup .now) (a .whole .now) (a .term .now) (a .rows .now) (a .psi .now) (a .draws .now)
+    (a .lengths .now) (a .messages .now)
+    (nth-list .nth-list .ensures)
+    (nth-list2 .nth-list2 .ensures)
+    (nth-list3 .nth-list3 .ensures)
+    (nth-list4 .nth-list4 .ensures)
+    (nth-list5 .nth-list5 .ensures)
+    (nth-list6 .nth-list6 .ensures)
+    (nth-list7 .nth-list7 .ensures)
+    (nth-list8 .nth-list8 .ensures)
+    (message .message .ensures)
+    (message2 .message2 .ensures)
+    (message3 .message3 .ensures)
+    (message4 .message4 .ensures)
+    (lizkarg-next-instance .lizkarg-next-instance .ensures)
 
 pub print-next-spec : {M : Type 1} → statement M
-print-next-spec = tie.close (tie.spec (λ c κs. tt) (λ c κs. tt) (λ c κs. tt) (λ c κs. tt) (λ c κs. tt) (λ c κs. tt) (λ c κs. tt) (λ c κs. tt) (λ c κs. tt) (λ c κs. tt) (λ c κs. tt) (λ c κs. tt) (λ c κs. tt) (λ c κs. tt) (λ c κs. tt) (λ c. search needs) returns)
+print-next-spec =
+    tie.close
+    (tie.spec
+    (λ c κs. tt)
+    (λ c κs. tt)
+    (λ c κs. tt)
+    (λ c κs. tt)
+    (λ c κs. tt)
+    (λ c κs. tt)
+    (λ c κs. tt)
+    (λ c κs. tt)
+    (λ c κs. tt)
+    (λ c κs. tt)
+    (λ c κs. tt)
+    (λ c κs. tt)
+    (λ c κs. tt)
+    (λ c κs. tt)
+    (λ c κs. tt)
+    (λ c. search needs)
+    returns)

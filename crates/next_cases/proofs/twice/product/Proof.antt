@@ -7,8 +7,10 @@ use Rattle.next_cases.proofs.twice.product.Tie as tie
 
 mul-result : tie.Need-mul-result
 mul-result c =
-    let small : c .before .fitting .result * c .fitting2 .result ≤ 1073741824 =
-    rw (c .before .fitting .ensures, c .fitting2 .ensures) (product-bound (c .before .before .args .x) (c .before .before .args .y)) in
+    let fitting = c .before in
+    let start = fitting .before in
+    let small : fitting .fitting .result * c .fitting2 .result ≤ 1073741824 =
+    rw (fitting .fitting .ensures, c .fitting2 .ensures) (product-bound (start .args .x) (start .args .y)) in
     omega arith
 
 returns : tie.Need-returns

@@ -10,8 +10,27 @@ slice-aggregate-run-fold c = array-long 32768
 
 returns : tie.Need-returns
 returns c =
-    second-run (c .before .before .before .before .before .before .nth-list .ensures) (c .before .before .before .before .past-lists .ensures) (c .before .before .before .past-lists2 .ensures)
-    (c .before .run-fold .ensures)
+    let run-fold = c .before in
+    let past-lists2 = run-fold .before .before in
+    let past-lists = past-lists2 .before in
+    let nth-list = past-lists .before .before in
+    second-run (nth-list .nth-list .ensures) (past-lists .past-lists .ensures) (past-lists2 .past-lists2 .ensures)
+    (run-fold .run-fold .ensures)
 
 pub run-second-spec : {M : Type 1} → statement M
-run-second-spec = tie.close (tie.spec (λ c κs. tt) (λ c. search needs) (λ c. search needs) (λ c. search needs) (λ c κs. tt) (λ c. search needs) (λ c. search needs) (λ c. search needs) (λ c κs. tt) (λ c κs. tt) slice-aggregate-run-fold (λ c κs. tt) returns)
+run-second-spec =
+    tie.close
+    (tie.spec
+    (λ c κs. tt)
+    (λ c. search needs)
+    (λ c. search needs)
+    (λ c. search needs)
+    (λ c κs. tt)
+    (λ c. search needs)
+    (λ c. search needs)
+    (λ c. search needs)
+    (λ c κs. tt)
+    (λ c κs. tt)
+    slice-aggregate-run-fold
+    (λ c κs. tt)
+    returns)

@@ -20,27 +20,49 @@ add-i c = omega arith
 
 put-requires : tie.Need-put-requires Inv-loop μ-loop
 put-requires c κs =
-    let a = c .before .before .before .before .args in
-    place-inside (a .sizes) (a .parts) (a .width) (a .opening .now) (a .out .now) (c .before .before .before .loop .inv)
+    let round = c .before .before .before in
+    let start = round .before in
+    let a = start .args in
+    place-inside (a .sizes) (a .parts) (a .width) (a .opening .now) (a .out .now) (round .loop .inv)
 
 loop-less : tie.Need-loop-less Inv-loop μ-loop
 loop-less c = omega arith
 
 loop-again : tie.Need-loop-again Inv-loop μ-loop
 loop-again c =
-    let a = c .before .before .before .before .before .before .args in
-    writing-next (a .sizes) (a .parts) (a .width) (a .opening .now) (a .out .now) (c .before .before .before .before .before .loop .inv) (omega arith)
-    (c .before .before .before .next-part .ensures) (c .before .put .ensures .0) (c .before .put .ensures .1)
+    let put = c .before in
+    let next-part = put .before .before in
+    let round = next-part .before .before in
+    let start = round .before in
+    let a = start .args in
+    writing-next (a .sizes) (a .parts) (a .width) (a .opening .now) (a .out .now) (round .loop .inv) (omega arith)
+    (next-part .next-part .ensures) (put .put .ensures .0) (put .put .ensures .1)
 
 same-length : tie.Need-same-length Inv-loop μ-loop
 same-length c =
-    let a = c .before .before .args in
-    writing-length (a .sizes) (a .parts) (a .width) (a .opening .now) (a .out .now) (c .before .loop .inv)
+    let round = c .before in
+    let start = round .before in
+    let a = start .args in
+    writing-length (a .sizes) (a .parts) (a .width) (a .opening .now) (a .out .now) (round .loop .inv)
 
 returns : tie.Need-returns Inv-loop μ-loop
 returns c =
-    let a = c .before .before .args in
-    writing-end (a .sizes) (a .parts) (a .width) (a .opening .now) (a .out .now) (c .before .loop .inv) (omega arith)
+    let round = c .before in
+    let start = round .before in
+    let a = start .args in
+    writing-end (a .sizes) (a .parts) (a .width) (a .opening .now) (a .out .now) (round .loop .inv) (omega arith)
 
 pub write-witness-spec : {M : Type 1} → statement M
-write-witness-spec = tie.close (tie.spec Inv-loop μ-loop loop-holds add-i (λ c κs. tt) put-requires loop-less loop-again same-length returns)
+write-witness-spec =
+    tie.close
+    (tie.spec
+    Inv-loop
+    μ-loop
+    loop-holds
+    add-i
+    (λ c κs. tt)
+    put-requires
+    loop-less
+    loop-again
+    same-length
+    returns)
