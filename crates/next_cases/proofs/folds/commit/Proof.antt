@@ -35,11 +35,14 @@ returns c =
     let size3 = nth-list .before .before .before .before in
     let size2 = size3 .before in
     let size = size2 .before in
-    let start = size .before in
-    committing (nth-list .nth-list .ensures) (nth-list2 .nth-list2 .ensures)
+    let a = size .before .args in
+    let lengths = a .lengths .now in
+    let call = lizkarg-commit .lizkarg-commit in
+    committing {sizes = a .sizes} {s = a .witness .now} {lengths = lengths} {m = a .messages .now} {code = call .result}
+    {setup = a .setup .now} (nth-list .nth-list .ensures) (nth-list2 .nth-list2 .ensures)
     (nth-list3 .nth-list3 .ensures) (size .size .ensures) (size2 .size2 .ensures) (size3 .size3 .ensures)
-    (lizkarg-commit .lizkarg-commit .ensures)
-    (kept-again (start .args .lengths .now) 4 _ (kept-again (start .args .lengths .now) 2 _ (keep .keep .ensures) (keep2 .keep2 .ensures)) (keep3 .keep3 .ensures))
+    (call .ensures)
+    (kept-again lengths 4 _ (kept-again lengths 2 _ (keep .keep .ensures) (keep2 .keep2 .ensures)) (keep3 .keep3 .ensures))
 
 pub commit-spec : {M : Type 1} → statement M
 commit-spec =

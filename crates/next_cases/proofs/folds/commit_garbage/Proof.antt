@@ -28,11 +28,14 @@ returns c =
     let nth-list = nth-list2 .before in
     let size2 = nth-list .before .before .before in
     let size = size2 .before in
-    let start = size .before in
-    garbage-committing (nth-list .nth-list .ensures) (nth-list2 .nth-list2 .ensures)
+    let a = size .before .args in
+    let call = lizkarg-commit-garbage .lizkarg-commit-garbage in
+    garbage-committing {sizes = a .sizes} {s = a .witness .now} {lengths = a .lengths .now} {m = a .messages .now}
+    {code = call .result} {setup = a .setup .now} {whole = a .whole .now} {term = a .term .now} {rows = a .rows .now}
+    {ψ = a .psi .now} {draws = a .draws .now} (nth-list .nth-list .ensures) (nth-list2 .nth-list2 .ensures)
     (nth-list3 .nth-list3 .ensures) (nth-list4 .nth-list4 .ensures) (size .size .ensures) (size2 .size2 .ensures)
-    (lizkarg-commit-garbage .lizkarg-commit-garbage .ensures)
-    (kept-again (start .args .lengths .now) 7 _ (keep .keep .ensures) (keep2 .keep2 .ensures))
+    (call .ensures)
+    (kept-again (a .lengths .now) 7 _ (keep .keep .ensures) (keep2 .keep2 .ensures))
 
 pub commit-garbage-spec : {M : Type 1} → statement M
 commit-garbage-spec =

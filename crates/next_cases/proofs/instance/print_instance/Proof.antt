@@ -23,8 +23,9 @@ returns c =
     let nth-list3 = nth-list4 .before in
     let nth-list2 = nth-list3 .before in
     let nth-list = nth-list2 .before in
-    let start = nth-list .before in
-    next-of-lists (start .args .lists .now)
+    let a = nth-list .before .args in
+    let call = lizkarg-next-instance .lizkarg-next-instance in
+    next-of-lists {sizes = a .sizes} {ν = a .nu} {μ = a .mu} {code = call .result} (a .lists .now) {out = a .out .now}
     (nth-list .nth-list .ensures)
     (nth-list2 .nth-list2 .ensures)
     (nth-list3 .nth-list3 .ensures)
@@ -41,7 +42,7 @@ returns c =
     (nth-list14 .nth-list14 .ensures)
     (nth-list15 .nth-list15 .ensures)
     (nth-list16 .nth-list16 .ensures)
-    (lizkarg-next-instance .lizkarg-next-instance .ensures)
+    (call .ensures)
 
 pub print-instance-spec : {M : Type 1} → statement M
 print-instance-spec =

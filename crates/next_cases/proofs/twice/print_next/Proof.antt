@@ -19,8 +19,8 @@ returns c =
     let nth-list3 = nth-list4 .before in
     let nth-list2 = nth-list3 .before in
     let nth-list = nth-list2 .before in
-    let start = nth-list .before in
-    let a = start .args in
+    let a = nth-list .before .args in
+    let call = lizkarg-next-instance .lizkarg-next-instance in
     next-of-fold (a .sizes) (a .setup .now) (a .whole .now) (a .term .now) (a .rows .now) (a .psi .now) (a .draws .now)
     (a .lengths .now) (a .messages .now)
     (nth-list .nth-list .ensures)
@@ -35,7 +35,7 @@ returns c =
     (message2 .message2 .ensures)
     (message3 .message3 .ensures)
     (message4 .message4 .ensures)
-    (lizkarg-next-instance .lizkarg-next-instance .ensures)
+    {ν = a .nu} {μ = a .mu} {out = a .out .now} {code = call .result} (call .ensures)
 
 pub print-next-spec : {M : Type 1} → statement M
 print-next-spec =

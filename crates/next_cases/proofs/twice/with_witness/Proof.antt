@@ -26,7 +26,8 @@ returns c =
     let start = product .before in
     let a = start .args in
     second-of
-    (witness-is (a .first) (a .sizes) (a .opening .now) (product .product .ensures) (product2 .product2 .ensures) (fitting .fitting .ensures) (write-witness .write-witness .ensures))
+    (witness-is (a .first) (a .sizes) (a .opening .now)
+    (product .product .ensures) (product2 .product2 .ensures) (fitting .fitting .ensures) (write-witness .write-witness .ensures))
     (run-second .run-second .ensures)
 
 pub with-witness-spec : {M : Type 1} → statement M
