@@ -1,6 +1,6 @@
 """Stored input and output of the test program for the next instance: `python3 next_cases.py DIR` writes DIR/stdin and DIR/stdout.
 
-Input: whitespace-separated decimal numbers, one case a line. A case is its kind (1, 2 or 3), then the eighteen sizes
+Input: decimal numbers, one case a line, each number ended by one blank or line feed. A case is its kind (1, 2 or 3), then the eighteen sizes
     d n r K L w κ κ1 κ2 b b1 b2 t1 t2 ν μ β² β'²
 and then what its kind has, below. A list is its length and its numbers; "length of X" is one number. Every number fits 64 bits with a sign;
 a size or part -k stands for 2^64 - k. Every number of a list fits 32 bits with a sign.

@@ -1,8 +1,9 @@
 // A fold: messages 1 to 5 from a statement and a witness, and the verdict on them. `setup` begins with the lists A, B, C, D and `draws` with
 // ω, α, δ, c; `lengths` and `messages` are those of module messages.
+ghost use mathlib.Core.Path.{_≡_};
+ghost use Rattle.next_cases.specs.Runs.{Committing, Projecting, Aggregating, GarbageCommitting, Amortizing, verdictOf, Folded};
 use crate::input::FILL;
 use crate::input::ROOM;
-use crate::input::count_at;
 use crate::messages::B2;
 use crate::messages::G;
 use crate::messages::H;
@@ -13,26 +14,38 @@ use crate::messages::U2;
 use crate::messages::Z;
 use crate::messages::keep;
 use crate::messages::message;
-use crate::messages::message_mut;
+use crate::messages::opening;
 use crate::output::print_answer;
-use crate::verdict::verify;
+use capi::types::CAnswer;
 use cases::lists::nth_list;
-use cases::sums::print_sum;
+use cases::numbers::size;
 use fold::CommitSizes;
 use fold::GarbageSizes;
 use fold::Shape;
 use fold::Sizes;
 
-fn shape(sizes: Sizes) -> Shape {
-    Shape {
-        d: sizes.d,
-        n: sizes.n,
-        r: sizes.r,
-    }
-}
-
-fn commit_sizes(sizes: Sizes) -> CommitSizes {
-    CommitSizes {
+fn commit(
+    place: usize,
+    sizes: Sizes,
+    setup: &[i32],
+    witness: &[i32],
+    lengths: &[i32],
+    messages: &mut [i32],
+) -> CAnswer
+    ensures { λ x.
+        ⌜ Committing sizes (now (setup .entry)) (now (witness .entry)) (now (lengths .entry)) (now (messages .entry)) x
+        (now (messages .exit)) ⌝ }
+{
+    let t_count = size(lengths, T, ROOM);
+    let g_count = size(lengths, G, ROOM);
+    let u1_count = size(lengths, U1, ROOM);
+    let mut t_room = [FILL; ROOM];
+    let mut g_room = [FILL; ROOM];
+    let mut u1_room = [FILL; ROOM];
+    let t = &mut t_room[..t_count];
+    let g = &mut g_room[..g_count];
+    let u1 = &mut u1_room[..u1_count];
+    let its = CommitSizes {
         d: sizes.d,
         n: sizes.n,
         r: sizes.r,
@@ -42,40 +55,9 @@ fn commit_sizes(sizes: Sizes) -> CommitSizes {
         b2: sizes.b2,
         t1: sizes.t1,
         t2: sizes.t2,
-    }
-}
-
-fn garbage_sizes(sizes: Sizes) -> GarbageSizes {
-    GarbageSizes {
-        d: sizes.d,
-        n: sizes.n,
-        r: sizes.r,
-        k: sizes.k,
-        l: sizes.l,
-        w: sizes.w,
-        kappa2: sizes.kappa2,
-        b1: sizes.b1,
-        t1: sizes.t1,
-    }
-}
-
-fn commit(
-    place: usize,
-    sizes: Sizes,
-    setup: &[i32],
-    witness: &[i32],
-    lengths: &[i32],
-    messages: &mut [i32],
-) {
-    let t_count = count_at(lengths, T);
-    let g_count = count_at(lengths, G);
-    let mut t_room = [FILL; ROOM];
-    let t = &mut t_room[..t_count];
-    let mut g_room = [FILL; ROOM];
-    let g = &mut g_room[..g_count];
-    let u1 = message_mut(messages, lengths, U1);
-    let answer = lizkarg::commit(
-        commit_sizes(sizes),
+    };
+    let answer = capi::lizkarg_commit(
+        its,
         nth_list(setup, 0),
         nth_list(setup, 1),
         nth_list(setup, 2),
@@ -87,14 +69,33 @@ fn commit(
     print_answer(place, answer);
     keep(messages, lengths, T, t);
     keep(messages, lengths, G, g);
-    print_sum(message(messages, lengths, U1));
+    keep(messages, lengths, U1, u1);
+    answer
 }
 
-fn project(sizes: Sizes, rows: &[i32], witness: &[i32], lengths: &[i32], messages: &mut [i32]) {
-    let p = message_mut(messages, lengths, P);
-    let answer = lizkarg::project(shape(sizes), sizes.w, rows, witness, p);
+fn project(
+    sizes: Sizes,
+    rows: &[i32],
+    witness: &[i32],
+    lengths: &[i32],
+    messages: &mut [i32],
+) -> CAnswer
+    ensures { λ x.
+        ⌜ Projecting sizes (now (rows .entry)) (now (witness .entry)) (now (lengths .entry)) (now (messages .entry)) x
+        (now (messages .exit)) ⌝ }
+{
+    let count = size(lengths, P, ROOM);
+    let mut room = [FILL; ROOM];
+    let p = &mut room[..count];
+    let shape = Shape {
+        d: sizes.d,
+        n: sizes.n,
+        r: sizes.r,
+    };
+    let answer = capi::lizkarg_project(shape, sizes.w, rows, witness, p);
     print_answer(1, answer);
-    print_sum(p);
+    keep(messages, lengths, P, p);
+    answer
 }
 
 fn aggregate(
@@ -106,10 +107,21 @@ fn aggregate(
     witness: &[i32],
     lengths: &[i32],
     messages: &mut [i32],
-) {
-    let b2 = message_mut(messages, lengths, B2);
-    let answer = lizkarg::aggregate(
-        shape(sizes),
+) -> CAnswer
+    ensures { λ x.
+        ⌜ Aggregating sizes (now (term .entry)) (now (rows .entry)) (now (psi .entry)) (now (draws .entry))
+        (now (witness .entry)) (now (lengths .entry)) (now (messages .entry)) x (now (messages .exit)) ⌝ }
+{
+    let count = size(lengths, B2, ROOM);
+    let mut room = [FILL; ROOM];
+    let b2 = &mut room[..count];
+    let shape = Shape {
+        d: sizes.d,
+        n: sizes.n,
+        r: sizes.r,
+    };
+    let answer = capi::lizkarg_aggregate(
+        shape,
         sizes.l,
         sizes.w,
         term,
@@ -120,7 +132,8 @@ fn aggregate(
         b2,
     );
     print_answer(1, answer);
-    print_sum(b2);
+    keep(messages, lengths, B2, b2);
+    answer
 }
 
 fn commit_garbage(
@@ -134,13 +147,31 @@ fn commit_garbage(
     witness: &[i32],
     lengths: &[i32],
     messages: &mut [i32],
-) {
-    let count = count_at(lengths, H);
-    let mut room = [FILL; ROOM];
-    let h = &mut room[..count];
-    let u2 = message_mut(messages, lengths, U2);
-    let answer = lizkarg::commit_garbage(
-        garbage_sizes(sizes),
+) -> CAnswer
+    ensures { λ x.
+        ⌜ GarbageCommitting sizes (now (setup .entry)) (now (whole .entry)) (now (term .entry)) (now (rows .entry))
+        (now (psi .entry)) (now (draws .entry)) (now (witness .entry)) (now (lengths .entry)) (now (messages .entry)) x
+        (now (messages .exit)) ⌝ }
+{
+    let h_count = size(lengths, H, ROOM);
+    let u2_count = size(lengths, U2, ROOM);
+    let mut h_room = [FILL; ROOM];
+    let mut u2_room = [FILL; ROOM];
+    let h = &mut h_room[..h_count];
+    let u2 = &mut u2_room[..u2_count];
+    let its = GarbageSizes {
+        d: sizes.d,
+        n: sizes.n,
+        r: sizes.r,
+        k: sizes.k,
+        l: sizes.l,
+        w: sizes.w,
+        kappa2: sizes.kappa2,
+        b1: sizes.b1,
+        t1: sizes.t1,
+    };
+    let answer = capi::lizkarg_commit_garbage(
+        its,
         whole,
         term,
         rows,
@@ -155,18 +186,77 @@ fn commit_garbage(
     );
     print_answer(1, answer);
     keep(messages, lengths, H, h);
-    print_sum(message(messages, lengths, U2));
+    keep(messages, lengths, U2, u2);
+    answer
 }
 
-fn amortize(sizes: Sizes, draws: &[i32], witness: &[i32], lengths: &[i32], messages: &mut [i32]) {
-    let z = message_mut(messages, lengths, Z);
+fn amortize(
+    sizes: Sizes,
+    draws: &[i32],
+    witness: &[i32],
+    lengths: &[i32],
+    messages: &mut [i32],
+) -> CAnswer
+    ensures { λ x.
+        ⌜ Amortizing sizes (now (draws .entry)) (now (witness .entry)) (now (lengths .entry)) (now (messages .entry)) x
+        (now (messages .exit)) ⌝ }
+{
+    let count = size(lengths, Z, ROOM);
+    let mut room = [FILL; ROOM];
+    let z = &mut room[..count];
     let c = nth_list(draws, 3);
-    let answer = lizkarg::amortize(shape(sizes), sizes.b, c, witness, z);
+    let shape = Shape {
+        d: sizes.d,
+        n: sizes.n,
+        r: sizes.r,
+    };
+    let answer = capi::lizkarg_amortize(shape, sizes.b, c, witness, z);
     print_answer(1, answer);
-    print_sum(z);
+    keep(messages, lengths, Z, z);
+    answer
 }
 
-// A fold: prints each message's answer and the sums of what it wrote, and the verdict; a blank first where `place` is not 0.
+// The verdict on the messages.
+fn verify(
+    sizes: Sizes,
+    setup: &[i32],
+    whole: &[i32],
+    term: &[i32],
+    rows: &[i32],
+    psi: &[i32],
+    draws: &[i32],
+    lengths: &[i32],
+    messages: &[i32],
+) -> CAnswer
+    ensures { λ x.
+        ⌜ x ≡ verdictOf sizes (now (setup .entry)) (now (whole .entry)) (now (term .entry)) (now (rows .entry))
+        (now (psi .entry)) (now (draws .entry)) (now (lengths .entry)) (now (messages .entry)) ⌝ }
+{
+    let answer = capi::lizkarg_verify(
+        sizes,
+        nth_list(setup, 0),
+        nth_list(setup, 1),
+        nth_list(setup, 2),
+        nth_list(setup, 3),
+        whole,
+        term,
+        message(messages, lengths, U1),
+        rows,
+        message(messages, lengths, P),
+        psi,
+        nth_list(draws, 0),
+        message(messages, lengths, B2),
+        nth_list(draws, 1),
+        nth_list(draws, 2),
+        message(messages, lengths, U2),
+        nth_list(draws, 3),
+        opening(messages, lengths),
+    );
+    print_answer(1, answer);
+    answer
+}
+
+// A fold: prints each message's answer and the sums of what it wrote, and the verdict, which it answers; a blank first where `place` is not 0.
 pub fn run_fold(
     place: usize,
     sizes: Sizes,
@@ -179,7 +269,11 @@ pub fn run_fold(
     witness: &[i32],
     lengths: &[i32],
     messages: &mut [i32],
-) {
+) -> CAnswer
+    ensures { λ x.
+        ⌜ Folded sizes (now (setup .entry)) (now (whole .entry)) (now (term .entry)) (now (rows .entry)) (now (psi .entry))
+        (now (draws .entry)) (now (witness .entry)) (now (lengths .entry)) (now (messages .entry)) x (now (messages .exit)) ⌝ }
+{
     commit(place, sizes, setup, witness, lengths, messages);
     project(sizes, rows, witness, lengths, messages);
     aggregate(sizes, term, rows, psi, draws, witness, lengths, messages);
@@ -206,5 +300,5 @@ pub fn run_fold(
         draws,
         lengths,
         messages,
-    );
+    )
 }

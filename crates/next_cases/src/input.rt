@@ -1,22 +1,21 @@
 // The numbers of a case: its kind, its eighteen sizes, then its lists. What is missing counts as 0.
 ghost use mathlib.Core.Path.{_≡_};
-ghost use Prim.Native.Nat.{_≤_};
 ghost use lib.IntN.{pos};
-ghost use lib.ListN.{length, replicate, take};
 ghost use mir.Syntax.{w64};
 ghost use mir.Val.{ofZ};
-ghost use Rattle.next_cases.specs.Input.{sizeAt};
-use cases::numbers::size;
+ghost use Rattle.cases.specs.Numbers.{sizeOf};
+ghost use Rattle.next_cases.specs.Input.{wideSize, sizesOf};
+use cases::numbers::wide_at;
 use fold::Sizes;
 
-// Where the sizes of a case begin, how many they are, which are ν and μ, and what follows them.
+// Where the sizes of a case begin, how many they are, which numbers are ν and μ, and what follows the sizes.
 pub const SIZES: usize = 1;
 
 pub const SIZE_COUNT: usize = 18;
 
-pub const NU: usize = 14;
+pub const NU: usize = 15;
 
-pub const MU: usize = 15;
+pub const MU: usize = 16;
 
 pub const LISTS: usize = 19;
 
@@ -38,33 +37,21 @@ fn wrapped(x: i64) -> u64
 }
 
 fn bound_at(wides: &[i64], place: usize) -> u64
-    ensures { λ x. ⌜ x ≡ sizeAt (now (wides .entry)) place ⌝ }
+    ensures { λ x. ⌜ x ≡ wideSize (now (wides .entry)) place ⌝ }
 {
-    if wides.len() <= place {
-        return 0;
-    }
-    let x = wides[place];
-    wrapped(x)
+    wrapped(wide_at(wides, place))
 }
 
 // The size at a place: it may be any of 64 bits, so that the calls refuse it.
 pub fn size_at(wides: &[i64], place: usize) -> usize
-    ensures { λ x. ⌜ x ≡ sizeAt (now (wides .entry)) place ⌝ }
+    ensures { λ x. ⌜ x ≡ wideSize (now (wides .entry)) place ⌝ }
 {
     bound_at(wides, place) as usize
 }
 
 // The sizes of a fold, from the first number on; ν and μ are left out.
 pub fn read_sizes(wides: &[i64]) -> Sizes
-    ensures { λ x.
-        ⌜ (x .d ≡ sizeAt (now (wides .entry)) 0) × (x .n ≡ sizeAt (now (wides .entry)) 1) ×
-        (x .r ≡ sizeAt (now (wides .entry)) 2) × (x .k ≡ sizeAt (now (wides .entry)) 3) ×
-        (x .l ≡ sizeAt (now (wides .entry)) 4) × (x .w ≡ sizeAt (now (wides .entry)) 5) ×
-        (x .kappa ≡ sizeAt (now (wides .entry)) 6) × (x .kappa1 ≡ sizeAt (now (wides .entry)) 7) ×
-        (x .kappa2 ≡ sizeAt (now (wides .entry)) 8) × (x .b ≡ sizeAt (now (wides .entry)) 9) ×
-        (x .b1 ≡ sizeAt (now (wides .entry)) 10) × (x .b2 ≡ sizeAt (now (wides .entry)) 11) ×
-        (x .t1 ≡ sizeAt (now (wides .entry)) 12) × (x .t2 ≡ sizeAt (now (wides .entry)) 13) ×
-        (x .bound ≡ sizeAt (now (wides .entry)) 16) × (x .target ≡ sizeAt (now (wides .entry)) 17) ⌝ }
+    ensures { λ x. ⌜ x ≡ sizesOf (now (wides .entry)) ⌝ }
 {
     Sizes {
         d: size_at(wides, 0),
@@ -86,19 +73,12 @@ pub fn read_sizes(wides: &[i64]) -> Sizes
     }
 }
 
-// The length of a list to write, 0 where it is too long. The filled array has a part that long.
+// The length of a list to write, 0 where it is too long.
 pub fn fitting(count: usize) -> usize
-    ensures { λ r. ⌜ (r ≤ 32768) × (r ≡ length (take r (replicate 32768 (pos 77)))) ⌝ }
+    ensures { λ r. ⌜ r ≡ sizeOf 32768 (pos count) ⌝ }
 {
     if count > ROOM {
         return 0;
     }
     count
-}
-
-// The length at a place, of a list to write.
-pub fn count_at(xs: &[i32], place: usize) -> usize
-    ensures { λ r. ⌜ (r ≤ 32768) × (r ≡ length (take r (replicate 32768 (pos 77)))) ⌝ }
-{
-    fitting(size(xs, place, ROOM))
 }

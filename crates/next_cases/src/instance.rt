@@ -1,21 +1,24 @@
 // Kind 1, the next instance.
-ghost use Prim.Native.Nat.{_≤_};
 ghost use lib.ListN.{length};
+ghost use Rattle.next_cases.specs.Runs.{NextOfLists, InstanceRun};
 use crate::input::FILL;
 use crate::input::LISTS;
 use crate::input::ROOM;
-use crate::input::count_at;
 use crate::output::print_answer;
+use capi::next::lizkarg_next_instance;
+use capi::types::CAnswer;
 use cases::lists::nth_list;
 use cases::lists::past_lists;
 use cases::lists::past_numbers;
+use cases::numbers::size;
 use cases::sums::print_shown;
 use fold::Sizes;
-use next_instance::next_instance;
 
 // The call on A, B, C, D, the whole and the constant-term functions, u1, the rows, p, psi, omega, b'', alpha, delta, u2, the challenges.
-fn print_instance(sizes: Sizes, nu: usize, mu: usize, lists: &[i32], out: &mut [i32]) {
-    let answer = next_instance(
+fn print_instance(sizes: Sizes, nu: usize, mu: usize, lists: &[i32], out: &mut [i32]) -> CAnswer
+    ensures { λ x. ⌜ NextOfLists sizes nu mu (now (lists .entry)) (now (out .entry)) x (now (out .exit)) ⌝ }
+{
+    let answer = lizkarg_next_instance(
         sizes,
         nu,
         mu,
@@ -39,16 +42,15 @@ fn print_instance(sizes: Sizes, nu: usize, mu: usize, lists: &[i32], out: &mut [
     );
     print_answer(0, answer);
     print_shown(out);
+    answer
 }
 
-// The sixteen lists of the call, and the length of the list to write. The answer is how many numbers the case has.
-pub fn run_instance(sizes: Sizes, nu: usize, mu: usize, xs: &[i32]) -> usize
-    ensures { λ r. ⌜ r ≤ length (now (xs .entry)) ⌝ }
+// The sixteen lists of the call, and the length of the list to write.
+pub fn run_instance(sizes: Sizes, nu: usize, mu: usize, xs: &[i32]) -> CAnswer
+    ensures { λ x. ⌜ InstanceRun sizes nu mu (now (xs .entry)) x ⌝ }
 {
     let lists = past_numbers(xs, LISTS);
-    let lengths = past_lists(lists, 16);
-    let count = count_at(lengths, 0);
+    let count = size(past_lists(lists, 16), 0, ROOM);
     let mut out = [FILL; ROOM];
-    print_instance(sizes, nu, mu, lists, &mut out[..count]);
-    xs.len() - past_numbers(lengths, 1).len()
+    print_instance(sizes, nu, mu, lists, &mut out[..count])
 }

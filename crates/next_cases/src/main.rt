@@ -1,6 +1,6 @@
 // Runs the next instance, the parts of its witness, and a fold with the fold of its next instance on the cases of
-// tools/reference/next_cases.py: standard input has one case a line, standard output gets one line for each. The check compares them
-// with the results of the second implementation.
+// tools/reference/next_cases.py, by the functions that crate capi exports: standard input has one case a line, standard output gets one
+// line for each. The check compares them with the results of the second implementation.
 mod folds;
 mod input;
 mod instance;
@@ -9,12 +9,9 @@ mod output;
 mod part;
 mod runs;
 mod twice;
-mod verdict;
 mod witness;
 
 fn main() {
     let mut text = [0u8; 1048576];
-    let mut words = [0i32; 163840];
-    let mut wides = [0i64; 163840];
-    runs::run_text(&mut text, &mut words, &mut wides);
+    runs::run_text(&mut text);
 }

@@ -1,15 +1,17 @@
 // Kind 2, one part of the next witness.
 ghost use mathlib.Core.Path.{_≡_};
-ghost use Prim.Native.Nat.{_≤_};
-ghost use lib.ListN.{length};
-use crate::input::LISTS;
-use crate::input::size_at;
-use cases::lists::after_list;
-use cases::lists::list;
+ghost use Prim.Native.Nat.{_+_, _≤_};
+ghost use lib.ListN.{length, take, drop};
+ghost use Rattle.chunks.specs.Parts.{partRefusalOf, nextPartOf};
+ghost use Rattle.cases.specs.Lists.{nthList};
+ghost use Rattle.next_cases.specs.Input.{partSizesOf};
+use capi::next::lizkarg_next_part;
+use capi::next::lizkarg_next_part_refusal;
+use capi::types::CPart;
+use cases::lists::nth_list;
+use cases::lists::past_numbers;
 use cases::sums::print_shown;
 use chunks::part::PartSizes;
-use chunks::part::next_part;
-use chunks::part::next_part_refusal;
 use fold::Sizes;
 
 // Where the opening stands, after the part's number.
@@ -17,9 +19,7 @@ const OPENING: usize = 20;
 
 // The sizes of an opening and of its cut.
 pub fn part_sizes(sizes: Sizes, nu: usize, mu: usize) -> PartSizes
-    ensures { λ x.
-        ⌜ (x .d ≡ sizes .d) × (x .n ≡ sizes .n) × (x .r ≡ sizes .r) × (x .kappa ≡ sizes .kappa) ×
-        (x .t1 ≡ sizes .t1) × (x .t2 ≡ sizes .t2) × (x .nu ≡ nu) × (x .mu ≡ mu) ⌝ }
+    ensures { λ x. ⌜ x ≡ partSizesOf sizes nu mu ⌝ }
 {
     PartSizes {
         d: sizes.d,
@@ -33,17 +33,38 @@ pub fn part_sizes(sizes: Sizes, nu: usize, mu: usize) -> PartSizes
     }
 }
 
-fn print_part(sizes: PartSizes, part: usize, opening: &[i32]) {
-    let refusal = next_part_refusal(sizes, part, opening);
-    io::print_decimal(1, refusal as u64);
-    print_shown(next_part(sizes, part, opening));
+// The numbers of the opening at a place.
+fn at_place(opening: &[i32], place: CPart) -> &[i32]
+    requires { ⌜ place .start + place .length ≤ length (now opening) ⌝ }
+    ensures { λ r. ⌜ now r ≡ take (place .length) (drop (place .start) (now (opening .entry))) ⌝ }
+{
+    let start = place.start;
+    let end = start + place.length;
+    &opening[start..end]
 }
 
-// The part's number, the opening. The answer is how many numbers the case has.
-pub fn run_part(sizes: Sizes, nu: usize, mu: usize, wides: &[i64], xs: &[i32]) -> usize
-    ensures { λ r. ⌜ r ≤ length (now (xs .entry)) ⌝ }
+// A part of the next witness; empty where it is refused.
+pub fn next_part(sizes: PartSizes, part: usize, opening: &[i32]) -> &[i32]
+    ensures { λ r. ⌜ now r ≡ nextPartOf sizes part (now (opening .entry)) ⌝ }
 {
-    let part = size_at(wides, LISTS);
-    print_part(part_sizes(sizes, nu, mu), part, list(xs, OPENING));
-    after_list(xs, OPENING)
+    let place = lizkarg_next_part(sizes, part, opening);
+    at_place(opening, place)
+}
+
+// The number with which a part is refused, which is printed, and the part.
+fn print_part(sizes: PartSizes, part: usize, opening: &[i32]) -> u8
+    ensures { λ r. ⌜ r ≡ partRefusalOf sizes part (now (opening .entry)) ⌝ }
+{
+    let refusal = lizkarg_next_part_refusal(sizes, part, opening);
+    io::print_decimal(1, refusal as u64);
+    print_shown(next_part(sizes, part, opening));
+    refusal
+}
+
+// The opening follows the part's number.
+pub fn run_part(sizes: Sizes, nu: usize, mu: usize, part: usize, xs: &[i32]) -> u8
+    ensures { λ r. ⌜ r ≡ partRefusalOf (partSizesOf sizes nu mu) part (nthList 0 (drop 20 (now (xs .entry)))) ⌝ }
+{
+    let opening = nth_list(past_numbers(xs, OPENING), 0);
+    print_part(part_sizes(sizes, nu, mu), part, opening)
 }

@@ -1,6 +1,8 @@
 // The cases one after another.
-ghost use Prim.Native.Nat.{_≤_};
-ghost use lib.ListN.{length};
+ghost use mathlib.Core.Path.{_≡_};
+ghost use mathlib.Core.List.{[]};
+ghost use Rattle.cases.specs.Text.{pastLines, Lines};
+ghost use Rattle.next_cases.specs.Runs.{CaseRun, LineRun};
 use crate::input;
 use crate::instance;
 use crate::part;
@@ -8,42 +10,65 @@ use crate::twice;
 use cases::lists;
 use cases::numbers;
 use cases::printing;
+use cases::text;
 
-// One case: its kind, and all numbers from its first on. It answers how many the case has; 0 where the kind is none.
-fn run(kind: i32, wides: &[i64], xs: &[i32]) -> usize
-    ensures { λ r. ⌜ r ≤ length (now (xs .entry)) ⌝ }
+// The most numbers that a case has.
+const NUMBERS: usize = 4096;
+
+// A case of this kind: all its numbers, with all their bits and with 32. It answers the number of the last answer; 0 where the kind is none.
+fn run_case(kind: usize, wides: &[i64], xs: &[i32]) -> u8
+    ensures { λ r. ⌜ CaseRun (now (wides .entry)) (now (xs .entry)) kind r ⌝ }
 {
-    let fold = lists::rest(wides, input::SIZES);
-    let sizes = input::read_sizes(fold);
-    let nu = input::size_at(fold, input::NU);
-    let mu = input::size_at(fold, input::MU);
-    match kind {
-        1 => instance::run_instance(sizes, nu, mu, xs),
-        2 => part::run_part(sizes, nu, mu, wides, xs),
-        3 => twice::run_twice(sizes, nu, mu, wides, xs),
-        _ => 0,
+    let sizes = input::read_sizes(lists::past_wides(wides, input::SIZES));
+    let nu = input::size_at(wides, input::NU);
+    let mu = input::size_at(wides, input::MU);
+    if kind == 1 {
+        let answer = instance::run_instance(sizes, nu, mu, xs);
+        return answer.number;
     }
+    if kind == 2 {
+        let number = input::size_at(wides, input::LISTS);
+        return part::run_part(sizes, nu, mu, number, xs);
+    }
+    if kind == 3 {
+        let answer = twice::run_twice(sizes, nu, mu, wides, xs);
+        return answer.number;
+    }
+    0
 }
 
-fn run_all(words: &[i32], wides: &[i64]) {
+// The case of one line.
+fn run_line(line: &[u8]) -> u8
+    ensures { λ r. ⌜ LineRun (now (line .entry)) r ⌝ }
+{
+    let mut wides = [0i64; NUMBERS];
+    let mut words = [0i32; NUMBERS];
+    text::scan(line, &mut wides);
+    numbers::narrow(&wides, &mut words);
+    let kind = numbers::size(&words, 0, 3);
+    run_case(kind, &wides, &words)
+}
+
+// Every line of a text; the answer is how many there are.
+fn run_all(lines: &[u8]) -> usize
+    ensures { λ r. ⌜ pastLines r (now (lines .entry)) ≡ [] ⌝ }
+{
     let mut at = 0;
-    while at < words.len() {
-        let kind = words[at];
-        let used = run(kind, lists::rest(wides, at), &words[at..]);
-        if used == 0 {
-            return;
-        }
+    let mut count = 0;
+    while at < lines.len() {
+        let end = at + text::line_length(&lines[at..]);
+        run_line(&lines[at..end]);
         printing::print_line_end();
-        at = at + used;
+        at = end;
+        count += 1;
     }
+    count
 }
 
-// Reads the text, runs its cases and answers how many numbers it has. The slices have room for it and for its numbers.
-pub fn run_text(text: &mut [u8], words: &mut [i32], wides: &mut [i64]) -> usize
-    ensures { λ r. ⌜ r ≤ length (now (words .exit)) ⌝ }
+// Reads a text into the buffer and runs its lines; the answer is how many there are.
+pub fn run_text(buffer: &mut [u8]) -> usize
+    ensures { λ r. ⌜ Lines (now (buffer .exit)) r ⌝ }
 {
-    let length = io::read_full(0, text);
-    let count = numbers::scan(&text[..length], words, wides);
-    run_all(&words[..count], wides);
-    count
+    let length = io::read_full(0, buffer);
+    run_all(&buffer[..length])
 }

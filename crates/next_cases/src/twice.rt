@@ -1,12 +1,15 @@
 // Kind 3, a fold and the fold of its next instance.
-ghost use Prim.Native.Nat.{_≤_};
-ghost use lib.ListN.{length};
+ghost use mathlib.Core.Path.{_≡_};
+ghost use Prim.Native.Nat.{_*_};
+ghost use lib.IntN.{pos};
+ghost use Rattle.cases.specs.Numbers.{sizeOf};
+ghost use Rattle.next_cases.specs.Runs.{NextOfFold, FirstRun, SecondRun, TwiceRun};
+ghost use Rattle.next_cases.specs.Witness.{witnessOf};
 use crate::folds::run_fold;
 use crate::input::FILL;
 use crate::input::LISTS;
 use crate::input::ROOM;
 use crate::input::SIZE_COUNT;
-use crate::input::count_at;
 use crate::input::fitting;
 use crate::input::read_sizes;
 use crate::messages::B2;
@@ -18,83 +21,125 @@ use crate::messages::opening;
 use crate::output::print_answer;
 use crate::part::part_sizes;
 use crate::witness::write_witness;
+use capi::next::lizkarg_next_instance;
+use capi::types::CAnswer;
 use cases::lists::nth_list;
 use cases::lists::past_lists;
 use cases::lists::past_numbers;
-use cases::lists::rest;
+use cases::lists::past_wides;
+use cases::numbers::size;
 use cases::sums::print_sum;
 use chunks::part::PartSizes;
 use fold::Sizes;
-use next_instance::next_instance;
 
-// The first fold: A, B, C, D, the whole and the constant-term functions, the rows, psi, omega, alpha, delta, the challenges, the witness.
-fn run_first(sizes: Sizes, lists: &[i32], lengths: &[i32], messages: &mut [i32]) {
-    run_fold(
-        0,
+// The next instance after a fold, whose parameters are those of module folds.
+fn print_next(
+    sizes: Sizes,
+    nu: usize,
+    mu: usize,
+    setup: &[i32],
+    whole: &[i32],
+    term: &[i32],
+    rows: &[i32],
+    psi: &[i32],
+    draws: &[i32],
+    lengths: &[i32],
+    messages: &[i32],
+    out: &mut [i32],
+) -> CAnswer
+    ensures { λ x.
+        ⌜ NextOfFold sizes nu mu (now (setup .entry)) (now (whole .entry)) (now (term .entry)) (now (rows .entry))
+        (now (psi .entry)) (now (draws .entry)) (now (lengths .entry)) (now (messages .entry)) (now (out .entry)) x
+        (now (out .exit)) ⌝ }
+{
+    let answer = lizkarg_next_instance(
         sizes,
-        lists,
-        nth_list(lists, 4),
-        nth_list(lists, 5),
-        nth_list(lists, 6),
-        nth_list(lists, 7),
-        past_lists(lists, 8),
-        nth_list(lists, 12),
-        lengths,
-        messages,
+        nu,
+        mu,
+        nth_list(setup, 0),
+        nth_list(setup, 1),
+        nth_list(setup, 2),
+        nth_list(setup, 3),
+        whole,
+        term,
+        message(messages, lengths, U1),
+        rows,
+        message(messages, lengths, P),
+        psi,
+        nth_list(draws, 0),
+        message(messages, lengths, B2),
+        nth_list(draws, 1),
+        nth_list(draws, 2),
+        message(messages, lengths, U2),
+        nth_list(draws, 3),
+        out,
     );
+    print_answer(1, answer);
+    print_sum(out);
+    answer
 }
 
-// The next instance after the first fold.
-fn print_next(
+// The first fold and its next instance: A, B, C, D, the whole and the constant-term functions, the rows, psi, omega, alpha, delta, the
+// challenges, the witness.
+fn run_first(
     sizes: Sizes,
     nu: usize,
     mu: usize,
     lists: &[i32],
     lengths: &[i32],
-    messages: &[i32],
+    messages: &mut [i32],
     out: &mut [i32],
-) {
-    let answer = next_instance(
+)
+    ensures { λ _.
+        ⌜ FirstRun sizes nu mu (now (lists .entry)) (now (lengths .entry)) (now (messages .entry)) (now (messages .exit))
+        (now (out .entry)) (now (out .exit)) ⌝ }
+{
+    let whole = nth_list(lists, 4);
+    let term = nth_list(lists, 5);
+    let rows = nth_list(lists, 6);
+    let psi = nth_list(lists, 7);
+    let draws = past_lists(lists, 8);
+    let witness = nth_list(lists, 12);
+    run_fold(
+        0,
+        sizes,
+        lists,
+        whole,
+        term,
+        rows,
+        psi,
+        draws,
+        witness,
+        lengths,
+        messages,
+    );
+    print_next(
         sizes,
         nu,
         mu,
-        nth_list(lists, 0),
-        nth_list(lists, 1),
-        nth_list(lists, 2),
-        nth_list(lists, 3),
-        nth_list(lists, 4),
-        nth_list(lists, 5),
-        message(messages, lengths, U1),
-        nth_list(lists, 6),
-        message(messages, lengths, P),
-        nth_list(lists, 7),
-        nth_list(lists, 8),
-        message(messages, lengths, B2),
-        nth_list(lists, 9),
-        nth_list(lists, 10),
-        message(messages, lengths, U2),
-        nth_list(lists, 11),
+        lists,
+        whole,
+        term,
+        rows,
+        psi,
+        draws,
+        lengths,
+        messages,
         out,
     );
-    print_answer(1, answer);
-    print_sum(out);
 }
 
 // A product of sizes; 0 where one passes what a list can have.
 fn product(x: usize, y: usize) -> usize
-    ensures { λ r. ⌜ r ≤ 1073741824 ⌝ }
+    ensures { λ r. ⌜ r ≡ sizeOf 32768 (pos x) * sizeOf 32768 (pos y) ⌝ }
 {
-    if x > ROOM {
-        return 0;
-    }
-    if y > ROOM {
-        return 0;
-    }
-    x * y
+    fitting(x) * fitting(y)
 }
 
 // The second fold: A, B, C, D, the rows, omega, alpha, delta, the challenges. There are no constant-term functions and no psi.
-fn run_second(sizes: Sizes, whole: &[i32], witness: &[i32], lists: &[i32]) {
+fn run_second(sizes: Sizes, whole: &[i32], witness: &[i32], lists: &[i32]) -> CAnswer
+    ensures { λ x. ⌜ SecondRun sizes (now (whole .entry)) (now (witness .entry)) (now (lists .entry)) x ⌝ }
+{
     let mut messages = [FILL; ROOM];
     print_sum(witness);
     run_fold(
@@ -109,42 +154,46 @@ fn run_second(sizes: Sizes, whole: &[i32], witness: &[i32], lists: &[i32]) {
         witness,
         past_lists(lists, 9),
         &mut messages,
-    );
+    )
 }
 
 // The next witness from the first fold's opening, and the second fold. The witness has as many parts as the sizes say.
-fn with_witness(first: PartSizes, sizes: Sizes, opening: &[i32], whole: &[i32], lists: &[i32]) {
+fn with_witness(
+    first: PartSizes,
+    sizes: Sizes,
+    opening: &[i32],
+    whole: &[i32],
+    lists: &[i32],
+) -> CAnswer
+    ensures { λ x.
+        ⌜ SecondRun sizes (now (whole .entry)) (witnessOf first sizes (now (opening .entry))) (now (lists .entry)) x ⌝ }
+{
     let width = product(sizes.n, sizes.d);
     let count = fitting(product(sizes.r, width));
     let mut room = [FILL; ROOM];
     let witness = &mut room[..count];
     write_witness(first, sizes.r, width, opening, witness);
-    run_second(sizes, whole, witness, lists);
+    run_second(sizes, whole, witness, lists)
 }
 
-// The first fold's lists and lengths, that of the next constraints among them; the second fold's sizes, lists and lengths. The answer is how
-// many numbers the case has.
-pub fn run_twice(sizes: Sizes, nu: usize, mu: usize, wides: &[i64], xs: &[i32]) -> usize
-    ensures { λ r. ⌜ r ≤ length (now (xs .entry)) ⌝ }
+// The first fold's lists and lengths, that of the next constraints among them; the second fold's sizes, lists and lengths.
+pub fn run_twice(sizes: Sizes, nu: usize, mu: usize, wides: &[i64], xs: &[i32]) -> CAnswer
+    ensures { λ x. ⌜ TwiceRun sizes nu mu (now (wides .entry)) (now (xs .entry)) x ⌝ }
 {
     let lists = past_numbers(xs, LISTS);
     let lengths = past_lists(lists, 13);
-    let count = count_at(lengths, 8);
+    let count = size(lengths, 8, ROOM);
     let second = past_numbers(lengths, 9);
-    let second_sizes = read_sizes(rest(wides, xs.len() - second.len()));
-    let second_lists = past_numbers(second, SIZE_COUNT);
-    let used = xs.len() - past_numbers(past_lists(second_lists, 9), 8).len();
+    let second_sizes = read_sizes(past_wides(wides, xs.len() - second.len()));
     let mut messages = [FILL; ROOM];
     let mut room = [FILL; ROOM];
     let whole = &mut room[..count];
-    run_first(sizes, lists, lengths, &mut messages);
-    print_next(sizes, nu, mu, lists, lengths, &messages, whole);
+    run_first(sizes, nu, mu, lists, lengths, &mut messages, whole);
     with_witness(
         part_sizes(sizes, nu, mu),
         second_sizes,
         opening(&messages, lengths),
         whole,
-        second_lists,
-    );
-    used
+        past_numbers(second, SIZE_COUNT),
+    )
 }

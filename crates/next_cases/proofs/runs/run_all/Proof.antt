@@ -1,61 +1,78 @@
--- `next_cases::runs::run_all` is safe and ends: each case has a number at least. Assumes nothing.
+-- `next_cases::runs::run_all` meets its contract. The loop's invariant: `at` is the place after `count` lines. Assumes nothing.
+use mathlib.Core.Path.{_≡_, refl}
 use Prim.Native.Nat.{_-_, _≤_}
 use native.Mathlib.Omega.{arith}
-use lib.ListN.{length, length-take, length-drop}
+use lib.ListN.{length, drop}
+use Rattle.cases.specs.Text.{pastLines}
+use Rattle.cases.specs.TextLaws.{line-fits, line-ahead, lines-next, lines-end}
 use borrow.Author.Needs.{needs}
 use Rattle.next_cases.proofs.runs.run_all.Statement.{statement}
 use Rattle.next_cases.proofs.runs.run_all.Tie as tie
 
 abbrev Inv-loop : tie.InvT-loop
-Inv-loop words wides at₀ at = at ≤ length words
+Inv-loop lines at₀ count₀ at count = (count ≤ at) × (at ≤ length lines) × (drop at lines ≡ pastLines count lines)
 
 abbrev μ-loop : tie.MeasureT-loop
-μ-loop words wides at₀ at = length words - at
+μ-loop lines at₀ count₀ at count = length lines - at
 
 loop-holds : tie.Need-loop-holds Inv-loop μ-loop
-loop-holds c = omega arith
+unfolding pastLines
+loop-holds c = (omega arith, omega arith, refl)
 
-mul-kind : tie.Need-mul-kind Inv-loop μ-loop
-mul-kind c = omega arith
+sub-line-length : tie.Need-sub-line-length Inv-loop μ-loop
+sub-line-length c = omega arith
 
-shared-slice-copy-out-kind : tie.Need-shared-slice-copy-out-kind Inv-loop μ-loop
-shared-slice-copy-out-kind c = omega arith
+add-end : tie.Need-add-end Inv-loop μ-loop
+add-end c =
+    let round = c .before .before .before in
+    let start = round .before .before in
+    let h = line-fits (start .args .lines .now) (round .loop .at) (c .line-length .ensures) (round .loop .inv .1) in
+    search needs
 
-rest-requires : tie.Need-rest-requires Inv-loop μ-loop
-rest-requires c κs = tt
+part-run-line-end : tie.Need-part-run-line-end Inv-loop μ-loop
+part-run-line-end c =
+    let round = c .before .before .before in
+    let start = round .before .before in
+    line-fits (start .args .lines .now) (round .loop .at) (c .line-length .ensures) (round .loop .inv .1)
 
-mul-run : tie.Need-mul-run Inv-loop μ-loop
-mul-run c = omega arith
-
-sub-run : tie.Need-sub-run Inv-loop μ-loop
-sub-run c = omega arith
-
-part-run-start : tie.Need-part-run-start Inv-loop μ-loop
-part-run-start c = search needs
-
-part-run-end : tie.Need-part-run-end Inv-loop μ-loop
-part-run-end c = search needs
-
-run-requires : tie.Need-run-requires Inv-loop μ-loop
-run-requires c κs = tt
-
-returns : tie.Need-returns Inv-loop μ-loop
-returns c = tt
-
-print-line-end-requires : tie.Need-print-line-end-requires Inv-loop μ-loop
-print-line-end-requires c κs = tt
-
-add-at : tie.Need-add-at Inv-loop μ-loop
-add-at c = omega (arith, simp (length-take, length-drop) at (c .before .before .run .ensures))
+add-count : tie.Need-add-count Inv-loop μ-loop
+add-count c =
+    let line-length = c .before .before .before in
+    let round = line-length .before .before .before in
+    let start = round .before .before in
+    let h = line-fits (start .args .lines .now) (round .loop .at) (line-length .line-length .ensures) (round .loop .inv .1) in
+    search needs
 
 loop-less : tie.Need-loop-less Inv-loop μ-loop
-loop-less c = omega (arith, simp (length-take, length-drop) at (c .before .before .run .ensures))
+loop-less c =
+    let line-length = c .before .before .before in
+    let round = line-length .before .before .before in
+    let start = round .before .before in
+    let e = line-length .line-length .ensures in
+    omega (
+      arith,
+      line-fits (start .args .lines .now) (round .loop .at) e (round .loop .inv .1),
+      line-ahead (start .args .lines .now) (round .loop .at) e (omega arith),
+    )
 
 loop-again : tie.Need-loop-again Inv-loop μ-loop
-loop-again c = omega (arith, simp (length-take, length-drop) at (c .before .before .run .ensures))
+loop-again c =
+    let line-length = c .before .before .before in
+    let round = line-length .before .before .before in
+    let start = round .before .before in
+    let lines = start .args .lines .now in
+    let at = round .loop .at in
+    let e = line-length .line-length .ensures in (
+      omega (arith, line-ahead lines at e (omega arith)),
+      line-fits lines at e (round .loop .inv .1),
+      lines-next lines at e (round .loop .count) (round .loop .inv .2),
+    )
 
-returns-2 : tie.Need-returns-2 Inv-loop μ-loop
-returns-2 c = tt
+returns : tie.Need-returns Inv-loop μ-loop
+returns c =
+    let round = c .before in
+    let start = round .before .before in
+    lines-end (start .args .lines .now) (round .loop .count) (round .loop .at) (round .loop .inv .2) (omega arith)
 
 pub run-all-spec : {M : Type 1} → statement M
 run-all-spec =
@@ -64,17 +81,17 @@ run-all-spec =
     Inv-loop
     μ-loop
     loop-holds
-    mul-kind
-    shared-slice-copy-out-kind
-    rest-requires
-    mul-run
-    sub-run
-    part-run-start
-    part-run-end
-    run-requires
-    returns
-    print-line-end-requires
-    add-at
+    sub-line-length
+    (λ c. search needs)
+    (λ c. search needs)
+    (λ c κs. tt)
+    add-end
+    (λ c. search needs)
+    (λ c. search needs)
+    part-run-line-end
+    (λ c κs. tt)
+    (λ c κs. tt)
+    add-count
     loop-less
     loop-again
-    returns-2)
+    returns)

@@ -1,0 +1,69 @@
+-- `next_cases::folds::commit` meets its contract. Assumes nothing.
+use Rattle.next_cases.specs.MessageLaws.{blank-inside, blank-fits, kept-again}
+use Rattle.next_cases.specs.RunLaws.{committing}
+use borrow.Author.Needs.{needs}
+use Rattle.next_cases.proofs.folds.commit.Statement.{statement}
+use Rattle.next_cases.proofs.folds.commit.Tie as tie
+
+array-borrow-prefix-t-room : tie.Need-array-borrow-prefix-t-room
+array-borrow-prefix-t-room c = blank-inside 32768 _ 1 (c .before .before .size .ensures)
+
+slice-aggregate-t : tie.Need-slice-aggregate-t
+slice-aggregate-t c = blank-fits 32768 _ 1 (c .before .before .before .size .ensures)
+
+array-borrow-prefix-g-room : tie.Need-array-borrow-prefix-g-room
+array-borrow-prefix-g-room c = blank-inside 32768 _ 2 (c .before .before .size2 .ensures)
+
+slice-aggregate-g : tie.Need-slice-aggregate-g
+slice-aggregate-g c = blank-fits 32768 _ 2 (c .before .before .before .size2 .ensures)
+
+array-borrow-prefix-u1-room : tie.Need-array-borrow-prefix-u1-room
+array-borrow-prefix-u1-room c = blank-inside 32768 _ 4 (c .before .before .size3 .ensures)
+
+slice-aggregate-u1 : tie.Need-slice-aggregate-u1
+slice-aggregate-u1 c = blank-fits 32768 _ 4 (c .before .before .before .size3 .ensures)
+
+returns : tie.Need-returns
+returns c =
+    let keep3 = c .before .before in
+    let keep2 = keep3 .before .before .before .before .before in
+    let keep = keep2 .before .before .before .before .before in
+    let lizkarg-commit = keep .before .before .before .before .before .before .before in
+    let nth-list3 = lizkarg-commit .before .before .before .before in
+    let nth-list2 = nth-list3 .before in
+    let nth-list = nth-list2 .before in
+    let size3 = nth-list .before .before .before .before in
+    let size2 = size3 .before in
+    let size = size2 .before in
+    let a = size .before .args in
+    let lengths = a .lengths .now in
+    let call = lizkarg-commit .lizkarg-commit in
+    committing {sizes = a .sizes} {s = a .witness .now} {lengths = lengths} {m = a .messages .now} {code = call .result}
+    {setup = a .setup .now} (nth-list .nth-list .ensures) (nth-list2 .nth-list2 .ensures)
+    (nth-list3 .nth-list3 .ensures) (size .size .ensures) (size2 .size2 .ensures) (size3 .size3 .ensures)
+    (call .ensures)
+    (kept-again lengths 4 _ (kept-again lengths 2 _ (keep .keep .ensures) (keep2 .keep2 .ensures)) (keep3 .keep3 .ensures))
+
+pub commit-spec : {M : Type 1} → statement M
+commit-spec =
+    tie.close
+    (tie.spec
+    (λ c κs. tt)
+    (λ c κs. tt)
+    (λ c κs. tt)
+    array-borrow-prefix-t-room
+    slice-aggregate-t
+    array-borrow-prefix-g-room
+    slice-aggregate-g
+    array-borrow-prefix-u1-room
+    slice-aggregate-u1
+    (λ c κs. tt)
+    (λ c κs. tt)
+    (λ c κs. tt)
+    (λ c κs. tt)
+    (λ c κs. tt)
+    (λ c κs. tt)
+    (λ c κs. tt)
+    (λ c κs. tt)
+    (λ c. search needs)
+    returns)

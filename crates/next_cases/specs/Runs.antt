@@ -1,0 +1,178 @@
+-- What is promised of a case: the calls that it makes, and which of its numbers each is given. A list is followed by a mark, as m′, where it
+-- stands for the numbers after the call.
+use mathlib.Core.Path.{_≡_}
+use mathlib.Core.List.{List, [], map}
+use Prim.Native.Nat.{ℕ, _-_}
+use lib.IntN.{ℤ}
+use lib.ListN.{length, drop}
+use Rattle.fold.specs.declared.Sizes.{Sizes}
+use Rattle.fold.specs.Arguments.{statementOf, drawsOf, transcriptOf}
+use Rattle.fold.specs.Verdict.{Statement, Draws, Transcript}
+use Rattle.fold.specs.Verification.{verification}
+use Rattle.lizkarg.specs.Calls.{Committed, Projected, Aggregated, GarbageCommitted, Amortized}
+use Rattle.chunks.specs.Parts.{partRefusalOf}
+use Rattle.next_instance.specs.Calls.{NextCalled}
+use Rattle.capi.specs.declared.types.CAnswer.{CAnswer}
+use Rattle.capi.specs.Codes.{Coded, codeOf}
+use Rattle.cases.specs.Numbers.{padded, word, sizeAt}
+use Rattle.cases.specs.Lists.{pastLists, nthList}
+use Rattle.cases.specs.Text.{lineNumbers}
+use Rattle.next_cases.specs.Input.{wideSize, sizesOf, shapeOf, commitSizesOf, garbageSizesOf, partSizesOf}
+use Rattle.next_cases.specs.Messages.{filled, blank, messageOf, openingOf, kept}
+use Rattle.next_cases.specs.Witness.{witnessOf}
+
+-- ---- kind 1: A, B, C, D, the whole and the constant-term functions, u1, the rows, p, ψ, ω, b″, α, δ, u2, c
+
+abbrev pub NextOfLists : Sizes → (ν μ : ℕ) → (lists out : List ℤ) → CAnswer → (out′ : List ℤ) → Type 0
+NextOfLists sizes ν μ lists out code out′ =
+    Coded
+    (λ answer. NextCalled
+    (statementOf sizes (nthList 0 lists) (nthList 1 lists) (nthList 2 lists) (nthList 3 lists) (nthList 4 lists) (nthList 5 lists))
+    (drawsOf (nthList 7 lists) (nthList 9 lists) (nthList 10 lists) (nthList 12 lists) (nthList 13 lists) (nthList 15 lists))
+    (transcriptOf (nthList 6 lists) (nthList 8 lists) (nthList 11 lists) (nthList 14 lists)) ν μ out answer out′)
+    code
+
+pub record InstanceRun (sizes : Sizes) (ν μ : ℕ) (xs : List ℤ) (code : CAnswer) : Type 0 where
+  pub out′ : List ℤ
+  pub called : NextOfLists sizes ν μ (drop 19 xs) (filled (sizeAt 32768 (pastLists 16 (drop 19 xs)) 0)) code out′
+
+-- ---- a fold: `setup` begins with A, B, C, D, and `draws` with ω, α, δ, c
+
+pub record Committing (sizes : Sizes) (setup s lengths m : List ℤ) (code : CAnswer) (m′ : List ℤ) : Type 0 where
+  pub t′ : List ℤ
+  pub g′ : List ℤ
+  pub u′ : List ℤ
+  pub called : Coded
+      (λ answer. Committed (commitSizesOf sizes) (nthList 0 setup) (nthList 1 setup) (nthList 2 setup) s (blank lengths 1) (blank lengths 2)
+      (blank lengths 4) answer t′ g′ u′)
+      code
+  pub keeps : m′ ≡ kept (kept (kept m lengths 1 t′) lengths 2 g′) lengths 4 u′
+
+pub record Projecting (sizes : Sizes) (rows s lengths m : List ℤ) (code : CAnswer) (m′ : List ℤ) : Type 0 where
+  pub p′ : List ℤ
+  pub called : Coded (λ answer. Projected (shapeOf sizes) (sizes .w) rows s (blank lengths 5) answer p′) code
+  pub keeps : m′ ≡ kept m lengths 5 p′
+
+pub record Aggregating (sizes : Sizes) (term rows ψ draws s lengths m : List ℤ) (code : CAnswer) (m′ : List ℤ) : Type 0 where
+  pub b′ : List ℤ
+  pub called : Coded
+      (λ answer. Aggregated (shapeOf sizes) (sizes .l) (sizes .w) term rows ψ (nthList 0 draws) s (blank lengths 6) answer b′)
+      code
+  pub keeps : m′ ≡ kept m lengths 6 b′
+
+pub record GarbageCommitting (sizes : Sizes) (setup whole term rows ψ draws s lengths m : List ℤ) (code : CAnswer) (m′ : List ℤ) : Type 0 where
+  pub h′ : List ℤ
+  pub u′ : List ℤ
+  pub called : Coded
+      (λ answer. GarbageCommitted (garbageSizesOf sizes) whole term rows ψ (nthList 0 draws) (nthList 1 draws) (nthList 2 draws)
+      (nthList 3 setup) s (blank lengths 3) (blank lengths 7) answer h′ u′)
+      code
+  pub keeps : m′ ≡ kept (kept m lengths 3 h′) lengths 7 u′
+
+pub record Amortizing (sizes : Sizes) (draws s lengths m : List ℤ) (code : CAnswer) (m′ : List ℤ) : Type 0 where
+  pub z′ : List ℤ
+  pub called : Coded (λ answer. Amortized (shapeOf sizes) (sizes .b) (nthList 3 draws) s (blank lengths 0) answer z′) code
+  pub keeps : m′ ≡ kept m lengths 0 z′
+
+-- what the verifier and the next instance are given
+abbrev pub foldStatement : Sizes → (setup whole term : List ℤ) → Statement
+foldStatement sizes setup whole term =
+    statementOf sizes (nthList 0 setup) (nthList 1 setup) (nthList 2 setup) (nthList 3 setup) whole term
+
+abbrev pub foldDraws : (rows ψ draws : List ℤ) → Draws
+foldDraws rows ψ draws = drawsOf rows ψ (nthList 0 draws) (nthList 1 draws) (nthList 2 draws) (nthList 3 draws)
+
+abbrev pub foldTranscript : (lengths m : List ℤ) → Transcript
+foldTranscript lengths m = transcriptOf (messageOf m lengths 4) (messageOf m lengths 5) (messageOf m lengths 6) (messageOf m lengths 7)
+
+abbrev pub verdictOf : Sizes → (setup whole term rows ψ draws lengths m : List ℤ) → CAnswer
+verdictOf sizes setup whole term rows ψ draws lengths m =
+    codeOf
+    (verification (foldStatement sizes setup whole term) (foldDraws rows ψ draws) (foldTranscript lengths m) (openingOf m lengths))
+
+-- the five messages one after another, and the verdict on them
+pub record Folded (sizes : Sizes) (setup whole term rows ψ draws s lengths m : List ℤ) (verdict : CAnswer) (m′ : List ℤ) : Type 0 where
+  pub code₁ : CAnswer
+  pub code₂ : CAnswer
+  pub code₃ : CAnswer
+  pub code₄ : CAnswer
+  pub code₅ : CAnswer
+  pub m₁ : List ℤ
+  pub m₂ : List ℤ
+  pub m₃ : List ℤ
+  pub m₄ : List ℤ
+  pub message₁ : Committing sizes setup s lengths m code₁ m₁
+  pub message₂ : Projecting sizes rows s lengths m₁ code₂ m₂
+  pub message₃ : Aggregating sizes term rows ψ draws s lengths m₂ code₃ m₃
+  pub message₄ : GarbageCommitting sizes setup whole term rows ψ draws s lengths m₃ code₄ m₄
+  pub message₅ : Amortizing sizes draws s lengths m₄ code₅ m′
+  pub verdict-is : verdict ≡ verdictOf sizes setup whole term rows ψ draws lengths m′
+
+-- ---- kind 3
+
+-- the next instance after a fold
+abbrev pub NextOfFold : Sizes → (ν μ : ℕ) → (setup whole term rows ψ draws lengths m out : List ℤ) → CAnswer → (out′ : List ℤ) → Type 0
+NextOfFold sizes ν μ setup whole term rows ψ draws lengths m out code out′ =
+    Coded
+    (λ answer. NextCalled (foldStatement sizes setup whole term) (foldDraws rows ψ draws) (foldTranscript lengths m) ν μ out answer out′)
+    code
+
+-- A, B, C, D, the whole and the constant-term functions, the rows, ψ, ω, α, δ, c, the witness
+pub record FirstRun (sizes : Sizes) (ν μ : ℕ) (lists lengths m m′ out out′ : List ℤ) : Type 0 where
+  pub verdict : CAnswer
+  pub folded : Folded sizes lists (nthList 4 lists) (nthList 5 lists) (nthList 6 lists) (nthList 7 lists) (pastLists 8 lists)
+      (nthList 12 lists) lengths m verdict m′
+  pub code : CAnswer
+  pub called : NextOfFold sizes ν μ lists (nthList 4 lists) (nthList 5 lists) (nthList 6 lists) (nthList 7 lists) (pastLists 8 lists)
+      lengths m′ out code out′
+
+-- A, B, C, D, the rows, ω, α, δ, c, and the lengths; no constant-term functions and no ψ
+pub record SecondRun (sizes : Sizes) (whole s lists : List ℤ) (verdict : CAnswer) : Type 0 where
+  pub m′ : List ℤ
+  pub folded : Folded sizes lists whole [] (nthList 4 lists) [] (pastLists 5 lists) s (pastLists 9 lists) (filled 32768) verdict m′
+
+-- after the first fold's lists its lengths, that of the next constraints among them, and after these the second fold's sizes
+abbrev pub lengthsIn : List ℤ → List ℤ
+lengthsIn xs = pastLists 13 (drop 19 xs)
+
+abbrev pub secondIn : List ℤ → List ℤ
+secondIn xs = drop 9 (lengthsIn xs)
+
+-- read where the numbers have all their bits
+abbrev pub secondSizes : (wides xs : List ℤ) → Sizes
+secondSizes wides xs = sizesOf (drop (length xs - length (secondIn xs)) wides)
+
+pub record TwiceRun (sizes : Sizes) (ν μ : ℕ) (wides xs : List ℤ) (verdict : CAnswer) : Type 0 where
+  pub m′ : List ℤ
+  pub whole : List ℤ
+  pub first : FirstRun sizes ν μ (drop 19 xs) (lengthsIn xs) (filled 32768) m′ (filled (sizeAt 32768 (lengthsIn xs) 8)) whole
+  pub second : SecondRun (secondSizes wides xs) whole
+      (witnessOf (partSizesOf sizes ν μ) (secondSizes wides xs) (openingOf m′ (lengthsIn xs))) (drop 18 (secondIn xs)) verdict
+
+-- ---- a case: its kind, its sizes, what its kind has. r is the number of its last answer.
+
+pub record InstanceNumber (sizes : Sizes) (ν μ : ℕ) (xs : List ℤ) (r : ℕ) : Type 0 where
+  pub code : CAnswer
+  pub ran : InstanceRun sizes ν μ xs code
+  pub number-is : r ≡ code .number
+
+pub record TwiceNumber (sizes : Sizes) (ν μ : ℕ) (wides xs : List ℤ) (r : ℕ) : Type 0 where
+  pub code : CAnswer
+  pub ran : TwiceRun sizes ν μ wides xs code
+  pub number-is : r ≡ code .number
+
+abbrev pub caseSizes : List ℤ → Sizes
+caseSizes wides = sizesOf (drop 1 wides)
+
+pub record CaseRun (wides xs : List ℤ) (kind r : ℕ) : Type 0 where
+  pub instance : kind ≡ 1 → InstanceNumber (caseSizes wides) (wideSize wides 15) (wideSize wides 16) xs r
+  pub part : kind ≡ 2
+      → r ≡ partRefusalOf (partSizesOf (caseSizes wides) (wideSize wides 15) (wideSize wides 16)) (wideSize wides 19) (nthList 0 (drop 20 xs))
+  pub twice : kind ≡ 3 → TwiceNumber (caseSizes wides) (wideSize wides 15) (wideSize wides 16) wides xs r
+
+-- the numbers of a line, 4096 of them, and the same as numbers of 32 bits
+abbrev pub LineRun : (line : List ℕ) (r : ℕ) → Type 0
+LineRun line r =
+    let wides = padded 4096 (lineNumbers line) in
+    let xs = map word wides in
+    CaseRun wides xs (sizeAt 3 xs 0) r
