@@ -1,6 +1,6 @@
 """Writes the numbers of the second closed case, all computed here. SecondCase.antt proves that they are the definitions'.
 
-    python3 tools/reference/second_case.py > crates/fold/specs/SecondCaseNumbers.antt
+    python3 tools/reference/second_case.py > crates/fold/specs/Cases/SecondCaseNumbers.antt
 
 The file is the same every time. Sizes are small, with odd and even bases; matrices, constraints and draws have coefficients of
 every size; the witness is short and meets its constraints.

@@ -1,4 +1,8 @@
-pub mod Facts
+-- Definitions
 pub mod Rows
 pub mod Values
 pub mod Garbage
+-- What a call that is not refused knows
+pub mod Known
+-- Laws
+pub mod Laws

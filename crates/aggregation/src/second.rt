@@ -7,7 +7,7 @@ ghost use Rattle.algebra.specs.Triangle.{pair};
 ghost use Rattle.fold.specs.Sizes.{pairs};
 ghost use Rattle.fold.specs.Messages.{b″};
 ghost use Rattle.constraints.specs.RowGroups.{SumsOf};
-ghost use Rattle.aggregation.specs.Facts.{PairFacts, ValueFacts};
+ghost use Rattle.aggregation.specs.Known.Facts.{PairFacts, ValueFacts};
 ghost use Rattle.aggregation.specs.Rows.{Sums};
 ghost use Rattle.aggregation.specs.Values.{pairTerm, witnessTerm};
 use crate::rows;

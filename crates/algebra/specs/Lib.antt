@@ -1,18 +1,19 @@
+-- Definitions: rings and sums
 pub mod CommRing
 pub mod Integers
-pub mod Residue
 pub mod Sum
 pub mod Triangle
-pub mod NormalForm
-pub mod Solver
-mod SolverExamples
+-- the integers modulo m
+pub mod Residue
+pub mod IntegersModulo
+-- K[X]/(X^d+1)
 pub mod Vec
+pub mod Polynomial
 pub mod Negacyclic
-pub mod Convolution
-pub mod Constant
+pub mod Indeterminate
 pub mod Conjugation
-pub mod ConjugationProduct
+-- Dot-product functions
 pub mod DotProduct
-pub mod DotProductLaws
-pub mod FoldLaws
-pub mod Tables
+-- What is proved of them
+pub mod Laws
+pub mod Cases

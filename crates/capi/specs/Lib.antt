@@ -1,4 +1,5 @@
+-- Definitions
 pub mod Codes
 pub mod Places
 -- Laws
-pub mod PlaceLaws
+pub mod Laws

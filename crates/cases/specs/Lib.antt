@@ -1,9 +1,7 @@
+-- Definitions
 pub mod Numbers
 pub mod Text
 pub mod Lists
 pub mod Sums
 -- Laws
-pub mod NumberLaws
-pub mod TextLaws
-pub mod ListLaws
-pub mod SumLaws
+pub mod Laws

@@ -1,7 +1,7 @@
 -- Numbers in a text: decimal, with a minus sign or without. A byte of at most 32, a blank or a line feed, ends a number, and a line feed ends
 -- a line.
 use mathlib.Core.Path.{_≡_}
-use mathlib.Core.Bool.{Bool, true, false, cond, _||_}
+use mathlib.Core.Bool.{Bool, false, cond, _||_}
 use mathlib.Core.List.{List, [], _∷_}
 use Prim.Native.Nat.{ℕ, zero, suc, _+_, _*_, _-_, min}
 use lib.Dec.{eqb, leb, ltb}

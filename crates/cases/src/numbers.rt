@@ -3,7 +3,7 @@ ghost use mathlib.Core.Path.{_≡_};
 ghost use mathlib.Core.List.{map};
 ghost use lib.IntN.{pos};
 ghost use lib.ListN.{length, getD};
-ghost use Rattle.integers.specs.Bridge.{P};
+ghost use Rattle.integers.specs.Laws.Bridge.{P};
 ghost use Rattle.cases.specs.Numbers.{word, sizeAt};
 use residues::range;
 

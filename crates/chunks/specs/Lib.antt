@@ -1,5 +1,7 @@
-pub mod CutSizes
-pub mod NextFacts
+-- Definitions
 pub mod Stages
-pub mod CountLaws
 pub mod Parts
+-- What a call that is not refused knows
+pub mod Known
+-- Laws
+pub mod Laws

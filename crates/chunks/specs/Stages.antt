@@ -1,21 +1,13 @@
 -- The tests of the next instance in stages: those of its sizes, which come first, and those of its lengths and ranges.
-use mathlib.Core.Path.{_≡_, refl, sym, _∙_}
 use mathlib.Core.Bool.{Bool}
 use mathlib.Core.List.{List, [], _∷_}
-use Prim.Native.Nat.{ℕ, _*_, _≤_}
-use native.Mathlib.Omega.{arith}
+use Prim.Native.Nat.{ℕ, _*_}
 use lib.IntN.{ℤ, pos}
 use Rattle.residues.specs.Range.{coefficients}
 use Rattle.fold.specs.declared.Sizes.{Sizes}
-use Rattle.fold.specs.Answers.{firstRefusal}
 use Rattle.fold.specs.Sizes.{restSize, nextRank, nextParts, nextCount}
 use Rattle.fold.specs.Refusals.{allOf, degree, rank, parts, constraintCount, projectionCount, commitmentRank, base, digitCount}
 use Rattle.fold.specs.Refusals.{chunks, lengthBound, sized, wholeLength}
-use Rattle.fold.specs.RefusalLaws.{refusal-passes}
-use Rattle.fold.specs.CallLimits.{verify-limits}
-use Rattle.fold.specs.Arguments.{VerifySized}
-use Rattle.chunks.specs.CutSizes.{CutSizes, restSize-bound}
-use Rattle.chunks.specs.NextFacts.{ChunkLimits, chunk-limits}
 
 -- rows 1 to 6
 abbrev pub nextBounds : Sizes → (ν μ : ℕ) → List (ℕ × Bool)
@@ -63,26 +55,3 @@ messageRanges u₁ p b″ u₂ A B C D =
     ∷ coefficients C
     ∷ coefficients D
     ∷ []
-
--- ---- what is known once the sizes have not been refused
-
-module _ (m : Sizes) (ν μ : ℕ) {x : ℕ} (e : x ≡ firstRefusal (nextBounds m ν μ)) (z : x ≡ 0) where
-  pub next-sized : VerifySized m
-  next-sized =
-      let p = refusal-passes (nextBounds m ν μ) refl (sym e ∙ z) in
-      verify-limits _ _ _ _ _ _ _ _ _ _ _ _ _ _ _ _ (p .0) (p .1 .0) (p .1 .1 .0) (p .1 .1 .1 .0) (p .1 .1 .1 .1 .1 .0)
-
-  pub next-cut : ChunkLimits 2 ν μ
-  next-cut = let p = refusal-passes (nextBounds m ν μ) refl (sym e ∙ z) in chunk-limits 2 ν μ (p .1 .1 .1 .1 .0)
-
--- the sizes of the cut, within the limits of rows 1 to 5
-pub cut-sizes : (r κ t₁ t₂ : ℕ) {n ν m μ : ℕ} → n ≤ 256 → r ≤ 16 → κ ≤ 8 → t₁ ≤ 8 → t₂ ≤ 8 → ChunkLimits 2 ν μ → m ≡ restSize r κ t₁ t₂
-    → CutSizes n ν m μ
-cut-sizes r κ t₁ t₂ a b c d f l e =
-    record {
-      n-small = a;
-      m-small = omega (arith, restSize-bound r κ t₁ t₂ b c d f, e);
-      ν-positive = l .ν-positive;
-      μ-positive = l .μ-positive;
-      parts-small = l .parts-small;
-    }

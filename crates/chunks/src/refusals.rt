@@ -6,7 +6,7 @@ ghost use Rattle.fold.specs.Answers.{firstRefusal};
 ghost use Rattle.fold.specs.Refusals.{allOf, nextTests};
 ghost use Rattle.fold.specs.Refusals as table;
 ghost use Rattle.fold.specs.Arguments.{VerifySized, statementOf, drawsOf, transcriptOf};
-ghost use Rattle.chunks.specs.NextFacts.{ChunkLimits};
+ghost use Rattle.chunks.specs.Known.NextFacts.{ChunkLimits};
 ghost use Rattle.chunks.specs.Stages as spec;
 use crate::sizes::next_rank;
 use crate::sizes::rest_size;

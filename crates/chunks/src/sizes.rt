@@ -4,7 +4,7 @@ ghost use Prim.Native.Nat.{_≤_, _<_};
 ghost use Rattle.algebra.specs.Triangle.{start};
 ghost use Rattle.fold.specs.Sizes as spec;
 ghost use Rattle.fold.specs.Chunks as cuts;
-ghost use Rattle.chunks.specs.CutSizes.{CutSizes};
+ghost use Rattle.chunks.specs.Known.CutSizes.{CutSizes};
 use fold::counts::garbage_size;
 use fold::counts::t_size;
 

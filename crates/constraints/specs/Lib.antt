@@ -1,9 +1,9 @@
-pub mod Facts
-pub mod SizeLaws
-pub mod Running
-pub mod Rows
-pub mod Terms
+-- Definitions
 pub mod RowGroups
 pub mod Accumulator
 pub mod ProjectedRows
 pub mod Aggregated
+-- What a call that is not refused knows
+pub mod Known
+-- Laws
+pub mod Laws

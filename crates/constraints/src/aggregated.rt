@@ -8,7 +8,7 @@ ghost use Rattle.ring.specs.Element.{Degree, R, lift, el, array};
 ghost use Rattle.fold.specs.Sizes.{pairs, functionSize};
 ghost use Rattle.fold.specs.Messages.{five, aggregateConstant};
 ghost use Rattle.fold.specs.Entries.{wholeEntry, aggregateA, aggregateΦ};
-ghost use Rattle.constraints.specs.Facts.{TermFacts, SecondFacts, WholeFacts, AggregateFacts};
+ghost use Rattle.constraints.specs.Known.Facts.{TermFacts, SecondFacts, WholeFacts, AggregateFacts};
 ghost use Rattle.constraints.specs.RowGroups.{SumsOf};
 ghost use Rattle.constraints.specs.Aggregated.{weightedA, weightedΦ};
 use crate::second::COUNT;

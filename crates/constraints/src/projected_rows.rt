@@ -8,7 +8,7 @@ ghost use Rattle.integers.specs.Lists.{tab, upto};
 ghost use Rattle.residues.specs.Modulus.{centred};
 ghost use Rattle.ring.specs.Element.{Degree, array};
 ghost use Rattle.fold.specs.Entries.{projectionEntry};
-ghost use Rattle.constraints.specs.Facts.{ProjectionFacts};
+ghost use Rattle.constraints.specs.Known.Facts.{ProjectionFacts};
 ghost use Rattle.constraints.specs.RowGroups.{CodesOf, SumsOf};
 ghost use Rattle.constraints.specs.Accumulator.{FiveRoom, SmallFive, AddedFive};
 ghost use Rattle.constraints.specs.ProjectedRows.{Summed};

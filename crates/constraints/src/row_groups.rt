@@ -6,7 +6,7 @@ ghost use Prim.Native.Nat.{_+_, _*_, _/_, _<_, _≤_};
 ghost use lib.ListN.{length, getD};
 ghost use lib.IntN.{pos, natAbs, _+ℤ_, _-ℤ_, _*ℤ_};
 ghost use Rattle.residues.specs.Range.{projections};
-ghost use Rattle.constraints.specs.Facts.{ProjectionFacts};
+ghost use Rattle.constraints.specs.Known.Facts.{ProjectionFacts};
 ghost use Rattle.constraints.specs.RowGroups.{decode, Coded, Codes, CodesOf, Term, WeightedSum, SumsOf};
 use fold::Shape;
 

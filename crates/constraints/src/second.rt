@@ -7,7 +7,7 @@ ghost use Rattle.residues.specs.Modulus.{Zq};
 ghost use Rattle.ring.specs.Element.{R, lift, array};
 ghost use Rattle.fold.specs.Sizes.{pairs, functionSize};
 ghost use Rattle.fold.specs.Entries.{termEntry, secondA, secondΦ};
-ghost use Rattle.constraints.specs.Facts.{TermFacts, SecondFacts};
+ghost use Rattle.constraints.specs.Known.Facts.{TermFacts, SecondFacts};
 ghost use Rattle.constraints.specs.RowGroups.{SumsOf};
 use crate::projected_rows::projection_row;
 use fold::Shape;

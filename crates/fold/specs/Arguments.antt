@@ -8,8 +8,8 @@ use Rattle.fold.specs.declared.CommitSizes.{CommitSizes}
 use Rattle.fold.specs.declared.GarbageSizes.{GarbageSizes}
 use Rattle.fold.specs.declared.Sizes.{Sizes}
 use Rattle.fold.specs.Answers.{firstRefusal}
-use Rattle.fold.specs.Verdict.{Statement, Draws, Transcript}
-use Rattle.fold.specs.CallLimits.{CommitLimits, GarbageLimits, VerifyLimits}
+use Rattle.fold.specs.Statement.{Statement, Draws, Transcript}
+use Rattle.fold.specs.Known.CallLimits.{CommitLimits, GarbageLimits, VerifyLimits}
 use Rattle.fold.specs.Refusals.{commitTests, projectTests, aggregateTests, garbageTests, amortizeTests, verifyTests, productTests}
 
 abbrev pub statementOf : Sizes → (A B C D whole term : List ℤ) → Statement

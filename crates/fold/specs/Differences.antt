@@ -7,7 +7,8 @@ use Rattle.integers.specs.Lists.{tab}
 use Rattle.residues.specs.Modulus.{centred}
 use Rattle.fold.specs.Sizes.{tSize, garbageSize}
 use Rattle.fold.specs.Statement.{Relation}
-use Rattle.fold.specs.Verdict.{Statement, tPlace}
+use Rattle.fold.specs.Statement.{Statement}
+use Rattle.fold.specs.Opening.{tPlace}
 
 unfoldable pub difference : List ℤ → List ℤ → List ℤ
 difference xs ys = tab (length xs) (λ i. centred (getD xs i (pos 0) -ℤ getD ys i (pos 0)))

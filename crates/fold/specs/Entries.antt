@@ -4,7 +4,6 @@ use mathlib.Core.List.{List}
 use Prim.Native.Nat.{ℕ, _+_, _*_}
 use lib.ListN.{getD}
 use lib.IntN.{ℤ, pos}
-use Rattle.algebra.specs.CommRing.{CommRing}
 use Rattle.algebra.specs.Sum.{sum}
 use Rattle.algebra.specs.Conjugation.{conjugate}
 use Rattle.residues.specs.Modulus.{Zq}

@@ -6,7 +6,7 @@ use Rattle.algebra.specs.DotProduct.{Function}
 use Rattle.ring.specs.Element.{R}
 use Rattle.fold.specs.Statement.{Relation}
 use Rattle.fold.specs.Messages as Messages
-use Rattle.fold.specs.Verdict.{Statement, Draws, Transcript}
+use Rattle.fold.specs.Statement.{Statement, Draws, Transcript}
 
 module _ (𝓢 : Statement) (𝓓 : Draws) (s : List ℤ) where
   open Statement 𝓢 using (relation, w, tz, κ, κ₁, κ₂, b, b₁, b₂, t₁, t₂, A, B, C, D)

@@ -1,68 +1,32 @@
--- Definitions, in the order of document 01
-pub mod Answers
+-- Sizes, statement, opening
 pub mod Sizes
 pub mod Statement
+pub mod Opening
+-- 'Messages, in order'
 pub mod Messages
+pub mod PairElements
+pub mod Entries
+-- 'Verdict'
 pub mod Verdict
-pub mod Honest
-pub mod Refusals
 pub mod Verification
+-- 'Honest messages, and two openings'
+pub mod Honest
 pub mod Differences
+-- 'Next instance'
 pub mod Chunks
+pub mod Constraint
 pub mod NextInstance
 pub mod NextCall
--- What calls know and how loops form the functions
-pub mod Facts
-pub mod Entries
--- The theorems
-pub mod HonestRuns
-pub mod HonestFormed
-pub mod MessagesTaken
-pub mod LowestFirst
-pub mod TwoOpenings
-pub mod NextInstanceTheorem
--- Closed cases
-pub mod Computing
-pub mod WholeCase
-pub mod WorkedValues
-pub mod RefusalCases
-pub mod LimitCases
-pub mod ListCases
-pub mod ProductCases
-pub mod SecondCaseNumbers
-pub mod SecondCase
--- Laws
-pub mod Accepted
-pub mod AggregateLaws
-pub mod ChunkLaws
-pub mod ChunkSums
-pub mod CutLaws
-pub mod DifferenceLaws
-pub mod HonestChecks
-pub mod HonestVerdict
-pub mod LaidOut
-pub mod Layout
-pub mod MessageLaws
-pub mod MessageRanges
-pub mod NextLaws
-pub mod NextOrder
-pub mod NextSolves
-pub mod OpeningDifferences
-pub mod OpeningLaws
-pub mod PaddingLaws
-pub mod ReadingLaws
-pub mod RecomposedLength
-pub mod RefusalLaws
-pub mod SelfProduct
-pub mod SizeBounds
-pub mod PlaceBounds
-pub mod TableLaws
-pub mod TableSums
-pub mod TrimLaws
-pub mod VerificationLaws
-pub mod NextCallLaws
+-- 'Where a call stops': the answers and the refusals
+pub mod Answers
+pub mod Refusals
+-- The arguments of the calls
 pub mod Arguments
-pub mod CallFacts
-pub mod CallLimits
-pub mod EntryLaws
-pub mod WriterLaws
+-- What a call that is not refused knows
+pub mod Known
+-- Theorems
+pub mod Theorems
+-- Closed cases
+pub mod Cases
+-- Laws
+pub mod Laws

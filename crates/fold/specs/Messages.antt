@@ -6,7 +6,6 @@ use lib.ListN.{getD}
 use lib.IntN.{ℤ, pos, _*ℤ_}
 use Rattle.integers.specs.Lists.{tab}
 use Rattle.integers.specs.Flat.{flat}
-use Rattle.algebra.specs.CommRing.{CommRing}
 use Rattle.algebra.specs.Integers.{ℤ-ring}
 use Rattle.algebra.specs.Sum.{sum}
 use Rattle.algebra.specs.Conjugation.{conjugate}
@@ -14,8 +13,8 @@ use Rattle.algebra.specs.DotProduct.{Function, inner, value, plus, combination,
 use Rattle.residues.specs.Modulus.{Zq, centred}
 use Rattle.ring.specs.Element.{R, el, coeffs, number}
 use Rattle.residues.specs.Digits.{split}
-use Rattle.fold.specs.Sizes.{functionSize, tSize, garbageSize}
-use Rattle.fold.specs.Statement.{part, function, wholeAt, wholeConstant, termAt, termConstant}
+use Rattle.fold.specs.Sizes.{tSize, garbageSize}
+use Rattle.fold.specs.Statement.{part, function, wholeAt, wholeConstant, termAt}
 
 -- the elements x 0 .. x (n-1) as a flat list
 unfoldable pub elements : (d n : ℕ) → (ℕ → R d .Carrier) → List ℤ

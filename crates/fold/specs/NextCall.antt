@@ -11,7 +11,8 @@ use Rattle.fold.specs.declared.Answer.the-variants.{Judged, Written}
 use Rattle.fold.specs.Answers.{firstFailed, firstRefusal, answered, written}
 use Rattle.fold.specs.Sizes.{restSize}
 use Rattle.fold.specs.Statement.{Relation}
-use Rattle.fold.specs.Verdict.{Statement, Draws, Transcript, check₁, check₂}
+use Rattle.fold.specs.Statement.{Statement, Draws, Transcript}
+use Rattle.fold.specs.Verdict.{check₁, check₂}
 use Rattle.fold.specs.Refusals.{nextTests, partTests}
 use Rattle.fold.specs.Chunks.{width, cut}
 use Rattle.fold.specs.NextInstance.{nextWhole}

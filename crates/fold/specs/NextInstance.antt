@@ -10,22 +10,14 @@ use Rattle.integers.specs.Lists.{tab}
 use Rattle.integers.specs.Flat.{flat}
 use Rattle.algebra.specs.CommRing.{CommRing}
 use Rattle.algebra.specs.Sum.{sum}
-use Rattle.algebra.specs.Triangle.{start}
 use Rattle.algebra.specs.DotProduct.{Function}
-use Rattle.ring.specs.Element.{R, el, coeffs, number}
+use Rattle.ring.specs.Element.{R, el, number}
 use Rattle.fold.specs.Chunks.{width, padded}
 use Rattle.fold.specs.Sizes.{tSize, garbageSize, restSize, nextRank, nextParts, nextCount}
 use Rattle.fold.specs.Statement.{Relation}
-use Rattle.fold.specs.Messages.{elements, aggregate, aggregateConstant}
-use Rattle.fold.specs.Verdict.{Statement, Draws, Transcript}
-
--- a constraint on the opening: a on pairs of parts, one coefficient for each element of the opening, and b
-pub record Constraint (d : ℕ) : Type 0 where
-  pub a : ℕ → ℕ → R d .Carrier
-  pub table : List (R d .Carrier)
-  pub constant : R d .Carrier
-
--- ---- what constraints are made of
+use Rattle.fold.specs.Messages.{aggregate, aggregateConstant}
+use Rattle.fold.specs.Statement.{Statement, Draws, Transcript}
+use Rattle.fold.specs.Constraint.{Constraint, laidOut}
 
 module _ (d : ℕ) where
   open CommRing (R d) using (Carrier as Rd, zero as 𝟘, mul as _⊗_)
@@ -62,19 +54,6 @@ module _ (d : ℕ) where
     where
       entry : Rd
       entry = number d (cond (eqb s s′) (pos 1) (pos 2)) ⊗ power b (s / ν + s′ / ν)
-
-  -- φ of part s, of w s elements: the table over its chunk; "φ on padding is zero"
-  unfoldable pub φ′ : (ℕ → ℕ) → List Rd → ℕ → ℕ → Rd
-  φ′ w table s k = cond (ltb k (w s)) (getD table (start w s + k) 𝟘) 𝟘
-
-  -- "Each is laid out as on the sheet: a, φ, b.", for r parts of rank n
-  unfoldable pub laidOut : (n r : ℕ) → (ℕ → ℕ) → Constraint d → List ℤ
-  laidOut n r w x =
-      flat r (λ s. elements d (r - s) (λ k. x .a s (s + k)))
-      ++ (flat r (λ s. elements d n (φ′ w (x .table) s))
-      ++ coeffs d (x .constant))
-
--- ---- the constraints
 
 module _ (𝓢 : Statement) (𝓓 : Draws) (𝓣 : Transcript) (ν μ : ℕ) where
   open Statement 𝓢 using (relation, w, tz, κ, κ₁, κ₂, b, b₁, b₂, t₁, t₂, target, A, B, C, D)

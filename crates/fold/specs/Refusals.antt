@@ -10,7 +10,7 @@ use Rattle.ring.specs.Element.{every}
 use Rattle.residues.specs.Range.{allWithin, coefficients, projections, challenge}
 use Rattle.fold.specs.Sizes.{functionSize, tSize, garbageSize, restSize, openingSize, nextRank, nextParts, nextCount}
 use Rattle.fold.specs.Statement.{Relation}
-use Rattle.fold.specs.Verdict.{Statement, Draws, Transcript}
+use Rattle.fold.specs.Statement.{Statement, Draws, Transcript}
 
 -- all of these
 unfoldable pub allOf : List Bool → Bool

@@ -62,3 +62,39 @@ module _ (𝓢 : Relation) where
   pub record Solves (s : List ℤ) : Type 0 where
     pub meets : Meets s
     pub short : normSq s ≤ bound
+
+-- the relation, the matrices, the digits and the target bound: "Two openings are of one statement when the sizes, bases, bounds,
+-- matrices A, B, C, D and constraints are equal." tz, the number of z digits, is 2.
+pub record Statement : Type 0 where
+  pub relation : Relation
+  pub w : ℕ
+  pub tz : ℕ
+  pub κ : ℕ
+  pub κ₁ : ℕ
+  pub κ₂ : ℕ
+  pub b : ℕ
+  pub b₁ : ℕ
+  pub b₂ : ℕ
+  pub t₁ : ℕ
+  pub t₂ : ℕ
+  pub target : ℕ
+  pub A : List ℤ
+  pub B : List ℤ
+  pub C : List ℤ
+  pub D : List ℤ
+
+-- what is lent beside the statement: projection rows, ψ, ω, α, δ, c
+pub record Draws : Type 0 where
+  pub projections : List ℤ
+  pub ψ : List ℤ
+  pub ω : List ℤ
+  pub α : List ℤ
+  pub δ : List ℤ
+  pub c : List ℤ
+
+-- the messages that precede the opening
+pub record Transcript : Type 0 where
+  pub u₁ : List ℤ
+  pub p : List ℤ
+  pub b″ : List ℤ
+  pub u₂ : List ℤ

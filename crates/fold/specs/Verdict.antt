@@ -5,47 +5,21 @@ use mathlib.Core.Bool.{Bool}
 use mathlib.Core.List.{List, [], _∷_}
 use Prim.Native.Nat.{ℕ, _+_, _*_}
 use lib.Dec.{leb, eqb}
-use lib.ListN.{getD, take, drop}
+use lib.ListN.{getD}
 use lib.IntN.{ℤ, pos}
 use Rattle.integers.specs.Sums.{normSq}
-use Rattle.algebra.specs.CommRing.{CommRing}
 use Rattle.algebra.specs.Sum.{sum}
-use Rattle.algebra.specs.Triangle.{pair, rows}
+use Rattle.algebra.specs.Triangle.{rows}
 use Rattle.algebra.specs.Conjugation.{ct}
 use Rattle.algebra.specs.DotProduct.{Function, inner, mixed}
 use Rattle.residues.specs.Modulus.{Zq, red}
 use Rattle.ring.specs.Element.{R, el, every, same}
-use Rattle.ring.specs.Joined.{joined}
 use Rattle.fold.specs.declared.Verdict.{Verdict}
 use Rattle.fold.specs.Answers.{firstFailed}
-use Rattle.fold.specs.Sizes.{tSize, garbageSize}
 use Rattle.fold.specs.Statement.{Relation, termConstant}
 use Rattle.fold.specs.Messages.{five, times, outer₁, outer₂, aggregate, aggregateConstant}
-
--- ---- the opening: "Order: z low, z high; t by part, then digit, then row; g and h by i, then j, then digit."
-
-unfoldable pub block : (d : ℕ) → List ℤ → ℕ → ℕ → R d .Carrier
-block d o a y = el d o (a + y)
-
--- the places where t, g and h start
-unfoldable pub tPlace : (tz n : ℕ) → ℕ
-tPlace tz n = tz * n
-
-unfoldable pub gPlace : (tz n r κ t₁ : ℕ) → ℕ
-gPlace tz n r κ t₁ = tPlace tz n + tSize r κ t₁
-
-unfoldable pub hPlace : (tz n r κ t₁ t₂ : ℕ) → ℕ
-hPlace tz n r κ t₁ t₂ = gPlace tz n r κ t₁ + garbageSize r t₂
-
--- recomposed: element k of z, row k of t_i, and g_ij or h_ij
-unfoldable pub zOf : (d n tz b : ℕ) → (ℕ → R d .Carrier) → ℕ → R d .Carrier
-zOf d n tz b x k = joined d b tz (λ e. x (e * n + k))
-
-unfoldable pub tOf : (d κ b₁ t₁ : ℕ) → (ℕ → R d .Carrier) → ℕ → ℕ → R d .Carrier
-tOf d κ b₁ t₁ x i k = joined d b₁ t₁ (λ e. x ((i * t₁ + e) * κ + k))
-
-unfoldable pub garbageOf : (d r b t : ℕ) → (ℕ → R d .Carrier) → ℕ → ℕ → R d .Carrier
-garbageOf d r b t x i j = joined d b t (λ e. x (pair r i j * t + e))
+use Rattle.fold.specs.Opening.{block, tPlace, gPlace, hPlace, zOf, tOf, garbageOf, zLength, tgLength, hLength}
+use Rattle.fold.specs.Statement.{Statement, Draws, Transcript}
 
 -- ---- the checks
 
@@ -88,57 +62,11 @@ check₇ d n r c φ z h = same d (sum (R d) r (λ i. R d .mul (inner (R d) n (φ
 unfoldable pub check₈ : (d r : ℕ) → (ℕ → ℕ → R d .Carrier) → R d .Carrier → (ℕ → ℕ → R d .Carrier) → (ℕ → ℕ → R d .Carrier) → Bool
 check₈ d r a b g h = same d (R d .add (rows (R d) r (λ i j. R d .mul (a i j) (g i j))) (sum (R d) r (λ i. h i i))) b
 
--- the squared lengths of the z digits, of the t and g digits, and of the h digits
-unfoldable pub zLength : (d n tz : ℕ) → List ℤ → ℕ
-zLength d n tz o = normSq (take (tz * n * d) o)
-
-unfoldable pub tgLength : (d n r tz κ t₁ t₂ : ℕ) → List ℤ → ℕ
-tgLength d n r tz κ t₁ t₂ o = normSq (take ((tSize r κ t₁ + garbageSize r t₂) * d) (drop (tPlace tz n * d) o))
-
-unfoldable pub hLength : (d n r tz κ t₁ t₂ : ℕ) → List ℤ → ℕ
-hLength d n r tz κ t₁ t₂ o = normSq (take (garbageSize r t₁ * d) (drop (hPlace tz n r κ t₁ t₂ * d) o))
-
 -- "All digits' squared length ≤ β'² (lent)."
 unfoldable pub check₉ : (d n r tz κ t₁ t₂ target : ℕ) → List ℤ → Bool
 check₉ d n r tz κ t₁ t₂ target o = leb (zLength d n tz o + tgLength d n r tz κ t₁ t₂ o + hLength d n r tz κ t₁ t₂ o) target
 
 -- ---- the verdict
-
--- the relation, the matrices, the digits and the target bound: "Two openings are of one statement when the sizes, bases, bounds,
--- matrices A, B, C, D and constraints are equal." tz, the number of z digits, is 2.
-pub record Statement : Type 0 where
-  pub relation : Relation
-  pub w : ℕ
-  pub tz : ℕ
-  pub κ : ℕ
-  pub κ₁ : ℕ
-  pub κ₂ : ℕ
-  pub b : ℕ
-  pub b₁ : ℕ
-  pub b₂ : ℕ
-  pub t₁ : ℕ
-  pub t₂ : ℕ
-  pub target : ℕ
-  pub A : List ℤ
-  pub B : List ℤ
-  pub C : List ℤ
-  pub D : List ℤ
-
--- what is lent beside the statement: projection rows, ψ, ω, α, δ, c
-pub record Draws : Type 0 where
-  pub projections : List ℤ
-  pub ψ : List ℤ
-  pub ω : List ℤ
-  pub α : List ℤ
-  pub δ : List ℤ
-  pub c : List ℤ
-
--- the messages that precede the opening
-pub record Transcript : Type 0 where
-  pub u₁ : List ℤ
-  pub p : List ℤ
-  pub b″ : List ℤ
-  pub u₂ : List ℤ
 
 module _ (𝓢 : Statement) (𝓓 : Draws) (𝓣 : Transcript) (o : List ℤ) where
   open Statement 𝓢 using (relation, w, tz, κ, κ₁, κ₂, b, b₁, b₂, t₁, t₂, target, A, B, C, D)

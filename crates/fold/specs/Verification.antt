@@ -4,7 +4,8 @@ use lib.IntN.{ℤ}
 use Rattle.fold.specs.declared.Answer.{Answer}
 use Rattle.fold.specs.declared.Answer.the-variants.{Judged}
 use Rattle.fold.specs.Answers.{firstRefusal, answered}
-use Rattle.fold.specs.Verdict.{Statement, Draws, Transcript, verdict}
+use Rattle.fold.specs.Statement.{Statement, Draws, Transcript}
+use Rattle.fold.specs.Verdict.{verdict}
 use Rattle.fold.specs.Refusals.{verifyTests}
 
 abbrev pub verification : Statement → Draws → Transcript → List ℤ → Answer

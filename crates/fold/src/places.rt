@@ -1,6 +1,6 @@
 // Where the blocks of an opening start.
 ghost use mathlib.Core.Path.{_≡_};
-ghost use Rattle.fold.specs.Verdict.{tPlace, gPlace, hPlace};
+ghost use Rattle.fold.specs.Opening.{tPlace, gPlace, hPlace};
 ghost use Rattle.fold.specs.Arguments.{VerifySized};
 use crate::Sizes;
 use crate::counts::garbage_size;

@@ -3,7 +3,7 @@ use mathlib.Core.List.{List}
 use Prim.Native.Nat.{ℕ}
 use lib.IntN.{ℤ, pos}
 use lib.ListN.{getD, take, replicate}
-use Rattle.integers.specs.Bridge.{P}
+use Rattle.integers.specs.Laws.Bridge.{P}
 use Rattle.fold.specs.declared.Sizes.{Sizes}
 use Rattle.fold.specs.declared.Shape.{Shape}
 use Rattle.fold.specs.declared.CommitSizes.{CommitSizes}

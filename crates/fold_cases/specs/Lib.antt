@@ -1,4 +1,5 @@
+-- Definitions
 pub mod Input
 pub mod Answers
 -- Laws
-pub mod AnswerLaws
+pub mod Laws

@@ -1,13 +1,9 @@
-pub mod Bridge
-pub mod CentreLaws
-pub mod Identities
-pub mod MachineDivision
+-- Definitions: remainders, sums, lists by index
 pub mod Remainder
-pub mod RemainderLaws
 pub mod Sums
 pub mod Lists
-pub mod Over
 pub mod Flat
-pub mod Difference
-pub mod Squares
+pub mod Over
 pub mod Literals
+-- What is proved of them
+pub mod Laws

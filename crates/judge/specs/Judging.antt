@@ -14,7 +14,7 @@ use Rattle.fold.specs.declared.Answer.{Answer}
 use Rattle.fold.specs.declared.Answer.the-variants as answer
 use Rattle.fold.specs.Sizes.{tSize, garbageSize, openingSize}
 use Rattle.fold.specs.Refusals.{wholeLength, termLength, projectionLength}
-use Rattle.fold.specs.Verdict.{Statement, Draws, Transcript}
+use Rattle.fold.specs.Statement.{Statement, Draws, Transcript}
 use Rattle.fold.specs.Arguments.{statementOf, drawsOf, transcriptOf}
 use Rattle.fold.specs.Answers.{kindOf, numberOf}
 use Rattle.fold.specs.Verification.{verification}

@@ -1,13 +1,12 @@
 -- Definitions
 pub mod Judging
--- The theorems
-pub mod JudgeTheorem
--- A closed case
-pub mod WholeCase
--- Laws of the lists and of the answer
-pub mod ListLaws
 pub mod Stages
-pub mod RoomLaws
-pub mod ReadLaws
-pub mod PassLaws
-pub mod LineLaws
+pub mod Room
+-- What a call that is not refused knows
+pub mod Known
+-- Theorems
+pub mod Theorems
+-- Closed cases
+pub mod Cases
+-- Laws
+pub mod Laws

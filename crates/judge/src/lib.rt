@@ -1,8 +1,8 @@
 // The judge of a sheet: document 01, 'Sheet'.
 ghost use mathlib.Core.Path.{_≡_};
 ghost use Rattle.judge.specs.Judging.{judgedBy, judgedText, verdictLine};
-ghost use Rattle.judge.specs.ReadLaws.{ReadBounded, Into};
-ghost use Rattle.judge.specs.RoomLaws.{lentCount};
+ghost use Rattle.judge.specs.Known.Read.{ReadBounded, Into};
+ghost use Rattle.judge.specs.Room.{lentCount};
 use fold::Answer;
 use sheet::reader::SheetAnswer;
 

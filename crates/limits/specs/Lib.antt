@@ -1,6 +1,6 @@
-pub mod RowLaws
-pub mod SizeLaws
+-- Definitions
 pub mod Stages
-pub mod StageLaws
-pub mod StageLimits
-pub mod ProductLaws
+-- What a call that is not refused knows
+pub mod Known
+-- Laws
+pub mod Laws

@@ -1,14 +1,13 @@
 -- The tests of each call in stages: those of its sizes, which come first, and those of its lengths.
-use mathlib.Core.Path.{_≡_}
 use mathlib.Core.Bool.{Bool}
 use mathlib.Core.List.{List, [], _∷_, _++_}
-use Prim.Native.Nat.{ℕ, _+_, _*_, _≤_}
+use Prim.Native.Nat.{ℕ, _*_, _≤_}
 use lib.IntN.{ℤ, pos}
 use Rattle.residues.specs.Range.{coefficients}
 use Rattle.fold.specs.declared.CommitSizes.{CommitSizes}
 use Rattle.fold.specs.declared.GarbageSizes.{GarbageSizes}
 use Rattle.fold.specs.declared.Sizes.{Sizes}
-use Rattle.fold.specs.Facts.{Shaped}
+use Rattle.fold.specs.Known.Facts.{Shaped}
 use Rattle.fold.specs.Sizes.{tSize, garbageSize, openingSize}
 use Rattle.fold.specs.Refusals.{allOf, degree, rank, parts, constraintCount, projectionCount, commitmentRank, base, digitCount}
 use Rattle.fold.specs.Refusals.{lengthBound, sized, wholeLength, termLength, projectionLength}

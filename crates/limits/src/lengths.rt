@@ -3,7 +3,7 @@ ghost use mathlib.Core.Path.{_≡_};
 ghost use Prim.Native.Nat.{_*_, _≤_};
 ghost use Rattle.fold.specs.Refusals.{allOf};
 ghost use Rattle.fold.specs.Refusals as table;
-ghost use Rattle.fold.specs.CallLimits.{ProjectLimits, AggregateLimits, AmortizeLimits};
+ghost use Rattle.fold.specs.Known.CallLimits.{ProjectLimits, AggregateLimits, AmortizeLimits};
 ghost use Rattle.fold.specs.Arguments.{CommitSized, GarbageSized, VerifySized};
 ghost use Rattle.limits.specs.Stages.{ConstraintLimits};
 ghost use Rattle.limits.specs.Stages as spec;

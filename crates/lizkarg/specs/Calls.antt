@@ -11,7 +11,6 @@ use Rattle.fold.specs.declared.Answer.the-variants.{Written}
 use Rattle.fold.specs.declared.CommitSizes.{CommitSizes}
 use Rattle.fold.specs.declared.GarbageSizes.{GarbageSizes}
 use Rattle.fold.specs.declared.Shape.{Shape}
-use Rattle.algebra.specs.DotProduct.{Function}
 use Rattle.ring.specs.Element.{R, lift, array}
 use Rattle.fold.specs.Answers.{answered, written}
 use Rattle.fold.specs.Arguments.{productRefusal, commitRefusal, projectRefusal, aggregateRefusal, garbageRefusal, amortizeRefusal}

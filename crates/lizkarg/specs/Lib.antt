@@ -1,4 +1,8 @@
+-- Definitions
 pub mod Calls
-pub mod CallLaws
-pub mod ProductCases
-pub mod Demand3
+-- Theorems
+pub mod Theorems
+-- Closed cases
+pub mod Cases
+-- Laws
+pub mod Laws

@@ -1,8 +1,7 @@
+-- Definitions
 pub mod Input
 pub mod Messages
 pub mod Witness
 pub mod Runs
 -- Laws
-pub mod MessageLaws
-pub mod WitnessLaws
-pub mod RunLaws
+pub mod Laws

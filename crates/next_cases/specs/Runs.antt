@@ -7,7 +7,7 @@ use lib.IntN.{ℤ}
 use lib.ListN.{length, drop}
 use Rattle.fold.specs.declared.Sizes.{Sizes}
 use Rattle.fold.specs.Arguments.{statementOf, drawsOf, transcriptOf}
-use Rattle.fold.specs.Verdict.{Statement, Draws, Transcript}
+use Rattle.fold.specs.Statement.{Statement, Draws, Transcript}
 use Rattle.fold.specs.Verification.{verification}
 use Rattle.lizkarg.specs.Calls.{Committed, Projected, Aggregated, GarbageCommitted, Amortized}
 use Rattle.chunks.specs.Parts.{partRefusalOf}

@@ -11,7 +11,7 @@ use Rattle.algebra.specs.CommRing.{CommRing}
 use Rattle.ring.specs.Element.{R, el}
 use Rattle.fold.specs.declared.Sizes.{Sizes}
 use Rattle.fold.specs.Sizes.{tSize, garbageSize}
-use Rattle.fold.specs.Verdict.{tPlace, gPlace, hPlace}
+use Rattle.fold.specs.Opening.{tPlace, gPlace, hPlace}
 use Rattle.fold.specs.NextInstance.{power}
 
 -- ---- the blocks

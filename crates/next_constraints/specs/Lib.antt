@@ -1,13 +1,9 @@
+-- Definitions
 pub mod Tables
-pub mod TablePlaces
-pub mod TableLaws
-pub mod Facts
-pub mod BlockPlaces
 pub mod Entries
-pub mod Order
-pub mod EntrySteps
-pub mod EntryTables
 pub mod Coefficients
-pub mod Powers
-pub mod EntryRoom
-pub mod Squares
+pub mod Folded
+-- What a call that is not refused knows
+pub mod Known
+-- Laws
+pub mod Laws

@@ -7,10 +7,8 @@ use Prim.Native.Nat.{ℕ, _*_, _≤_, _<_}
 use lib.Dec.{eqb}
 use lib.ListN.{length}
 use lib.IntN.{ℤ}
-use Rattle.algebra.specs.CommRing.{CommRing}
 use Rattle.algebra.specs.Sum.{sum}
 use Rattle.algebra.specs.Triangle.{pair}
-use Rattle.algebra.specs.DotProduct.{Function}
 use Rattle.ring.specs.Element.{R, el}
 use Rattle.fold.specs.Sizes.{pairs}
 use Rattle.fold.specs.Messages.{aggregate}

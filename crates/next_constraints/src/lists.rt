@@ -1,7 +1,7 @@
 // The four lists from which the constraints of the next instance are written, each formed once.
 ghost use Prim.Native.Nat.{_*_, _≤_};
 ghost use lib.ListN.{length};
-ghost use Rattle.constraints.specs.Facts.{AggregateFacts};
+ghost use Rattle.constraints.specs.Known.Facts.{AggregateFacts};
 ghost use Rattle.next_constraints.specs.Tables.{TableRoom, Tables};
 use crate::folded::write_folded;
 use crate::tables::write_diagonal;

@@ -9,7 +9,8 @@ use Rattle.fold.specs.declared.Verdict.{Verdict}
 use Rattle.fold.specs.declared.Verdict.the-variants.{Accepted, Failed}
 use Rattle.fold.specs.declared.Sizes.{Sizes}
 use Rattle.fold.specs.Answers.{firstFailed}
-use Rattle.fold.specs.Verdict.{Statement, Draws, Transcript, check₁, check₂}
+use Rattle.fold.specs.Statement.{Statement, Draws, Transcript}
+use Rattle.fold.specs.Verdict.{check₁, check₂}
 use Rattle.fold.specs.NextCall.{nextAnswer, nextOut}
 
 -- out′ stands for the numbers of `out` after the call

@@ -1,8 +1,9 @@
-pub mod Facts
-pub mod Filled
-pub mod Instance
-pub mod Places
+-- Definitions
 pub mod Written
 pub mod Calls
-pub mod CallLaws
-pub mod Demand2
+-- What a call that is not refused knows
+pub mod Known
+-- Theorems
+pub mod Theorems
+-- Laws
+pub mod Laws

@@ -8,9 +8,9 @@ ghost use Rattle.integers.specs.Over.{over};
 ghost use Rattle.fold.specs.Arguments.{statementOf, drawsOf, VerifySized};
 ghost use Rattle.fold.specs.Sizes.{pairs, nextCount};
 ghost use Rattle.fold.specs.Messages.{elements};
-ghost use Rattle.fold.specs.Verdict.{Transcript};
+ghost use Rattle.fold.specs.Statement.{Transcript};
 ghost use Rattle.fold.specs.NextInstance.{constraint};
-ghost use Rattle.fold.specs.WriterLaws.{pairElements};
+ghost use Rattle.fold.specs.PairElements.{pairElements};
 use fold::Sizes;
 use next_constraints::constants::a_entry;
 

@@ -1,5 +1,7 @@
-pub mod Facts
+-- Definitions
 pub mod Outputs
-pub mod Places
 pub mod Projected
-pub mod Sums
+-- What a call that is not refused knows
+pub mod Known
+-- Laws
+pub mod Laws

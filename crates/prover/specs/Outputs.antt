@@ -4,7 +4,6 @@
 use mathlib.Core.List.{List}
 use Prim.Native.Nat.{ℕ}
 use lib.IntN.{ℤ}
-use Rattle.algebra.specs.CommRing.{CommRing}
 use Rattle.ring.specs.Element.{R, el}
 use Rattle.fold.specs.declared.CommitSizes.{CommitSizes}
 use Rattle.fold.specs.Messages.{times, tDigits, gDigits, u₁}

@@ -5,7 +5,7 @@ ghost use lib.ListN.{length};
 ghost use Rattle.integers.specs.Over.{over};
 ghost use Rattle.ring.specs.Element.{Degree, array};
 ghost use Rattle.fold.specs.Messages.{elements, z, zDigits};
-ghost use Rattle.prover.specs.Facts.{AmortizeFacts};
+ghost use Rattle.prover.specs.Known.Facts.{AmortizeFacts};
 use fold::Shape;
 use residues::digits::split_digits;
 use ring::element::Element;

@@ -7,7 +7,7 @@ ghost use Rattle.integers.specs.Over.{over};
 ghost use Rattle.ring.specs.Element.{Degree, array};
 ghost use Rattle.residues.specs.Digits.{Base, split};
 ghost use Rattle.fold.specs.Messages.{elements, t};
-ghost use Rattle.prover.specs.Facts.{PartFacts, TFacts, GFacts, OuterFacts};
+ghost use Rattle.prover.specs.Known.Facts.{PartFacts, TFacts, GFacts, OuterFacts};
 ghost use Rattle.prover.specs.Outputs.{outer, tOf, gOf, u₁Of};
 use crate::garbage::write_garbage_digits;
 use crate::garbage::write_pair_products;

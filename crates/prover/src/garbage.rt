@@ -10,7 +10,7 @@ ghost use Rattle.ring.specs.Element.{Degree, el, coeffs};
 ghost use Rattle.residues.specs.Digits.{Base, split};
 ghost use Rattle.fold.specs.Sizes.{pairs, garbageSize};
 ghost use Rattle.fold.specs.Messages.{elements, g, garbageDigits};
-ghost use Rattle.fold.specs.WriterLaws.{pairElements};
+ghost use Rattle.fold.specs.PairElements.{pairElements};
 use fold::counts::pair_count;
 use residues::digits::split_digits;
 use ring::element::Element;

@@ -1,14 +1,9 @@
+-- 'Ring and digits'
 pub mod Modulus
-pub mod ModulusLaws
-pub mod Centring
-pub mod ResidueSteps
 pub mod Digits
-pub mod DigitLaws
-pub mod DigitSteps
-pub mod DigitBlocks
-pub mod DigitSums
-pub mod Words
 pub mod Length
-pub mod LengthLaws
 pub mod Range
-pub mod RangeLaws
+-- What the code forms
+pub mod DigitBlocks
+-- Laws
+pub mod Laws

@@ -9,6 +9,7 @@ use lib.IntN.{ℤ}
 use Rattle.integers.specs.Remainder.{centre}
 use Rattle.algebra.specs.CommRing.{CommRing}
 use Rattle.algebra.specs.Residue as Residue
+use Rattle.algebra.specs.IntegersModulo.{Zmod}
 
 unfoldable pub q : ℕ
 q = 4294967197
@@ -18,7 +19,7 @@ unfolding q
 q-positive = tt
 
 abbrev pub Zq : CommRing
-Zq = Residue.Zmod q q-positive
+Zq = Zmod q q-positive
 
 unfoldable pub red : ℤ → Zq .Carrier
 red z = Residue.reduce q q-positive z

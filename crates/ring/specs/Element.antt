@@ -14,8 +14,9 @@ use lib.ListN.{getD, drop}
 use lib.IntN.{ℤ, pos}
 use Rattle.integers.specs.Lists.{tab}
 use Rattle.algebra.specs.CommRing.{CommRing}
-use Rattle.algebra.specs.Vec.{Vec, build}
-use Rattle.algebra.specs.Negacyclic.{Negacyclic, coeff, constant}
+use Rattle.algebra.specs.Vec.{build}
+use Rattle.algebra.specs.Negacyclic.{Negacyclic}
+use Rattle.algebra.specs.Polynomial.{coeff, constant}
 use Rattle.residues.specs.Modulus.{Zq, red, cent}
 
 -- a test holds at every k below n

@@ -1,18 +1,10 @@
+-- 'Ring and digits'
 pub mod Element
 pub mod Joined
-pub mod ElementLaws
-pub mod ElementArrays
-pub mod ElementPlaces
-pub mod ElementEquality
-pub mod ElementSteps
-pub mod Numbers
-pub mod Recomposition
-pub mod DigitElements
+-- What the code forms
 pub mod Product
-pub mod ColumnLaws
-pub mod ProductArrays
-pub mod ProductLaws
 pub mod Short
-pub mod ShortOperand
-pub mod ShortLaws
-pub mod Computing
+-- Closed cases
+pub mod Cases
+-- Laws
+pub mod Laws

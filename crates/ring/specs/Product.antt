@@ -9,7 +9,7 @@ use mathlib.Core.List.{List}
 use Prim.Native.Nat.{ℕ, _+_, _-_, _*_, _/_, _%_, _≤_, _<_}
 use lib.ListN.{length, getD}
 use Rattle.integers.specs.Sums.{total}
-use Rattle.algebra.specs.Negacyclic.{coeff}
+use Rattle.algebra.specs.Polynomial.{coeff}
 use Rattle.algebra.specs.Residue.{make}
 use Rattle.residues.specs.Modulus.{q, q-positive, Zq}
 use Rattle.ring.specs.Element.{R}

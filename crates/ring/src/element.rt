@@ -9,7 +9,7 @@ ghost use lib.ListN.{length, getD, take};
 ghost use lib.IntN.{pos};
 ghost use Rattle.integers.specs.Over.{over};
 ghost use Rattle.algebra.specs.Conjugation.{conjugate};
-ghost use Rattle.algebra.specs.Convolution.{indeterminate};
+ghost use Rattle.algebra.specs.Indeterminate.{indeterminate};
 ghost use Rattle.residues.specs.Modulus.{Zq, centred};
 ghost use Rattle.ring.specs.Element.{R, Degree, lift, el, array, number, same};
 ghost use Rattle.residues.specs.Digits.{Base};

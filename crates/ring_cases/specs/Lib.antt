@@ -1,4 +1,5 @@
+-- Definitions
 pub mod Input
 pub mod Results
 -- Laws
-pub mod ResultLaws
+pub mod Laws

@@ -10,7 +10,7 @@ use Prim.Native.Nat.{ℕ, _+_, _*_}
 use lib.Dec.{eqb, ltb}
 use lib.IntN.{ℤ, pos}
 use lib.ListN.{length, getD, take, drop}
-use Rattle.integers.specs.Bridge.{P}
+use Rattle.integers.specs.Laws.Bridge.{P}
 use Rattle.integers.specs.Over.{over}
 use Rattle.integers.specs.Sums.{normSq}
 use Rattle.algebra.specs.Conjugation.{conjugate}

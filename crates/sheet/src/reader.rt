@@ -8,7 +8,7 @@ ghost use Rattle.fold.specs.Refusals.{challenges, projectionLength};
 ghost use Rattle.sheet.specs.Sections.{Bounded, sectionsOf, total, endsLine};
 ghost use Rattle.sheet.specs.Place.{place};
 ghost use Rattle.sheet.specs.Reading.{numberCount, bodyNumbers, rowsIn, challengesIn, numberTests, bodyTests, readingTests, SheetRead};
-ghost use Rattle.sheet.specs.ReadingLaws.{endsAt, Inside};
+ghost use Rattle.sheet.specs.Known.Reading.{endsAt, Inside};
 use crate::header::first;
 use crate::header::header_refusal;
 use crate::header::sheet_sizes;

@@ -1,3 +1,4 @@
+-- Definitions
 pub mod Reads
 -- Laws
-pub mod ReadLaws
+pub mod Laws

@@ -1,11 +1,11 @@
-pub mod Facts
-pub mod SizeLaws
+-- Definitions
 pub mod Places
-pub mod Loops
-pub mod Rows
 pub mod Norms
 pub mod Mixed
 pub mod ConstantTerms
 pub mod Relation
-pub mod ListFacts
 pub mod Judgement
+-- What a call that is not refused knows
+pub mod Known
+-- Laws
+pub mod Laws

@@ -3,7 +3,7 @@ ghost use mathlib.Core.Path.{_≡_};
 ghost use Rattle.fold.specs.Answers.{firstFailed};
 ghost use Rattle.fold.specs.Verdict.{verdict};
 ghost use Rattle.fold.specs.Arguments.{statementOf, drawsOf, transcriptOf};
-ghost use Rattle.fold.specs.CallFacts.{VerifyFacts};
+ghost use Rattle.fold.specs.Known.CallFacts.{VerifyFacts};
 ghost use Rattle.verifier.specs.Judgement.{OpeningFacts, Recomposed, openingChecks};
 use crate::amortized;
 use crate::linear;

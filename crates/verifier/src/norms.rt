@@ -3,7 +3,7 @@ ghost use mathlib.Core.Path.{_≡_};
 ghost use Prim.Native.Nat.{_≤_};
 ghost use lib.ListN.{length};
 ghost use Rattle.fold.specs.Verdict.{check₁, check₉};
-ghost use Rattle.verifier.specs.Facts.{Fits, Opening};
+ghost use Rattle.verifier.specs.Known.Facts.{Fits, Opening};
 ghost use Rattle.verifier.specs.Norms.{withinThree};
 use fold::Sizes;
 use fold::places;

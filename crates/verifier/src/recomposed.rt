@@ -6,7 +6,7 @@ ghost use Rattle.integers.specs.Over.{over};
 ghost use Rattle.ring.specs.Element.{Degree, el, array};
 ghost use Rattle.residues.specs.Digits.{Base};
 ghost use Rattle.fold.specs.Messages.{elements};
-ghost use Rattle.fold.specs.Verdict.{block, zOf, tOf};
+ghost use Rattle.fold.specs.Opening.{block, zOf, tOf};
 ghost use Rattle.verifier.specs.Places.{garbageAt};
 use ring::element::Element;
 

@@ -9,7 +9,7 @@ ghost use Rattle.algebra.specs.Sum.{sum};
 ghost use Rattle.residues.specs.Modulus.{Zq, red, cent};
 ghost use Rattle.fold.specs.Sizes.{functionSize};
 ghost use Rattle.fold.specs.Verdict.{check₂};
-ghost use Rattle.verifier.specs.Facts.{Fits};
+ghost use Rattle.verifier.specs.Known.Facts.{Fits};
 ghost use Rattle.verifier.specs.ConstantTerms.{Terms, weighted, termHolds};
 use fold::Sizes;
 use fold::counts::function_size;

@@ -1,7 +1,7 @@
 -- `capi::lizkarg_read_sheet` meets its contract: the reader's. Assumes nothing.
 use borrow.Author.Needs.{needs}
 use mathlib.Core.Path.{ap, _∙_}
-use Rattle.sheet.specs.AnswerLaws.{read-is}
+use Rattle.sheet.specs.Laws.AnswerLaws.{read-is}
 use Rattle.capi.specs.Codes.{sheetCode}
 use Rattle.capi.proofs.lizkarg_read_sheet.Statement.{statement}
 use Rattle.capi.proofs.lizkarg_read_sheet.Tie as tie

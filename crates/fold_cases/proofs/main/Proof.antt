@@ -1,6 +1,6 @@
 -- `fold_cases::main` is safe. Assumes nothing.
 use Prim.Native.Nat.{ℕ}
-use Rattle.cases.specs.TextLaws.{filled}
+use Rattle.cases.specs.Laws.TextLaws.{filled}
 use Rattle.fold_cases.proofs.main.Statement.{statement}
 use Rattle.fold_cases.proofs.main.Tie as tie
 

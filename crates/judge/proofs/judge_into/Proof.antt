@@ -1,10 +1,8 @@
 -- `judge::judge_into` meets its contract: the reader's promise, and what the verifier makes of it. Assumes nothing.
 use borrow.Author.Needs.{needs}
-use Rattle.judge.specs.ReadLaws.{read-bounded, read-judged}
+use Rattle.judge.specs.Laws.ReadLaws.{read-bounded, read-judged}
 use Rattle.judge.proofs.judge_into.Statement.{statement}
 use Rattle.judge.proofs.judge_into.Tie as tie
-use Rattle.judge.proofs.judge_read.Reads as judge-read-reads
-use Rattle.sheet.proofs.reader.read_sheet.Reads as read-sheet-reads
 
 read-sheet-requires : tie.Need-read-sheet-requires
 read-sheet-requires c κs = search needs

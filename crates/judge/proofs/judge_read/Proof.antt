@@ -3,7 +3,6 @@ use mathlib.Core.Path.{refl, _∙_}
 use borrow.Author.Needs.{needs}
 use Rattle.judge.proofs.judge_read.Statement.{statement}
 use Rattle.judge.proofs.judge_read.Tie as tie
-use Rattle.judge.proofs.numbers.judge_sheet_numbers.Reads as judge-sheet-numbers-reads
 
 enum-known-read : tie.Need-enum-known-read
 enum-known-read c = search needs

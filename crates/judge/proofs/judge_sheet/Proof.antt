@@ -3,11 +3,9 @@ use borrow.Author.Needs.{needs}
 use mathlib.Core.Path.{sym, _∙_}
 use native.Mathlib.Omega.{arith}
 use lib.Seq.{length-take-le}
-use Rattle.judge.specs.ReadLaws.{longer, text-judged}
+use Rattle.judge.specs.Laws.ReadLaws.{longer, text-judged}
 use Rattle.judge.proofs.judge_sheet.Statement.{statement}
 use Rattle.judge.proofs.judge_sheet.Tie as tie
-use Rattle.judge.proofs.judge_into.Reads as judge-into-reads
-use Rattle.judge.proofs.lent_count.Reads as lent-count-reads
 
 returns : tie.Need-returns
 returns c = longer (c .before .before .args .text .now) (omega (arith, c .if1 .taken))

@@ -4,8 +4,6 @@ use Rattle.judge.specs.Judging.{verdictLine}
 use borrow.Author.Needs.{needs}
 use Rattle.judge.proofs.judged_line.Statement.{statement}
 use Rattle.judge.proofs.judged_line.Tie as tie
-use Rattle.judge.proofs.judge_sheet.Reads as judge-sheet-reads
-use Rattle.judge.proofs.line.verdict_line.Reads as verdict-line-reads
 
 judge-sheet-requires : tie.Need-judge-sheet-requires
 judge-sheet-requires c κs = search needs

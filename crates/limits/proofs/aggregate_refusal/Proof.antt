@@ -2,9 +2,9 @@
 use mathlib.Core.Path.{refl}
 use Rattle.fold.specs.Refusals.{aggregateTests}
 use Rattle.limits.specs.Stages.{aggregateBounds}
-use Rattle.limits.specs.RowLaws.{end, _&_}
-use Rattle.limits.specs.StageLaws.{stopped, unfit, fit, single, row, none}
-use Rattle.limits.specs.StageLimits.{aggregate-sized}
+use Rattle.limits.specs.Laws.RowLaws.{end, _&_}
+use Rattle.limits.specs.Laws.StageLaws.{stopped, unfit, fit, single, row, none}
+use Rattle.limits.specs.Known.StageLimits.{aggregate-sized}
 use Rattle.limits.proofs.aggregate_refusal.Statement.{statement}
 use Rattle.limits.proofs.aggregate_refusal.Tie as tie
 

@@ -2,9 +2,9 @@
 use mathlib.Core.Path.{refl}
 use Rattle.fold.specs.Refusals.{commitTests}
 use Rattle.limits.specs.Stages.{commitBounds}
-use Rattle.limits.specs.RowLaws.{end, _&_}
-use Rattle.limits.specs.StageLaws.{stopped, unfit, fit, row, none}
-use Rattle.limits.specs.StageLimits.{commit-sized}
+use Rattle.limits.specs.Laws.RowLaws.{end, _&_}
+use Rattle.limits.specs.Laws.StageLaws.{stopped, unfit, fit, row, none}
+use Rattle.limits.specs.Known.StageLimits.{commit-sized}
 use Rattle.limits.proofs.commit_refusal.Statement.{statement}
 use Rattle.limits.proofs.commit_refusal.Tie as tie
 

@@ -2,9 +2,9 @@
 use mathlib.Core.Path.{refl}
 use Rattle.fold.specs.Refusals.{garbageTests}
 use Rattle.limits.specs.Stages.{garbageBounds}
-use Rattle.limits.specs.RowLaws.{end, _&_, joined-row}
-use Rattle.limits.specs.StageLaws.{stopped, unfit, fit, single, none, append-rows}
-use Rattle.limits.specs.StageLimits.{garbage-constraints, garbage-sized}
+use Rattle.limits.specs.Laws.RowLaws.{end, _&_, joined-row}
+use Rattle.limits.specs.Laws.StageLaws.{stopped, unfit, fit, single, none, append-rows}
+use Rattle.limits.specs.Known.StageLimits.{garbage-constraints, garbage-sized}
 use Rattle.limits.proofs.garbage_refusal.Statement.{statement}
 use Rattle.limits.proofs.garbage_refusal.Tie as tie
 

@@ -1,6 +1,6 @@
 -- `limits::product_refusal` meets its contract: rows 1 and 8 in order. Assumes nothing.
 use borrow.Author.Needs.{needs}
-use Rattle.limits.specs.ProductLaws.{product-tests}
+use Rattle.limits.specs.Laws.ProductLaws.{product-tests}
 use Rattle.limits.proofs.product_refusal.Statement.{statement}
 use Rattle.limits.proofs.product_refusal.Tie as tie
 

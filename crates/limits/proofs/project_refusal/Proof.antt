@@ -2,9 +2,9 @@
 use mathlib.Core.Path.{refl}
 use Rattle.fold.specs.Refusals.{projectTests}
 use Rattle.limits.specs.Stages.{projectBounds}
-use Rattle.limits.specs.RowLaws.{end, _&_}
-use Rattle.limits.specs.StageLaws.{stopped, unfit, fit, single, row, none}
-use Rattle.limits.specs.StageLimits.{project-sized}
+use Rattle.limits.specs.Laws.RowLaws.{end, _&_}
+use Rattle.limits.specs.Laws.StageLaws.{stopped, unfit, fit, single, row, none}
+use Rattle.limits.specs.Known.StageLimits.{project-sized}
 use Rattle.limits.proofs.project_refusal.Statement.{statement}
 use Rattle.limits.proofs.project_refusal.Tie as tie
 

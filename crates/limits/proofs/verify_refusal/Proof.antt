@@ -1,11 +1,11 @@
 -- `limits::verify_refusal` meets its contract: the sizes, then row 7, then the rows after it. Assumes nothing.
 use mathlib.Core.Path.{refl}
 use Rattle.fold.specs.Refusals.{verifyTests}
-use Rattle.fold.specs.RefusalLaws.{sized-iff}
+use Rattle.fold.specs.Laws.RefusalLaws.{sized-iff}
 use Rattle.limits.specs.Stages.{verifyBounds}
-use Rattle.limits.specs.RowLaws.{end, _&_, joined-row}
-use Rattle.limits.specs.StageLaws.{stopped, unfit, fit, fitting, single, none, append-rows}
-use Rattle.limits.specs.StageLimits.{verify-sized}
+use Rattle.limits.specs.Laws.RowLaws.{end, _&_, joined-row}
+use Rattle.limits.specs.Laws.StageLaws.{stopped, unfit, fit, fitting, single, none, append-rows}
+use Rattle.limits.specs.Known.StageLimits.{verify-sized}
 use Rattle.limits.proofs.verify_refusal.Statement.{statement}
 use Rattle.limits.proofs.verify_refusal.Tie as tie
 

@@ -1,11 +1,7 @@
 use borrow.Author.Needs.{needs}
-use Rattle.lizkarg.specs.CallLaws.{aggregate-refused, aggregate-facts, aggregate-room, aggregate-written}
+use Rattle.lizkarg.specs.Laws.CallLaws.{aggregate-refused, aggregate-facts, aggregate-room, aggregate-written}
 use Rattle.lizkarg.proofs.aggregate.Statement.{statement}
 use Rattle.lizkarg.proofs.aggregate.Tie as tie
-use Rattle.lizkarg.proofs.aggregate.Reads as reads
-use Rattle.lizkarg.proofs.aggregate.Lts as lts
-use Rattle.aggregation.proofs.second.write_b2.Reads as write-b2-reads
-use Rattle.limits.proofs.aggregate_refusal.Reads as aggregate-refusal-reads
 
 -- src/lib.rt:61:9
 aggregate-refusal-requires : tie.Need-aggregate-refusal-requires

@@ -1,11 +1,7 @@
 use borrow.Author.Needs.{needs}
-use Rattle.lizkarg.specs.CallLaws.{amortize-refused, amortize-facts, amortize-written}
+use Rattle.lizkarg.specs.Laws.CallLaws.{amortize-refused, amortize-facts, amortize-written}
 use Rattle.lizkarg.proofs.amortize.Statement.{statement}
 use Rattle.lizkarg.proofs.amortize.Tie as tie
-use Rattle.lizkarg.proofs.amortize.Reads as reads
-use Rattle.lizkarg.proofs.amortize.Lts as lts
-use Rattle.limits.proofs.amortize_refusal.Reads as amortize-refusal-reads
-use Rattle.prover.proofs.amortize.write_z.Reads as write-z-reads
 
 -- src/lib.rt:48:9
 amortize-refusal-requires : tie.Need-amortize-refusal-requires

@@ -1,13 +1,7 @@
 use borrow.Author.Needs.{needs}
-use Rattle.lizkarg.specs.CallLaws.{commit-refused, commit-t, commit-g, commit-u, commit-written}
+use Rattle.lizkarg.specs.Laws.CallLaws.{commit-refused, commit-t, commit-g, commit-u, commit-written}
 use Rattle.lizkarg.proofs.commit.Statement.{statement}
 use Rattle.lizkarg.proofs.commit.Tie as tie
-use Rattle.lizkarg.proofs.commit.Reads as reads
-use Rattle.lizkarg.proofs.commit.Lts as lts
-use Rattle.limits.proofs.commit_refusal.Reads as commit-refusal-reads
-use Rattle.prover.proofs.commit.write_g.Reads as write-g-reads
-use Rattle.prover.proofs.commit.write_t.Reads as write-t-reads
-use Rattle.prover.proofs.commit.write_u1.Reads as write-u1-reads
 
 -- src/lib.rt:22:9
 commit-refusal-requires : tie.Need-commit-refusal-requires

@@ -1,12 +1,7 @@
 use borrow.Author.Needs.{needs}
-use Rattle.lizkarg.specs.CallLaws.{garbage-refused, garbage-h, garbage-u, garbage-written}
+use Rattle.lizkarg.specs.Laws.CallLaws.{garbage-refused, garbage-h, garbage-u, garbage-written}
 use Rattle.lizkarg.proofs.commit_garbage.Statement.{statement}
 use Rattle.lizkarg.proofs.commit_garbage.Tie as tie
-use Rattle.lizkarg.proofs.commit_garbage.Reads as reads
-use Rattle.lizkarg.proofs.commit_garbage.Lts as lts
-use Rattle.aggregation.proofs.garbage.write_h.Reads as write-h-reads
-use Rattle.aggregation.proofs.garbage.write_u2.Reads as write-u2-reads
-use Rattle.limits.proofs.garbage_refusal.Reads as garbage-refusal-reads
 
 -- src/lib.rt:89:9
 garbage-refusal-requires : tie.Need-garbage-refusal-requires

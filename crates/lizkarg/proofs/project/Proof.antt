@@ -1,11 +1,7 @@
 use borrow.Author.Needs.{needs}
-use Rattle.lizkarg.specs.CallLaws.{project-refused, project-facts, project-written}
+use Rattle.lizkarg.specs.Laws.CallLaws.{project-refused, project-facts, project-written}
 use Rattle.lizkarg.proofs.project.Statement.{statement}
 use Rattle.lizkarg.proofs.project.Tie as tie
-use Rattle.lizkarg.proofs.project.Reads as reads
-use Rattle.lizkarg.proofs.project.Lts as lts
-use Rattle.limits.proofs.project_refusal.Reads as project-refusal-reads
-use Rattle.prover.proofs.project.write_p.Reads as write-p-reads
 
 -- src/lib.rt:36:9
 project-refusal-requires : tie.Need-project-refusal-requires

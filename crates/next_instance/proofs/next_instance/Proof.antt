@@ -1,5 +1,5 @@
 -- `next_instance::next_instance` meets its contract: a refusal, a failed check, or all is written. Assumes nothing.
-use Rattle.next_instance.specs.CallLaws.{next-refused, call-facts, check-facts, next-judged, next-written}
+use Rattle.next_instance.specs.Laws.CallLaws.{next-refused, call-facts, check-facts, next-judged, next-written}
 use borrow.Author.Needs.{needs}
 use Rattle.next_instance.proofs.next_instance.Statement.{statement}
 use Rattle.next_instance.proofs.next_instance.Tie as tie

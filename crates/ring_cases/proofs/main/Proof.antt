@@ -2,7 +2,7 @@
 use Prim.Native.Nat.{ℕ}
 use Rattle.ring_cases.proofs.main.Statement.{statement}
 use Rattle.ring_cases.proofs.main.Tie as tie
-use Rattle.cases.specs.TextLaws.{filled}
+use Rattle.cases.specs.Laws.TextLaws.{filled}
 
 slice-aggregate-run-text : tie.Need-slice-aggregate-run-text
 slice-aggregate-run-text c = filled ℕ 262144 0

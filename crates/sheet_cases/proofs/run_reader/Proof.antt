@@ -5,7 +5,6 @@ use lib.Seq.{length-take-le}
 use borrow.Author.Needs.{needs}
 use Rattle.sheet_cases.proofs.run_reader.Statement.{statement}
 use Rattle.sheet_cases.proofs.run_reader.Tie as tie
-use Rattle.sheet_cases.proofs.print_read.Reads as print-read-reads
 
 returns : tie.Need-returns
 returns c = search needs

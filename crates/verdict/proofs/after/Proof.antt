@@ -6,9 +6,9 @@ use lib.Dec.{T}
 use lib.IntN.{ℤ, pos, natAbs}
 use lib.Signed.{nonNeg, ltZ, yes-nonNeg}
 use mir.Facts.{toZ-ofZ, fits-natAbs}
-use Rattle.integers.specs.Bridge.{zarith}
+use Rattle.integers.specs.Laws.Bridge.{zarith}
 use borrow.Author.Needs.{needs}
-use Rattle.verdict.specs.ReadLaws.{place-failed, place-cut, place-within}
+use Rattle.verdict.specs.Laws.ReadLaws.{place-failed, place-cut, place-within}
 use Rattle.verdict.proofs.after.Statement.{statement}
 use Rattle.verdict.proofs.after.Tie as tie
 

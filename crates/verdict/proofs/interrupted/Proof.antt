@@ -1,6 +1,6 @@
 -- `verdict::interrupted` meets its contract. Assumes nothing.
 use mir.Facts.{toZ-ofZ}
-use Rattle.verdict.specs.ReadLaws.{not-interrupted, interrupted-by}
+use Rattle.verdict.specs.Laws.ReadLaws.{not-interrupted, interrupted-by}
 use Rattle.verdict.proofs.interrupted.Statement.{statement}
 use Rattle.verdict.proofs.interrupted.Tie as tie
 

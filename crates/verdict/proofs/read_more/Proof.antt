@@ -6,7 +6,7 @@ use lib.IntN.{ℤ}
 use lib.Seq.{take-at, length-take-le}
 use borrow.Author.Needs.{needs}
 use Rattle.verdict.specs.Reads.{placeAfter}
-use Rattle.verdict.specs.ReadLaws.{place-between}
+use Rattle.verdict.specs.Laws.ReadLaws.{place-between}
 use Rattle.verdict.proofs.read_more.Statement.{statement}
 use Rattle.verdict.proofs.read_more.Tie as tie
 

@@ -2,8 +2,8 @@
 use mathlib.Core.Path.{_≡_, sym, ap, _∙_}
 use native.Mathlib.Omega.{arith}
 use Rattle.fold.specs.declared.Answer.the-variants.{Judged}
-use Rattle.fold.specs.CallFacts.{verify-facts}
-use Rattle.verifier.specs.Judgement.{refused, judged}
+use Rattle.fold.specs.Known.CallFacts.{verify-facts}
+use Rattle.verifier.specs.Laws.JudgementLaws.{refused, judged}
 use borrow.Author.Needs.{needs}
 use Rattle.verifier.proofs.verify.Statement.{statement}
 use Rattle.verifier.proofs.verify.Tie as tie

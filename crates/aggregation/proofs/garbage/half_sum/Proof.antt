@@ -2,8 +2,8 @@
 use borrow.Author.Needs.{needs}
 use Prim.Native.Nat.{_*_}
 use native.Mathlib.Omega.{arith}
-use Rattle.prover.specs.Places.{place-below}
-use Rattle.aggregation.specs.Garbage.{square-small, square-place, half-sum-end}
+use Rattle.prover.specs.Laws.Places.{place-below}
+use Rattle.aggregation.specs.Laws.GarbageLaws.{square-small, square-place, half-sum-end}
 use Rattle.aggregation.proofs.garbage.half_sum.Statement.{statement}
 use Rattle.aggregation.proofs.garbage.half_sum.Tie as tie
 

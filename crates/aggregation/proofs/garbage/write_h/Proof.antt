@@ -1,8 +1,8 @@
 -- `aggregation::garbage::write_h` meets its contract: the products <φ_i, s_j>, then the h_ij, then their digits.
 use borrow.Author.Needs.{needs}
 use native.Mathlib.Omega.{arith}
-use Rattle.aggregation.specs.Values.{pairs-room}
-use Rattle.aggregation.specs.Garbage.{square-room, digits-length, h-written}
+use Rattle.aggregation.specs.Laws.ValueLaws.{pairs-room}
+use Rattle.aggregation.specs.Laws.GarbageLaws.{square-room, digits-length, h-written}
 use Rattle.aggregation.proofs.garbage.write_h.Statement.{statement}
 use Rattle.aggregation.proofs.garbage.write_h.Tie as tie
 

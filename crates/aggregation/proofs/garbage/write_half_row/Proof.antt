@@ -2,8 +2,8 @@
 use mathlib.Core.Path.{_≡_, refl}
 use Prim.Native.Nat.{_+_, _-_, _≤_}
 use native.Mathlib.Omega.{arith}
-use Rattle.fold.specs.WriterLaws.{Elements, elements-start, elements-turn}
-use Rattle.prover.specs.Places.{place-below, element-fits}
+use Rattle.fold.specs.Laws.WriterLaws.{Elements, elements-start, elements-turn}
+use Rattle.prover.specs.Laws.Places.{place-below, element-fits}
 use Rattle.aggregation.specs.Garbage.{halved}
 use Rattle.aggregation.proofs.garbage.write_half_row.Statement.{statement}
 use Rattle.aggregation.proofs.garbage.write_half_row.Tie as tie

@@ -1,8 +1,8 @@
 -- `aggregation::garbage::write_half_sums` meets its contract. The loop's invariant: the first i rows are written.
 use Prim.Native.Nat.{_+_, _-_}
 use native.Mathlib.Omega.{arith}
-use Rattle.fold.specs.WriterLaws.{Rows, rows-start, rows-fit, rows-turn, rows-end}
-use Rattle.prover.specs.Places.{place-below}
+use Rattle.fold.specs.Laws.WriterLaws.{Rows, rows-start, rows-fit, rows-turn, rows-end}
+use Rattle.prover.specs.Laws.Places.{place-below}
 use Rattle.aggregation.specs.Garbage.{halved}
 use Rattle.aggregation.proofs.garbage.write_half_sums.Statement.{statement}
 use Rattle.aggregation.proofs.garbage.write_half_sums.Tie as tie

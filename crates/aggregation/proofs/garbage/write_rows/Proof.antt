@@ -5,10 +5,10 @@ use native.Mathlib.Nat.{zero-add}
 use native.Mathlib.Omega.{arith}
 use Rattle.ring.specs.Element.{el}
 use Rattle.fold.specs.Messages.{times}
-use Rattle.fold.specs.WriterLaws.{Elements, elements-start, elements-turn, elements-all}
-use Rattle.prover.specs.Places.{part-fits, place-below}
-use Rattle.aggregation.specs.Values.{place-fits, place-within}
-use Rattle.aggregation.specs.Garbage.{row-end}
+use Rattle.fold.specs.Laws.WriterLaws.{Elements, elements-start, elements-turn, elements-all}
+use Rattle.prover.specs.Laws.Places.{part-fits, place-below}
+use Rattle.aggregation.specs.Laws.ValueLaws.{place-fits, place-within}
+use Rattle.aggregation.specs.Laws.GarbageLaws.{row-end}
 use Rattle.aggregation.proofs.garbage.write_rows.Statement.{statement}
 use Rattle.aggregation.proofs.garbage.write_rows.Tie as tie
 

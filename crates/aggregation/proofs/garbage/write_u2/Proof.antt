@@ -1,8 +1,8 @@
 -- `aggregation::garbage::write_u2` meets its contract.
 use borrow.Author.Needs.{needs}
 use native.Mathlib.Omega.{arith}
-use Rattle.fold.specs.SizeBounds.{garbageSize-bound}
-use Rattle.aggregation.specs.Garbage.{outer-end}
+use Rattle.fold.specs.Laws.SizeBounds.{garbageSize-bound}
+use Rattle.aggregation.specs.Laws.GarbageLaws.{outer-end}
 use Rattle.aggregation.proofs.garbage.write_u2.Statement.{statement}
 use Rattle.aggregation.proofs.garbage.write_u2.Tie as tie
 

@@ -3,9 +3,10 @@ use mathlib.Core.Path.{_≡_, refl}
 use Prim.Native.Nat.{_+_, _-_, _*_, _≤_}
 use native.Mathlib.Nat.{zero-add}
 use native.Mathlib.Omega.{arith}
-use Rattle.fold.specs.WriterLaws.{Elements, elements-start, elements-turn}
-use Rattle.prover.specs.Places.{part-fits, place-below, element-fits}
-use Rattle.aggregation.specs.Garbage.{partProduct, part-product-end}
+use Rattle.fold.specs.Laws.WriterLaws.{Elements, elements-start, elements-turn}
+use Rattle.prover.specs.Laws.Places.{part-fits, place-below, element-fits}
+use Rattle.aggregation.specs.Garbage.{partProduct}
+use Rattle.aggregation.specs.Laws.GarbageLaws.{part-product-end}
 use Rattle.aggregation.proofs.products.write_part_products.Statement.{statement}
 use Rattle.aggregation.proofs.products.write_part_products.Tie as tie
 

@@ -3,11 +3,11 @@ use mathlib.Core.Path.{_≡_, sym}
 use Prim.Native.Nat.{_-_, _≤_}
 use native.Mathlib.Nat.{zero-add, zero-mul}
 use native.Mathlib.Omega.{arith}
-use Rattle.integers.specs.Flat.{block-fits}
-use Rattle.ring.specs.ElementPlaces.{block-before}
-use Rattle.fold.specs.WriterLaws.{Elements, elements-start, elements-turn}
-use Rattle.constraints.specs.SizeLaws.{witness-small}
-use Rattle.aggregation.specs.Values.{place-fits}
+use Rattle.integers.specs.Laws.FlatLaws.{block-fits}
+use Rattle.ring.specs.Laws.ElementPlaces.{block-before}
+use Rattle.fold.specs.Laws.WriterLaws.{Elements, elements-start, elements-turn}
+use Rattle.constraints.specs.Laws.SizeLaws.{witness-small}
+use Rattle.aggregation.specs.Laws.ValueLaws.{place-fits}
 use Rattle.aggregation.specs.Garbage.{aggregatePart}
 use Rattle.aggregation.proofs.products.write_phi_part.Statement.{statement}
 use Rattle.aggregation.proofs.products.write_phi_part.Tie as tie

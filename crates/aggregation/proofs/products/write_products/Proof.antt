@@ -3,7 +3,8 @@ use Prim.Native.Nat.{_-_}
 use native.Mathlib.Omega.{arith}
 use lib.ListN.{length-replicate}
 use lib.IntN.{pos}
-use Rattle.aggregation.specs.Garbage.{aggregatePart, cross, Squares, squares-start, squares-turn, squares-end}
+use Rattle.aggregation.specs.Garbage.{aggregatePart, cross}
+use Rattle.aggregation.specs.Laws.GarbageLaws.{Squares, squares-start, squares-turn, squares-end}
 use Rattle.aggregation.proofs.products.write_products.Statement.{statement}
 use Rattle.aggregation.proofs.products.write_products.Tie as tie
 

@@ -2,9 +2,9 @@
 use borrow.Author.Needs.{needs}
 use native.Mathlib.Nat.{mul-le-mul}
 use native.Mathlib.Omega.{arith}
-use Rattle.ring.specs.ElementPlaces.{block-before}
-use Rattle.prover.specs.Places.{part-fits}
-use Rattle.aggregation.specs.Garbage.{phi-room, row-written}
+use Rattle.ring.specs.Laws.ElementPlaces.{block-before}
+use Rattle.prover.specs.Laws.Places.{part-fits}
+use Rattle.aggregation.specs.Laws.GarbageLaws.{phi-room, row-written}
 use Rattle.aggregation.proofs.products.write_row.Statement.{statement}
 use Rattle.aggregation.proofs.products.write_row.Tie as tie
 

@@ -5,8 +5,8 @@ use native.Mathlib.Omega.{arith}
 use Rattle.algebra.specs.DotProduct.{inner}
 use Rattle.fold.specs.Statement.{part}
 use Rattle.fold.specs.Messages.{g}
-use Rattle.prover.specs.Places.{place-below}
-use Rattle.aggregation.specs.Rows.{zero-row, by-element}
+use Rattle.prover.specs.Laws.Places.{place-below}
+use Rattle.aggregation.specs.Laws.RowLaws.{zero-row, by-element}
 use Rattle.aggregation.proofs.rows.add_pair.Statement.{statement}
 use Rattle.aggregation.proofs.rows.add_pair.Tie as tie
 

@@ -2,8 +2,9 @@
 use Prim.Native.Nat.{_-_}
 use native.Mathlib.Omega.{arith}
 use Rattle.ring.specs.Element.{lift}
-use Rattle.constraints.specs.Rows.{Filling, filling-start, filling-step, filling-end}
-use Rattle.aggregation.specs.Rows.{plusProduct, plus-product-end}
+use Rattle.constraints.specs.Laws.Rows.{Filling, filling-start, filling-step, filling-end}
+use Rattle.aggregation.specs.Rows.{plusProduct}
+use Rattle.aggregation.specs.Laws.RowLaws.{plus-product-end}
 use Rattle.aggregation.proofs.rows.add_products.Statement.{statement}
 use Rattle.aggregation.proofs.rows.add_products.Tie as tie
 

@@ -5,8 +5,8 @@ use Prim.Native.Nat.{_-_, _≤_}
 use native.Mathlib.Omega.{arith}
 use lib.ListN.{getD}
 use Rattle.ring.specs.Element.{R, lift, every, same}
-use Rattle.ring.specs.ElementLaws.{lift-array}
-use Rattle.ring.specs.ElementEquality.{every-zero, every-next}
+use Rattle.ring.specs.Laws.ElementLaws.{lift-array}
+use Rattle.ring.specs.Laws.ElementEquality.{every-zero, every-next}
 use Rattle.aggregation.proofs.rows.is_zero.Statement.{statement}
 use Rattle.aggregation.proofs.rows.is_zero.Tie as tie
 

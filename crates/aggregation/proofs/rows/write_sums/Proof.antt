@@ -4,9 +4,9 @@ use Prim.Native.Nat.{_-_, _≤_}
 use native.Mathlib.Nat.{zero-add}
 use native.Mathlib.Omega.{arith}
 use lib.ListN.{length}
-use Rattle.fold.specs.WriterLaws.{Elements, elements-start, elements-turn, elements-all}
+use Rattle.fold.specs.Laws.WriterLaws.{Elements, elements-start, elements-turn, elements-all}
 use Rattle.aggregation.specs.Rows.{added}
-use Rattle.aggregation.specs.Values.{place-fits, place-within}
+use Rattle.aggregation.specs.Laws.ValueLaws.{place-fits, place-within}
 use Rattle.aggregation.proofs.rows.write_sums.Statement.{statement}
 use Rattle.aggregation.proofs.rows.write_sums.Tie as tie
 

@@ -3,10 +3,12 @@ use mathlib.Core.Path.{_≡_}
 use Prim.Native.Nat.{_+_, _-_, _*_, _≤_}
 use native.Mathlib.Omega.{arith}
 use lib.ListN.{length}
-use Rattle.fold.specs.SizeBounds.{pairs-bound}
-use Rattle.prover.specs.Places.{part-fits}
-use Rattle.aggregation.specs.Rows.{Sums, canonical}
-use Rattle.aggregation.specs.Values.{pairTerm, pair-below, pairs-step}
+use Rattle.fold.specs.Laws.SizeBounds.{pairs-bound}
+use Rattle.prover.specs.Laws.Places.{part-fits}
+use Rattle.aggregation.specs.Rows.{Sums}
+use Rattle.aggregation.specs.Laws.RowLaws.{canonical}
+use Rattle.aggregation.specs.Values.{pairTerm}
+use Rattle.aggregation.specs.Laws.ValueLaws.{pair-below, pairs-step}
 use Rattle.aggregation.proofs.second.add_part_pairs.Statement.{statement}
 use Rattle.aggregation.proofs.second.add_part_pairs.Tie as tie
 

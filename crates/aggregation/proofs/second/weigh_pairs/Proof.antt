@@ -2,10 +2,13 @@
 use mathlib.Core.Path.{_≡_, sym}
 use Prim.Native.Nat.{_-_, _≤_}
 use native.Mathlib.Omega.{arith}
-use Rattle.algebra.specs.Triangle.{pair, pair-zero}
-use Rattle.fold.specs.SizeBounds.{pairs-bound}
-use Rattle.aggregation.specs.Rows.{Sums, sums-start}
-use Rattle.aggregation.specs.Values.{pairTerm, pair-room, pair-after, pairs-all}
+use Rattle.algebra.specs.Triangle.{pair}
+use Rattle.algebra.specs.Laws.TriangleLaws.{pair-zero}
+use Rattle.fold.specs.Laws.SizeBounds.{pairs-bound}
+use Rattle.aggregation.specs.Rows.{Sums}
+use Rattle.aggregation.specs.Laws.RowLaws.{sums-start}
+use Rattle.aggregation.specs.Values.{pairTerm}
+use Rattle.aggregation.specs.Laws.ValueLaws.{pair-room, pair-after, pairs-all}
 use Rattle.aggregation.proofs.second.weigh_pairs.Statement.{statement}
 use Rattle.aggregation.proofs.second.weigh_pairs.Tie as tie
 

@@ -2,9 +2,11 @@
 use mathlib.Core.Path.{_≡_}
 use Prim.Native.Nat.{_-_, _*_, _≤_}
 use native.Mathlib.Omega.{arith}
-use Rattle.constraints.specs.SizeLaws.{witness-small}
-use Rattle.aggregation.specs.Rows.{Sums, sums-start}
-use Rattle.aggregation.specs.Values.{witnessTerm, witness-step, place-fits}
+use Rattle.constraints.specs.Laws.SizeLaws.{witness-small}
+use Rattle.aggregation.specs.Rows.{Sums}
+use Rattle.aggregation.specs.Laws.RowLaws.{sums-start}
+use Rattle.aggregation.specs.Values.{witnessTerm}
+use Rattle.aggregation.specs.Laws.ValueLaws.{witness-step, place-fits}
 use Rattle.aggregation.proofs.second.weigh_witness.Statement.{statement}
 use Rattle.aggregation.proofs.second.weigh_witness.Tie as tie
 

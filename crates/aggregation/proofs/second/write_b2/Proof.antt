@@ -1,7 +1,7 @@
 -- `aggregation::second::write_b2` meets its contract: the two parts of the five values, and their sums.
 use lib.ListN.{length-replicate}
 use lib.IntN.{pos}
-use Rattle.aggregation.specs.Values.{values-end}
+use Rattle.aggregation.specs.Laws.ValueLaws.{values-end}
 use borrow.Author.Needs.{needs}
 use Rattle.aggregation.proofs.second.write_b2.Statement.{statement}
 use Rattle.aggregation.proofs.second.write_b2.Tie as tie

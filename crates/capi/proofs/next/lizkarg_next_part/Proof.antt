@@ -1,8 +1,8 @@
 -- `capi::next::lizkarg_next_part` meets its contract: 0 and 0 where the part is refused, and else where that chunk stands. Assumes nothing.
 use native.Mathlib.Omega.{arith}
 use borrow.Author.Needs.{needs}
-use Rattle.chunks.specs.Parts.{part-facts, part-cut, chunk-room}
-use Rattle.capi.specs.PlaceLaws.{placed-refused, placed-found}
+use Rattle.chunks.specs.Laws.PartLaws.{part-facts, part-cut, chunk-room}
+use Rattle.capi.specs.Laws.PlaceLaws.{placed-refused, placed-found}
 use Rattle.capi.proofs.next.lizkarg_next_part.Statement.{statement}
 use Rattle.capi.proofs.next.lizkarg_next_part.Tie as tie
 

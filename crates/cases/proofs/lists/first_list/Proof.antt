@@ -1,6 +1,6 @@
 -- `cases::lists::first_list` meets its contract. Assumes nothing.
 use borrow.Author.Needs.{needs}
-use Rattle.cases.specs.ListLaws.{list-fits, list-is}
+use Rattle.cases.specs.Laws.ListLaws.{list-fits, list-is}
 use Rattle.cases.proofs.lists.first_list.Statement.{statement}
 use Rattle.cases.proofs.lists.first_list.Tie as tie
 

@@ -1,7 +1,7 @@
 -- `cases::lists::first_size` meets its contract. Assumes nothing.
 use borrow.Author.Needs.{needs}
 use Rattle.cases.specs.Lists.{firstSize}
-use Rattle.cases.specs.ListLaws.{size-none}
+use Rattle.cases.specs.Laws.ListLaws.{size-none}
 use Rattle.cases.proofs.lists.first_size.Statement.{statement}
 use Rattle.cases.proofs.lists.first_size.Tie as tie
 

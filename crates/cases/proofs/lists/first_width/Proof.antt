@@ -4,7 +4,7 @@ use Prim.Native.Nat.{ℕ, _+_, min}
 use native.Mathlib.Omega.{arith}
 use lib.ListN.{length}
 use Rattle.cases.specs.Lists.{firstWidth}
-use Rattle.cases.specs.ListLaws.{size-inside}
+use Rattle.cases.specs.Laws.ListLaws.{size-inside}
 use Rattle.cases.proofs.lists.first_width.Statement.{statement}
 use Rattle.cases.proofs.lists.first_width.Tie as tie
 

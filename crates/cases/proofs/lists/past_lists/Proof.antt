@@ -5,7 +5,7 @@ use native.Mathlib.Omega.{arith}
 use lib.ListN.{length, drop}
 use borrow.Author.Needs.{needs}
 use Rattle.cases.specs.Lists.{pastLists}
-use Rattle.cases.specs.ListLaws.{past-some, width-fits, lists-next}
+use Rattle.cases.specs.Laws.ListLaws.{past-some, width-fits, lists-next}
 use Rattle.cases.proofs.lists.past_lists.Statement.{statement}
 use Rattle.cases.proofs.lists.past_lists.Tie as tie
 

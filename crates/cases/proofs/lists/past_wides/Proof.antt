@@ -1,6 +1,6 @@
 -- `cases::lists::past_wides` meets its contract. Assumes nothing.
 use borrow.Author.Needs.{needs}
-use Rattle.cases.specs.ListLaws.{past-none, past-some}
+use Rattle.cases.specs.Laws.ListLaws.{past-none, past-some}
 use Rattle.cases.proofs.lists.past_wides.Statement.{statement}
 use Rattle.cases.proofs.lists.past_wides.Tie as tie
 

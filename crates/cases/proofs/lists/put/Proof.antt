@@ -5,9 +5,10 @@ use native.Mathlib.Omega.{arith}
 use lib.ListN.{length, getD, length-set}
 use lib.IntN.{pos}
 use mir.Facts.{toZ-ofZ}
-use Rattle.integers.specs.Over.{over, over-nil}
+use Rattle.integers.specs.Over.{over}
+use Rattle.integers.specs.Laws.OverLaws.{over-nil}
 use Rattle.integers.specs.Lists.{tab}
-use Rattle.cases.specs.ListLaws.{put-next, put-end}
+use Rattle.cases.specs.Laws.ListLaws.{put-next, put-end}
 use Rattle.cases.proofs.lists.put.Statement.{statement}
 use Rattle.cases.proofs.lists.put.Tie as tie
 

@@ -6,10 +6,11 @@ use lib.ListN.{length, getD, length-set}
 use lib.IntN.{pos}
 use mir.Syntax.{w64}
 use mir.Facts.{toZ-ofZ}
-use Rattle.integers.specs.Over.{over, over-nil}
+use Rattle.integers.specs.Over.{over}
+use Rattle.integers.specs.Laws.OverLaws.{over-nil}
 use Rattle.integers.specs.Lists.{tab}
 use Rattle.cases.specs.Numbers.{word}
-use Rattle.cases.specs.NumberLaws.{narrow-next, narrow-end}
+use Rattle.cases.specs.Laws.NumberLaws.{narrow-next, narrow-end}
 use Rattle.cases.proofs.numbers.narrow.Statement.{statement}
 use Rattle.cases.proofs.numbers.narrow.Tie as tie
 

@@ -5,8 +5,8 @@ use lib.Dec.{T}
 use lib.IntN.{ℤ, pos}
 use lib.Signed.{nonNeg, ltZ, yes-nonNeg}
 use mir.Facts.{toZ-ofZ, fits-natAbs}
-use Rattle.integers.specs.Bridge.{zarith}
-use Rattle.cases.specs.NumberLaws.{positive-none, positive-some}
+use Rattle.integers.specs.Laws.Bridge.{zarith}
+use Rattle.cases.specs.Laws.NumberLaws.{positive-none, positive-some}
 use Rattle.cases.proofs.numbers.natural.Statement.{statement}
 use Rattle.cases.proofs.numbers.natural.Tie as tie
 

@@ -4,7 +4,7 @@ use lib.IntN.{natAbs}
 use mir.Syntax.{w32}
 use mir.Facts.{toZ-ofZ}
 use Rattle.cases.specs.Numbers.{sizeAt}
-use Rattle.cases.specs.NumberLaws.{size-negative, size-large, size-fits}
+use Rattle.cases.specs.Laws.NumberLaws.{size-negative, size-large, size-fits}
 use Rattle.cases.proofs.numbers.size.Statement.{statement}
 use Rattle.cases.proofs.numbers.size.Tie as tie
 

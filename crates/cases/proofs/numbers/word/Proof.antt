@@ -1,7 +1,7 @@
 -- `cases::numbers::word` meets its contract. Assumes nothing.
 use mathlib.Core.Path.{_∙_}
 use mir.Facts.{toZ-ofZ}
-use Rattle.cases.specs.NumberLaws.{word-high, word-low, word-itself, word-fits}
+use Rattle.cases.specs.Laws.NumberLaws.{word-high, word-low, word-itself, word-fits}
 use Rattle.cases.proofs.numbers.word.Statement.{statement}
 use Rattle.cases.proofs.numbers.word.Tie as tie
 

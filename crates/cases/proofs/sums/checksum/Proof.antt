@@ -8,7 +8,7 @@ use mir.Syntax.{w32}
 use mir.Facts.{toZ-ofZ}
 use Rattle.integers.specs.Remainder.{emod}
 use Rattle.cases.specs.Sums.{weighted}
-use Rattle.cases.specs.SumLaws.{checksum-start, checksum-step, checksum-below, checksum-end}
+use Rattle.cases.specs.Laws.SumLaws.{checksum-start, checksum-step, checksum-below, checksum-end}
 use Rattle.cases.proofs.sums.checksum.Statement.{statement}
 use Rattle.cases.proofs.sums.checksum.Tie as tie
 

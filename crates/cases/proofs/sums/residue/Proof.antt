@@ -4,7 +4,7 @@ use lib.IntN.{natAbs}
 use native.Mathlib.Omega.{arith}
 use mir.Facts.{toZ-ofZ}
 use borrow.Author.Needs.{needs}
-use Rattle.cases.specs.SumLaws.{residue-negative, residue-positive}
+use Rattle.cases.specs.Laws.SumLaws.{residue-negative, residue-positive}
 use Rattle.cases.proofs.sums.residue.Statement.{statement}
 use Rattle.cases.proofs.sums.residue.Tie as tie
 

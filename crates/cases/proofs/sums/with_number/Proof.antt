@@ -7,8 +7,8 @@ use lib.IntN.{ℤ}
 use mir.Facts.{toZ-ofZ}
 use borrow.Author.Needs.{needs}
 use Rattle.integers.specs.Remainder.{emod}
-use Rattle.integers.specs.RemainderLaws.{emod-lt}
-use Rattle.cases.specs.SumLaws.{one-more}
+use Rattle.integers.specs.Laws.RemainderLaws.{emod-lt}
+use Rattle.cases.specs.Laws.SumLaws.{one-more}
 use Rattle.cases.proofs.sums.with_number.Statement.{statement}
 use Rattle.cases.proofs.sums.with_number.Tie as tie
 

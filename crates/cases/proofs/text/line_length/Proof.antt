@@ -4,7 +4,7 @@ use Prim.Native.Nat.{_+_, _-_, _≤_}
 use native.Mathlib.Omega.{arith}
 use lib.ListN.{length, drop}
 use Rattle.cases.specs.Text.{lineLength}
-use Rattle.cases.specs.TextLaws.{line-start, line-other, line-feed, line-all}
+use Rattle.cases.specs.Laws.TextLaws.{line-start, line-other, line-feed, line-all}
 use Rattle.cases.proofs.text.line_length.Statement.{statement}
 use Rattle.cases.proofs.text.line_length.Tie as tie
 

@@ -4,7 +4,7 @@ use Prim.Native.Nat.{_-_}
 use native.Mathlib.Omega.{arith}
 use lib.ListN.{length, length-set}
 use mir.Facts.{toZ-ofZ}
-use Rattle.cases.specs.TextLaws.{Scanning, scan-start, scan-digit, scan-blank, scan-full, scan-end}
+use Rattle.cases.specs.Laws.TextLaws.{Scanning, scan-start, scan-digit, scan-blank, scan-full, scan-end}
 use Rattle.cases.proofs.text.scan.Statement.{statement}
 use Rattle.cases.proofs.text.scan.Tie as tie
 

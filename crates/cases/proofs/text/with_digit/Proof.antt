@@ -1,6 +1,6 @@
 -- `cases::text::with_digit` meets its contract. Assumes nothing.
 use borrow.Author.Needs.{needs}
-use Rattle.cases.specs.TextLaws.{digit-below, digit-above, digit-far, digit-large, digit-small}
+use Rattle.cases.specs.Laws.TextLaws.{digit-below, digit-above, digit-far, digit-large, digit-small}
 use Rattle.cases.proofs.text.with_digit.Statement.{statement}
 use Rattle.cases.proofs.text.with_digit.Tie as tie
 

@@ -7,8 +7,8 @@ use mir.Syntax.{w64}
 use mir.Val.{SFits}
 use mir.Facts.{toZ-pos, toZ-ofZ}
 use borrow.Author.Needs.{needs}
-use Rattle.integers.specs.Bridge.{zarith, pos-pn, sub-pn, neg-pn}
-use Rattle.cases.specs.TextLaws.{sign-least, sign-largest, sign-minus, sign-plain}
+use Rattle.integers.specs.Laws.Bridge.{zarith, pos-pn, sub-pn, neg-pn}
+use Rattle.cases.specs.Laws.TextLaws.{sign-least, sign-largest, sign-minus, sign-plain}
 use Rattle.cases.proofs.text.with_sign.Statement.{statement}
 use Rattle.cases.proofs.text.with_sign.Tie as tie
 

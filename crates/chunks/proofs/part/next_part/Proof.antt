@@ -1,6 +1,6 @@
 -- `chunks::part::next_part` meets its contract: an empty stretch where the part is refused, and else that chunk. Assumes nothing.
 use native.Mathlib.Omega.{arith}
-use Rattle.chunks.specs.Parts.{part-facts, part-cut, chunk-inside, chunk-room, chunk-is, refused-empty}
+use Rattle.chunks.specs.Laws.PartLaws.{part-facts, part-cut, chunk-inside, chunk-room, chunk-is, refused-empty}
 use borrow.Author.Needs.{needs}
 use Rattle.chunks.proofs.part.next_part.Statement.{statement}
 use Rattle.chunks.proofs.part.next_part.Tie as tie

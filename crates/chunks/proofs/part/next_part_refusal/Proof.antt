@@ -2,9 +2,10 @@
 use mathlib.Core.Path.{refl}
 use Rattle.fold.specs.Refusals.{partTests}
 use Rattle.fold.specs.NextCall.{partRefusal}
-use Rattle.limits.specs.SizeLaws.{opening-within}
-use Rattle.limits.specs.StageLaws.{stopped, single, none}
-use Rattle.chunks.specs.Parts.{partBounds, sizes-facts, later-rows}
+use Rattle.limits.specs.Laws.SizeLaws.{opening-within}
+use Rattle.limits.specs.Laws.StageLaws.{stopped, single, none}
+use Rattle.chunks.specs.Parts.{partBounds}
+use Rattle.chunks.specs.Laws.PartLaws.{sizes-facts, later-rows}
 use Rattle.chunks.proofs.part.next_part_refusal.Statement.{statement}
 use Rattle.chunks.proofs.part.next_part_refusal.Tie as tie
 

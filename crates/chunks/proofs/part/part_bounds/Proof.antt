@@ -1,6 +1,6 @@
 -- `chunks::part::part_bounds` meets its contract: rows 1 to 5 in order. Assumes nothing.
-use Rattle.limits.specs.RowLaws.{end, _&_}
-use Rattle.limits.specs.StageLaws.{single, row, none}
+use Rattle.limits.specs.Laws.RowLaws.{end, _&_}
+use Rattle.limits.specs.Laws.StageLaws.{single, row, none}
 use Rattle.chunks.proofs.part.part_bounds.Statement.{statement}
 use Rattle.chunks.proofs.part.part_bounds.Tie as tie
 

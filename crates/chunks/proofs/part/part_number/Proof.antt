@@ -1,5 +1,5 @@
 -- `chunks::part::part_number` meets its contract. Assumes nothing.
-use Rattle.chunks.specs.CountLaws.{part-zero, part-first, part-second, part-rest}
+use Rattle.chunks.specs.Laws.CountLaws.{part-zero, part-first, part-second, part-rest}
 use borrow.Author.Needs.{needs}
 use Rattle.chunks.proofs.part.part_number.Statement.{statement}
 use Rattle.chunks.proofs.part.part_number.Tie as tie

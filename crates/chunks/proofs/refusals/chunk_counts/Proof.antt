@@ -1,5 +1,5 @@
 -- `chunks::refusals::chunk_counts` meets its contract: row 5. Assumes nothing.
-use Rattle.chunks.specs.CountLaws.{many-ν, many-μ, chunk-tests}
+use Rattle.chunks.specs.Laws.CountLaws.{many-ν, many-μ, chunk-tests}
 use borrow.Author.Needs.{needs}
 use Rattle.chunks.proofs.refusals.chunk_counts.Statement.{statement}
 use Rattle.chunks.proofs.refusals.chunk_counts.Tie as tie

@@ -1,7 +1,7 @@
 -- `chunks::refusals::message_ranges` meets its contract: each list in turn. Assumes nothing.
 use mathlib.Core.Path.{refl}
-use Rattle.limits.specs.RowLaws.{end, _&_}
-use Rattle.limits.specs.StageLaws.{joined-tests}
+use Rattle.limits.specs.Laws.RowLaws.{end, _&_}
+use Rattle.limits.specs.Laws.StageLaws.{joined-tests}
 use Rattle.chunks.proofs.refusals.message_ranges.Statement.{statement}
 use Rattle.chunks.proofs.refusals.message_ranges.Tie as tie
 

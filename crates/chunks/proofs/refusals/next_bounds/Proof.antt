@@ -1,6 +1,6 @@
 -- `chunks::refusals::next_bounds` meets its contract: rows 1 to 6 in order. Assumes nothing.
-use Rattle.limits.specs.RowLaws.{end, _&_}
-use Rattle.limits.specs.StageLaws.{single, row, none}
+use Rattle.limits.specs.Laws.RowLaws.{end, _&_}
+use Rattle.limits.specs.Laws.StageLaws.{single, row, none}
 use Rattle.chunks.proofs.refusals.next_bounds.Statement.{statement}
 use Rattle.chunks.proofs.refusals.next_bounds.Tie as tie
 

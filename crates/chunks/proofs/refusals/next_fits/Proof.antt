@@ -3,7 +3,7 @@ use Prim.Native.Nat.{_≤_}
 use native.Mathlib.Omega.{arith}
 use Rattle.fold.specs.Sizes.{functionSize}
 use Rattle.fold.specs.Refusals.{wholeLength}
-use Rattle.fold.specs.SizeBounds.{product-fits, product-bound, pairs-bound}
+use Rattle.fold.specs.Laws.SizeBounds.{product-fits, product-bound, pairs-bound}
 use borrow.Author.Needs.{needs}
 use Rattle.chunks.proofs.refusals.next_fits.Statement.{statement}
 use Rattle.chunks.proofs.refusals.next_fits.Tie as tie

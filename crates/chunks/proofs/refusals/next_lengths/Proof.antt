@@ -2,10 +2,10 @@
 use mathlib.Core.Path.{refl}
 use native.Mathlib.Omega.{arith}
 use Rattle.fold.specs.Sizes.{nextParts, nextCount}
-use Rattle.limits.specs.RowLaws.{end, _&_}
-use Rattle.limits.specs.StageLaws.{joined-tests}
-use Rattle.chunks.specs.CutSizes.{nextRank-bound}
-use Rattle.chunks.specs.Stages.{cut-sizes}
+use Rattle.limits.specs.Laws.RowLaws.{end, _&_}
+use Rattle.limits.specs.Laws.StageLaws.{joined-tests}
+use Rattle.chunks.specs.Known.CutSizes.{nextRank-bound}
+use Rattle.chunks.specs.Laws.StageLaws.{cut-sizes}
 use borrow.Author.Needs.{needs}
 use Rattle.chunks.proofs.refusals.next_lengths.Statement.{statement}
 use Rattle.chunks.proofs.refusals.next_lengths.Tie as tie

@@ -2,10 +2,11 @@
 use mathlib.Core.Path.{refl, ap}
 use lib.Dec.{leb}
 use Rattle.fold.specs.Refusals.{nextTests}
-use Rattle.fold.specs.RefusalLaws.{sized-iff}
-use Rattle.limits.specs.RowLaws.{end, _&_, joined-row}
-use Rattle.limits.specs.StageLaws.{stopped, unfit, fit, fitting, single, none, append-rows}
-use Rattle.chunks.specs.Stages.{nextBounds, next-sized, next-cut}
+use Rattle.fold.specs.Laws.RefusalLaws.{sized-iff}
+use Rattle.limits.specs.Laws.RowLaws.{end, _&_, joined-row}
+use Rattle.limits.specs.Laws.StageLaws.{stopped, unfit, fit, fitting, single, none, append-rows}
+use Rattle.chunks.specs.Stages.{nextBounds}
+use Rattle.chunks.specs.Laws.StageLaws.{next-sized, next-cut}
 use Rattle.chunks.proofs.refusals.next_refusal.Statement.{statement}
 use Rattle.chunks.proofs.refusals.next_refusal.Tie as tie
 

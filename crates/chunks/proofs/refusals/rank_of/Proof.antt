@@ -1,5 +1,5 @@
 -- `chunks::refusals::rank_of` meets its contract. Assumes nothing.
-use Rattle.chunks.specs.Stages.{cut-sizes}
+use Rattle.chunks.specs.Laws.StageLaws.{cut-sizes}
 use borrow.Author.Needs.{needs}
 use Rattle.chunks.proofs.refusals.rank_of.Statement.{statement}
 use Rattle.chunks.proofs.refusals.rank_of.Tie as tie

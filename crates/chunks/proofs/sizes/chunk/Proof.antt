@@ -1,7 +1,7 @@
 -- `chunks::sizes::chunk` meets its contract: past the end, short or full. Assumes nothing.
 use native.Mathlib.Omega.{arith}
-use Rattle.fold.specs.SizeBounds.{product-fits}
-use Rattle.chunks.specs.CutSizes.{ceiling-bound, chunk-empty, chunk-short, chunk-full}
+use Rattle.fold.specs.Laws.SizeBounds.{product-fits}
+use Rattle.chunks.specs.Known.CutSizes.{ceiling-bound, chunk-empty, chunk-short, chunk-full}
 use borrow.Author.Needs.{needs}
 use Rattle.chunks.proofs.sizes.chunk.Statement.{statement}
 use Rattle.chunks.proofs.sizes.chunk.Tie as tie

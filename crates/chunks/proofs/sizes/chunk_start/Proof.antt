@@ -1,7 +1,7 @@
 -- `chunks::sizes::chunk_start` meets its contract. The loop's invariant: `at` is the start of part k. Assumes nothing.
 use Prim.Native.Nat.{_-_}
 use native.Mathlib.Omega.{arith}
-use Rattle.chunks.specs.CutSizes.{Begun, begun-start, begun-step, begun-end, width-small}
+use Rattle.chunks.specs.Known.CutSizes.{Begun, begun-start, begun-step, begun-end, width-small}
 use Rattle.chunks.proofs.sizes.chunk_start.Statement.{statement}
 use Rattle.chunks.proofs.sizes.chunk_start.Tie as tie
 

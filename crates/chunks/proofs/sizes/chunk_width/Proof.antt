@@ -1,7 +1,7 @@
 -- `chunks::sizes::chunk_width` meets its contract: a chunk of z, or one of the rest. Assumes nothing.
 use native.Mathlib.Omega.{arith}
 use native.Mathlib.Nat.{mod-lt}
-use Rattle.chunks.specs.CutSizes.{width-first, width-later}
+use Rattle.chunks.specs.Known.CutSizes.{width-first, width-later}
 use borrow.Author.Needs.{needs}
 use Rattle.chunks.proofs.sizes.chunk_width.Statement.{statement}
 use Rattle.chunks.proofs.sizes.chunk_width.Tie as tie

@@ -1,5 +1,5 @@
 -- `chunks::sizes::next_rank` meets its contract: the larger of two. Assumes nothing.
-use Rattle.chunks.specs.CutSizes.{rank-first, rank-second}
+use Rattle.chunks.specs.Known.CutSizes.{rank-first, rank-second}
 use borrow.Author.Needs.{needs}
 use Rattle.chunks.proofs.sizes.next_rank.Statement.{statement}
 use Rattle.chunks.proofs.sizes.next_rank.Tie as tie

@@ -2,7 +2,7 @@
 use mathlib.Core.Path.{refl}
 use native.Mathlib.Omega.{arith}
 use Rattle.fold.specs.Sizes.{restSize}
-use Rattle.chunks.specs.CutSizes.{restSize-bound}
+use Rattle.chunks.specs.Known.CutSizes.{restSize-bound}
 use borrow.Author.Needs.{needs}
 use Rattle.chunks.proofs.sizes.rest_size.Statement.{statement}
 use Rattle.chunks.proofs.sizes.rest_size.Tie as tie

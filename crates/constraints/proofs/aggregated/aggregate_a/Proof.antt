@@ -1,7 +1,7 @@
 -- `constraints::aggregated::aggregate_a` meets its contract.
 use native.Mathlib.Omega.{arith}
-use Rattle.constraints.specs.SizeLaws.{function-parts}
-use Rattle.constraints.specs.Aggregated.{aggregate-a-end}
+use Rattle.constraints.specs.Laws.SizeLaws.{function-parts}
+use Rattle.constraints.specs.Laws.AggregatedLaws.{aggregate-a-end}
 use Rattle.constraints.proofs.aggregated.aggregate_a.Statement.{statement}
 use Rattle.constraints.proofs.aggregated.aggregate_a.Tie as tie
 

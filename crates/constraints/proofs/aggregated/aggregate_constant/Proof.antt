@@ -1,6 +1,6 @@
 -- `constraints::aggregated::aggregate_constant` meets its contract.
 use native.Mathlib.Omega.{arith}
-use Rattle.constraints.specs.Aggregated.{constant-end}
+use Rattle.constraints.specs.Laws.AggregatedLaws.{constant-end}
 use borrow.Author.Needs.{needs}
 use Rattle.constraints.proofs.aggregated.aggregate_constant.Statement.{statement}
 use Rattle.constraints.proofs.aggregated.aggregate_constant.Tie as tie

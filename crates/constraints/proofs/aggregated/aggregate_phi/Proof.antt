@@ -1,8 +1,8 @@
 -- `constraints::aggregated::aggregate_phi` meets its contract.
 use native.Mathlib.Omega.{arith}
-use Rattle.fold.specs.SizeBounds.{pairs-bound}
-use Rattle.constraints.specs.SizeLaws.{witness-small, function-parts}
-use Rattle.constraints.specs.Aggregated.{aggregate-φ-end}
+use Rattle.fold.specs.Laws.SizeBounds.{pairs-bound}
+use Rattle.constraints.specs.Laws.SizeLaws.{witness-small, function-parts}
+use Rattle.constraints.specs.Laws.AggregatedLaws.{aggregate-φ-end}
 use Rattle.constraints.proofs.aggregated.aggregate_phi.Statement.{statement}
 use Rattle.constraints.proofs.aggregated.aggregate_phi.Tie as tie
 

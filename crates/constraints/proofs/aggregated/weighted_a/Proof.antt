@@ -1,7 +1,7 @@
 -- `constraints::aggregated::weighted_a` meets its contract: the row of five, weighted.
 use mathlib.Core.Path.{ap, _∙_}
 use Rattle.ring.specs.Element.{array}
-use Rattle.constraints.specs.Rows.{row-weighted}
+use Rattle.constraints.specs.Laws.Rows.{row-weighted}
 use Rattle.constraints.specs.Aggregated.{weightedA}
 use Rattle.constraints.proofs.aggregated.weighted_a.Statement.{statement}
 use Rattle.constraints.proofs.aggregated.weighted_a.Tie as tie

@@ -4,9 +4,9 @@ use Prim.Native.Nat.{_-_}
 use native.Mathlib.Omega.{arith}
 use lib.ListN.{getD}
 use Rattle.ring.specs.Element.{R, lift, el}
-use Rattle.constraints.specs.Running.{Summing, summing-start, summing-step, summing-end}
-use Rattle.constraints.specs.Rows.{row-term}
-use Rattle.constraints.specs.Aggregated.{δ-place}
+use Rattle.constraints.specs.Laws.Running.{Summing, summing-start, summing-step, summing-end}
+use Rattle.constraints.specs.Laws.Rows.{row-term}
+use Rattle.constraints.specs.Laws.AggregatedLaws.{δ-place}
 use Rattle.constraints.proofs.aggregated.weighted_row.Statement.{statement}
 use Rattle.constraints.proofs.aggregated.weighted_row.Tie as tie
 

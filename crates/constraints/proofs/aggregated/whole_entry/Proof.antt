@@ -3,9 +3,9 @@ use mathlib.Core.Path.{_≡_}
 use Prim.Native.Nat.{_-_, _*_}
 use native.Mathlib.Nat.{le-refl}
 use native.Mathlib.Omega.{arith}
-use Rattle.constraints.specs.Running.{Summing, summing-start, summing-end}
-use Rattle.constraints.specs.Terms.{wholeTerm, whole-step, whole-end, whole-size-small, whole-step-small, whole-small}
-use Rattle.constraints.specs.Terms.{whole-start, whole-room, whole-place, α-place, rest-room}
+use Rattle.constraints.specs.Laws.Running.{Summing, summing-start, summing-end}
+use Rattle.constraints.specs.Laws.Terms.{wholeTerm, whole-step, whole-end, whole-size-small, whole-step-small, whole-small}
+use Rattle.constraints.specs.Laws.Terms.{whole-start, whole-room, whole-place, α-place, rest-room}
 use Rattle.constraints.proofs.aggregated.whole_entry.Statement.{statement}
 use Rattle.constraints.proofs.aggregated.whole_entry.Tie as tie
 

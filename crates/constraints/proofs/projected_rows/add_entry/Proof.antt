@@ -7,8 +7,9 @@ use lib.IntN.{pos, _*ℤ_}
 use mir.Syntax.{w32}
 use mir.Val.{toZ}
 use mir.Facts.{toZ-ofZ}
-use Rattle.constraints.specs.Accumulator.{AddedFive, five-start, five-room, five-step, held-number, held-room, entry-term}
-use Rattle.constraints.specs.ProjectedRows.{weight-place}
+use Rattle.constraints.specs.Accumulator.{AddedFive}
+use Rattle.constraints.specs.Laws.AccumulatorLaws.{five-start, five-room, five-step, held-number, held-room, entry-term}
+use Rattle.constraints.specs.Laws.ProjectedRowLaws.{weight-place}
 use Rattle.constraints.proofs.projected_rows.add_entry.Statement.{statement}
 use Rattle.constraints.proofs.projected_rows.add_entry.Tie as tie
 

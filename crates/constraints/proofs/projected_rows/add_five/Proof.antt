@@ -4,7 +4,8 @@ use Prim.Native.Nat.{_+_, _-_, _≤_}
 use native.Mathlib.Omega.{arith}
 use lib.ListN.{getD}
 use lib.IntN.{pos}
-use Rattle.constraints.specs.Accumulator.{AddedFive, five-start, five-room, five-step, held-number, held-room}
+use Rattle.constraints.specs.Accumulator.{AddedFive}
+use Rattle.constraints.specs.Laws.AccumulatorLaws.{five-start, five-room, five-step, held-number, held-room}
 use Rattle.constraints.proofs.projected_rows.add_five.Statement.{statement}
 use Rattle.constraints.proofs.projected_rows.add_five.Tie as tie
 

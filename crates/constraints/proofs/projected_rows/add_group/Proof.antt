@@ -1,8 +1,9 @@
 -- `constraints::projected_rows::add_group` meets its contract. The loop has added the four rows to the first y coefficients.
 use Prim.Native.Nat.{_+_, _-_, _*_}
 use native.Mathlib.Omega.{arith}
-use Rattle.constraints.specs.Accumulator.{Turning, turning-room}
-use Rattle.constraints.specs.ProjectedRows.{partial, turning-start, turning-end, group-step, table-place}
+use Rattle.constraints.specs.Laws.AccumulatorLaws.{Turning, turning-room}
+use Rattle.constraints.specs.ProjectedRows.{partial}
+use Rattle.constraints.specs.Laws.ProjectedRowLaws.{turning-start, turning-end, group-step, table-place}
 use Rattle.constraints.proofs.projected_rows.add_group.Statement.{statement}
 use Rattle.constraints.proofs.projected_rows.add_group.Tie as tie
 

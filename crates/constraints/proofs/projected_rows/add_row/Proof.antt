@@ -1,10 +1,11 @@
 -- `constraints::projected_rows::add_row` meets its contract. The loop has added the row to the first y coefficients.
 use Prim.Native.Nat.{_+_, _-_, _*_}
 use native.Mathlib.Omega.{arith}
-use Rattle.constraints.specs.SizeLaws.{witness-small}
-use Rattle.constraints.specs.RowGroups.{entry-one}
-use Rattle.constraints.specs.Accumulator.{Turning, turning-room}
-use Rattle.constraints.specs.ProjectedRows.{partial, turning-start, turning-end, row-step, element-small, element-place}
+use Rattle.constraints.specs.Laws.SizeLaws.{witness-small}
+use Rattle.constraints.specs.Laws.RowGroupLaws.{entry-one}
+use Rattle.constraints.specs.Laws.AccumulatorLaws.{Turning, turning-room}
+use Rattle.constraints.specs.ProjectedRows.{partial}
+use Rattle.constraints.specs.Laws.ProjectedRowLaws.{turning-start, turning-end, row-step, element-small, element-place}
 use Rattle.constraints.proofs.projected_rows.add_row.Statement.{statement}
 use Rattle.constraints.proofs.projected_rows.add_row.Tie as tie
 

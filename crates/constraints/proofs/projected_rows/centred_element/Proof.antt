@@ -4,9 +4,10 @@ use Prim.Native.Nat.{_+_, _-_, _*_, _≤_}
 use native.Mathlib.Omega.{arith}
 use lib.ListN.{getD}
 use lib.IntN.{pos}
-use Rattle.integers.specs.Lists.{tab, upto, fill-start, fill-step}
+use Rattle.integers.specs.Lists.{tab, upto}
+use Rattle.integers.specs.Laws.ListLaws.{fill-start, fill-step}
 use Rattle.residues.specs.Modulus.{centred}
-use Rattle.constraints.specs.Accumulator.{stored-centre}
+use Rattle.constraints.specs.Laws.AccumulatorLaws.{stored-centre}
 use Rattle.constraints.proofs.projected_rows.centred_element.Statement.{statement}
 use Rattle.constraints.proofs.projected_rows.centred_element.Tie as tie
 

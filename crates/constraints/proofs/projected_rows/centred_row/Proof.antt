@@ -4,7 +4,8 @@ use Prim.Native.Nat.{_+_, _-_, _*_, _≤_}
 use native.Mathlib.Omega.{arith}
 use lib.ListN.{getD, replicate}
 use lib.IntN.{pos}
-use Rattle.integers.specs.Lists.{tab, upto, fill-start, fill-step, fill-end}
+use Rattle.integers.specs.Lists.{tab, upto}
+use Rattle.integers.specs.Laws.ListLaws.{fill-start, fill-step, fill-end}
 use Rattle.residues.specs.Modulus.{centred}
 use Rattle.constraints.proofs.projected_rows.centred_row.Statement.{statement}
 use Rattle.constraints.proofs.projected_rows.centred_row.Tie as tie

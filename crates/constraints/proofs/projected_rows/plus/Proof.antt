@@ -1,6 +1,6 @@
 -- `constraints::projected_rows::plus` meets its contract.
 use mir.Facts.{toZ-ofZ}
-use Rattle.constraints.specs.Accumulator.{plus-fits}
+use Rattle.constraints.specs.Laws.AccumulatorLaws.{plus-fits}
 use Rattle.constraints.proofs.projected_rows.plus.Statement.{statement}
 use Rattle.constraints.proofs.projected_rows.plus.Tie as tie
 

@@ -3,8 +3,8 @@ use Prim.Native.Nat.{ℕ}
 use mathlib.Core.Path.{_∙_}
 use native.Mathlib.Omega.{arith}
 use lib.ListN.{length-replicate}
-use Rattle.constraints.specs.SizeLaws.{witness-small}
-use Rattle.constraints.specs.ProjectedRows.{summed-start, row-end}
+use Rattle.constraints.specs.Laws.SizeLaws.{witness-small}
+use Rattle.constraints.specs.Laws.ProjectedRowLaws.{summed-start, row-end}
 use borrow.Author.Needs.{needs}
 use Rattle.constraints.proofs.projected_rows.projection_row.Statement.{statement}
 use Rattle.constraints.proofs.projected_rows.projection_row.Tie as tie

@@ -1,8 +1,8 @@
 -- `constraints::projected_rows::signed` meets its contract, by the sign of x.
 use mir.Facts.{toZ-ofZ}
-use Rattle.residues.specs.Centring.{widen}
-use Rattle.residues.specs.Words.{wide, wide-opposite, opposite-fits}
-use Rattle.constraints.specs.Accumulator.{signed-positive, signed-negative, signed-zero}
+use Rattle.residues.specs.Laws.Centring.{widen}
+use Rattle.residues.specs.Laws.Words.{wide, wide-opposite, opposite-fits}
+use Rattle.constraints.specs.Laws.AccumulatorLaws.{signed-positive, signed-negative, signed-zero}
 use Rattle.constraints.proofs.projected_rows.signed.Statement.{statement}
 use Rattle.constraints.proofs.projected_rows.signed.Tie as tie
 

@@ -2,7 +2,7 @@
 use native.Mathlib.Omega.{arith}
 use mir.Facts.{toZ-ofZ}
 use borrow.Author.Needs.{needs}
-use Rattle.constraints.specs.RowGroups.{term-of}
+use Rattle.constraints.specs.Laws.RowGroupLaws.{term-of}
 use Rattle.constraints.proofs.row_groups.add_term.Statement.{statement}
 use Rattle.constraints.proofs.row_groups.add_term.Tie as tie
 

@@ -1,6 +1,6 @@
 -- `constraints::row_groups::code` meets its contract, by the digits.
 use native.Mathlib.Omega.{arith}
-use Rattle.constraints.specs.RowGroups.{coded-by}
+use Rattle.constraints.specs.Laws.RowGroupLaws.{coded-by}
 use borrow.Author.Needs.{needs}
 use mir.Facts.{toZ-ofZ}
 use Rattle.constraints.proofs.row_groups.code.Statement.{statement}

@@ -1,6 +1,6 @@
 -- `constraints::row_groups::code_at` meets its contract: entries that were tested are at most 1.
-use Rattle.residues.specs.Words.{word}
-use Rattle.constraints.specs.RowGroups.{entry-one}
+use Rattle.residues.specs.Laws.Words.{word}
+use Rattle.constraints.specs.Laws.RowGroupLaws.{entry-one}
 use borrow.Author.Needs.{needs}
 use Rattle.constraints.proofs.row_groups.code_at.Statement.{statement}
 use Rattle.constraints.proofs.row_groups.code_at.Tie as tie

@@ -4,8 +4,9 @@ use native.Mathlib.Omega.{arith}
 use borrow.Author.Needs.{needs}
 use mir.Syntax.{w64}
 use mir.Facts.{toZ-ofZ, toZ-pos}
-use Rattle.residues.specs.Centring.{widen}
-use Rattle.constraints.specs.RowGroups.{decode, decode-fits}
+use Rattle.residues.specs.Laws.Centring.{widen}
+use Rattle.constraints.specs.RowGroups.{decode}
+use Rattle.constraints.specs.Laws.RowGroupLaws.{decode-fits}
 use Rattle.constraints.proofs.row_groups.decoded.Statement.{statement}
 use Rattle.constraints.proofs.row_groups.decoded.Tie as tie
 

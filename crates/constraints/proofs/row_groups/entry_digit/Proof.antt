@@ -1,6 +1,6 @@
 -- `constraints::row_groups::entry_digit` meets its contract: x + 1 is not negative.
 use mir.Facts.{toZ-ofZ, fits-natAbs}
-use Rattle.constraints.specs.RowGroups.{digit-fits, digit-natural, digit-value}
+use Rattle.constraints.specs.Laws.RowGroupLaws.{digit-fits, digit-natural, digit-value}
 use Rattle.constraints.proofs.row_groups.entry_digit.Statement.{statement}
 use Rattle.constraints.proofs.row_groups.entry_digit.Tie as tie
 

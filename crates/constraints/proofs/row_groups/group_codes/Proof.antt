@@ -2,9 +2,10 @@
 use mathlib.Core.Path.{_≡_}
 use Prim.Native.Nat.{_-_, _*_, _/_, _≤_}
 use native.Mathlib.Omega.{arith}
-use Rattle.constraints.specs.SizeLaws.{witness-small}
-use Rattle.constraints.specs.RowGroups.{CodesOf, groups-start, groups-step}
-use Rattle.constraints.specs.ProjectedRows.{step-small, element-small, group-row, group-place}
+use Rattle.constraints.specs.Laws.SizeLaws.{witness-small}
+use Rattle.constraints.specs.RowGroups.{CodesOf}
+use Rattle.constraints.specs.Laws.RowGroupLaws.{groups-start, groups-step}
+use Rattle.constraints.specs.Laws.ProjectedRowLaws.{step-small, element-small, group-row, group-place}
 use Rattle.constraints.proofs.row_groups.group_codes.Statement.{statement}
 use Rattle.constraints.proofs.row_groups.group_codes.Tie as tie
 

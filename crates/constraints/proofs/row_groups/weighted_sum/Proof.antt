@@ -2,7 +2,7 @@
 use borrow.Author.Needs.{needs}
 use native.Mathlib.Omega.{arith}
 use mir.Facts.{toZ-ofZ}
-use Rattle.constraints.specs.RowGroups.{four-terms}
+use Rattle.constraints.specs.Laws.RowGroupLaws.{four-terms}
 use Rattle.constraints.proofs.row_groups.weighted_sum.Statement.{statement}
 use Rattle.constraints.proofs.row_groups.weighted_sum.Tie as tie
 

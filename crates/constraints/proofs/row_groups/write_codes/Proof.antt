@@ -2,7 +2,8 @@
 use mathlib.Core.Path.{_≡_}
 use Prim.Native.Nat.{_-_, _≤_}
 use native.Mathlib.Omega.{arith}
-use Rattle.constraints.specs.RowGroups.{Codes, codes-start, codes-step}
+use Rattle.constraints.specs.RowGroups.{Codes}
+use Rattle.constraints.specs.Laws.RowGroupLaws.{codes-start, codes-step}
 use Rattle.constraints.proofs.row_groups.write_codes.Statement.{statement}
 use Rattle.constraints.proofs.row_groups.write_codes.Tie as tie
 

@@ -1,7 +1,7 @@
 -- `constraints::row_groups::write_sums` meets its contract. The loop has written the first i numbers of the table.
 use Prim.Native.Nat.{_-_}
 use native.Mathlib.Omega.{arith}
-use Rattle.constraints.specs.RowGroups.{Tabled, tabled-start, tabled-step, tabled-end, weights-place}
+use Rattle.constraints.specs.Laws.RowGroupLaws.{Tabled, tabled-start, tabled-step, tabled-end, weights-place}
 use Rattle.constraints.proofs.row_groups.write_sums.Statement.{statement}
 use Rattle.constraints.proofs.row_groups.write_sums.Tie as tie
 

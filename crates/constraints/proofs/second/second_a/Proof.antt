@@ -1,7 +1,7 @@
 -- `constraints::second::second_a` meets its contract: the projection rows have no a.
 use native.Mathlib.Omega.{arith}
 use Rattle.fold.specs.Entries.{secondA}
-use Rattle.constraints.specs.SizeLaws.{function-parts}
+use Rattle.constraints.specs.Laws.SizeLaws.{function-parts}
 use Rattle.constraints.proofs.second.second_a.Statement.{statement}
 use Rattle.constraints.proofs.second.second_a.Tie as tie
 

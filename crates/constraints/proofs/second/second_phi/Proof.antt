@@ -1,8 +1,8 @@
 -- `constraints::second::second_phi` meets its contract.
 use native.Mathlib.Omega.{arith}
-use Rattle.fold.specs.SizeBounds.{pairs-bound}
-use Rattle.constraints.specs.SizeLaws.{witness-small, function-parts}
-use Rattle.constraints.specs.Aggregated.{second-φ-end}
+use Rattle.fold.specs.Laws.SizeBounds.{pairs-bound}
+use Rattle.constraints.specs.Laws.SizeLaws.{witness-small, function-parts}
+use Rattle.constraints.specs.Laws.AggregatedLaws.{second-φ-end}
 use Rattle.constraints.proofs.second.second_phi.Statement.{statement}
 use Rattle.constraints.proofs.second.second_phi.Tie as tie
 

@@ -2,7 +2,7 @@
 use Prim.Native.Nat.{_-_}
 use native.Mathlib.Omega.{arith}
 use Rattle.fold.specs.Entries.{secondA}
-use Rattle.constraints.specs.Rows.{Filling, filling-start, filling-step, filling-end}
+use Rattle.constraints.specs.Laws.Rows.{Filling, filling-start, filling-step, filling-end}
 use Rattle.constraints.proofs.second.second_row_a.Statement.{statement}
 use Rattle.constraints.proofs.second.second_row_a.Tie as tie
 

@@ -2,8 +2,8 @@
 use Prim.Native.Nat.{_-_}
 use native.Mathlib.Omega.{arith}
 use Rattle.fold.specs.Entries.{secondΦ}
-use Rattle.constraints.specs.Rows.{Filling, filling-start, filling-step, filling-end}
-use Rattle.constraints.specs.Aggregated.{second-φ-row}
+use Rattle.constraints.specs.Laws.Rows.{Filling, filling-start, filling-step, filling-end}
+use Rattle.constraints.specs.Laws.AggregatedLaws.{second-φ-row}
 use Rattle.constraints.proofs.second.second_row_phi.Statement.{statement}
 use Rattle.constraints.proofs.second.second_row_phi.Tie as tie
 

@@ -3,9 +3,9 @@ use mathlib.Core.Path.{_≡_}
 use Prim.Native.Nat.{_-_, _*_}
 use native.Mathlib.Omega.{arith}
 use native.Mathlib.Nat.{le-refl, mul-le-mul-right}
-use Rattle.constraints.specs.Running.{Summing, summing-start, summing-end}
-use Rattle.constraints.specs.Terms.{termTerm, term-step, term-end, term-step-small, term-small}
-use Rattle.constraints.specs.Terms.{term-start, term-room, term-place, ψ-place, rest-room}
+use Rattle.constraints.specs.Laws.Running.{Summing, summing-start, summing-end}
+use Rattle.constraints.specs.Laws.Terms.{termTerm, term-step, term-end, term-step-small, term-small}
+use Rattle.constraints.specs.Laws.Terms.{term-start, term-room, term-place, ψ-place, rest-room}
 use Rattle.constraints.proofs.second.term_entry.Statement.{statement}
 use Rattle.constraints.proofs.second.term_entry.Tie as tie
 

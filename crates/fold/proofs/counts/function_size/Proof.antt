@@ -1,10 +1,10 @@
 -- `fold::counts::function_size` meets its contract: at most 136 pairs and 16 * 256 elements. Assumes nothing.
 use borrow.Author.Needs.{needs}
 use native.Mathlib.Omega.{arith}
-use mathlib.Core.Path.{_≡_, ap}
+use mathlib.Core.Path.{ap}
 use Prim.Native.Nat.{_+_, _*_}
 use Rattle.fold.specs.Sizes.{functionSize}
-use Rattle.fold.specs.SizeBounds.{product-fits, product-bound, pairs-bound}
+use Rattle.fold.specs.Laws.SizeBounds.{product-fits, product-bound, pairs-bound}
 use Rattle.fold.proofs.counts.function_size.Statement.{statement}
 use Rattle.fold.proofs.counts.function_size.Tie as tie
 

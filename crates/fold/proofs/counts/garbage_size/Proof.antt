@@ -1,9 +1,9 @@
 -- `fold::counts::garbage_size` meets its contract: at most 136 pairs of 8 digits. Assumes nothing.
 use borrow.Author.Needs.{needs}
-use mathlib.Core.Path.{_≡_, ap}
+use mathlib.Core.Path.{ap}
 use Prim.Native.Nat.{_*_, _≤_}
 use Rattle.fold.specs.Sizes.{garbageSize}
-use Rattle.fold.specs.SizeBounds.{product-fits, pairs-bound}
+use Rattle.fold.specs.Laws.SizeBounds.{product-fits, pairs-bound}
 use Rattle.fold.proofs.counts.garbage_size.Statement.{statement}
 use Rattle.fold.proofs.counts.garbage_size.Tie as tie
 

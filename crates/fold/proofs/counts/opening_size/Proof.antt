@@ -2,9 +2,8 @@
 use mathlib.Core.Path.{refl}
 use borrow.Author.Needs.{needs}
 use native.Mathlib.Omega.{arith}
-use Prim.Native.Nat.{_≤_}
 use Rattle.fold.specs.Sizes.{openingSize, restSize}
-use Rattle.fold.specs.SizeBounds.{openingSize-bound}
+use Rattle.fold.specs.Laws.SizeBounds.{openingSize-bound}
 use Rattle.fold.proofs.counts.opening_size.Statement.{statement}
 use Rattle.fold.proofs.counts.opening_size.Tie as tie
 

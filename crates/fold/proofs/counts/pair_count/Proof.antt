@@ -1,7 +1,7 @@
 -- `fold::counts::pair_count` meets its contract: twice the pairs is r (r + 1), at most 16 * 17. Assumes nothing.
 use Prim.Native.Nat.{_+_}
 use native.Mathlib.Omega.{arith}
-use Rattle.fold.specs.SizeBounds.{product-bound, pairs-half}
+use Rattle.fold.specs.Laws.SizeBounds.{product-bound, pairs-half}
 use Rattle.fold.proofs.counts.pair_count.Statement.{statement}
 use Rattle.fold.proofs.counts.pair_count.Tie as tie
 

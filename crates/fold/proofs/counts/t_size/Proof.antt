@@ -1,7 +1,7 @@
 -- `fold::counts::t_size` meets its contract: at most 16 * (8 * 8). Assumes nothing.
 use mathlib.Core.Path.{refl}
 use Rattle.fold.specs.Sizes.{tSize}
-use Rattle.fold.specs.SizeBounds.{product-fits, product-bound}
+use Rattle.fold.specs.Laws.SizeBounds.{product-fits, product-bound}
 use Rattle.fold.proofs.counts.t_size.Statement.{statement}
 use Rattle.fold.proofs.counts.t_size.Tie as tie
 

@@ -2,8 +2,8 @@
 use mathlib.Core.Path.{ap₂}
 use Prim.Native.Nat.{ℕ, _+_}
 use native.Mathlib.Omega.{arith}
-use Rattle.fold.specs.Verdict.{tPlace, gPlace}
-use Rattle.fold.specs.PlaceBounds.{t-size-bound, t-place-bound}
+use Rattle.fold.specs.Opening.{gPlace}
+use Rattle.fold.specs.Laws.PlaceBounds.{t-size-bound, t-place-bound}
 use borrow.Author.Needs.{needs}
 use Rattle.fold.proofs.places.g_place.Statement.{statement}
 use Rattle.fold.proofs.places.g_place.Tie as tie

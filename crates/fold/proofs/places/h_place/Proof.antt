@@ -2,8 +2,8 @@
 use mathlib.Core.Path.{ap₂}
 use Prim.Native.Nat.{ℕ, _+_}
 use native.Mathlib.Omega.{arith}
-use Rattle.fold.specs.Verdict.{hPlace}
-use Rattle.fold.specs.PlaceBounds.{g-size-bound, g-place-bound}
+use Rattle.fold.specs.Opening.{hPlace}
+use Rattle.fold.specs.Laws.PlaceBounds.{g-size-bound, g-place-bound}
 use borrow.Author.Needs.{needs}
 use Rattle.fold.proofs.places.h_place.Statement.{statement}
 use Rattle.fold.proofs.places.h_place.Tie as tie

@@ -1,6 +1,6 @@
 -- `fold::places::t_place` meets its contract.
 use mathlib.Core.Path.{refl}
-use Rattle.fold.specs.Verdict.{tPlace}
+use Rattle.fold.specs.Opening.{tPlace}
 use borrow.Author.Needs.{needs}
 use Rattle.fold.proofs.places.t_place.Statement.{statement}
 use Rattle.fold.proofs.places.t_place.Tie as tie

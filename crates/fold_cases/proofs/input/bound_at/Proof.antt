@@ -2,7 +2,7 @@
 use mathlib.Core.Path.{ap, _∙_}
 use mir.Syntax.{w64}
 use mir.Facts.{toZ-ofZ}
-use Rattle.integers.specs.Bridge.{P}
+use Rattle.integers.specs.Laws.Bridge.{P}
 use Rattle.fold_cases.proofs.input.bound_at.Statement.{statement}
 use Rattle.fold_cases.proofs.input.bound_at.Tie as tie
 

@@ -1,6 +1,6 @@
 -- `fold_cases::input::count_at` meets its contract. Assumes nothing.
 use lib.IntN.{pos}
-use Rattle.fold_cases.specs.AnswerLaws.{part-fits, count-fits}
+use Rattle.fold_cases.specs.Laws.AnswerLaws.{part-fits, count-fits}
 use Rattle.fold_cases.proofs.input.count_at.Statement.{statement}
 use Rattle.fold_cases.proofs.input.count_at.Tie as tie
 

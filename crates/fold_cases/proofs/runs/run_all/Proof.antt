@@ -5,7 +5,7 @@ use native.Mathlib.Omega.{arith}
 use lib.ListN.{length, drop}
 use borrow.Author.Needs.{needs}
 use Rattle.cases.specs.Text.{pastLines}
-use Rattle.cases.specs.TextLaws.{line-fits, line-ahead, lines-next, lines-end}
+use Rattle.cases.specs.Laws.TextLaws.{line-fits, line-ahead, lines-next, lines-end}
 use Rattle.fold_cases.proofs.runs.run_all.Statement.{statement}
 use Rattle.fold_cases.proofs.runs.run_all.Tie as tie
 

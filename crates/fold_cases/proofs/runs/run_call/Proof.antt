@@ -1,5 +1,5 @@
 -- `fold_cases::runs::run_call` meets its contract. Assumes nothing.
-use Rattle.fold_cases.specs.AnswerLaws.{call-1, call-2, call-3, call-4, call-5, call-6}
+use Rattle.fold_cases.specs.Laws.AnswerLaws.{call-1, call-2, call-3, call-4, call-5, call-6}
 use Rattle.fold_cases.proofs.runs.run_call.Statement.{statement}
 use Rattle.fold_cases.proofs.runs.run_call.Tie as tie
 

@@ -2,8 +2,8 @@
 use mathlib.Core.Path.{refl, sym, ap, _∙_}
 use lib.IntN.{ℤ, pos}
 use Rattle.capi.specs.Codes.{codeOf}
-use Rattle.cases.specs.TextLaws.{zeros, filled, read-length, words-length}
-use Rattle.fold_cases.specs.AnswerLaws.{line-answer}
+use Rattle.cases.specs.Laws.TextLaws.{zeros, filled, read-length, words-length}
+use Rattle.fold_cases.specs.Laws.AnswerLaws.{line-answer}
 use Rattle.fold_cases.proofs.runs.run_line.Statement.{statement}
 use Rattle.fold_cases.proofs.runs.run_line.Tie as tie
 

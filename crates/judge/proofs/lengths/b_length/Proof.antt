@@ -1,11 +1,10 @@
 -- `judge::lengths::b_length` meets its contract. Assumes nothing.
 use mathlib.Core.Path.{refl, _∙_}
 use native.Mathlib.Omega.{arith}
-use Rattle.limits.specs.SizeLaws.{t-within}
+use Rattle.limits.specs.Laws.SizeLaws.{t-within}
 use borrow.Author.Needs.{needs}
 use Rattle.judge.proofs.lengths.b_length.Statement.{statement}
 use Rattle.judge.proofs.lengths.b_length.Tie as tie
-use Rattle.limits.proofs.sizes.flat_length.Reads as flat-length-reads
 
 t-size-requires : tie.Need-t-size-requires
 t-size-requires c κs = search needs

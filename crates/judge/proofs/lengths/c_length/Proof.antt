@@ -1,11 +1,10 @@
 -- `judge::lengths::c_length` meets its contract. Assumes nothing.
 use mathlib.Core.Path.{refl, _∙_}
 use native.Mathlib.Omega.{arith}
-use Rattle.limits.specs.SizeLaws.{garbage-within}
+use Rattle.limits.specs.Laws.SizeLaws.{garbage-within}
 use borrow.Author.Needs.{needs}
 use Rattle.judge.proofs.lengths.c_length.Statement.{statement}
 use Rattle.judge.proofs.lengths.c_length.Tie as tie
-use Rattle.limits.proofs.sizes.flat_length.Reads as flat-length-reads
 
 garbage-size-requires : tie.Need-garbage-size-requires
 garbage-size-requires c κs = search needs

@@ -1,12 +1,10 @@
 -- `judge::lengths::opening_length` meets its contract. Assumes nothing.
 use mathlib.Core.Path.{refl, _∙_}
 use native.Mathlib.Omega.{arith}
-use Rattle.limits.specs.SizeLaws.{opening-within}
+use Rattle.limits.specs.Laws.SizeLaws.{opening-within}
 use borrow.Author.Needs.{needs}
 use Rattle.judge.proofs.lengths.opening_length.Statement.{statement}
 use Rattle.judge.proofs.lengths.opening_length.Tie as tie
-use Rattle.limits.proofs.sizes.list_length.Reads as list-length-reads
-use Rattle.fold.proofs.counts.opening_size.Reads as opening-size-reads
 
 opening-size-requires : tie.Need-opening-size-requires
 opening-size-requires c κs = search needs

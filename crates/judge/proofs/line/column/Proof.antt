@@ -1,5 +1,5 @@
 -- `judge::line::column` meets its contract. Assumes nothing.
-use Rattle.judge.specs.LineLaws.{column-digit, column-blank}
+use Rattle.judge.specs.Laws.LineLaws.{column-digit, column-blank}
 use borrow.Author.Needs.{needs}
 use Rattle.judge.proofs.line.column.Statement.{statement}
 use Rattle.judge.proofs.line.column.Tie as tie

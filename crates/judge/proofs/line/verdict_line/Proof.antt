@@ -1,13 +1,9 @@
 -- `judge::line::verdict_line` meets its contract: its bytes are those of the two fields and the line feed. Assumes nothing.
 use native.Mathlib.Omega.{arith}
-use Rattle.judge.specs.LineLaws.{line-bytes}
+use Rattle.judge.specs.Laws.LineLaws.{line-bytes}
 use borrow.Author.Needs.{needs}
 use Rattle.judge.proofs.line.verdict_line.Statement.{statement}
 use Rattle.judge.proofs.line.verdict_line.Tie as tie
-use Rattle.fold.proofs.Answer.kind.Reads as kind-reads
-use Rattle.fold.proofs.Answer.number.Reads as number-reads
-use Rattle.judge.proofs.line.column.Reads as column-reads
-use Rattle.judge.proofs.line.digit.Reads as digit-reads
 
 kind-requires : tie.Need-kind-requires
 kind-requires c κs = search needs

@@ -1,15 +1,8 @@
 -- `judge::numbers::judge_constraints` meets its contract. Assumes nothing.
-use Rattle.judge.specs.Stages.{cut, constraint-stage}
+use Rattle.judge.specs.Laws.StageLaws.{cut, constraint-stage}
 use borrow.Author.Needs.{needs}
 use Rattle.judge.proofs.numbers.judge_constraints.Statement.{statement}
 use Rattle.judge.proofs.numbers.judge_constraints.Tie as tie
-use Rattle.judge.proofs.lengths.rows_length.Reads as rows-length-reads
-use Rattle.judge.proofs.lengths.term_length.Reads as term-length-reads
-use Rattle.judge.proofs.lengths.whole_length.Reads as whole-length-reads
-use Rattle.judge.proofs.lists.front.Reads as front-reads
-use Rattle.judge.proofs.lists.rest.Reads as rest-reads
-use Rattle.judge.proofs.numbers.judge_numbers.Reads as judge-numbers-reads
-use Rattle.limits.proofs.sizes.list_length.Reads as list-length-reads
 
 whole-length-requires : tie.Need-whole-length-requires
 whole-length-requires c κs = search needs

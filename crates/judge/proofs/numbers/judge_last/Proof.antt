@@ -1,16 +1,10 @@
 -- `judge::numbers::judge_last` meets its contract. Assumes nothing.
 use Prim.Native.Nat.{_*_}
 use Rattle.fold.specs.Sizes.{openingSize}
-use Rattle.judge.specs.Stages.{cut, cut-last, last-stage}
+use Rattle.judge.specs.Laws.StageLaws.{cut, cut-last, last-stage}
 use borrow.Author.Needs.{needs}
 use Rattle.judge.proofs.numbers.judge_last.Statement.{statement}
 use Rattle.judge.proofs.numbers.judge_last.Tie as tie
-use Rattle.judge.proofs.lengths.opening_length.Reads as opening-length-reads
-use Rattle.judge.proofs.lists.front.Reads as front-reads
-use Rattle.judge.proofs.lists.rest.Reads as rest-reads
-use Rattle.judge.proofs.numbers.fold_sizes.Reads as fold-sizes-reads
-use Rattle.limits.proofs.sizes.list_length.Reads as list-length-reads
-use Rattle.verifier.proofs.verify.Reads as verify-reads
 
 list-length-requires : tie.Need-list-length-requires
 list-length-requires c κs = search needs

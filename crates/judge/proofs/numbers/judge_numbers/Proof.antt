@@ -1,12 +1,9 @@
 -- `judge::numbers::judge_numbers` meets its contract. Assumes nothing.
 use mathlib.Core.Path.{refl}
-use Rattle.judge.specs.Stages.{cut, number-stage}
+use Rattle.judge.specs.Laws.StageLaws.{cut, number-stage}
 use borrow.Author.Needs.{needs}
 use Rattle.judge.proofs.numbers.judge_numbers.Statement.{statement}
 use Rattle.judge.proofs.numbers.judge_numbers.Tie as tie
-use Rattle.judge.proofs.lists.front.Reads as front-reads
-use Rattle.judge.proofs.lists.rest.Reads as rest-reads
-use Rattle.judge.proofs.numbers.judge_last.Reads as judge-last-reads
 
 mul-psi-length : tie.Need-mul-psi-length
 mul-psi-length c = search needs

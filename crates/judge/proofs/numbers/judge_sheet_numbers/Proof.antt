@@ -1,17 +1,10 @@
 -- `judge::numbers::judge_sheet_numbers` meets its contract. Assumes nothing.
 use Prim.Native.Nat.{_*_}
 use Rattle.fold.specs.Sizes.{tSize}
-use Rattle.judge.specs.Stages.{cut, matrix-stage}
+use Rattle.judge.specs.Laws.StageLaws.{cut, matrix-stage}
 use borrow.Author.Needs.{needs}
 use Rattle.judge.proofs.numbers.judge_sheet_numbers.Statement.{statement}
 use Rattle.judge.proofs.numbers.judge_sheet_numbers.Tie as tie
-use Rattle.judge.proofs.lengths.a_length.Reads as a-length-reads
-use Rattle.judge.proofs.lengths.b_length.Reads as b-length-reads
-use Rattle.judge.proofs.lengths.c_length.Reads as c-length-reads
-use Rattle.judge.proofs.lengths.d_length.Reads as d-length-reads
-use Rattle.judge.proofs.lists.front.Reads as front-reads
-use Rattle.judge.proofs.lists.rest.Reads as rest-reads
-use Rattle.judge.proofs.numbers.judge_constraints.Reads as judge-constraints-reads
 
 a-length-requires : tie.Need-a-length-requires
 a-length-requires c κs = search needs

@@ -1,7 +1,7 @@
 -- `limits::bounds::project_bounds` meets its contract: rows 1 and 2 in order. Assumes nothing.
 use borrow.Author.Needs.{needs}
-use Rattle.limits.specs.RowLaws.{end, _&_}
-use Rattle.limits.specs.StageLaws.{single, row, none}
+use Rattle.limits.specs.Laws.RowLaws.{end, _&_}
+use Rattle.limits.specs.Laws.StageLaws.{single, row, none}
 use Rattle.limits.proofs.bounds.project_bounds.Statement.{statement}
 use Rattle.limits.proofs.bounds.project_bounds.Tie as tie
 

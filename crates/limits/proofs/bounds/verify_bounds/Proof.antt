@@ -1,7 +1,7 @@
 -- `limits::bounds::verify_bounds` meets its contract: rows 1 to 4 and 6 in order. Assumes nothing.
 use borrow.Author.Needs.{needs}
-use Rattle.limits.specs.RowLaws.{end, _&_}
-use Rattle.limits.specs.StageLaws.{single, row, none}
+use Rattle.limits.specs.Laws.RowLaws.{end, _&_}
+use Rattle.limits.specs.Laws.StageLaws.{single, row, none}
 use Rattle.limits.proofs.bounds.verify_bounds.Statement.{statement}
 use Rattle.limits.proofs.bounds.verify_bounds.Tie as tie
 

@@ -1,8 +1,8 @@
 -- `limits::draws::draw_lengths` meets its contract: the constraints with their draws, then the challenges. Assumes nothing.
 use native.Mathlib.Omega.{arith}
-use Rattle.limits.specs.RowLaws.{end, _&_, joined-row}
-use Rattle.limits.specs.StageLaws.{append-rows}
-use Rattle.limits.specs.StageLimits.{verify-constraints}
+use Rattle.limits.specs.Laws.RowLaws.{end, _&_, joined-row}
+use Rattle.limits.specs.Laws.StageLaws.{append-rows}
+use Rattle.limits.specs.Known.StageLimits.{verify-constraints}
 use Rattle.limits.proofs.draws.draw_lengths.Statement.{statement}
 use Rattle.limits.proofs.draws.draw_lengths.Tie as tie
 

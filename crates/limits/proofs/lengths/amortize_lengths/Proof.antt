@@ -1,8 +1,8 @@
 -- `limits::lengths::amortize_lengths` meets its contract: each list of message 5. Assumes nothing.
 use mathlib.Core.Path.{refl}
 use borrow.Author.Needs.{needs}
-use Rattle.limits.specs.RowLaws.{end, _&_}
-use Rattle.limits.specs.StageLaws.{joined-tests}
+use Rattle.limits.specs.Laws.RowLaws.{end, _&_}
+use Rattle.limits.specs.Laws.StageLaws.{joined-tests}
 use Rattle.limits.proofs.lengths.amortize_lengths.Statement.{statement}
 use Rattle.limits.proofs.lengths.amortize_lengths.Tie as tie
 

@@ -2,9 +2,9 @@
 use mathlib.Core.Path.{refl}
 use borrow.Author.Needs.{needs}
 use native.Mathlib.Omega.{arith}
-use Rattle.limits.specs.SizeLaws.{garbage-within, t-within}
-use Rattle.limits.specs.RowLaws.{end, _&_}
-use Rattle.limits.specs.StageLaws.{joined-tests}
+use Rattle.limits.specs.Laws.SizeLaws.{garbage-within, t-within}
+use Rattle.limits.specs.Laws.RowLaws.{end, _&_}
+use Rattle.limits.specs.Laws.StageLaws.{joined-tests}
 use Rattle.limits.proofs.lengths.commit_lengths.Statement.{statement}
 use Rattle.limits.proofs.lengths.commit_lengths.Tie as tie
 

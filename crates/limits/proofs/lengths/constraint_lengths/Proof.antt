@@ -1,8 +1,8 @@
 -- `limits::lengths::constraint_lengths` meets its contract: each list of the constraints. Assumes nothing.
 use mathlib.Core.Path.{refl}
 use borrow.Author.Needs.{needs}
-use Rattle.limits.specs.RowLaws.{end, _&_}
-use Rattle.limits.specs.StageLaws.{joined-tests}
+use Rattle.limits.specs.Laws.RowLaws.{end, _&_}
+use Rattle.limits.specs.Laws.StageLaws.{joined-tests}
 use Rattle.limits.proofs.lengths.constraint_lengths.Statement.{statement}
 use Rattle.limits.proofs.lengths.constraint_lengths.Tie as tie
 

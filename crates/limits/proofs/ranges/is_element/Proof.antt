@@ -1,6 +1,6 @@
 -- `limits::ranges::is_element` meets its contract. Assumes nothing.
 use borrow.Author.Needs.{needs}
-use Rattle.limits.specs.ProductLaws.{element-tests}
+use Rattle.limits.specs.Laws.ProductLaws.{element-tests}
 use Rattle.limits.proofs.ranges.is_element.Statement.{statement}
 use Rattle.limits.proofs.ranges.is_element.Tie as tie
 

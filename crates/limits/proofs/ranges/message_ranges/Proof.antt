@@ -1,7 +1,7 @@
 -- `limits::ranges::message_ranges` meets its contract: each list in turn. Assumes nothing.
 use mathlib.Core.Path.{refl}
-use Rattle.limits.specs.RowLaws.{end, _&_}
-use Rattle.limits.specs.StageLaws.{joined-tests}
+use Rattle.limits.specs.Laws.RowLaws.{end, _&_}
+use Rattle.limits.specs.Laws.StageLaws.{joined-tests}
 use Rattle.limits.proofs.ranges.message_ranges.Statement.{statement}
 use Rattle.limits.proofs.ranges.message_ranges.Tie as tie
 

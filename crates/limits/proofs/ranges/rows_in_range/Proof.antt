@@ -1,6 +1,6 @@
 -- `limits::ranges::rows_in_range` meets its contract: row 9 gives row 8, and else the rows are looked at. Assumes nothing.
 use mathlib.Core.Path.{sym, _∙_}
-use Rattle.limits.specs.RowLaws.{projections-coefficients}
+use Rattle.limits.specs.Laws.RowLaws.{projections-coefficients}
 use Rattle.limits.proofs.ranges.rows_in_range.Statement.{statement}
 use Rattle.limits.proofs.ranges.rows_in_range.Tie as tie
 

@@ -1,8 +1,8 @@
 -- `limits::ranges::vanishes_from` meets its contract. Assumes nothing.
 use mathlib.Core.Path.{_∙_}
 use borrow.Author.Needs.{needs}
-use Rattle.residues.specs.RangeLaws.{between-zero}
-use Rattle.limits.specs.ProductLaws.{none-from, rest-from}
+use Rattle.residues.specs.Laws.RangeLaws.{between-zero}
+use Rattle.limits.specs.Laws.ProductLaws.{none-from, rest-from}
 use Rattle.limits.proofs.ranges.vanishes_from.Statement.{statement}
 use Rattle.limits.proofs.ranges.vanishes_from.Tie as tie
 

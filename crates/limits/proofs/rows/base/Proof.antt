@@ -1,6 +1,6 @@
 -- `limits::rows::base` meets its contract: the test of the table, as comparisons. Assumes nothing.
 use Rattle.fold.specs.Refusals.{base}
-use Rattle.limits.specs.RowLaws.{between-tests}
+use Rattle.limits.specs.Laws.RowLaws.{between-tests}
 use Rattle.limits.proofs.rows.base.Statement.{statement}
 use Rattle.limits.proofs.rows.base.Tie as tie
 

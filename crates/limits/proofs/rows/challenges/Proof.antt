@@ -1,8 +1,8 @@
 -- `limits::rows::challenges` meets its contract. The loop's invariant: `all` says that the first i elements keep the rule. Assumes nothing.
 use Prim.Native.Nat.{_-_}
 use native.Mathlib.Omega.{arith}
-use Rattle.ring.specs.ElementPlaces.{block-before}
-use Rattle.limits.specs.RowLaws.{Kept, kept-start, kept-step, kept-end}
+use Rattle.ring.specs.Laws.ElementPlaces.{block-before}
+use Rattle.limits.specs.Laws.RowLaws.{Kept, kept-start, kept-step, kept-end}
 use Rattle.limits.proofs.rows.challenges.Statement.{statement}
 use Rattle.limits.proofs.rows.challenges.Tie as tie
 

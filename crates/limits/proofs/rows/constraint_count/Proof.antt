@@ -1,6 +1,6 @@
 -- `limits::rows::constraint_count` meets its contract: the test of the table, as comparisons. Assumes nothing.
 use Rattle.fold.specs.Refusals.{constraintCount}
-use Rattle.limits.specs.RowLaws.{between-test}
+use Rattle.limits.specs.Laws.RowLaws.{between-test}
 use Rattle.limits.proofs.rows.constraint_count.Statement.{statement}
 use Rattle.limits.proofs.rows.constraint_count.Tie as tie
 

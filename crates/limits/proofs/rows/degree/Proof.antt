@@ -1,5 +1,5 @@
 -- `limits::rows::degree` meets its contract: the test of the table, as comparisons. Assumes nothing.
-use Rattle.limits.specs.RowLaws.{degree-tests}
+use Rattle.limits.specs.Laws.RowLaws.{degree-tests}
 use Rattle.limits.proofs.rows.degree.Statement.{statement}
 use Rattle.limits.proofs.rows.degree.Tie as tie
 

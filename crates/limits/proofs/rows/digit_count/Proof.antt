@@ -1,6 +1,6 @@
 -- `limits::rows::digit_count` meets its contract: the test of the table, as comparisons. Assumes nothing.
 use Rattle.fold.specs.Refusals.{digitCount}
-use Rattle.limits.specs.RowLaws.{between-tests}
+use Rattle.limits.specs.Laws.RowLaws.{between-tests}
 use Rattle.limits.proofs.rows.digit_count.Statement.{statement}
 use Rattle.limits.proofs.rows.digit_count.Tie as tie
 

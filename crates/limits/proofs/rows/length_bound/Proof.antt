@@ -1,6 +1,6 @@
 -- `limits::rows::length_bound` meets its contract: the test of the table, as comparisons. Assumes nothing.
 use Rattle.fold.specs.Refusals.{lengthBound}
-use Rattle.limits.specs.RowLaws.{between-test}
+use Rattle.limits.specs.Laws.RowLaws.{between-test}
 use Rattle.limits.proofs.rows.length_bound.Statement.{statement}
 use Rattle.limits.proofs.rows.length_bound.Tie as tie
 

@@ -1,6 +1,6 @@
 -- `limits::sizes::flat_length` meets its contract: at most 256 * 8192 * 64. Assumes nothing.
 use mathlib.Core.Path.{refl}
-use Rattle.fold.specs.SizeBounds.{product-fits, product-bound}
+use Rattle.fold.specs.Laws.SizeBounds.{product-fits, product-bound}
 use Rattle.limits.proofs.sizes.flat_length.Statement.{statement}
 use Rattle.limits.proofs.sizes.flat_length.Tie as tie
 

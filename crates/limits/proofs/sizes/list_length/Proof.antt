@@ -1,6 +1,6 @@
 -- `limits::sizes::list_length` meets its contract: at most 8192 * 64. Assumes nothing.
 use mathlib.Core.Path.{refl}
-use Rattle.fold.specs.SizeBounds.{product-fits}
+use Rattle.fold.specs.Laws.SizeBounds.{product-fits}
 use Rattle.limits.proofs.sizes.list_length.Statement.{statement}
 use Rattle.limits.proofs.sizes.list_length.Tie as tie
 

@@ -1,10 +1,9 @@
 -- `limits::sizes::projection_length` meets its contract: at most 256 rows of 16 * 256 elements. Assumes nothing.
 use borrow.Author.Needs.{needs}
-use native.Mathlib.Omega.{arith}
-use mathlib.Core.Path.{_≡_, ap}
+use mathlib.Core.Path.{ap}
 use Prim.Native.Nat.{_*_, _≤_}
 use Rattle.fold.specs.Refusals.{projectionLength}
-use Rattle.fold.specs.SizeBounds.{product-fits, product-bound}
+use Rattle.fold.specs.Laws.SizeBounds.{product-fits, product-bound}
 use Rattle.limits.proofs.sizes.projection_length.Statement.{statement}
 use Rattle.limits.proofs.sizes.projection_length.Tie as tie
 

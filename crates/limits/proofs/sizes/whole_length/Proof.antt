@@ -1,10 +1,10 @@
 -- `limits::sizes::whole_length` meets its contract: at most 32 constraints of 4233 elements. Assumes nothing.
 use borrow.Author.Needs.{needs}
 use native.Mathlib.Omega.{arith}
-use mathlib.Core.Path.{_≡_, ap}
+use mathlib.Core.Path.{ap}
 use Prim.Native.Nat.{_+_, _*_, _≤_}
 use Rattle.fold.specs.Refusals.{wholeLength}
-use Rattle.fold.specs.SizeBounds.{product-fits, product-bound, functionSize-bound}
+use Rattle.fold.specs.Laws.SizeBounds.{product-fits, product-bound, functionSize-bound}
 use Rattle.limits.proofs.sizes.whole_length.Statement.{statement}
 use Rattle.limits.proofs.sizes.whole_length.Tie as tie
 

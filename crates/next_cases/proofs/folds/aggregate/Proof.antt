@@ -1,6 +1,6 @@
 -- `next_cases::folds::aggregate` meets its contract. Assumes nothing.
-use Rattle.next_cases.specs.MessageLaws.{blank-inside, blank-fits}
-use Rattle.next_cases.specs.RunLaws.{aggregating}
+use Rattle.next_cases.specs.Laws.MessageLaws.{blank-inside, blank-fits}
+use Rattle.next_cases.specs.Laws.RunLaws.{aggregating}
 use borrow.Author.Needs.{needs}
 use Rattle.next_cases.proofs.folds.aggregate.Statement.{statement}
 use Rattle.next_cases.proofs.folds.aggregate.Tie as tie

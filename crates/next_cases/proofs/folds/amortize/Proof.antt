@@ -1,6 +1,6 @@
 -- `next_cases::folds::amortize` meets its contract. Assumes nothing.
-use Rattle.next_cases.specs.MessageLaws.{blank-inside, blank-fits}
-use Rattle.next_cases.specs.RunLaws.{amortizing}
+use Rattle.next_cases.specs.Laws.MessageLaws.{blank-inside, blank-fits}
+use Rattle.next_cases.specs.Laws.RunLaws.{amortizing}
 use borrow.Author.Needs.{needs}
 use Rattle.next_cases.proofs.folds.amortize.Statement.{statement}
 use Rattle.next_cases.proofs.folds.amortize.Tie as tie

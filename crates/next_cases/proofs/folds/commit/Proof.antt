@@ -1,6 +1,6 @@
 -- `next_cases::folds::commit` meets its contract. Assumes nothing.
-use Rattle.next_cases.specs.MessageLaws.{blank-inside, blank-fits, kept-again}
-use Rattle.next_cases.specs.RunLaws.{committing}
+use Rattle.next_cases.specs.Laws.MessageLaws.{blank-inside, blank-fits, kept-again}
+use Rattle.next_cases.specs.Laws.RunLaws.{committing}
 use borrow.Author.Needs.{needs}
 use Rattle.next_cases.proofs.folds.commit.Statement.{statement}
 use Rattle.next_cases.proofs.folds.commit.Tie as tie

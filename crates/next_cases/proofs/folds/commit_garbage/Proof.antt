@@ -1,6 +1,6 @@
 -- `next_cases::folds::commit_garbage` meets its contract. Assumes nothing.
-use Rattle.next_cases.specs.MessageLaws.{blank-inside, blank-fits, kept-again}
-use Rattle.next_cases.specs.RunLaws.{garbage-committing}
+use Rattle.next_cases.specs.Laws.MessageLaws.{blank-inside, blank-fits, kept-again}
+use Rattle.next_cases.specs.Laws.RunLaws.{garbage-committing}
 use borrow.Author.Needs.{needs}
 use Rattle.next_cases.proofs.folds.commit_garbage.Statement.{statement}
 use Rattle.next_cases.proofs.folds.commit_garbage.Tie as tie

@@ -1,6 +1,6 @@
 -- `next_cases::folds::project` meets its contract. Assumes nothing.
-use Rattle.next_cases.specs.MessageLaws.{blank-inside, blank-fits}
-use Rattle.next_cases.specs.RunLaws.{projecting}
+use Rattle.next_cases.specs.Laws.MessageLaws.{blank-inside, blank-fits}
+use Rattle.next_cases.specs.Laws.RunLaws.{projecting}
 use borrow.Author.Needs.{needs}
 use Rattle.next_cases.proofs.folds.project.Statement.{statement}
 use Rattle.next_cases.proofs.folds.project.Tie as tie

@@ -1,5 +1,5 @@
 -- `next_cases::folds::verify` meets its contract: the call's, on the lists by their numbers. Assumes nothing.
-use Rattle.next_cases.specs.RunLaws.{verdict-of}
+use Rattle.next_cases.specs.Laws.RunLaws.{verdict-of}
 use Rattle.next_cases.proofs.folds.verify.Statement.{statement}
 use Rattle.next_cases.proofs.folds.verify.Tie as tie
 

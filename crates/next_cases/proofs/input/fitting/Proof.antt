@@ -1,6 +1,6 @@
 -- `next_cases::input::fitting` meets its contract. Assumes nothing.
 use native.Mathlib.Omega.{arith}
-use Rattle.next_cases.specs.WitnessLaws.{fitting-large, fitting-small}
+use Rattle.next_cases.specs.Laws.WitnessLaws.{fitting-large, fitting-small}
 use Rattle.next_cases.proofs.input.fitting.Statement.{statement}
 use Rattle.next_cases.proofs.input.fitting.Tie as tie
 

@@ -9,7 +9,7 @@ use lib.Signed.{nonNeg, ltZ, yes-nonNeg}
 use mir.Syntax.{w64}
 use mir.Val.{SFits, ofZ}
 use mir.Facts.{toZ-ofZ, fits-natAbs}
-use Rattle.integers.specs.Bridge.{N, zarith, pos-pn, sub-pn, natAbs-pn, pn-min, sfits-pn}
+use Rattle.integers.specs.Laws.Bridge.{N, zarith, pos-pn, sub-pn, natAbs-pn, pn-min, sfits-pn}
 use Rattle.next_cases.proofs.input.wrapped.Statement.{statement}
 use Rattle.next_cases.proofs.input.wrapped.Tie as tie
 

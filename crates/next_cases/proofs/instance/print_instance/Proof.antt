@@ -1,5 +1,5 @@
 -- `next_cases::instance::print_instance` meets its contract: the call's, on the lists by their numbers. Assumes nothing.
-use Rattle.next_cases.specs.RunLaws.{next-of-lists}
+use Rattle.next_cases.specs.Laws.RunLaws.{next-of-lists}
 use borrow.Author.Needs.{needs}
 use Rattle.next_cases.proofs.instance.print_instance.Statement.{statement}
 use Rattle.next_cases.proofs.instance.print_instance.Tie as tie

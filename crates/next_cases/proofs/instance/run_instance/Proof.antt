@@ -1,6 +1,6 @@
 -- `next_cases::instance::run_instance` meets its contract. Assumes nothing.
-use Rattle.next_cases.specs.MessageLaws.{blank-inside, blank-fits}
-use Rattle.next_cases.specs.RunLaws.{instance-run}
+use Rattle.next_cases.specs.Laws.MessageLaws.{blank-inside, blank-fits}
+use Rattle.next_cases.specs.Laws.RunLaws.{instance-run}
 use Rattle.next_cases.proofs.instance.run_instance.Statement.{statement}
 use Rattle.next_cases.proofs.instance.run_instance.Tie as tie
 

@@ -1,5 +1,5 @@
 -- `next_cases::messages::keep` meets its contract. Assumes nothing.
-use Rattle.next_cases.specs.MessageLaws.{start-fits, kept-is}
+use Rattle.next_cases.specs.Laws.MessageLaws.{start-fits, kept-is}
 use lib.ListN.{length}
 use borrow.Author.Needs.{needs}
 use Rattle.next_cases.proofs.messages.keep.Statement.{statement}

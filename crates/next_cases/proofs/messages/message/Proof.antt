@@ -1,8 +1,6 @@
 -- `next_cases::messages::message` meets its contract. Assumes nothing.
-use Prim.Native.Nat.{_+_, _≤_}
-use native.Mathlib.Omega.{arith}
 use lib.ListN.{length}
-use Rattle.next_cases.specs.MessageLaws.{start-fits, message-inside, message-is}
+use Rattle.next_cases.specs.Laws.MessageLaws.{start-fits, message-inside, message-is}
 use borrow.Author.Needs.{needs}
 use Rattle.next_cases.proofs.messages.message.Statement.{statement}
 use Rattle.next_cases.proofs.messages.message.Tie as tie

@@ -1,6 +1,6 @@
 -- `next_cases::messages::opening` meets its contract. Assumes nothing.
 use lib.ListN.{length}
-use Rattle.next_cases.specs.MessageLaws.{start-fits, opening-is}
+use Rattle.next_cases.specs.Laws.MessageLaws.{start-fits, opening-is}
 use borrow.Author.Needs.{needs}
 use Rattle.next_cases.proofs.messages.opening.Statement.{statement}
 use Rattle.next_cases.proofs.messages.opening.Tie as tie

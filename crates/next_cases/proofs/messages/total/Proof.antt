@@ -3,7 +3,7 @@ use mathlib.Core.Path.{_≡_, ap, _∙_}
 use Prim.Native.Nat.{ℕ, _+_, _-_, _≤_}
 use native.Mathlib.Omega.{arith}
 use Rattle.next_cases.specs.Messages.{startOf}
-use Rattle.next_cases.specs.MessageLaws.{start-inside, start-fits, start-none, start-next}
+use Rattle.next_cases.specs.Laws.MessageLaws.{start-inside, start-fits, start-none, start-next}
 use Rattle.next_cases.proofs.messages.total.Statement.{statement}
 use Rattle.next_cases.proofs.messages.total.Tie as tie
 

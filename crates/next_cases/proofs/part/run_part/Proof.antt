@@ -1,5 +1,5 @@
 -- `next_cases::part::run_part` meets its contract. Assumes nothing.
-use Rattle.next_cases.specs.RunLaws.{part-number}
+use Rattle.next_cases.specs.Laws.RunLaws.{part-number}
 use Rattle.next_cases.proofs.part.run_part.Statement.{statement}
 use Rattle.next_cases.proofs.part.run_part.Tie as tie
 

@@ -4,7 +4,7 @@ use Prim.Native.Nat.{_-_, _≤_}
 use native.Mathlib.Omega.{arith}
 use lib.ListN.{length, drop}
 use Rattle.cases.specs.Text.{pastLines}
-use Rattle.cases.specs.TextLaws.{line-fits, line-ahead, lines-next, lines-end}
+use Rattle.cases.specs.Laws.TextLaws.{line-fits, line-ahead, lines-next, lines-end}
 use borrow.Author.Needs.{needs}
 use Rattle.next_cases.proofs.runs.run_all.Statement.{statement}
 use Rattle.next_cases.proofs.runs.run_all.Tie as tie

@@ -1,5 +1,5 @@
 -- `next_cases::runs::run_case` meets its contract. Assumes nothing.
-use Rattle.next_cases.specs.RunLaws.{case-instance, case-part, case-twice, case-none}
+use Rattle.next_cases.specs.Laws.RunLaws.{case-instance, case-part, case-twice, case-none}
 use Rattle.next_cases.proofs.runs.run_case.Statement.{statement}
 use Rattle.next_cases.proofs.runs.run_case.Tie as tie
 

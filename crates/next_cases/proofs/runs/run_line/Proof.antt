@@ -1,6 +1,6 @@
 -- `next_cases::runs::run_line` meets its contract. Assumes nothing.
 use mathlib.Core.Path.{refl, sym}
-use Rattle.next_cases.specs.RunLaws.{zeros-are, line-run}
+use Rattle.next_cases.specs.Laws.RunLaws.{zeros-are, line-run}
 use Rattle.next_cases.proofs.runs.run_line.Statement.{statement}
 use Rattle.next_cases.proofs.runs.run_line.Tie as tie
 

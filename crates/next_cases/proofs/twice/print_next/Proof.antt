@@ -1,5 +1,5 @@
 -- `next_cases::twice::print_next` meets its contract: the call's, on the lists by their numbers. Assumes nothing.
-use Rattle.next_cases.specs.RunLaws.{next-of-fold}
+use Rattle.next_cases.specs.Laws.RunLaws.{next-of-fold}
 use borrow.Author.Needs.{needs}
 use Rattle.next_cases.proofs.twice.print_next.Statement.{statement}
 use Rattle.next_cases.proofs.twice.print_next.Tie as tie

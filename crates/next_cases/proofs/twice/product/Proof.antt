@@ -1,7 +1,7 @@
 -- `next_cases::twice::product` meets its contract. Assumes nothing.
 use Prim.Native.Nat.{_*_, _≤_}
 use native.Mathlib.Omega.{arith}
-use Rattle.next_cases.specs.WitnessLaws.{product-bound}
+use Rattle.next_cases.specs.Laws.WitnessLaws.{product-bound}
 use Rattle.next_cases.proofs.twice.product.Statement.{statement}
 use Rattle.next_cases.proofs.twice.product.Tie as tie
 

@@ -1,5 +1,5 @@
 -- `next_cases::twice::run_first` meets its contract. Assumes nothing.
-use Rattle.next_cases.specs.RunLaws.{first-run}
+use Rattle.next_cases.specs.Laws.RunLaws.{first-run}
 use borrow.Author.Needs.{needs}
 use Rattle.next_cases.proofs.twice.run_first.Statement.{statement}
 use Rattle.next_cases.proofs.twice.run_first.Tie as tie

@@ -1,6 +1,6 @@
 -- `next_cases::twice::run_second` meets its contract. Assumes nothing.
-use Rattle.next_cases.specs.MessageLaws.{array-long}
-use Rattle.next_cases.specs.RunLaws.{second-run}
+use Rattle.next_cases.specs.Laws.MessageLaws.{array-long}
+use Rattle.next_cases.specs.Laws.RunLaws.{second-run}
 use borrow.Author.Needs.{needs}
 use Rattle.next_cases.proofs.twice.run_second.Statement.{statement}
 use Rattle.next_cases.proofs.twice.run_second.Tie as tie

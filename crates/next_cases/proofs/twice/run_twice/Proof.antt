@@ -1,7 +1,7 @@
 -- `next_cases::twice::run_twice` meets its contract. Assumes nothing.
 use mathlib.Core.Path.{sym, _∙_}
-use Rattle.next_cases.specs.MessageLaws.{blank-inside, blank-fits, array-long}
-use Rattle.next_cases.specs.RunLaws.{second-inside, twice-run}
+use Rattle.next_cases.specs.Laws.MessageLaws.{blank-inside, blank-fits, array-long}
+use Rattle.next_cases.specs.Laws.RunLaws.{second-inside, twice-run}
 use Rattle.next_cases.proofs.twice.run_twice.Statement.{statement}
 use Rattle.next_cases.proofs.twice.run_twice.Tie as tie
 

@@ -1,7 +1,7 @@
 -- `next_cases::twice::with_witness` meets its contract. Assumes nothing.
-use Rattle.next_cases.specs.MessageLaws.{front-fits}
-use Rattle.next_cases.specs.WitnessLaws.{fitting-inside}
-use Rattle.next_cases.specs.RunLaws.{witness-is, second-of}
+use Rattle.next_cases.specs.Laws.MessageLaws.{front-fits}
+use Rattle.next_cases.specs.Laws.WitnessLaws.{fitting-inside}
+use Rattle.next_cases.specs.Laws.RunLaws.{witness-is, second-of}
 use Rattle.next_cases.proofs.twice.with_witness.Statement.{statement}
 use Rattle.next_cases.proofs.twice.with_witness.Tie as tie
 

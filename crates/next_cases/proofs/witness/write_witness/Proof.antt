@@ -1,8 +1,7 @@
 -- `next_cases::witness::write_witness` meets its contract. The loop's invariant: i parts are written. Assumes nothing.
-use mathlib.Core.Path.{_≡_}
 use Prim.Native.Nat.{_-_}
 use native.Mathlib.Omega.{arith}
-use Rattle.next_cases.specs.WitnessLaws.{Writing, writing-start, writing-length, place-inside, writing-next, writing-end}
+use Rattle.next_cases.specs.Laws.WitnessLaws.{Writing, writing-start, writing-length, place-inside, writing-next, writing-end}
 use Rattle.next_cases.proofs.witness.write_witness.Statement.{statement}
 use Rattle.next_cases.proofs.witness.write_witness.Tie as tie
 

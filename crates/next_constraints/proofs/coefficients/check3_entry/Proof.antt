@@ -1,7 +1,7 @@
 -- `next_constraints::coefficients::check3_entry` meets its contract.
 use mathlib.Core.Path.{refl}
-use Rattle.next_constraints.specs.EntryRoom.{holds-as, row-place, in-t, in-g}
-use Rattle.next_constraints.specs.EntrySteps.{entry3-z, entry3-t, entry3-g, entry3-h}
+use Rattle.next_constraints.specs.Laws.EntryRoom.{holds-as, row-place, in-t, in-g}
+use Rattle.next_constraints.specs.Laws.EntrySteps.{entry3-z, entry3-t, entry3-g, entry3-h}
 use borrow.Author.Needs.{needs}
 use Rattle.next_constraints.proofs.coefficients.check3_entry.Statement.{statement}
 use Rattle.next_constraints.proofs.coefficients.check3_entry.Tie as tie

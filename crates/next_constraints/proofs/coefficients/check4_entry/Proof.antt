@@ -1,7 +1,7 @@
 -- `next_constraints::coefficients::check4_entry` meets its contract.
 use mathlib.Core.Path.{refl}
-use Rattle.next_constraints.specs.EntryRoom.{holds-as, row-place, in-h}
-use Rattle.next_constraints.specs.EntrySteps.{entry4-before, entry4-h}
+use Rattle.next_constraints.specs.Laws.EntryRoom.{holds-as, row-place, in-h}
+use Rattle.next_constraints.specs.Laws.EntrySteps.{entry4-before, entry4-h}
 use borrow.Author.Needs.{needs}
 use Rattle.next_constraints.proofs.coefficients.check4_entry.Statement.{statement}
 use Rattle.next_constraints.proofs.coefficients.check4_entry.Tie as tie

@@ -3,8 +3,8 @@ use mathlib.Core.Path.{refl}
 use Prim.Native.Nat.{_-_, _≤_}
 use native.Mathlib.Nat.{mul-le-mul}
 use native.Mathlib.Omega.{arith}
-use Rattle.next_constraints.specs.EntryRoom.{holds-as, t₁-some, all-room, part-room, in-t}
-use Rattle.next_constraints.specs.EntrySteps.{entry5-z, entry5-t, entry5-rest}
+use Rattle.next_constraints.specs.Laws.EntryRoom.{holds-as, t₁-some, all-room, part-room, in-t}
+use Rattle.next_constraints.specs.Laws.EntrySteps.{entry5-z, entry5-t, entry5-rest}
 use borrow.Author.Needs.{needs}
 use Rattle.next_constraints.proofs.coefficients.check5_entry.Statement.{statement}
 use Rattle.next_constraints.proofs.coefficients.check5_entry.Tie as tie

@@ -1,8 +1,8 @@
 -- `next_constraints::coefficients::check6_entry` meets its contract.
 use mathlib.Core.Path.{refl}
 use Prim.Native.Nat.{_-_}
-use Rattle.next_constraints.specs.EntryRoom.{holds-as, t₂-some, garbage-room, in-g}
-use Rattle.next_constraints.specs.EntrySteps.{entry6-before, entry6-g, entry6-rest}
+use Rattle.next_constraints.specs.Laws.EntryRoom.{holds-as, t₂-some, garbage-room, in-g}
+use Rattle.next_constraints.specs.Laws.EntrySteps.{entry6-before, entry6-g, entry6-rest}
 use borrow.Author.Needs.{needs}
 use Rattle.next_constraints.proofs.coefficients.check6_entry.Statement.{statement}
 use Rattle.next_constraints.proofs.coefficients.check6_entry.Tie as tie

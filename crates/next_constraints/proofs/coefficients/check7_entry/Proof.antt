@@ -1,8 +1,8 @@
 -- `next_constraints::coefficients::check7_entry` meets its contract.
 use mathlib.Core.Path.{refl}
 use Prim.Native.Nat.{_-_}
-use Rattle.next_constraints.specs.EntryRoom.{holds-as, t₁-some, garbage-room, in-h}
-use Rattle.next_constraints.specs.EntrySteps.{entry7-z, entry7-between, entry7-h}
+use Rattle.next_constraints.specs.Laws.EntryRoom.{holds-as, t₁-some, garbage-room, in-h}
+use Rattle.next_constraints.specs.Laws.EntrySteps.{entry7-z, entry7-between, entry7-h}
 use borrow.Author.Needs.{needs}
 use Rattle.next_constraints.proofs.coefficients.check7_entry.Statement.{statement}
 use Rattle.next_constraints.proofs.coefficients.check7_entry.Tie as tie

@@ -1,8 +1,8 @@
 -- `next_constraints::coefficients::check8_entry` meets its contract.
 use mathlib.Core.Path.{refl}
 use Prim.Native.Nat.{_-_}
-use Rattle.next_constraints.specs.EntryRoom.{holds-as, t₁-some, t₂-some, garbage-room, in-g, in-h}
-use Rattle.next_constraints.specs.EntrySteps.{entry8-before, entry8-g, entry8-h}
+use Rattle.next_constraints.specs.Laws.EntryRoom.{holds-as, t₁-some, t₂-some, garbage-room, in-g, in-h}
+use Rattle.next_constraints.specs.Laws.EntrySteps.{entry8-before, entry8-g, entry8-h}
 use borrow.Author.Needs.{needs}
 use Rattle.next_constraints.proofs.coefficients.check8_entry.Statement.{statement}
 use Rattle.next_constraints.proofs.coefficients.check8_entry.Tie as tie

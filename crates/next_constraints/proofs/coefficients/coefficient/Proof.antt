@@ -1,7 +1,7 @@
 -- `next_constraints::coefficients::coefficient` meets its contract.
 use mathlib.Core.Path.{sym}
-use Rattle.next_constraints.specs.EntryRoom.{holds-as}
-use Rattle.next_constraints.specs.Coefficients.{coefficient-is}
+use Rattle.next_constraints.specs.Laws.EntryRoom.{holds-as}
+use Rattle.next_constraints.specs.Laws.CoefficientLaws.{coefficient-is}
 use borrow.Author.Needs.{needs}
 use Rattle.next_constraints.proofs.coefficients.coefficient.Statement.{statement}
 use Rattle.next_constraints.proofs.coefficients.coefficient.Tie as tie

@@ -1,6 +1,6 @@
 -- `next_constraints::coefficients::middle_entry` meets its contract.
-use Rattle.next_constraints.specs.EntryRoom.{holds-as}
-use Rattle.next_constraints.specs.EntrySteps.{middle-6, middle-7, middle-8}
+use Rattle.next_constraints.specs.Laws.EntryRoom.{holds-as}
+use Rattle.next_constraints.specs.Laws.EntrySteps.{middle-6, middle-7, middle-8}
 use borrow.Author.Needs.{needs}
 use Rattle.next_constraints.proofs.coefficients.middle_entry.Statement.{statement}
 use Rattle.next_constraints.proofs.coefficients.middle_entry.Tie as tie

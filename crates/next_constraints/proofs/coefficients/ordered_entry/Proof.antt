@@ -1,6 +1,6 @@
 -- `next_constraints::coefficients::ordered_entry` meets its contract.
-use Rattle.next_constraints.specs.EntryRoom.{holds-as, outer-row}
-use Rattle.next_constraints.specs.EntrySteps.{coefficient-5, coefficient-middle, coefficient-outer}
+use Rattle.next_constraints.specs.Laws.EntryRoom.{holds-as, outer-row}
+use Rattle.next_constraints.specs.Laws.EntrySteps.{coefficient-5, coefficient-middle, coefficient-outer}
 use borrow.Author.Needs.{needs}
 use Rattle.next_constraints.proofs.coefficients.ordered_entry.Statement.{statement}
 use Rattle.next_constraints.proofs.coefficients.ordered_entry.Tie as tie

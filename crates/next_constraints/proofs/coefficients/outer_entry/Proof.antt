@@ -1,6 +1,6 @@
 -- `next_constraints::coefficients::outer_entry` meets its contract.
-use Rattle.next_constraints.specs.EntryRoom.{holds-as}
-use Rattle.next_constraints.specs.EntrySteps.{outer-3, outer-4}
+use Rattle.next_constraints.specs.Laws.EntryRoom.{holds-as}
+use Rattle.next_constraints.specs.Laws.EntrySteps.{outer-3, outer-4}
 use borrow.Author.Needs.{needs}
 use Rattle.next_constraints.proofs.coefficients.outer_entry.Statement.{statement}
 use Rattle.next_constraints.proofs.coefficients.outer_entry.Tie as tie

@@ -1,7 +1,7 @@
 -- `next_constraints::constants::a_entry` meets its contract.
 use mathlib.Core.Path.{sym, _∙_}
-use Rattle.next_constraints.specs.EntryRoom.{holds-as}
-use Rattle.next_constraints.specs.Coefficients.{a-six, a-other, a-is}
+use Rattle.next_constraints.specs.Laws.EntryRoom.{holds-as}
+use Rattle.next_constraints.specs.Laws.CoefficientLaws.{a-six, a-other, a-is}
 use borrow.Author.Needs.{needs}
 use Rattle.next_constraints.proofs.constants.a_entry.Statement.{statement}
 use Rattle.next_constraints.proofs.constants.a_entry.Tie as tie

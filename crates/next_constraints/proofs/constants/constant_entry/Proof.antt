@@ -1,8 +1,8 @@
 -- `next_constraints::constants::constant_entry` meets its contract.
 use mathlib.Core.Path.{sym}
 use Rattle.fold.specs.Arguments.{transcriptOf}
-use Rattle.next_constraints.specs.EntryRoom.{holds-as}
-use Rattle.next_constraints.specs.Coefficients.{constant-is}
+use Rattle.next_constraints.specs.Laws.EntryRoom.{holds-as}
+use Rattle.next_constraints.specs.Laws.CoefficientLaws.{constant-is}
 use borrow.Author.Needs.{needs}
 use Rattle.next_constraints.proofs.constants.constant_entry.Statement.{statement}
 use Rattle.next_constraints.proofs.constants.constant_entry.Tie as tie

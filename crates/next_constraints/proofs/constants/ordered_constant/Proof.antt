@@ -1,6 +1,6 @@
 -- `next_constraints::constants::ordered_constant` meets its contract.
-use Rattle.next_constraints.specs.EntryRoom.{holds-as, element-room, third-row, last-row}
-use Rattle.next_constraints.specs.Coefficients.{constant-before, constant-8, constant-3, constant-4}
+use Rattle.next_constraints.specs.Laws.EntryRoom.{holds-as, element-room, third-row, last-row}
+use Rattle.next_constraints.specs.Laws.CoefficientLaws.{constant-before, constant-8, constant-3, constant-4}
 use borrow.Author.Needs.{needs}
 use Rattle.next_constraints.proofs.constants.ordered_constant.Statement.{statement}
 use Rattle.next_constraints.proofs.constants.ordered_constant.Tie as tie

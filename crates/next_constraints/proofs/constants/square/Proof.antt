@@ -1,6 +1,6 @@
 -- `next_constraints::constants::square` meets its contract.
-use Rattle.next_constraints.specs.EntryRoom.{holds-as}
-use Rattle.next_constraints.specs.Squares.{square-first, square-second, square-apart, square-end}
+use Rattle.next_constraints.specs.Laws.EntryRoom.{holds-as}
+use Rattle.next_constraints.specs.Laws.Squares.{square-first, square-second, square-apart, square-end}
 use borrow.Author.Needs.{needs}
 use Rattle.next_constraints.proofs.constants.square.Statement.{statement}
 use Rattle.next_constraints.proofs.constants.square.Tie as tie

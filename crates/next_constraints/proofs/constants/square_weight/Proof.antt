@@ -1,7 +1,7 @@
 -- `next_constraints::constants::square_weight` meets its contract.
 use native.Mathlib.Omega.{arith}
 use native.Mathlib.Nat.{div-le-self}
-use Rattle.next_constraints.specs.Squares.{weight-once, weight-twice}
+use Rattle.next_constraints.specs.Laws.Squares.{weight-once, weight-twice}
 use borrow.Author.Needs.{needs}
 use Rattle.next_constraints.proofs.constants.square_weight.Statement.{statement}
 use Rattle.next_constraints.proofs.constants.square_weight.Tie as tie

@@ -1,5 +1,5 @@
 -- `next_constraints::entries::garbage_entry` meets its contract.
-use Rattle.next_constraints.specs.Powers.{garbage-end}
+use Rattle.next_constraints.specs.Laws.Powers.{garbage-end}
 use borrow.Author.Needs.{needs}
 use Rattle.next_constraints.proofs.entries.garbage_entry.Statement.{statement}
 use Rattle.next_constraints.proofs.entries.garbage_entry.Tie as tie

@@ -1,5 +1,5 @@
 -- `next_constraints::entries::part_entry` meets its contract.
-use Rattle.next_constraints.specs.Powers.{part-end}
+use Rattle.next_constraints.specs.Laws.Powers.{part-end}
 use borrow.Author.Needs.{needs}
 use Rattle.next_constraints.proofs.entries.part_entry.Statement.{statement}
 use Rattle.next_constraints.proofs.entries.part_entry.Tie as tie

@@ -6,7 +6,7 @@ use lib.IntN.{pos}
 use mir.Syntax.{w32}
 use mir.Val.{ofZ}
 use Rattle.residues.specs.Modulus.{centred}
-use Rattle.next_constraints.specs.Powers.{power-start, power-turn, power-end}
+use Rattle.next_constraints.specs.Laws.Powers.{power-start, power-turn, power-end}
 use Rattle.next_constraints.proofs.entries.power.Statement.{statement}
 use Rattle.next_constraints.proofs.entries.power.Tie as tie
 

@@ -1,7 +1,7 @@
 -- `next_constraints::entries::row_entry` meets its contract.
 use Prim.Native.Nat.{_+_, _*_}
 use native.Mathlib.Omega.{arith}
-use Rattle.next_constraints.specs.EntryRoom.{element-within}
+use Rattle.next_constraints.specs.Laws.EntryRoom.{element-within}
 use borrow.Author.Needs.{needs}
 use Rattle.next_constraints.proofs.entries.row_entry.Statement.{statement}
 use Rattle.next_constraints.proofs.entries.row_entry.Tie as tie

@@ -1,6 +1,6 @@
 -- `next_constraints::entries::t_entry` meets its contract.
-use Rattle.next_constraints.specs.EntryRoom.{holds-as}
-use Rattle.next_constraints.specs.EntrySteps.{part-row, part-other}
+use Rattle.next_constraints.specs.Laws.EntryRoom.{holds-as}
+use Rattle.next_constraints.specs.Laws.EntrySteps.{part-row, part-other}
 use borrow.Author.Needs.{needs}
 use Rattle.next_constraints.proofs.entries.t_entry.Statement.{statement}
 use Rattle.next_constraints.proofs.entries.t_entry.Tie as tie

@@ -2,7 +2,7 @@
 use Prim.Native.Nat.{_+_, _%_}
 use native.Mathlib.Omega.{arith}
 use native.Mathlib.Nat.{mod-lt}
-use Rattle.next_constraints.specs.Powers.{place-within, z-room, z-end}
+use Rattle.next_constraints.specs.Laws.Powers.{place-within, z-room, z-end}
 use borrow.Author.Needs.{needs}
 use Rattle.next_constraints.proofs.entries.z_entry.Statement.{statement}
 use Rattle.next_constraints.proofs.entries.z_entry.Tie as tie

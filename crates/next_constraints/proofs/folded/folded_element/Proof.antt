@@ -1,8 +1,9 @@
 -- `next_constraints::folded::folded_element` meets its contract. The loop has added the first i terms.
 use Prim.Native.Nat.{_-_}
 use native.Mathlib.Omega.{arith}
-use Rattle.constraints.specs.Running.{Summing, summing-start, summing-step, summing-end}
-use Rattle.next_constraints.specs.TableLaws.{foldedTerm, folded-end}
+use Rattle.constraints.specs.Laws.Running.{Summing, summing-start, summing-step, summing-end}
+use Rattle.next_constraints.specs.Folded.{foldedTerm}
+use Rattle.next_constraints.specs.Laws.TableLaws.{folded-end}
 use Rattle.next_constraints.proofs.folded.folded_element.Statement.{statement}
 use Rattle.next_constraints.proofs.folded.folded_element.Tie as tie
 

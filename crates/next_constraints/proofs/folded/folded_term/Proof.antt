@@ -1,10 +1,10 @@
 -- `next_constraints::folded::folded_term` meets its contract.
 use native.Mathlib.Omega.{arith}
 use borrow.Author.Needs.{needs}
-use Rattle.integers.specs.Flat.{block-fits}
-use Rattle.constraints.specs.SizeLaws.{witness-small}
-use Rattle.next_constraints.specs.TablePlaces.{element-within}
-use Rattle.next_constraints.specs.TableLaws.{folded-term-end}
+use Rattle.integers.specs.Laws.FlatLaws.{block-fits}
+use Rattle.constraints.specs.Laws.SizeLaws.{witness-small}
+use Rattle.next_constraints.specs.Laws.TablePlaces.{element-within}
+use Rattle.next_constraints.specs.Laws.TableLaws.{folded-term-end}
 use Rattle.next_constraints.proofs.folded.folded_term.Statement.{statement}
 use Rattle.next_constraints.proofs.folded.folded_term.Tie as tie
 

@@ -5,9 +5,9 @@ use native.Mathlib.Nat.{zero-add, zero-mul}
 use native.Mathlib.Omega.{arith}
 use lib.ListN.{length-replicate}
 use lib.IntN.{pos}
-use Rattle.fold.specs.WriterLaws.{Elements, elements-start, elements-turn}
-use Rattle.next_constraints.specs.TablePlaces.{element-within}
-use Rattle.next_constraints.specs.TableLaws.{foldedSum}
+use Rattle.fold.specs.Laws.WriterLaws.{Elements, elements-start, elements-turn}
+use Rattle.next_constraints.specs.Laws.TablePlaces.{element-within}
+use Rattle.next_constraints.specs.Folded.{foldedSum}
 use Rattle.next_constraints.proofs.folded.write_folded.Statement.{statement}
 use Rattle.next_constraints.proofs.folded.write_folded.Tie as tie
 

@@ -1,6 +1,6 @@
 -- `next_constraints::lists::write_tables` meets its contract: each list is written by one call.
 use borrow.Author.Needs.{needs}
-use Rattle.next_constraints.specs.TableLaws.{tables-of}
+use Rattle.next_constraints.specs.Laws.TableLaws.{tables-of}
 use Rattle.next_constraints.proofs.lists.write_tables.Statement.{statement}
 use Rattle.next_constraints.proofs.lists.write_tables.Tie as tie
 

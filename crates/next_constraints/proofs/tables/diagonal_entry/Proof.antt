@@ -2,7 +2,7 @@
 use mathlib.Core.Path.{ap, _∙_}
 use borrow.Author.Needs.{needs}
 use Rattle.ring.specs.Element.{R, array}
-use Rattle.next_constraints.specs.TablePlaces.{cond-equal, cond-apart}
+use Rattle.next_constraints.specs.Laws.TablePlaces.{cond-equal, cond-apart}
 use Rattle.next_constraints.proofs.tables.diagonal_entry.Statement.{statement}
 use Rattle.next_constraints.proofs.tables.diagonal_entry.Tie as tie
 

@@ -1,6 +1,6 @@
 -- `next_constraints::tables::minus_product` meets its contract.
 use borrow.Author.Needs.{needs}
-use Rattle.next_constraints.specs.TableLaws.{product-end}
+use Rattle.next_constraints.specs.Laws.TableLaws.{product-end}
 use Rattle.next_constraints.proofs.tables.minus_product.Statement.{statement}
 use Rattle.next_constraints.proofs.tables.minus_product.Tie as tie
 

@@ -4,8 +4,8 @@ use Prim.Native.Nat.{_+_, _-_}
 use native.Mathlib.Omega.{arith}
 use lib.Dec.{eqb}
 use Rattle.ring.specs.Element.{R}
-use Rattle.fold.specs.WriterLaws.{Rows, rows-start, rows-fit, rows-turn, rows-end}
-use Rattle.next_constraints.specs.TablePlaces.{place-below}
+use Rattle.fold.specs.Laws.WriterLaws.{Rows, rows-start, rows-fit, rows-turn, rows-end}
+use Rattle.next_constraints.specs.Laws.TablePlaces.{place-below}
 use Rattle.next_constraints.proofs.tables.write_diagonal.Statement.{statement}
 use Rattle.next_constraints.proofs.tables.write_diagonal.Tie as tie
 

@@ -5,8 +5,8 @@ use Prim.Native.Nat.{_+_, _-_, _≤_}
 use native.Mathlib.Omega.{arith}
 use lib.Dec.{eqb}
 use Rattle.ring.specs.Element.{R}
-use Rattle.fold.specs.WriterLaws.{Elements, elements-start, elements-turn}
-use Rattle.next_constraints.specs.TablePlaces.{element-after, place-below}
+use Rattle.fold.specs.Laws.WriterLaws.{Elements, elements-start, elements-turn}
+use Rattle.next_constraints.specs.Laws.TablePlaces.{element-after, place-below}
 use Rattle.next_constraints.proofs.tables.write_diagonal_row.Statement.{statement}
 use Rattle.next_constraints.proofs.tables.write_diagonal_row.Tie as tie
 

@@ -5,8 +5,8 @@ use Prim.Native.Nat.{_+_, _-_, _≤_}
 use native.Mathlib.Omega.{arith}
 use Rattle.ring.specs.Element.{R, el}
 use Rattle.fold.specs.NextInstance.{product}
-use Rattle.fold.specs.WriterLaws.{Elements, elements-start, elements-turn}
-use Rattle.next_constraints.specs.TablePlaces.{element-within, element-after, place-below}
+use Rattle.fold.specs.Laws.WriterLaws.{Elements, elements-start, elements-turn}
+use Rattle.next_constraints.specs.Laws.TablePlaces.{element-within, element-after, place-below}
 use Rattle.next_constraints.proofs.tables.write_product_row.Statement.{statement}
 use Rattle.next_constraints.proofs.tables.write_product_row.Tie as tie
 

@@ -5,9 +5,9 @@ use native.Mathlib.Nat.{zero-add, zero-mul}
 use native.Mathlib.Omega.{arith}
 use Rattle.fold.specs.Entries.{aggregateA}
 use Rattle.fold.specs.Sizes.{pairs}
-use Rattle.fold.specs.WriterLaws.{Elements, elements-start, elements-turn}
-use Rattle.fold.specs.SizeBounds.{pairs-bound}
-use Rattle.next_constraints.specs.TablePlaces.{element-within}
+use Rattle.fold.specs.Laws.WriterLaws.{Elements, elements-start, elements-turn}
+use Rattle.fold.specs.Laws.SizeBounds.{pairs-bound}
+use Rattle.next_constraints.specs.Laws.TablePlaces.{element-within}
 use Rattle.next_constraints.proofs.tables.write_relation.Statement.{statement}
 use Rattle.next_constraints.proofs.tables.write_relation.Tie as tie
 

@@ -4,10 +4,10 @@ use Prim.Native.Nat.{ℕ, _+_, _-_}
 use native.Mathlib.Omega.{arith}
 use lib.IntN.{ℤ}
 use Rattle.fold.specs.Arguments.{statementOf, drawsOf, transcriptOf}
-use Rattle.fold.specs.Verdict.{Transcript}
+use Rattle.fold.specs.Statement.{Transcript}
 use Rattle.fold.specs.NextInstance.{constraint}
-use Rattle.fold.specs.WriterLaws.{Rows, rows-start, rows-fit, rows-turn, rows-end}
-use Rattle.next_instance.specs.Places.{place-below}
+use Rattle.fold.specs.Laws.WriterLaws.{Rows, rows-start, rows-fit, rows-turn, rows-end}
+use Rattle.next_instance.specs.Laws.Places.{place-below}
 use Rattle.next_instance.proofs.a_part.write_a.Statement.{statement}
 use Rattle.next_instance.proofs.a_part.write_a.Tie as tie
 

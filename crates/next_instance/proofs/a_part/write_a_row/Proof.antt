@@ -6,10 +6,10 @@ use native.Mathlib.Omega.{arith}
 use lib.ListN.{length}
 use lib.IntN.{ℤ}
 use Rattle.fold.specs.Arguments.{statementOf, drawsOf}
-use Rattle.fold.specs.Verdict.{Transcript}
+use Rattle.fold.specs.Statement.{Transcript}
 use Rattle.fold.specs.NextInstance.{constraint}
-use Rattle.fold.specs.WriterLaws.{Elements, elements-start, elements-turn}
-use Rattle.next_instance.specs.Places.{place-below, element-fits}
+use Rattle.fold.specs.Laws.WriterLaws.{Elements, elements-start, elements-turn}
+use Rattle.next_instance.specs.Laws.Places.{place-below, element-fits}
 use Rattle.next_instance.proofs.a_part.write_a_row.Statement.{statement}
 use Rattle.next_instance.proofs.a_part.write_a_row.Tie as tie
 

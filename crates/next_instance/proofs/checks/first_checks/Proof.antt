@@ -1,5 +1,5 @@
 -- `next_instance::checks::first_checks` meets its contract: each check in turn passes or is the first that fails. Assumes nothing.
-use Rattle.verifier.specs.Judgement.{fails, passes, none-fails}
+use Rattle.verifier.specs.Laws.JudgementLaws.{fails, passes, none-fails}
 use borrow.Author.Needs.{needs}
 use Rattle.next_instance.proofs.checks.first_checks.Statement.{statement}
 use Rattle.next_instance.proofs.checks.first_checks.Tie as tie

@@ -2,7 +2,7 @@
 use mathlib.Core.Path.{refl}
 use native.Mathlib.Omega.{arith}
 use Rattle.fold.specs.Sizes.{nextParts}
-use Rattle.next_instance.specs.Places.{rest-small}
+use Rattle.next_instance.specs.Laws.Places.{rest-small}
 use borrow.Author.Needs.{needs}
 use Rattle.next_instance.proofs.cut.cut_of.Statement.{statement}
 use Rattle.next_instance.proofs.cut.cut_of.Tie as tie

@@ -1,7 +1,7 @@
 -- `next_instance::phi_part::chunk_entry` meets its contract.
 use native.Mathlib.Omega.{arith}
-use Rattle.next_instance.specs.Places.{opening-small}
-use Rattle.next_instance.specs.Written.{entry-inside, entry-padding}
+use Rattle.next_instance.specs.Laws.Places.{opening-small}
+use Rattle.next_instance.specs.Laws.WrittenLaws.{entry-inside, entry-padding}
 use borrow.Author.Needs.{needs}
 use Rattle.next_instance.proofs.phi_part.chunk_entry.Statement.{statement}
 use Rattle.next_instance.proofs.phi_part.chunk_entry.Tie as tie

@@ -5,10 +5,10 @@ use Prim.Native.Nat.{ℕ, _+_, _-_, _≤_}
 use native.Mathlib.Omega.{arith}
 use lib.ListN.{length}
 use lib.IntN.{ℤ}
-use Rattle.fold.specs.Verdict.{Transcript}
-use Rattle.fold.specs.WriterLaws.{Elements, elements-start, elements-turn}
+use Rattle.fold.specs.Statement.{Transcript}
+use Rattle.fold.specs.Laws.WriterLaws.{Elements, elements-start, elements-turn}
 use Rattle.next_constraints.specs.Tables.{Tables}
-use Rattle.next_instance.specs.Places.{place-below, element-fits}
+use Rattle.next_instance.specs.Laws.Places.{place-below, element-fits}
 use Rattle.next_instance.specs.Written.{tableOf, chunkEntry}
 use Rattle.next_instance.proofs.phi_part.write_chunk.Statement.{statement}
 use Rattle.next_instance.proofs.phi_part.write_chunk.Tie as tie

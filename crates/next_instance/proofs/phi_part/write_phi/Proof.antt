@@ -6,10 +6,11 @@ use native.Mathlib.Omega.{arith}
 use lib.ListN.{length}
 use lib.IntN.{ℤ}
 use Rattle.fold.specs.Chunks.{width}
-use Rattle.fold.specs.Verdict.{Transcript}
+use Rattle.fold.specs.Statement.{Transcript}
 use Rattle.next_constraints.specs.Tables.{Tables}
-use Rattle.next_instance.specs.Places.{place-below, cut-sizes, opening-small, part-below, part-short, part-within}
-use Rattle.next_instance.specs.Written.{tableOf, Running, PartsWritten, running-start, running-turn, running-fits, parts-start, parts-turn}
+use Rattle.next_instance.specs.Laws.Places.{place-below, cut-sizes, opening-small, part-below, part-short, part-within}
+use Rattle.next_instance.specs.Written.{tableOf}
+use Rattle.next_instance.specs.Laws.WrittenLaws.{Running, PartsWritten, running-start, running-turn, running-fits, parts-start, parts-turn}
 use Rattle.next_instance.proofs.phi_part.write_phi.Statement.{statement}
 use Rattle.next_instance.proofs.phi_part.write_phi.Tie as tie
 

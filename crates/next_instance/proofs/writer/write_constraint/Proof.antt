@@ -3,8 +3,9 @@ use mathlib.Core.Path.{_∙_}
 use native.Mathlib.Omega.{arith}
 use Rattle.fold.specs.Arguments.{transcriptOf}
 use Rattle.fold.specs.Chunks.{width}
-use Rattle.next_instance.specs.Places.{parts-few, a-fits, φ-fits, b-fits}
-use Rattle.next_instance.specs.Written.{constraintOf, laid-out}
+use Rattle.next_instance.specs.Laws.Places.{parts-few, a-fits, φ-fits, b-fits}
+use Rattle.next_instance.specs.Written.{constraintOf}
+use Rattle.next_instance.specs.Laws.WrittenLaws.{laid-out}
 use borrow.Author.Needs.{needs}
 use Rattle.next_instance.proofs.writer.write_constraint.Statement.{statement}
 use Rattle.next_instance.proofs.writer.write_constraint.Tie as tie

@@ -8,12 +8,13 @@ use lib.IntN.{ℤ}
 use Rattle.fold.specs.Arguments.{transcriptOf}
 use Rattle.fold.specs.Sizes.{nextCount}
 use Rattle.fold.specs.Chunks.{width}
-use Rattle.fold.specs.NextInstance.{laidOut}
-use Rattle.fold.specs.WriterLaws.{Blocks, blocks-start, blocks-turn, blocks-end}
+use Rattle.fold.specs.Constraint.{laidOut}
+use Rattle.fold.specs.Laws.WriterLaws.{Blocks, blocks-start, blocks-turn, blocks-end}
 use Rattle.next_constraints.specs.Tables.{Tables}
-use Rattle.next_instance.specs.Places.{size-small}
-use Rattle.next_instance.specs.Filled.{Filled, filled-start, filled-fit, filled-part, filled-turn, all-fit}
-use Rattle.next_instance.specs.Written.{constraintOf, length-block}
+use Rattle.next_instance.specs.Laws.Places.{size-small}
+use Rattle.next_instance.specs.Laws.Filled.{Filled, filled-start, filled-fit, filled-part, filled-turn, all-fit}
+use Rattle.next_instance.specs.Written.{constraintOf}
+use Rattle.next_instance.specs.Laws.WrittenLaws.{length-block}
 use Rattle.next_instance.proofs.writer.write_constraints.Statement.{statement}
 use Rattle.next_instance.proofs.writer.write_constraints.Tie as tie
 

@@ -3,7 +3,7 @@ use Prim.Native.Nat.{_*_, _≤_}
 use native.Mathlib.Nat.{le-refl}
 use native.Mathlib.Omega.{arith}
 use lib.ListN.{length}
-use Rattle.next_instance.specs.Instance.{table-room, entry-facts, constant-facts, aggregate-facts, out-room, written}
+use Rattle.next_instance.specs.Laws.Instance.{table-room, entry-facts, constant-facts, aggregate-facts, out-room, written}
 use borrow.Author.Needs.{needs}
 use Rattle.next_instance.proofs.writer.write_instance.Statement.{statement}
 use Rattle.next_instance.proofs.writer.write_instance.Tie as tie

@@ -4,8 +4,8 @@ use Prim.Native.Nat.{_+_, _-_, _*_, _≤_}
 use native.Mathlib.Omega.{arith}
 use Rattle.ring.specs.Element.{array}
 use Rattle.fold.specs.Messages.{z}
-use Rattle.prover.specs.Places.{block-fits, part-fits, place-below, element-fits}
-use Rattle.prover.specs.Sums.{folded-start, folded-turn}
+use Rattle.prover.specs.Laws.Places.{block-fits, part-fits, place-below, element-fits}
+use Rattle.prover.specs.Laws.Sums.{folded-start, folded-turn}
 use Rattle.prover.proofs.amortize.folded_element.Statement.{statement}
 use Rattle.prover.proofs.amortize.folded_element.Tie as tie
 

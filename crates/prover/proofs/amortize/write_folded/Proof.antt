@@ -3,8 +3,8 @@ use mathlib.Core.Path.{_≡_, refl}
 use Prim.Native.Nat.{_+_, _-_, _≤_}
 use native.Mathlib.Omega.{arith}
 use Rattle.fold.specs.Messages.{z}
-use Rattle.fold.specs.WriterLaws.{Elements, elements-start, elements-turn}
-use Rattle.prover.specs.Places.{place-below, element-fits}
+use Rattle.fold.specs.Laws.WriterLaws.{Elements, elements-start, elements-turn}
+use Rattle.prover.specs.Laws.Places.{place-below, element-fits}
 use Rattle.prover.proofs.amortize.write_folded.Statement.{statement}
 use Rattle.prover.proofs.amortize.write_folded.Tie as tie
 

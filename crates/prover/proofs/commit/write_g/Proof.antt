@@ -2,9 +2,9 @@
 use borrow.Author.Needs.{needs}
 use native.Mathlib.Nat.{mul-le-mul}
 use native.Mathlib.Omega.{arith}
-use Rattle.fold.specs.SizeBounds.{pairs-bound}
+use Rattle.fold.specs.Laws.SizeBounds.{pairs-bound}
 use Rattle.fold.specs.Messages.{g, gDigits}
-use Rattle.fold.specs.WriterLaws.{garbage-written}
+use Rattle.fold.specs.Laws.WriterLaws.{garbage-written}
 use Rattle.prover.proofs.commit.write_g.Statement.{statement}
 use Rattle.prover.proofs.commit.write_g.Tie as tie
 

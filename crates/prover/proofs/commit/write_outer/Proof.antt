@@ -3,9 +3,9 @@ use mathlib.Core.Path.{_≡_, sym}
 use Prim.Native.Nat.{_-_, _≤_}
 use native.Mathlib.Nat.{zero-add}
 use native.Mathlib.Omega.{arith}
-use Rattle.fold.specs.WriterLaws.{Elements, elements-start, elements-turn, elements-all}
+use Rattle.fold.specs.Laws.WriterLaws.{Elements, elements-start, elements-turn, elements-all}
 use Rattle.prover.specs.Outputs.{outer}
-use Rattle.prover.specs.Places.{block-fits, part-fits}
+use Rattle.prover.specs.Laws.Places.{block-fits, part-fits}
 use Rattle.prover.proofs.commit.write_outer.Statement.{statement}
 use Rattle.prover.proofs.commit.write_outer.Tie as tie
 

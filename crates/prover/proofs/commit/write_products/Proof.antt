@@ -5,8 +5,8 @@ use native.Mathlib.Omega.{arith}
 use Rattle.algebra.specs.DotProduct.{inner}
 use Rattle.fold.specs.Statement.{part}
 use Rattle.fold.specs.Messages.{t, times}
-use Rattle.fold.specs.WriterLaws.{Elements, elements-start, elements-turn}
-use Rattle.prover.specs.Places.{part-fits, place-below, element-fits}
+use Rattle.fold.specs.Laws.WriterLaws.{Elements, elements-start, elements-turn}
+use Rattle.prover.specs.Laws.Places.{part-fits, place-below, element-fits}
 use Rattle.prover.proofs.commit.write_products.Statement.{statement}
 use Rattle.prover.proofs.commit.write_products.Tie as tie
 

@@ -5,9 +5,9 @@ use native.Mathlib.Nat.{mul-le-mul}
 use native.Mathlib.Omega.{arith}
 use Rattle.residues.specs.Digits.{split}
 use Rattle.fold.specs.Messages.{elements, t, tDigits}
-use Rattle.fold.specs.WriterLaws.{Blocks, blocks-start, blocks-fit, blocks-part, blocks-turn, blocks-end, length-element-digits}
-use Rattle.prover.specs.Facts.{t-length}
-use Rattle.prover.specs.Places.{part-fits}
+use Rattle.fold.specs.Laws.WriterLaws.{Blocks, blocks-start, blocks-fit, blocks-part, blocks-turn, blocks-end, length-element-digits}
+use Rattle.prover.specs.Known.Facts.{t-length}
+use Rattle.prover.specs.Laws.Places.{part-fits}
 use Rattle.prover.proofs.commit.write_t.Statement.{statement}
 use Rattle.prover.proofs.commit.write_t.Tie as tie
 

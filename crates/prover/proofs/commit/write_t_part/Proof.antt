@@ -2,8 +2,8 @@
 use borrow.Author.Needs.{needs}
 use Prim.Native.Nat.{_-_, _*_, _+_}
 use native.Mathlib.Omega.{arith}
-use Rattle.fold.specs.WriterLaws.{split-elements}
-use Rattle.prover.specs.Places.{place-below, last-place, block-below}
+use Rattle.fold.specs.Laws.WriterLaws.{split-elements}
+use Rattle.prover.specs.Laws.Places.{place-below, last-place, block-below}
 use Rattle.prover.proofs.commit.write_t_part.Statement.{statement}
 use Rattle.prover.proofs.commit.write_t_part.Tie as tie
 

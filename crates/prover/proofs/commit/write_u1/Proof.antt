@@ -1,7 +1,7 @@
 -- `prover::commit::write_u1` meets its contract: the outer commitment at the sizes of t and g.
 use borrow.Author.Needs.{needs}
 use native.Mathlib.Omega.{arith}
-use Rattle.fold.specs.SizeBounds.{tSize-bound, garbageSize-bound}
+use Rattle.fold.specs.Laws.SizeBounds.{tSize-bound, garbageSize-bound}
 use Rattle.fold.specs.Messages.{u₁, outer₁}
 use Rattle.prover.specs.Outputs.{outer}
 use Rattle.prover.proofs.commit.write_u1.Statement.{statement}

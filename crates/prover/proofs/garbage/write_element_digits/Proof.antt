@@ -1,9 +1,8 @@
 -- `prover::garbage::write_element_digits` meets its contract: the element stands in the last part of the block before it is split.
 use borrow.Author.Needs.{needs}
-use Prim.Native.Nat.{_-_}
 use native.Mathlib.Omega.{arith}
-use Rattle.fold.specs.WriterLaws.{split-element}
-use Rattle.residues.specs.DigitBlocks.{last-fits}
+use Rattle.fold.specs.Laws.WriterLaws.{split-element}
+use Rattle.residues.specs.Laws.DigitBlockLaws.{last-fits}
 use Rattle.prover.proofs.garbage.write_element_digits.Statement.{statement}
 use Rattle.prover.proofs.garbage.write_element_digits.Tie as tie
 

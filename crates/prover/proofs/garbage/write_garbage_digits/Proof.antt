@@ -3,7 +3,7 @@ use borrow.Author.Needs.{needs}
 use mathlib.Core.Path.{_∙_}
 use native.Mathlib.Omega.{arith}
 use Rattle.fold.specs.Sizes.{garbageSize}
-use Rattle.fold.specs.WriterLaws.{garbage-places}
+use Rattle.fold.specs.Laws.WriterLaws.{garbage-places}
 use Rattle.prover.proofs.garbage.write_garbage_digits.Statement.{statement}
 use Rattle.prover.proofs.garbage.write_garbage_digits.Tie as tie
 

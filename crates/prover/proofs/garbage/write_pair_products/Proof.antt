@@ -2,8 +2,8 @@
 use Prim.Native.Nat.{_+_, _-_}
 use native.Mathlib.Omega.{arith}
 use Rattle.fold.specs.Messages.{g}
-use Rattle.fold.specs.WriterLaws.{Rows, rows-start, rows-fit, rows-turn, rows-end}
-use Rattle.prover.specs.Places.{place-below}
+use Rattle.fold.specs.Laws.WriterLaws.{Rows, rows-start, rows-fit, rows-turn, rows-end}
+use Rattle.prover.specs.Laws.Places.{place-below}
 use Rattle.prover.proofs.garbage.write_pair_products.Statement.{statement}
 use Rattle.prover.proofs.garbage.write_pair_products.Tie as tie
 

@@ -5,14 +5,10 @@ use native.Mathlib.Omega.{arith}
 use Rattle.algebra.specs.DotProduct.{inner}
 use Rattle.fold.specs.Statement.{part}
 use Rattle.fold.specs.Messages.{g}
-use Rattle.fold.specs.WriterLaws.{Elements, elements-start, elements-turn}
-use Rattle.prover.specs.Places.{part-fits, place-below, element-fits}
+use Rattle.fold.specs.Laws.WriterLaws.{Elements, elements-start, elements-turn}
+use Rattle.prover.specs.Laws.Places.{part-fits, place-below, element-fits}
 use Rattle.prover.proofs.garbage.write_pair_row.Statement.{statement}
 use Rattle.prover.proofs.garbage.write_pair_row.Tie as tie
-use Rattle.prover.proofs.garbage.write_pair_row.Reads as reads
-use Rattle.prover.proofs.garbage.write_pair_row.Lts as lts
-use Rattle.ring.proofs.element.Element.store.Reads as store-reads
-use Rattle.ring.proofs.product.inner.Reads as inner-reads
 
 abbrev Inv-loop : tie.InvT-loop
 Inv-loop d n r witness i out₀ at count k₀ out k = (k ≤ r - i) × Elements d at (λ k. g d n witness i (i + k)) out₀ k out

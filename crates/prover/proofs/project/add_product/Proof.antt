@@ -1,7 +1,7 @@
 -- `prover::project::add_product` meets its contract: the sum stays far from the limits of 64 bits.
 use mir.Facts.{toZ-ofZ}
-use Rattle.residues.specs.Centring.{widen, wide, product-fits}
-use Rattle.prover.specs.Projected.{term-fits}
+use Rattle.residues.specs.Laws.Centring.{widen, wide, product-fits}
+use Rattle.prover.specs.Laws.ProjectedLaws.{term-fits}
 use Rattle.prover.proofs.project.add_product.Statement.{statement}
 use Rattle.prover.proofs.project.add_product.Tie as tie
 

@@ -5,7 +5,7 @@ use Prim.Native.Nat.{_-_}
 use native.Mathlib.Omega.{arith}
 use lib.ListN.{length}
 use mir.Facts.{toZ-ofZ}
-use Rattle.prover.specs.Projected.{entry-small, Dotted, dotted-start, dotted-small, dotted-turn, dotted-end}
+use Rattle.prover.specs.Laws.ProjectedLaws.{entry-small, Dotted, dotted-start, dotted-small, dotted-turn, dotted-end}
 use Rattle.prover.proofs.project.project_row.Statement.{statement}
 use Rattle.prover.proofs.project.project_row.Tie as tie
 

@@ -2,9 +2,9 @@
 use Prim.Native.Nat.{_+_, _-_}
 use native.Mathlib.Omega.{arith}
 use lib.ListN.{length}
-use Rattle.residues.specs.RangeLaws.{projections-part}
-use Rattle.prover.specs.Facts.{rows-length, witness-short}
-use Rattle.prover.specs.Projected.{Projecting, projecting-start, projecting-fit, projecting-part, projecting-turn, projecting-end}
+use Rattle.residues.specs.Laws.RangeLaws.{projections-part}
+use Rattle.prover.specs.Known.Facts.{rows-length, witness-short}
+use Rattle.prover.specs.Laws.ProjectedLaws.{Projecting, projecting-start, projecting-fit, projecting-part, projecting-turn, projecting-end}
 use Rattle.prover.proofs.project.write_p.Statement.{statement}
 use Rattle.prover.proofs.project.write_p.Tie as tie
 

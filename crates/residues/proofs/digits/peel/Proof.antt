@@ -8,7 +8,8 @@ use mir.Syntax.{w32}
 use mir.Val.{toZ, ofZ}
 use mir.Facts.{toZ-ofZ}
 use Rattle.residues.specs.Digits.{low, rest}
-use Rattle.residues.specs.DigitBlocks.{Peeled, peel-start, peel-step}
+use Rattle.residues.specs.DigitBlocks.{Peeled}
+use Rattle.residues.specs.Laws.DigitBlockLaws.{peel-start, peel-step}
 use Rattle.residues.proofs.digits.peel.Statement.{statement}
 use Rattle.residues.proofs.digits.peel.Tie as tie
 

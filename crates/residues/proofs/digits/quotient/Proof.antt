@@ -3,8 +3,8 @@ use native.Mathlib.Omega.{arith}
 use mir.Syntax.{w32}
 use mir.Val.{SFits}
 use mir.Facts.{toZ-ofZ}
-use Rattle.residues.specs.Centring.{widen}
-use Rattle.residues.specs.DigitSteps.{sub-low-fits, rest-quotient-fits, rest-narrow-fits, rest-held}
+use Rattle.residues.specs.Laws.Centring.{widen}
+use Rattle.residues.specs.Laws.DigitSteps.{sub-low-fits, rest-quotient-fits, rest-narrow-fits, rest-held}
 use borrow.Author.Needs.{needs}
 use Rattle.residues.proofs.digits.quotient.Statement.{statement}
 use Rattle.residues.proofs.digits.quotient.Tie as tie

@@ -8,7 +8,7 @@ use lib.IntN.{ℤ, pos}
 use mir.Syntax.{w32}
 use mir.Val.{ofZ}
 use Rattle.residues.specs.Modulus.{centred}
-use Rattle.residues.specs.DigitSums.{tail, sum-start, sum-step, sum-end, place-fits}
+use Rattle.residues.specs.Laws.DigitSums.{tail, sum-start, sum-step, sum-end, place-fits}
 use Rattle.residues.proofs.digits.recompose_number.Statement.{statement}
 use Rattle.residues.proofs.digits.recompose_number.Tie as tie
 

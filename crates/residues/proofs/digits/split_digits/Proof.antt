@@ -2,7 +2,7 @@
 use mathlib.Core.Path.{sym, _∙_}
 use Prim.Native.Nat.{_-_, _<_}
 use native.Mathlib.Omega.{arith}
-use Rattle.residues.specs.DigitBlocks.{Splitting, split-start, split-step, split-end, digit-block-fits, last-fits}
+use Rattle.residues.specs.Laws.DigitBlockLaws.{Splitting, split-start, split-step, split-end, digit-block-fits, last-fits}
 use Rattle.residues.proofs.digits.split_digits.Statement.{statement}
 use Rattle.residues.proofs.digits.split_digits.Tie as tie
 

@@ -9,8 +9,8 @@ use lib.Signed.{mag}
 use mir.Syntax.{w32}
 use mir.Val.{toZ, ofZ}
 use Rattle.integers.specs.Sums.{sq}
-use Rattle.residues.specs.Words.{word}
-use Rattle.residues.specs.LengthLaws.{Compared, compared-start, compared-step, compared-above, compared-end}
+use Rattle.residues.specs.Laws.Words.{word}
+use Rattle.residues.specs.Laws.LengthLaws.{Compared, compared-start, compared-step, compared-above, compared-end}
 use Rattle.residues.proofs.length.compare.Statement.{statement}
 use Rattle.residues.proofs.length.compare.Tie as tie
 

@@ -1,7 +1,7 @@
 -- `residues::length::lessen` meets its contract: a margin above stays above, and what is left of one within is compared. Assumes nothing.
 use mathlib.Core.Path.{_∙_}
 use borrow.Author.Needs.{needs}
-use Rattle.residues.specs.LengthLaws.{lessened-within, lessened-above}
+use Rattle.residues.specs.Laws.LengthLaws.{lessened-within, lessened-above}
 use Rattle.residues.proofs.length.lessen.Statement.{statement}
 use Rattle.residues.proofs.length.lessen.Tie as tie
 

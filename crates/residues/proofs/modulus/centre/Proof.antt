@@ -3,7 +3,7 @@ use native.Mathlib.Omega.{arith}
 use borrow.Author.Needs.{needs}
 use mir.Facts.{toZ-ofZ}
 use Rattle.residues.specs.Modulus.{q, centred}
-use Rattle.residues.specs.Centring.{quotZ-fits, shifted-fits, centre-fits, centre-fits-wide, remainder-held, shifted-held, low-held}
+use Rattle.residues.specs.Laws.Centring.{quotZ-fits, shifted-fits, centre-fits, centre-fits-wide, remainder-held, shifted-held, low-held}
 use Rattle.residues.proofs.modulus.centre.Statement.{statement}
 use Rattle.residues.proofs.modulus.centre.Tie as tie
 

@@ -1,11 +1,9 @@
 -- `residues::modulus::centre_small` meets its contract: what is added makes the number natural, and one remainder centres it.
-use Prim.Native.Nat.{_≤_}
 use native.Mathlib.Omega.{arith}
 use borrow.Author.Needs.{needs}
-use lib.IntN.{natAbs}
 use mir.Facts.{toZ-ofZ}
 use Rattle.residues.specs.Modulus.{q, centred}
-use Rattle.residues.specs.Centring.{quotZ-fits, centre-fits, centre-fits-wide, raised-fits, raised-held, raised-low-held}
+use Rattle.residues.specs.Laws.Centring.{quotZ-fits, centre-fits, centre-fits-wide, raised-fits, raised-held, raised-low-held}
 use Rattle.residues.proofs.modulus.centre_small.Statement.{statement}
 use Rattle.residues.proofs.modulus.centre_small.Tie as tie
 

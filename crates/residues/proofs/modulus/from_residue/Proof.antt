@@ -5,7 +5,7 @@ use native.Mathlib.Omega.{arith}
 use borrow.Author.Needs.{needs}
 use mir.Syntax.{w64}
 use mir.Facts.{toZ-ofZ, toZ-pos}
-use Rattle.residues.specs.ModulusLaws.{centred-mod}
+use Rattle.residues.specs.Laws.ModulusLaws.{centred-mod}
 use Rattle.residues.proofs.modulus.from_residue.Statement.{statement}
 use Rattle.residues.proofs.modulus.from_residue.Tie as tie
 

@@ -1,7 +1,7 @@
 -- `residues::modulus::residue` meets its contract, by the sign of x.
 use mir.Facts.{toZ-ofZ}
-use Rattle.residues.specs.Centring.{widen, wide}
-use Rattle.residues.specs.ResidueSteps.{residue-negative, residue-nonnegative, raised-fits, raised-natural, natural}
+use Rattle.residues.specs.Laws.Centring.{widen, wide}
+use Rattle.residues.specs.Laws.ResidueSteps.{residue-negative, residue-nonnegative, raised-fits, raised-natural, natural}
 use Rattle.residues.proofs.modulus.residue.Statement.{statement}
 use Rattle.residues.proofs.modulus.residue.Tie as tie
 

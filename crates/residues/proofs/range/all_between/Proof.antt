@@ -8,8 +8,8 @@ use mir.Syntax.{w32}
 use mir.Val.{toZ, ofZ}
 use mir.Facts.{toZ-ofZ}
 use Rattle.residues.specs.Range.{between}
-use Rattle.residues.specs.RangeLaws.{Tested, tested-start, tested-step, tested-end}
-use Rattle.residues.specs.Words.{word}
+use Rattle.residues.specs.Laws.RangeLaws.{Tested, tested-start, tested-step, tested-end}
+use Rattle.residues.specs.Laws.Words.{word}
 use Rattle.residues.proofs.range.all_between.Statement.{statement}
 use Rattle.residues.proofs.range.all_between.Tie as tie
 

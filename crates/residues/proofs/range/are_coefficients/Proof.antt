@@ -1,7 +1,7 @@
 -- `residues::range::are_coefficients` meets its contract: coefficients is `allWithin` at its bound.
 use mathlib.Core.Path.{_∙_}
 use Rattle.residues.specs.Range.{coefficients}
-use Rattle.residues.specs.RangeLaws.{between-bound}
+use Rattle.residues.specs.Laws.RangeLaws.{between-bound}
 use Rattle.residues.proofs.range.are_coefficients.Statement.{statement}
 use Rattle.residues.proofs.range.are_coefficients.Tie as tie
 

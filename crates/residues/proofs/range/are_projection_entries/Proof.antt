@@ -1,7 +1,7 @@
 -- `residues::range::are_projection_entries` meets its contract: projections is `allWithin` at its bound.
 use mathlib.Core.Path.{_∙_}
 use Rattle.residues.specs.Range.{projections}
-use Rattle.residues.specs.RangeLaws.{between-bound}
+use Rattle.residues.specs.Laws.RangeLaws.{between-bound}
 use Rattle.residues.proofs.range.are_projection_entries.Statement.{statement}
 use Rattle.residues.proofs.range.are_projection_entries.Tie as tie
 

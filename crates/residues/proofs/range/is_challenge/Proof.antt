@@ -1,7 +1,7 @@
 -- `residues::range::is_challenge` meets its contract: both tests of row 10, the second as the margin below 71. Assumes nothing.
 use mathlib.Core.Path.{_∙_}
 use borrow.Author.Needs.{needs}
-use Rattle.residues.specs.RangeLaws.{challenge-tests, between-bound}
+use Rattle.residues.specs.Laws.RangeLaws.{challenge-tests, between-bound}
 use Rattle.residues.proofs.range.is_challenge.Statement.{statement}
 use Rattle.residues.proofs.range.is_challenge.Tie as tie
 

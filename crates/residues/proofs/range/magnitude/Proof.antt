@@ -6,8 +6,8 @@ use lib.Dec.{T}
 use lib.IntN.{ℤ, pos, natAbs, _-ℤ_}
 use lib.Signed.{nonNeg, ltZ, yes-nonNeg}
 use mir.Facts.{toZ-ofZ, sfits-widen, fits-natAbs}
-use Rattle.integers.specs.Bridge.{zarith, sub-pn, natAbs-pn, pn-min}
-use Rattle.residues.specs.Words.{wide, wide-opposite, opposite-fits}
+use Rattle.integers.specs.Laws.Bridge.{zarith, sub-pn, natAbs-pn, pn-min}
+use Rattle.residues.specs.Laws.Words.{wide, wide-opposite, opposite-fits}
 use Rattle.residues.proofs.range.magnitude.Statement.{statement}
 use Rattle.residues.proofs.range.magnitude.Tie as tie
 

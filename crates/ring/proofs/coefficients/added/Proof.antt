@@ -4,10 +4,11 @@ use Prim.Native.Nat.{_-_, _≤_}
 use native.Mathlib.Omega.{arith}
 use lib.IntN.{pos, _+ℤ_}
 use lib.ListN.{getD}
-use Rattle.integers.specs.Lists.{tab, upto, fill-start, fill-step}
+use Rattle.integers.specs.Lists.{tab, upto}
+use Rattle.integers.specs.Laws.ListLaws.{fill-start, fill-step}
 use Rattle.residues.specs.Modulus.{centred}
-use Rattle.ring.specs.ElementSteps.{stored-sum}
-use Rattle.ring.specs.ElementArrays.{array-add}
+use Rattle.ring.specs.Laws.ElementSteps.{stored-sum}
+use Rattle.ring.specs.Laws.ElementArrays.{array-add}
 use Rattle.ring.proofs.coefficients.added.Statement.{statement}
 use Rattle.ring.proofs.coefficients.added.Tie as tie
 

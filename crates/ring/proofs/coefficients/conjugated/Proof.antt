@@ -4,9 +4,10 @@ use Prim.Native.Nat.{_-_, _≤_, _<_}
 use native.Mathlib.Omega.{arith}
 use lib.ListN.{getD}
 use lib.IntN.{pos, negsuc}
-use Rattle.integers.specs.Lists.{tab, upto, fill-start, fill-step}
-use Rattle.ring.specs.ElementSteps.{stored-number, stored-product}
-use Rattle.ring.specs.ElementArrays.{turned, turned-zero, turned-suc, array-conjugate}
+use Rattle.integers.specs.Lists.{tab, upto}
+use Rattle.integers.specs.Laws.ListLaws.{fill-start, fill-step}
+use Rattle.ring.specs.Laws.ElementSteps.{stored-number, stored-product}
+use Rattle.ring.specs.Laws.ElementArrays.{turned, turned-zero, turned-suc, array-conjugate}
 use Rattle.ring.proofs.coefficients.conjugated.Statement.{statement}
 use Rattle.ring.proofs.coefficients.conjugated.Tie as tie
 

@@ -7,9 +7,9 @@ use lib.Dec.{eqb}
 use lib.IntN.{pos}
 use Rattle.integers.specs.Remainder.{emod}
 use Rattle.residues.specs.Modulus.{q}
-use Rattle.ring.specs.ElementSteps.{bits32-small}
+use Rattle.ring.specs.Laws.ElementSteps.{bits32-small}
 use Rattle.ring.specs.Element.{every}
-use Rattle.ring.specs.ElementEquality.{every-zero, every-next, same-lift}
+use Rattle.ring.specs.Laws.ElementEquality.{every-zero, every-next, same-lift}
 use Rattle.ring.proofs.coefficients.equal.Statement.{statement}
 use Rattle.ring.proofs.coefficients.equal.Tie as tie
 

@@ -4,10 +4,11 @@ use Prim.Native.Nat.{_+_, _-_, _*_, _≤_}
 use native.Mathlib.Omega.{arith}
 use lib.ListN.{getD}
 use lib.IntN.{pos}
-use Rattle.integers.specs.Lists.{tab, upto, fill-start, fill-step}
+use Rattle.integers.specs.Lists.{tab, upto}
+use Rattle.integers.specs.Laws.ListLaws.{fill-start, fill-step}
 use Rattle.residues.specs.Modulus.{centred}
-use Rattle.ring.specs.ElementSteps.{stored-number}
-use Rattle.ring.specs.ElementArrays.{array-el}
+use Rattle.ring.specs.Laws.ElementSteps.{stored-number}
+use Rattle.ring.specs.Laws.ElementArrays.{array-el}
 use Rattle.ring.proofs.coefficients.loaded.Statement.{statement}
 use Rattle.ring.proofs.coefficients.loaded.Tie as tie
 

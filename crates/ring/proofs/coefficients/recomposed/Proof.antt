@@ -5,10 +5,10 @@ use native.Mathlib.Omega.{arith}
 use mir.Syntax.{w32}
 use mir.Val.{toZ}
 use mir.Facts.{toZ-pos}
-use Rattle.integers.specs.Bridge.{zarith}
+use Rattle.integers.specs.Laws.Bridge.{zarith}
 use Rattle.ring.specs.Element.{R, el, array}
 use Rattle.ring.specs.Joined.{joined}
-use Rattle.ring.specs.Recomposition.{horner-start, horner-turn, horner-end, digit-fits, index-below}
+use Rattle.ring.specs.Laws.Recomposition.{horner-start, horner-turn, horner-end, digit-fits, index-below}
 use Rattle.ring.proofs.coefficients.recomposed.Statement.{statement}
 use Rattle.ring.proofs.coefficients.recomposed.Tie as tie
 

@@ -1,16 +1,17 @@
 -- `ring::coefficients::scaled` meets its contract. The loop's invariant: the first k numbers of the multiple are in place, zeros follow.
 use mathlib.Core.Path.{_≡_, sym, ap, _∙_}
-use Prim.Native.Nat.{_-_, _*_, _≤_}
+use Prim.Native.Nat.{_-_, _≤_}
 use native.Mathlib.Omega.{arith}
 use lib.ListN.{getD}
 use lib.IntN.{pos, _*ℤ_}
 use mir.Syntax.{w32}
 use mir.Val.{toZ}
 use mir.Facts.{toZ-ofZ}
-use Rattle.integers.specs.Lists.{tab, upto, fill-start, fill-step}
+use Rattle.integers.specs.Lists.{tab, upto}
+use Rattle.integers.specs.Laws.ListLaws.{fill-start, fill-step}
 use Rattle.residues.specs.Modulus.{centred}
-use Rattle.ring.specs.ElementSteps.{bits32, stored-product}
-use Rattle.ring.specs.ElementArrays.{array-scale}
+use Rattle.ring.specs.Laws.ElementSteps.{bits32, stored-product}
+use Rattle.ring.specs.Laws.ElementArrays.{array-scale}
 use Rattle.ring.proofs.coefficients.scaled.Statement.{statement}
 use Rattle.ring.proofs.coefficients.scaled.Tie as tie
 

@@ -5,8 +5,9 @@ use native.Mathlib.Omega.{arith}
 use lib.ListN.{length, getD, length-set}
 use lib.IntN.{pos}
 use Rattle.integers.specs.Lists.{tab}
-use Rattle.ring.specs.ElementSteps.{stored-next, take-numbers}
-use Rattle.integers.specs.Over.{over, over-nil}
+use Rattle.ring.specs.Laws.ElementSteps.{stored-next, take-numbers}
+use Rattle.integers.specs.Over.{over}
+use Rattle.integers.specs.Laws.OverLaws.{over-nil}
 use Rattle.ring.proofs.coefficients.stored.Statement.{statement}
 use Rattle.ring.proofs.coefficients.stored.Tie as tie
 

@@ -2,7 +2,7 @@
 use Prim.Native.Nat.{_-_}
 use native.Mathlib.Omega.{arith}
 use Rattle.ring.specs.Product.{column}
-use Rattle.ring.specs.ProductArrays.{Adding, adding-start, adding-step, adding-end, first-fits, second-fits, column-most}
+use Rattle.ring.specs.Laws.ProductArrays.{Adding, adding-start, adding-step, adding-end, first-fits, second-fits, column-most}
 use Rattle.ring.proofs.product.add_pair.Statement.{statement}
 use Rattle.ring.proofs.product.add_pair.Tie as tie
 

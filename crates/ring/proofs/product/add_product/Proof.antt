@@ -1,10 +1,9 @@
 -- `ring::product::add_product` meets its contract: whichever way is taken, the columns that are added are the product's coefficients.
 use mathlib.Core.Path.{sym, _∙_}
 use borrow.Author.Needs.{needs}
-use native.Mathlib.Omega.{arith}
-use Rattle.ring.specs.ProductLaws.{column-value, gained, residues-small}
-use Rattle.ring.specs.ShortOperand.{raised-narrow, short-below}
-use Rattle.ring.specs.ShortLaws.{short-value, weight-bound}
+use Rattle.ring.specs.Laws.ProductLaws.{column-value, gained, residues-small}
+use Rattle.ring.specs.Laws.ShortOperand.{raised-narrow, short-below}
+use Rattle.ring.specs.Laws.ShortLaws.{short-value, weight-bound}
 use Rattle.ring.proofs.product.add_product.Statement.{statement}
 use Rattle.ring.proofs.product.add_product.Tie as tie
 

@@ -2,8 +2,8 @@
 use Prim.Native.Nat.{_-_}
 use native.Mathlib.Omega.{arith}
 use Rattle.ring.specs.Product.{term, column}
-use Rattle.ring.specs.ColumnLaws.{Running, product-fits, term-small, running-start, running-step, running-end}
-use Rattle.ring.specs.ColumnLaws.{running-high, running-high-fits, running-end-fits}
+use Rattle.ring.specs.Laws.ColumnLaws.{Running, product-fits, term-small, running-start, running-step, running-end}
+use Rattle.ring.specs.Laws.ColumnLaws.{running-high, running-high-fits, running-end-fits}
 use Rattle.ring.proofs.product.columns.Statement.{statement}
 use Rattle.ring.proofs.product.columns.Tie as tie
 

@@ -4,7 +4,7 @@ use Prim.Native.Nat.{_-_, _≤_}
 use native.Mathlib.Omega.{arith}
 use Rattle.ring.specs.Element.{el}
 use Rattle.ring.specs.Product.{Extended}
-use Rattle.ring.specs.ProductArrays.{residue-el, residue-small, extended-start, extended-step}
+use Rattle.ring.specs.Laws.ProductArrays.{residue-el, residue-small, extended-start, extended-step}
 use Rattle.ring.proofs.product.extend.Statement.{statement}
 use Rattle.ring.proofs.product.extend.Tie as tie
 

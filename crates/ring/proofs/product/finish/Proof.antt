@@ -5,7 +5,8 @@ use native.Mathlib.Omega.{arith}
 use lib.ListN.{getD}
 use lib.IntN.{pos}
 use mir.Facts.{toZ-ofZ}
-use Rattle.integers.specs.Lists.{tab, upto, fill-start, fill-step}
+use Rattle.integers.specs.Lists.{tab, upto}
+use Rattle.integers.specs.Laws.ListLaws.{fill-start, fill-step}
 use Rattle.residues.specs.Modulus.{centred}
 use Rattle.ring.proofs.product.finish.Statement.{statement}
 use Rattle.ring.proofs.product.finish.Tie as tie

@@ -2,7 +2,7 @@
 use mathlib.Core.Path.{_∙_}
 use Prim.Native.Nat.{_-_}
 use native.Mathlib.Omega.{arith}
-use Rattle.ring.specs.ProductLaws.{pair, Summed, summed-start, summed-step, summed-end, holds-room, element-within, index-within}
+use Rattle.ring.specs.Laws.ProductLaws.{pair, Summed, summed-start, summed-step, summed-end, holds-room, element-within, index-within}
 use Rattle.ring.proofs.product.inner.Statement.{statement}
 use Rattle.ring.proofs.product.inner.Tie as tie
 

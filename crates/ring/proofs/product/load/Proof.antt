@@ -4,7 +4,7 @@ use Prim.Native.Nat.{_-_, _≤_}
 use native.Mathlib.Omega.{arith}
 use Rattle.ring.specs.Element.{el}
 use Rattle.ring.specs.Product.{Residues}
-use Rattle.ring.specs.ProductArrays.{residue-el, residues-start, residues-step}
+use Rattle.ring.specs.Laws.ProductArrays.{residue-el, residues-start, residues-step}
 use Rattle.ring.proofs.product.load.Statement.{statement}
 use Rattle.ring.proofs.product.load.Tie as tie
 

@@ -1,7 +1,7 @@
 -- `ring::product::multiply` meets its contract: a product is an inner product of one pair.
 use mathlib.Core.Path.{ap, _∙_}
 use Rattle.ring.specs.Element.{array}
-use Rattle.ring.specs.ProductLaws.{one-pair}
+use Rattle.ring.specs.Laws.ProductLaws.{one-pair}
 use borrow.Author.Needs.{needs}
 use Rattle.ring.proofs.product.multiply.Statement.{statement}
 use Rattle.ring.proofs.product.multiply.Tie as tie

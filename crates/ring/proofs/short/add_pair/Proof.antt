@@ -2,8 +2,8 @@
 use Prim.Native.Nat.{_-_}
 use native.Mathlib.Omega.{arith}
 use Rattle.ring.specs.Short.{shortColumn}
-use Rattle.ring.specs.ShortLaws.{short-most}
-use Rattle.ring.specs.ProductArrays.{Adding, adding-start, adding-step, adding-end, first-fits, second-fits}
+use Rattle.ring.specs.Laws.ShortLaws.{short-most}
+use Rattle.ring.specs.Laws.ProductArrays.{Adding, adding-start, adding-step, adding-end, first-fits, second-fits}
 use Rattle.ring.proofs.short.add_pair.Statement.{statement}
 use Rattle.ring.proofs.short.add_pair.Tie as tie
 

@@ -2,9 +2,9 @@
 use Prim.Native.Nat.{_-_}
 use native.Mathlib.Omega.{arith}
 use Rattle.ring.specs.Product.{term}
-use Rattle.ring.specs.ColumnLaws.{product-fits}
+use Rattle.ring.specs.Laws.ColumnLaws.{product-fits}
 use Rattle.ring.specs.Short.{shortColumn}
-use Rattle.ring.specs.ShortLaws.{Sized, narrow-term, sized-start, sized-step, sized-most, sized-fits, sized-end}
+use Rattle.ring.specs.Laws.ShortLaws.{Sized, narrow-term, sized-start, sized-step, sized-most, sized-fits, sized-end}
 use Rattle.ring.proofs.short.columns.Statement.{statement}
 use Rattle.ring.proofs.short.columns.Tie as tie
 

@@ -4,8 +4,8 @@ use Prim.Native.Nat.{_+_, _-_, _*_}
 use native.Mathlib.Omega.{arith}
 use lib.ListN.{getD}
 use lib.IntN.{pos, natAbs}
-use Rattle.residues.specs.Words.{word}
-use Rattle.ring.specs.ShortOperand.{Counting, counting-start, counting-step, counting-end, magnitude-small}
+use Rattle.residues.specs.Laws.Words.{word}
+use Rattle.ring.specs.Laws.ShortOperand.{Counting, counting-start, counting-step, counting-end, magnitude-small}
 use Rattle.ring.proofs.short.is_short.Statement.{statement}
 use Rattle.ring.proofs.short.is_short.Tie as tie
 

@@ -4,9 +4,9 @@ use Prim.Native.Nat.{_+_, _-_, _*_, _≤_}
 use native.Mathlib.Omega.{arith}
 use lib.ListN.{getD}
 use lib.IntN.{pos}
-use Rattle.residues.specs.Words.{word}
+use Rattle.residues.specs.Laws.Words.{word}
 use Rattle.ring.specs.Short.{lifted, Raised}
-use Rattle.ring.specs.ShortOperand.{raised-start, raised-step, raised-limit, short-at}
+use Rattle.ring.specs.Laws.ShortOperand.{raised-start, raised-step, raised-limit, short-at}
 use Rattle.ring.proofs.short.raise.Statement.{statement}
 use Rattle.ring.proofs.short.raise.Tie as tie
 

@@ -1,9 +1,9 @@
 -- `ring::short::raised` meets its contract: 2^22 + x is not negative.
 use mathlib.Core.Path.{refl}
 use mir.Facts.{toZ-ofZ, sfits-widen}
-use Rattle.residues.specs.Words.{wide}
+use Rattle.residues.specs.Laws.Words.{wide}
 use Rattle.ring.specs.Short.{lifted}
-use Rattle.ring.specs.ShortOperand.{raised-fits, raised-natural}
+use Rattle.ring.specs.Laws.ShortOperand.{raised-fits, raised-natural}
 use Rattle.ring.proofs.short.raised.Statement.{statement}
 use Rattle.ring.proofs.short.raised.Tie as tie
 

@@ -1,7 +1,7 @@
 -- `ring::short::raised_weight` meets its contract. The loop keeps the sum of the residues so far.
 use Prim.Native.Nat.{_-_}
 use native.Mathlib.Omega.{arith}
-use Rattle.ring.specs.ShortLaws.{Totalling, totalling-start, totalling-step, totalling-end}
+use Rattle.ring.specs.Laws.ShortLaws.{Totalling, totalling-start, totalling-step, totalling-end}
 use Rattle.ring.proofs.short.raised_weight.Statement.{statement}
 use Rattle.ring.proofs.short.raised_weight.Tie as tie
 

@@ -3,8 +3,8 @@ use Prim.Native.Nat.{_*_, _≤_}
 use native.Mathlib.Omega.{arith}
 use lib.ListN.{length}
 use borrow.Author.Needs.{needs}
-use Rattle.residues.specs.DigitBlocks.{last-fits}
-use Rattle.ring_cases.specs.ResultLaws.{degree-fits, base-fits, count-fits, rest-length, block-fits, block-length, element-digits-out}
+use Rattle.residues.specs.Laws.DigitBlockLaws.{last-fits}
+use Rattle.ring_cases.specs.Laws.ResultLaws.{degree-fits, base-fits, count-fits, rest-length, block-fits, block-length, element-digits-out}
 use Rattle.ring_cases.proofs.digits.write_element_digits.Statement.{statement}
 use Rattle.ring_cases.proofs.digits.write_element_digits.Tie as tie
 

@@ -8,7 +8,7 @@ use mir.Syntax.{w32}
 use mir.Val.{toZ, ofZ}
 use mir.Facts.{toZ-ofZ}
 use borrow.Author.Needs.{needs}
-use Rattle.ring_cases.specs.ResultLaws.{block-length, number-digits-out, results-length, count-fits, base-fits}
+use Rattle.ring_cases.specs.Laws.ResultLaws.{block-length, number-digits-out, results-length, count-fits, base-fits}
 use Rattle.ring_cases.proofs.digits.write_number_digits.Statement.{statement}
 use Rattle.ring_cases.proofs.digits.write_number_digits.Tie as tie
 

@@ -3,11 +3,11 @@ use mathlib.Core.Path.{refl, _∙_}
 use Prim.Native.Nat.{_≤_}
 use native.Mathlib.Omega.{arith}
 use borrow.Author.Needs.{needs}
-use Rattle.ring_cases.specs.ResultLaws.{inner-fits, rest-length}
+use Rattle.ring_cases.specs.Laws.ResultLaws.{inner-fits, rest-length}
 use Rattle.ring_cases.specs.Results.{innerAt}
 use Rattle.ring_cases.proofs.elements.inner.Statement.{statement}
 use Rattle.ring_cases.proofs.elements.inner.Tie as tie
-use Rattle.cases.specs.NumberLaws.{size-bound}
+use Rattle.cases.specs.Laws.NumberLaws.{size-bound}
 
 size-requires : tie.Need-size-requires
 size-requires c κs = search needs

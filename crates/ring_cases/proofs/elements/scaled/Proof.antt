@@ -4,9 +4,9 @@ use native.Mathlib.Omega.{arith}
 use mir.Syntax.{w32}
 use mir.Facts.{toZ-ofZ}
 use borrow.Author.Needs.{needs}
-use Rattle.ring.specs.ElementLaws.{lift-array}
+use Rattle.ring.specs.Laws.ElementLaws.{lift-array}
 use Rattle.ring_cases.specs.Results.{scaledAt}
-use Rattle.ring_cases.specs.ResultLaws.{rest-length}
+use Rattle.ring_cases.specs.Laws.ResultLaws.{rest-length}
 use Rattle.ring_cases.proofs.elements.scaled.Statement.{statement}
 use Rattle.ring_cases.proofs.elements.scaled.Tie as tie
 

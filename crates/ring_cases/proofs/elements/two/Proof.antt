@@ -2,9 +2,9 @@
 use mathlib.Core.Path.{refl, _∙_}
 use native.Mathlib.Omega.{arith}
 use borrow.Author.Needs.{needs}
-use Rattle.ring.specs.ElementLaws.{lift-array}
+use Rattle.ring.specs.Laws.ElementLaws.{lift-array}
 use Rattle.ring_cases.specs.Results.{twoAt}
-use Rattle.ring_cases.specs.ResultLaws.{rest-length}
+use Rattle.ring_cases.specs.Laws.ResultLaws.{rest-length}
 use Rattle.ring_cases.proofs.elements.two.Statement.{statement}
 use Rattle.ring_cases.proofs.elements.two.Tie as tie
 

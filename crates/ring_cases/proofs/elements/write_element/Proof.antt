@@ -1,7 +1,7 @@
 -- `ring_cases::elements::write_element` meets its contract. Assumes nothing.
 use native.Mathlib.Omega.{arith}
 use borrow.Author.Needs.{needs}
-use Rattle.ring_cases.specs.ResultLaws.{degree-fits, element-out}
+use Rattle.ring_cases.specs.Laws.ResultLaws.{degree-fits, element-out}
 use Rattle.ring_cases.proofs.elements.write_element.Statement.{statement}
 use Rattle.ring_cases.proofs.elements.write_element.Tie as tie
 

@@ -1,6 +1,6 @@
 -- `ring_cases::product::element` meets its contract. Assumes nothing.
 use borrow.Author.Needs.{needs}
-use Rattle.ring_cases.specs.ResultLaws.{element-is}
+use Rattle.ring_cases.specs.Laws.ResultLaws.{element-is}
 use Rattle.ring_cases.proofs.product.element.Statement.{statement}
 use Rattle.ring_cases.proofs.product.element.Tie as tie
 

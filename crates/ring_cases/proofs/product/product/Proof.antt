@@ -3,7 +3,7 @@ use mathlib.Core.Path.{ap, _∙_}
 use mir.Syntax.{w64}
 use mir.Facts.{toZ-ofZ}
 use borrow.Author.Needs.{needs}
-use Rattle.integers.specs.Bridge.{P}
+use Rattle.integers.specs.Laws.Bridge.{P}
 use Rattle.ring_cases.specs.Results.{productAt}
 use Rattle.ring_cases.proofs.product.product.Statement.{statement}
 use Rattle.ring_cases.proofs.product.product.Tie as tie

@@ -3,7 +3,7 @@ use mathlib.Core.Path.{_∙_}
 use mir.Syntax.{w32}
 use mir.Facts.{toZ-ofZ}
 use borrow.Author.Needs.{needs}
-use Rattle.ring_cases.specs.ResultLaws.{product-out}
+use Rattle.ring_cases.specs.Laws.ResultLaws.{product-out}
 use Rattle.ring_cases.proofs.product.write_product.Statement.{statement}
 use Rattle.ring_cases.proofs.product.write_product.Tie as tie
 

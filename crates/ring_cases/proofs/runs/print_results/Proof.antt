@@ -2,7 +2,7 @@
 use mathlib.Core.Path.{sym, _∙_}
 use lib.Seq.{length-take-le}
 use borrow.Author.Needs.{needs}
-use Rattle.ring_cases.specs.ResultLaws.{results-fit}
+use Rattle.ring_cases.specs.Laws.ResultLaws.{results-fit}
 use Rattle.ring_cases.proofs.runs.print_results.Statement.{statement}
 use Rattle.ring_cases.proofs.runs.print_results.Tie as tie
 

@@ -7,7 +7,7 @@ use borrow.Author.Needs.{needs}
 use Rattle.ring_cases.proofs.runs.run_all.Statement.{statement}
 use Rattle.ring_cases.proofs.runs.run_all.Tie as tie
 use Rattle.cases.specs.Text.{pastLines}
-use Rattle.cases.specs.TextLaws.{line-fits, line-ahead, lines-next, lines-end}
+use Rattle.cases.specs.Laws.TextLaws.{line-fits, line-ahead, lines-next, lines-end}
 
 abbrev Inv-loop : tie.InvT-loop
 Inv-loop lines at₀ count₀ at count = (count ≤ at) × (at ≤ length lines) × (drop at lines ≡ pastLines count lines)

@@ -1,10 +1,10 @@
 -- `ring_cases::runs::run_line` meets its contract. Assumes nothing.
 use mathlib.Core.Path.{refl, sym}
 use lib.IntN.{ℤ, pos}
-use Rattle.ring_cases.specs.ResultLaws.{line-results}
+use Rattle.ring_cases.specs.Laws.ResultLaws.{line-results}
 use Rattle.ring_cases.proofs.runs.run_line.Statement.{statement}
 use Rattle.ring_cases.proofs.runs.run_line.Tie as tie
-use Rattle.cases.specs.TextLaws.{zeros, filled, read-length, words-length}
+use Rattle.cases.specs.Laws.TextLaws.{zeros, filled, read-length, words-length}
 
 scan-requires : tie.Need-scan-requires
 scan-requires c κs = zeros 2048

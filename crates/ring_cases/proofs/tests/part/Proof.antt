@@ -1,6 +1,6 @@
 -- `ring_cases::tests::part` meets its contract. Assumes nothing.
 use borrow.Author.Needs.{needs}
-use Rattle.ring_cases.specs.ResultLaws.{list-short, list-whole}
+use Rattle.ring_cases.specs.Laws.ResultLaws.{list-short, list-whole}
 use Rattle.ring_cases.proofs.tests.part.Statement.{statement}
 use Rattle.ring_cases.proofs.tests.part.Tie as tie
 

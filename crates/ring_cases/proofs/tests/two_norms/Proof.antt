@@ -4,11 +4,11 @@ use native.Mathlib.Omega.{arith}
 use mir.Syntax.{w64}
 use mir.Facts.{toZ-ofZ}
 use borrow.Author.Needs.{needs}
-use Rattle.integers.specs.Bridge.{P}
+use Rattle.integers.specs.Laws.Bridge.{P}
 use Rattle.ring_cases.specs.Results.{twoNormsAt}
 use Rattle.ring_cases.proofs.tests.two_norms.Statement.{statement}
 use Rattle.ring_cases.proofs.tests.two_norms.Tie as tie
-use Rattle.cases.specs.NumberLaws.{size-bound}
+use Rattle.cases.specs.Laws.NumberLaws.{size-bound}
 
 add-part : tie.Need-add-part
 add-part c =

@@ -4,7 +4,7 @@ use native.Mathlib.Omega.{arith}
 use mir.Facts.{toZ-ofZ}
 use borrow.Author.Needs.{needs}
 use Rattle.ring_cases.specs.Results.{constantAt}
-use Rattle.ring_cases.specs.ResultLaws.{degree-fits, rest-length}
+use Rattle.ring_cases.specs.Laws.ResultLaws.{degree-fits, rest-length}
 use Rattle.ring_cases.proofs.values.constant.Statement.{statement}
 use Rattle.ring_cases.proofs.values.constant.Tie as tie
 

@@ -4,7 +4,7 @@ use native.Mathlib.Omega.{arith}
 use mir.Facts.{toZ-ofZ}
 use borrow.Author.Needs.{needs}
 use Rattle.ring_cases.specs.Results.{recomposedAt}
-use Rattle.ring_cases.specs.ResultLaws.{base-fits, count-fits}
+use Rattle.ring_cases.specs.Laws.ResultLaws.{base-fits, count-fits}
 use Rattle.ring_cases.proofs.values.recomposed.Statement.{statement}
 use Rattle.ring_cases.proofs.values.recomposed.Tie as tie
 

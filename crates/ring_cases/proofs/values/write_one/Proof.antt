@@ -1,7 +1,7 @@
 -- `ring_cases::values::write_one` meets its contract. Assumes nothing.
 use mir.Facts.{toZ-ofZ}
 use borrow.Author.Needs.{needs}
-use Rattle.ring_cases.specs.ResultLaws.{one-out}
+use Rattle.ring_cases.specs.Laws.ResultLaws.{one-out}
 use Rattle.ring_cases.proofs.values.write_one.Statement.{statement}
 use Rattle.ring_cases.proofs.values.write_one.Tie as tie
 

@@ -1,6 +1,6 @@
 use mathlib.Core.Path.{sym}
 -- `sheet::field::column_byte` meets its contract.
-use Rattle.sheet.specs.FieldLaws.{byte-digit, byte-none}
+use Rattle.sheet.specs.Laws.FieldLaws.{byte-digit, byte-none}
 use borrow.Author.Needs.{needs}
 use Rattle.sheet.proofs.field.column_byte.Statement.{statement}
 use Rattle.sheet.proofs.field.column_byte.Tie as tie

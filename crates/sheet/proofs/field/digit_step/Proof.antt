@@ -1,6 +1,6 @@
 -- `sheet::field::digit_step` meets its contract.
 use mathlib.Core.Path.{sym}
-use Rattle.sheet.specs.ByteLaws.{other-step, high-step, digit-sum}
+use Rattle.sheet.specs.Laws.ByteLaws.{other-step, high-step, digit-sum}
 use borrow.Author.Needs.{needs}
 use Rattle.sheet.proofs.field.digit_step.Statement.{statement}
 use Rattle.sheet.proofs.field.digit_step.Tie as tie

@@ -4,7 +4,7 @@ use Prim.Native.Nat.{_-_, _≤_}
 use native.Mathlib.Omega.{arith}
 use lib.ListN.{take, drop}
 use Rattle.sheet.specs.Field.{valueFrom}
-use Rattle.sheet.specs.FieldSteps.{value-start, value-next, value-below}
+use Rattle.sheet.specs.Laws.FieldSteps.{value-start, value-next, value-below}
 use Rattle.sheet.proofs.field.digits_value.Statement.{statement}
 use Rattle.sheet.proofs.field.digits_value.Tie as tie
 

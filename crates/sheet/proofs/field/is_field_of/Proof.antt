@@ -1,6 +1,6 @@
 -- `sheet::field::is_field_of` meets its contract. The loop's invariant: the bytes from `left` on agree, so the others decide.
 use native.Mathlib.Omega.{arith}
-use Rattle.sheet.specs.FieldSteps.{Matching, matching-start, matching-not, matching-step, matching-other, matching-end}
+use Rattle.sheet.specs.Laws.FieldSteps.{Matching, matching-start, matching-not, matching-step, matching-other, matching-end}
 use Rattle.sheet.proofs.field.is_field_of.Statement.{statement}
 use Rattle.sheet.proofs.field.is_field_of.Tie as tie
 

@@ -1,5 +1,5 @@
 -- `sheet::field::opposite` meets its contract.
-use Rattle.sheet.specs.FieldsLaws.{opposite-fits, opposite-is}
+use Rattle.sheet.specs.Laws.FieldsLaws.{opposite-fits, opposite-is}
 use borrow.Author.Needs.{needs}
 use Rattle.sheet.proofs.field.opposite.Statement.{statement}
 use Rattle.sheet.proofs.field.opposite.Tie as tie

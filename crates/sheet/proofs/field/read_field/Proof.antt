@@ -3,7 +3,7 @@ use mathlib.Core.Path.{_∙_}
 use native.Mathlib.Omega.{arith}
 use lib.ListN.{drop}
 use mir.Facts.{toZ-ofZ}
-use Rattle.sheet.specs.FieldsLaws.{field-short, value-fits, field-plain, field-minus, field-neither}
+use Rattle.sheet.specs.Laws.FieldsLaws.{field-short, value-fits, field-plain, field-minus, field-neither}
 use borrow.Author.Needs.{needs}
 use Rattle.sheet.proofs.field.read_field.Statement.{statement}
 use Rattle.sheet.proofs.field.read_field.Tie as tie

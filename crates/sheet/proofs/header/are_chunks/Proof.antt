@@ -3,7 +3,7 @@ use mathlib.Core.Path.{ap, _∙_}
 use native.Mathlib.Omega.{arith}
 use mir.Facts.{toZ-ofZ, fits-natAbs}
 use Rattle.fold.specs.Refusals.{between}
-use Rattle.sheet.specs.HeaderLaws.{between-nonNeg, between-size, chunks-left, chunks-right, chunks-refused, chunks-tested}
+use Rattle.sheet.specs.Laws.HeaderLaws.{between-nonNeg, between-size, chunks-left, chunks-right, chunks-refused, chunks-tested}
 use borrow.Author.Needs.{needs}
 use Rattle.sheet.proofs.header.are_chunks.Statement.{statement}
 use Rattle.sheet.proofs.header.are_chunks.Tie as tie

@@ -3,7 +3,7 @@ use mathlib.Core.Path.{ap, _∙_}
 use mir.Facts.{toZ-ofZ}
 use Rattle.fold.specs.Refusals.{between, rank, parts, constraintCount, projectionCount}
 use Rattle.sheet.specs.HeaderTests.{countsTest}
-use Rattle.sheet.specs.HeaderLaws.{and-all, and-one}
+use Rattle.sheet.specs.Laws.HeaderLaws.{and-all, and-one}
 use borrow.Author.Needs.{needs}
 use Rattle.sheet.proofs.header.counts_ok.Statement.{statement}
 use Rattle.sheet.proofs.header.counts_ok.Tie as tie

@@ -2,7 +2,7 @@
 use mathlib.Core.Path.{ap, _∙_}
 use Rattle.sheet.specs.HeaderTests.{hasEnd}
 use Rattle.sheet.specs.Reading.{headerLaid}
-use Rattle.sheet.specs.HeaderLaws.{has-end-is}
+use Rattle.sheet.specs.Laws.HeaderLaws.{has-end-is}
 use borrow.Author.Needs.{needs}
 use Rattle.sheet.proofs.header.header_laid.Statement.{statement}
 use Rattle.sheet.proofs.header.header_laid.Tie as tie

@@ -2,7 +2,7 @@
 use mathlib.Core.Path.{ap, ap₂, _∙_}
 use mir.Facts.{toZ-ofZ}
 use Rattle.fold.specs.Refusals.{degree, chunks}
-use Rattle.sheet.specs.HeaderLaws.{header-nest}
+use Rattle.sheet.specs.Laws.HeaderLaws.{header-nest}
 use borrow.Author.Needs.{needs}
 use Rattle.sheet.proofs.header.header_refusal.Statement.{statement}
 use Rattle.sheet.proofs.header.header_refusal.Tie as tie

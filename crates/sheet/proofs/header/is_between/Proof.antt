@@ -1,6 +1,6 @@
 -- `sheet::header::is_between` meets its contract.
 use mir.Facts.{toZ-ofZ, fits-natAbs}
-use Rattle.sheet.specs.HeaderLaws.{nonNeg-sign, between-negative, between-positive}
+use Rattle.sheet.specs.Laws.HeaderLaws.{nonNeg-sign, between-negative, between-positive}
 use Rattle.sheet.proofs.header.is_between.Statement.{statement}
 use Rattle.sheet.proofs.header.is_between.Tie as tie
 

@@ -1,6 +1,6 @@
 -- `sheet::header::is_degree` meets its contract.
 use mir.Facts.{toZ-ofZ, fits-natAbs}
-use Rattle.sheet.specs.HeaderLaws.{nonNeg-sign, degree-negative, degree-positive}
+use Rattle.sheet.specs.Laws.HeaderLaws.{nonNeg-sign, degree-negative, degree-positive}
 use Rattle.sheet.proofs.header.is_degree.Statement.{statement}
 use Rattle.sheet.proofs.header.is_degree.Tie as tie
 

@@ -1,6 +1,6 @@
 -- `sheet::reader::body_refusal` meets its contract.
 use native.Mathlib.Omega.{arith}
-use Rattle.sheet.specs.ReadingLaws.{lines-positive, twelve, seven, later, laid-inside}
+use Rattle.sheet.specs.Laws.ReadingLaws.{lines-positive, twelve, seven, later, laid-inside}
 use borrow.Author.Needs.{needs}
 use Rattle.sheet.proofs.reader.body_refusal.Statement.{statement}
 use Rattle.sheet.proofs.reader.body_refusal.Tie as tie

@@ -5,7 +5,7 @@ use Prim.Native.Nat.{_+_, _*_, _≤_}
 use Rattle.sheet.specs.Sections.{total}
 use Rattle.fold.specs.Refusals.{challenges}
 use Rattle.sheet.specs.Reading.{challengesIn}
-use Rattle.sheet.specs.ReadingLaws.{lines-positive, front-span, later-span, body-part, body-coefficients, challenges-end}
+use Rattle.sheet.specs.Laws.ReadingLaws.{lines-positive, front-span, later-span, body-part, body-coefficients, challenges-end}
 use Rattle.sheet.proofs.reader.challenges_ok.Statement.{statement}
 use Rattle.sheet.proofs.reader.challenges_ok.Tie as tie
 

@@ -1,5 +1,5 @@
 -- `sheet::reader::number_refusal` meets its contract.
-use Rattle.sheet.specs.ReadingLaws.{eight, nine-ten}
+use Rattle.sheet.specs.Laws.ReadingLaws.{eight, nine-ten}
 use mathlib.Core.Path.{sym, _∙_}
 use borrow.Author.Tests.{not-false}
 use borrow.Author.Needs.{needs}

@@ -1,5 +1,5 @@
 -- `sheet::reader::read_sheet` meets its contract.
-use Rattle.sheet.specs.AnswerLaws.{read-refused, read-sheet, sheet-inside, sheet-coefficients, sheet-fits}
+use Rattle.sheet.specs.Laws.AnswerLaws.{read-refused, read-sheet, sheet-inside, sheet-coefficients, sheet-fits}
 use borrow.Author.Needs.{needs}
 use Rattle.sheet.proofs.reader.read_sheet.Statement.{statement}
 use Rattle.sheet.proofs.reader.read_sheet.Tie as tie

@@ -3,7 +3,7 @@ use mathlib.Core.Path.{sym, ap, _∙_}
 use native.Mathlib.Omega.{arith}
 use Rattle.residues.specs.Range.{allWithin, projections}
 use Rattle.sheet.specs.Reading.{rowsIn}
-use Rattle.sheet.specs.ReadingLaws.{lines-positive, front-span, later-span, body-part, rows-end}
+use Rattle.sheet.specs.Laws.ReadingLaws.{lines-positive, front-span, later-span, body-part, rows-end}
 use Rattle.sheet.proofs.reader.rows_ok.Statement.{statement}
 use Rattle.sheet.proofs.reader.rows_ok.Tie as tie
 

@@ -1,5 +1,5 @@
 -- `sheet::reader::sheet_numbers` meets its contract.
-use Rattle.sheet.specs.AnswerLaws.{good-header, count-refused, count-good}
+use Rattle.sheet.specs.Laws.AnswerLaws.{good-header, count-refused, count-good}
 use borrow.Author.Needs.{needs}
 use Rattle.sheet.proofs.reader.sheet_numbers.Statement.{statement}
 use Rattle.sheet.proofs.reader.sheet_numbers.Tie as tie

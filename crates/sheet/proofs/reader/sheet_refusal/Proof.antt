@@ -1,5 +1,5 @@
 -- `sheet::reader::sheet_refusal` meets its contract.
-use Rattle.sheet.specs.AnswerLaws.{refused-header, good-header, rest-refusal}
+use Rattle.sheet.specs.Laws.AnswerLaws.{refused-header, good-header, rest-refusal}
 use borrow.Author.Needs.{needs}
 use Rattle.sheet.proofs.reader.sheet_refusal.Statement.{statement}
 use Rattle.sheet.proofs.reader.sheet_refusal.Tie as tie

@@ -2,8 +2,8 @@
 use mathlib.Core.Path.{ap, _∙_}
 use native.Mathlib.Omega.{arith}
 use Rattle.residues.specs.Range.{coefficients}
-use Rattle.sheet.specs.ReadingLaws.{lines-positive, front-span, all-numbers}
-use Rattle.sheet.specs.AnswerLaws.{stored}
+use Rattle.sheet.specs.Laws.ReadingLaws.{lines-positive, front-span, all-numbers}
+use Rattle.sheet.specs.Laws.AnswerLaws.{stored}
 use borrow.Author.Needs.{needs}
 use Rattle.sheet.proofs.reader.store.Statement.{statement}
 use Rattle.sheet.proofs.reader.store.Tie as tie

@@ -1,7 +1,7 @@
 -- `sheet::sizes::challenges_from` meets its contract.
 use native.Mathlib.Nat.{mul-le-mul}
 use native.Mathlib.Omega.{arith}
-use Rattle.sheet.specs.SectionLaws.{before-challenges, challenges-is}
+use Rattle.sheet.specs.Laws.SectionLaws.{before-challenges, challenges-is}
 use borrow.Author.Needs.{needs}
 use Rattle.sheet.proofs.sizes.challenges_from.Statement.{statement}
 use Rattle.sheet.proofs.sizes.challenges_from.Tie as tie

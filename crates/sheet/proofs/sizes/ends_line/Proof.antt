@@ -1,5 +1,5 @@
 -- `sheet::sizes::ends_line` meets its contract.
-use Rattle.sheet.specs.SectionLaws.{line-head, line-terms, line-middle, line-ones, line-tail}
+use Rattle.sheet.specs.Laws.SectionLaws.{line-head, line-terms, line-middle, line-ones, line-tail}
 use borrow.Author.Needs.{needs}
 use Rattle.sheet.proofs.sizes.ends_line.Statement.{statement}
 use Rattle.sheet.proofs.sizes.ends_line.Tie as tie

@@ -1,7 +1,7 @@
 -- `sheet::sizes::ends_term` meets its contract.
 use native.Mathlib.Nat.{mod-lt}
 use native.Mathlib.Omega.{arith}
-use Rattle.sheet.specs.SectionLaws.{ends-alone, ends-other}
+use Rattle.sheet.specs.Laws.SectionLaws.{ends-alone, ends-other}
 use borrow.Author.Needs.{needs}
 use Rattle.sheet.proofs.sizes.ends_term.Statement.{statement}
 use Rattle.sheet.proofs.sizes.ends_term.Tie as tie

@@ -2,7 +2,7 @@
 use mathlib.Core.Path.{refl}
 use native.Mathlib.Nat.{mul-le-mul}
 use native.Mathlib.Omega.{arith}
-use Rattle.sheet.specs.SectionLaws.{sum-le}
+use Rattle.sheet.specs.Laws.SectionLaws.{sum-le}
 use borrow.Author.Needs.{needs}
 use Rattle.sheet.proofs.sizes.head_numbers.Statement.{statement}
 use Rattle.sheet.proofs.sizes.head_numbers.Tie as tie

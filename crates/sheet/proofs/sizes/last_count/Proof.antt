@@ -3,7 +3,7 @@ use mathlib.Core.Path.{refl}
 use native.Mathlib.Omega.{arith}
 use Rattle.fold.specs.Sizes.{restSize, openingSize}
 use Rattle.sheet.specs.Sections.{lastCount}
-use Rattle.sheet.specs.SectionLaws.{opening-few}
+use Rattle.sheet.specs.Laws.SectionLaws.{opening-few}
 use borrow.Author.Needs.{needs}
 use Rattle.sheet.proofs.sizes.last_count.Statement.{statement}
 use Rattle.sheet.proofs.sizes.last_count.Tie as tie

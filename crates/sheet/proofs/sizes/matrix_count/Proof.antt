@@ -2,7 +2,7 @@
 use mathlib.Core.Path.{refl}
 use native.Mathlib.Omega.{arith}
 use Rattle.sheet.specs.Sections.{matrixCount}
-use Rattle.sheet.specs.SectionLaws.{matrices-few}
+use Rattle.sheet.specs.Laws.SectionLaws.{matrices-few}
 use borrow.Author.Needs.{needs}
 use Rattle.sheet.proofs.sizes.matrix_count.Statement.{statement}
 use Rattle.sheet.proofs.sizes.matrix_count.Tie as tie

@@ -1,7 +1,7 @@
 -- `sheet::sizes::rows_from` meets its contract.
 use native.Mathlib.Nat.{mul-le-mul}
 use native.Mathlib.Omega.{arith}
-use Rattle.sheet.specs.SectionLaws.{rows-is}
+use Rattle.sheet.specs.Laws.SectionLaws.{rows-is}
 use borrow.Author.Needs.{needs}
 use Rattle.sheet.proofs.sizes.rows_from.Statement.{statement}
 use Rattle.sheet.proofs.sizes.rows_from.Tie as tie

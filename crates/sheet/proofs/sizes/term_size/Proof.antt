@@ -3,7 +3,7 @@ use mathlib.Core.Path.{refl}
 use native.Mathlib.Nat.{mul-le-mul}
 use native.Mathlib.Omega.{arith}
 use Rattle.sheet.specs.Sections.{termSize}
-use Rattle.sheet.specs.SectionLaws.{le-one, function-few}
+use Rattle.sheet.specs.Laws.SectionLaws.{le-one, function-few}
 use borrow.Author.Needs.{needs}
 use Rattle.sheet.proofs.sizes.term_size.Statement.{statement}
 use Rattle.sheet.proofs.sizes.term_size.Tie as tie

@@ -1,7 +1,7 @@
 -- `sheet::sizes::total_numbers` meets its contract.
 use native.Mathlib.Nat.{mul-le-mul}
 use native.Mathlib.Omega.{arith}
-use Rattle.sheet.specs.SectionLaws.{total-is}
+use Rattle.sheet.specs.Laws.SectionLaws.{total-is}
 use borrow.Author.Needs.{needs}
 use Rattle.sheet.proofs.sizes.total_numbers.Statement.{statement}
 use Rattle.sheet.proofs.sizes.total_numbers.Tie as tie

@@ -2,7 +2,7 @@
 use Prim.Native.Nat.{_-_}
 use native.Mathlib.Omega.{arith}
 use Rattle.sheet.specs.Sections.{endsLine}
-use Rattle.sheet.specs.WalkLaws.{walked-index, walked-fits, Ranged, ranged-start, ranged-false, ranged-step, ranged-end}
+use Rattle.sheet.specs.Laws.WalkLaws.{walked-index, walked-fits, Ranged, ranged-start, ranged-false, ranged-step, ranged-end}
 use Rattle.sheet.proofs.walk.all_within.Statement.{statement}
 use Rattle.sheet.proofs.walk.all_within.Tie as tie
 

@@ -2,8 +2,8 @@
 use Prim.Native.Nat.{_-_}
 use native.Mathlib.Omega.{arith}
 use Rattle.sheet.specs.Sections.{endsLine}
-use Rattle.sheet.specs.ChallengeLaws.{Challenged, challenged-start, challenged-span, challenged-range, challenged-index}
-use Rattle.sheet.specs.ChallengeLaws.{challenged-false, challenged-step, challenged-end}
+use Rattle.sheet.specs.Laws.ChallengeLaws.{Challenged, challenged-start, challenged-span, challenged-range, challenged-index}
+use Rattle.sheet.specs.Laws.ChallengeLaws.{challenged-false, challenged-step, challenged-end}
 use Rattle.sheet.proofs.walk.are_challenges.Statement.{statement}
 use Rattle.sheet.proofs.walk.are_challenges.Tie as tie
 

@@ -2,7 +2,7 @@
 use mathlib.Core.Path.{refl, ap, _∙_}
 use Rattle.residues.specs.Range.{challenge}
 use Rattle.sheet.specs.Sections.{endsLine}
-use Rattle.sheet.specs.ChallengeLaws.{filled-length, filled-part}
+use Rattle.sheet.specs.Laws.ChallengeLaws.{filled-length, filled-part}
 use borrow.Author.Needs.{needs}
 use Rattle.sheet.proofs.walk.challenge_at.Statement.{statement}
 use Rattle.sheet.proofs.walk.challenge_at.Tie as tie

@@ -4,7 +4,7 @@ use native.Mathlib.Omega.{arith}
 use mathlib.Core.Path.{_∙_}
 use mir.Facts.{toZ-ofZ}
 use Rattle.sheet.specs.Sections.{endsLine}
-use Rattle.sheet.specs.WalkLaws.{walked-index, walked-fits, Filled, filled-start, filled-small, filled-step, filled-end}
+use Rattle.sheet.specs.Laws.WalkLaws.{walked-index, walked-fits, Filled, filled-start, filled-small, filled-step, filled-end}
 use Rattle.sheet.proofs.walk.fill.Statement.{statement}
 use Rattle.sheet.proofs.walk.fill.Tie as tie
 

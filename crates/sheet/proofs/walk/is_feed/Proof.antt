@@ -1,5 +1,5 @@
 -- `sheet::walk::is_feed` meets its contract.
-use Rattle.sheet.specs.PlaceLaws.{feed-outside}
+use Rattle.sheet.specs.Laws.PlaceLaws.{feed-outside}
 use borrow.Author.Needs.{needs}
 use Rattle.sheet.proofs.walk.is_feed.Statement.{statement}
 use Rattle.sheet.proofs.walk.is_feed.Tie as tie

@@ -1,6 +1,6 @@
 -- `sheet::walk::is_laid` meets its contract.
 use native.Mathlib.Omega.{arith}
-use Rattle.sheet.specs.PlaceLaws.{number-inside, laid-none, laid-feed, laid-inner}
+use Rattle.sheet.specs.Laws.PlaceLaws.{number-inside, laid-none, laid-feed, laid-inner}
 use borrow.Author.Needs.{needs}
 use Rattle.sheet.proofs.walk.is_laid.Statement.{statement}
 use Rattle.sheet.proofs.walk.is_laid.Tie as tie

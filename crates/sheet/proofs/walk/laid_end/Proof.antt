@@ -2,7 +2,7 @@
 use Prim.Native.Nat.{_-_}
 use native.Mathlib.Omega.{arith}
 use Rattle.sheet.specs.Sections.{endsLine}
-use Rattle.sheet.specs.PlaceLaws.{Laid, laid-start, laid-step, laid-fits, laid-broken, laid-end}
+use Rattle.sheet.specs.Laws.PlaceLaws.{Laid, laid-start, laid-step, laid-fits, laid-broken, laid-end}
 use Rattle.sheet.proofs.walk.laid_end.Statement.{statement}
 use Rattle.sheet.proofs.walk.laid_end.Tie as tie
 

@@ -1,7 +1,7 @@
 -- `sheet::walk::magnitude` meets its contract.
 use mathlib.Core.Path.{refl}
 use mir.Facts.{toZ-ofZ, fits-natAbs}
-use Rattle.sheet.specs.NumberLaws.{minus-fits, minus-nonNeg, plus-nonNeg, minus-size}
+use Rattle.sheet.specs.Laws.NumberLaws.{minus-fits, minus-nonNeg, plus-nonNeg, minus-size}
 use Rattle.sheet.proofs.walk.magnitude.Statement.{statement}
 use Rattle.sheet.proofs.walk.magnitude.Tie as tie
 

@@ -1,6 +1,6 @@
 -- `sheet::walk::narrow` meets its contract.
 use mir.Facts.{toZ-ofZ}
-use Rattle.sheet.specs.NumberLaws.{narrow-fits}
+use Rattle.sheet.specs.Laws.NumberLaws.{narrow-fits}
 use Rattle.sheet.proofs.walk.narrow.Statement.{statement}
 use Rattle.sheet.proofs.walk.narrow.Tie as tie
 

@@ -2,7 +2,7 @@
 use mathlib.Core.Path.{ap, _∙_}
 use lib.IntN.{natAbs}
 use mir.Facts.{toZ-ofZ}
-use Rattle.sheet.specs.NumberLaws.{number-small}
+use Rattle.sheet.specs.Laws.NumberLaws.{number-small}
 use borrow.Author.Needs.{needs}
 use Rattle.sheet.proofs.walk.number_size.Statement.{statement}
 use Rattle.sheet.proofs.walk.number_size.Tie as tie

@@ -2,7 +2,7 @@
 use Prim.Native.Nat.{_-_}
 use native.Mathlib.Omega.{arith}
 use Rattle.sheet.specs.Sections.{endsLine}
-use Rattle.sheet.specs.WalkLaws.{Walked, walked-start, walked-index, walked-fits, walked-step, walked-end}
+use Rattle.sheet.specs.Laws.WalkLaws.{Walked, walked-start, walked-index, walked-fits, walked-step, walked-end}
 use Rattle.sheet.proofs.walk.place_after.Statement.{statement}
 use Rattle.sheet.proofs.walk.place_after.Tie as tie
 

@@ -5,8 +5,8 @@ use Rattle.algebra.specs.Sum.{sum}
 use Rattle.ring.specs.Element.{R, el, same}
 use Rattle.fold.specs.Messages.{times}
 use Rattle.fold.specs.Verdict.{check₅}
-use Rattle.verifier.specs.Facts.{tValue}
-use Rattle.verifier.specs.Loops.{Tested, tested-start, tested-step, tested-end}
+use Rattle.verifier.specs.Known.Facts.{tValue}
+use Rattle.verifier.specs.Laws.Loops.{Tested, tested-start, tested-step, tested-end}
 use Rattle.verifier.proofs.amortized.amortized.Statement.{statement}
 use Rattle.verifier.proofs.amortized.amortized.Tie as tie
 

@@ -1,8 +1,8 @@
 -- `verifier::amortized::amortized_row` meets its contract.
 use mathlib.Core.Path.{refl}
 use native.Mathlib.Omega.{arith}
-use Rattle.verifier.specs.Places.{row-fits}
-use Rattle.verifier.specs.Rows.{amortized-row}
+use Rattle.verifier.specs.Laws.PlaceLaws.{row-fits}
+use Rattle.verifier.specs.Laws.Rows.{amortized-row}
 use borrow.Author.Needs.{needs}
 use Rattle.verifier.proofs.amortized.amortized_row.Statement.{statement}
 use Rattle.verifier.proofs.amortized.amortized_row.Tie as tie

@@ -2,8 +2,8 @@
 use Prim.Native.Nat.{_-_}
 use native.Mathlib.Omega.{arith}
 use Rattle.ring.specs.Element.{R, el}
-use Rattle.verifier.specs.Facts.{tValue}
-use Rattle.verifier.specs.Loops.{Summed, summed-start, summed-step, summed-end}
+use Rattle.verifier.specs.Known.Facts.{tValue}
+use Rattle.verifier.specs.Laws.Loops.{Summed, summed-start, summed-step, summed-end}
 use Rattle.verifier.proofs.amortized.folded_row.Statement.{statement}
 use Rattle.verifier.proofs.amortized.folded_row.Tie as tie
 

@@ -2,11 +2,11 @@
 use mathlib.Core.Path.{ap, _∙_}
 use Prim.Native.Nat.{ℕ}
 use native.Mathlib.Omega.{arith}
-use Rattle.ring.specs.Element.{R, el, array}
-use Rattle.fold.specs.Verdict.{block, tOf}
-use Rattle.verifier.specs.Places.{element-fits}
-use Rattle.verifier.specs.SizeLaws.{t-part-within}
-use Rattle.verifier.specs.Rows.{folded-term}
+use Rattle.ring.specs.Element.{array}
+use Rattle.fold.specs.Opening.{block, tOf}
+use Rattle.verifier.specs.Laws.PlaceLaws.{element-fits}
+use Rattle.verifier.specs.Laws.SizeLaws.{t-part-within}
+use Rattle.verifier.specs.Laws.Rows.{folded-term}
 use borrow.Author.Needs.{needs}
 use Rattle.verifier.proofs.amortized.folded_term.Statement.{statement}
 use Rattle.verifier.proofs.amortized.folded_term.Tie as tie

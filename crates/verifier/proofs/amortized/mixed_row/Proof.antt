@@ -1,10 +1,11 @@
 -- `verifier::amortized::mixed_row` meets its contract. The accumulator holds the sum of the terms so far.
 use mathlib.Core.Path.{ap, _∙_}
-use Prim.Native.Nat.{_-_, _+_, _<_}
+use Prim.Native.Nat.{_-_}
 use native.Mathlib.Omega.{arith}
 use Rattle.ring.specs.Element.{array}
-use Rattle.verifier.specs.Mixed.{mixedTerm, mixed-row, pair-along, pair-small}
-use Rattle.verifier.specs.Loops.{Summed, summed-start, summed-step, summed-end}
+use Rattle.verifier.specs.Mixed.{mixedTerm}
+use Rattle.verifier.specs.Laws.MixedLaws.{mixed-row, pair-along, pair-small}
+use Rattle.verifier.specs.Laws.Loops.{Summed, summed-start, summed-step, summed-end}
 use Rattle.verifier.proofs.amortized.mixed_row.Statement.{statement}
 use Rattle.verifier.proofs.amortized.mixed_row.Tie as tie
 

@@ -1,11 +1,12 @@
 -- `verifier::amortized::mixed_sum` meets its contract. The accumulator holds the rows so far, and q is the number of the next row's first pair.
 use mathlib.Core.Path.{_≡_, ap, _∙_}
-use Prim.Native.Nat.{_-_, _+_}
+use Prim.Native.Nat.{_-_}
 use native.Mathlib.Omega.{arith}
 use Rattle.algebra.specs.Triangle.{pair}
 use Rattle.ring.specs.Element.{array}
-use Rattle.verifier.specs.Mixed.{mixedRow, mixed-all, pair-first, pair-next-row, pair-small}
-use Rattle.verifier.specs.Loops.{Summed, summed-start, summed-step, summed-end}
+use Rattle.verifier.specs.Mixed.{mixedRow}
+use Rattle.verifier.specs.Laws.MixedLaws.{mixed-all, pair-first, pair-next-row, pair-small}
+use Rattle.verifier.specs.Laws.Loops.{Summed, summed-start, summed-step, summed-end}
 use Rattle.verifier.proofs.amortized.mixed_sum.Statement.{statement}
 use Rattle.verifier.proofs.amortized.mixed_sum.Tie as tie
 

@@ -1,8 +1,8 @@
 -- `verifier::amortized::mixed_term` meets its contract: once on the diagonal, twice off it.
 use Prim.Native.Nat.{_+_, _≤_, _<_}
 use native.Mathlib.Omega.{arith}
-use Rattle.verifier.specs.Places.{element-fits}
-use Rattle.verifier.specs.Mixed.{garbage-fits, mixed-term-once, mixed-term-twice}
+use Rattle.verifier.specs.Laws.PlaceLaws.{element-fits}
+use Rattle.verifier.specs.Laws.MixedLaws.{garbage-fits, mixed-term-once, mixed-term-twice}
 use borrow.Author.Needs.{needs}
 use Rattle.verifier.proofs.amortized.mixed_term.Statement.{statement}
 use Rattle.verifier.proofs.amortized.mixed_term.Tie as tie

@@ -3,9 +3,9 @@ use mathlib.Core.Path.{ap, _∙_}
 use Prim.Native.Nat.{ℕ}
 use Rattle.algebra.specs.DotProduct.{mixed}
 use Rattle.ring.specs.Element.{R, el, array}
-use Rattle.fold.specs.Verdict.{block, garbageOf}
-use Rattle.verifier.specs.Mixed.{g-garbage}
-use Rattle.verifier.specs.Rows.{self-product}
+use Rattle.fold.specs.Opening.{block, garbageOf}
+use Rattle.verifier.specs.Laws.MixedLaws.{g-garbage}
+use Rattle.verifier.specs.Laws.Rows.{self-product}
 use borrow.Author.Needs.{needs}
 use Rattle.verifier.proofs.amortized.self_product.Statement.{statement}
 use Rattle.verifier.proofs.amortized.self_product.Tie as tie

@@ -1,6 +1,6 @@
 -- `verifier::judgement::judge` meets its contract: each check in turn passes or is the first that fails.
 use mathlib.Core.Path.{_∙_}
-use Rattle.verifier.specs.Judgement.{fails, passes, verdict-parts, term-facts, opening-facts}
+use Rattle.verifier.specs.Laws.JudgementLaws.{fails, passes, verdict-parts, term-facts, opening-facts}
 use borrow.Author.Needs.{needs}
 use Rattle.verifier.proofs.judgement.judge.Statement.{statement}
 use Rattle.verifier.proofs.judgement.judge.Tie as tie

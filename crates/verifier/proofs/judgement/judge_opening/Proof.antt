@@ -1,7 +1,7 @@
 -- `verifier::judgement::judge_opening` meets its contract: each check in turn passes or is the first that fails.
 use mathlib.Core.Path.{_∙_}
-use Rattle.verifier.specs.Rows.{check-five-cong, check-six-cong, check-seven-cong}
-use Rattle.verifier.specs.Judgement.{fails, passes, none-fails}
+use Rattle.verifier.specs.Laws.Rows.{check-five-cong, check-six-cong, check-seven-cong}
+use Rattle.verifier.specs.Laws.JudgementLaws.{fails, passes, none-fails}
 use borrow.Author.Needs.{needs}
 use Rattle.verifier.proofs.judgement.judge_opening.Statement.{statement}
 use Rattle.verifier.proofs.judgement.judge_opening.Tie as tie

@@ -1,7 +1,7 @@
 -- `verifier::judgement::judge_recomposed` meets its contract.
 use native.Mathlib.Nat.{mul-le-mul}
-use Rattle.verifier.specs.SizeLaws.{z-within}
-use Rattle.verifier.specs.Judgement.{recomposed}
+use Rattle.verifier.specs.Laws.SizeLaws.{z-within}
+use Rattle.verifier.specs.Laws.JudgementLaws.{recomposed}
 use borrow.Author.Needs.{needs}
 use Rattle.verifier.proofs.judgement.judge_recomposed.Statement.{statement}
 use Rattle.verifier.proofs.judgement.judge_recomposed.Tie as tie

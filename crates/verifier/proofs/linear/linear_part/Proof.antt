@@ -1,8 +1,8 @@
 -- `verifier::linear::linear_part` meets its contract.
 use lib.ListN.{length-replicate}
 use lib.IntN.{pos}
-use Rattle.verifier.specs.Mixed.{h-garbage}
-use Rattle.verifier.specs.Relation.{check-seven}
+use Rattle.verifier.specs.Laws.MixedLaws.{h-garbage}
+use Rattle.verifier.specs.Laws.RelationLaws.{check-seven}
 use Rattle.verifier.proofs.linear.linear_part.Statement.{statement}
 use Rattle.verifier.proofs.linear.linear_part.Tie as tie
 

@@ -1,9 +1,10 @@
 -- `verifier::linear::linear_sum` meets its contract. The accumulator holds the sum of the terms so far.
 use Prim.Native.Nat.{_-_}
 use native.Mathlib.Omega.{arith}
-use Rattle.verifier.specs.Places.{element-fits}
-use Rattle.verifier.specs.Relation.{linearTerm, linear-term}
-use Rattle.verifier.specs.Loops.{Summed, summed-start, summed-step, summed-end}
+use Rattle.verifier.specs.Laws.PlaceLaws.{element-fits}
+use Rattle.verifier.specs.Relation.{linearTerm}
+use Rattle.verifier.specs.Laws.RelationLaws.{linear-term}
+use Rattle.verifier.specs.Laws.Loops.{Summed, summed-start, summed-step, summed-end}
 use Rattle.verifier.proofs.linear.linear_sum.Statement.{statement}
 use Rattle.verifier.proofs.linear.linear_sum.Tie as tie
 

@@ -3,8 +3,9 @@ use mathlib.Core.Path.{ap, _∙_}
 use Prim.Native.Nat.{_-_, _+_, _*_}
 use native.Mathlib.Omega.{arith}
 use Rattle.ring.specs.Element.{array}
-use Rattle.verifier.specs.Relation.{phiTerm, phi-product, part-place, parts-bound}
-use Rattle.verifier.specs.Loops.{Summed, summed-start, summed-step, summed-end}
+use Rattle.verifier.specs.Relation.{phiTerm}
+use Rattle.verifier.specs.Laws.RelationLaws.{phi-product, part-place, parts-bound}
+use Rattle.verifier.specs.Laws.Loops.{Summed, summed-start, summed-step, summed-end}
 use Rattle.verifier.proofs.linear.phi_product.Statement.{statement}
 use Rattle.verifier.proofs.linear.phi_product.Tie as tie
 

@@ -1,7 +1,7 @@
 -- `verifier::linear::phi_term` meets its contract.
 use native.Mathlib.Omega.{arith}
-use Rattle.ring.specs.ElementPlaces.{block-before}
-use Rattle.verifier.specs.Relation.{phi-term}
+use Rattle.ring.specs.Laws.ElementPlaces.{block-before}
+use Rattle.verifier.specs.Laws.RelationLaws.{phi-term}
 use borrow.Author.Needs.{needs}
 use Rattle.verifier.proofs.linear.phi_term.Statement.{statement}
 use Rattle.verifier.proofs.linear.phi_term.Tie as tie

@@ -3,9 +3,9 @@ use mathlib.Core.Path.{ap, _∙_}
 use Prim.Native.Nat.{ℕ, _*_, _≤_}
 use native.Mathlib.Omega.{arith}
 use native.Mathlib.Nat.{mul-le-mul, mul-le-mul-right}
-use Rattle.fold.specs.PlaceBounds.{t-place-bound, h-place-bound}
-use Rattle.verifier.specs.SizeLaws.{h-within, t-before-h}
-use Rattle.verifier.specs.Norms.{check-nine}
+use Rattle.fold.specs.Laws.PlaceBounds.{t-place-bound, h-place-bound}
+use Rattle.verifier.specs.Laws.SizeLaws.{h-within, t-before-h}
+use Rattle.verifier.specs.Laws.NormLaws.{check-nine}
 use borrow.Author.Needs.{needs}
 use Rattle.verifier.proofs.norms.short_opening.Statement.{statement}
 use Rattle.verifier.proofs.norms.short_opening.Tie as tie

@@ -2,7 +2,8 @@
 use mathlib.Core.Path.{sym}
 use native.Mathlib.Omega.{arith}
 use lib.Seq.{length-take-le}
-use Rattle.verifier.specs.Norms.{withinThree, three-lengths}
+use Rattle.verifier.specs.Norms.{withinThree}
+use Rattle.verifier.specs.Laws.NormLaws.{three-lengths}
 use borrow.Author.Needs.{needs}
 use Rattle.verifier.proofs.norms.short_parts.Statement.{statement}
 use Rattle.verifier.proofs.norms.short_parts.Tie as tie

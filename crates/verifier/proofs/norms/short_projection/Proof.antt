@@ -2,7 +2,7 @@
 use native.Mathlib.Nat.{mul-le-mul}
 use native.Mathlib.Omega.{arith}
 use mathlib.Core.Path.{refl}
-use Rattle.verifier.specs.Norms.{check-one}
+use Rattle.verifier.specs.Laws.NormLaws.{check-one}
 use borrow.Author.Needs.{needs}
 use Rattle.verifier.proofs.norms.short_projection.Statement.{statement}
 use Rattle.verifier.proofs.norms.short_projection.Tie as tie

@@ -4,8 +4,8 @@ use native.Mathlib.Omega.{arith}
 use Rattle.ring.specs.Element.{el, same}
 use Rattle.fold.specs.Messages.{outer₁}
 use Rattle.fold.specs.Verdict.{check₃}
-use Rattle.verifier.specs.Facts.{tBlockOf, gBlockOf}
-use Rattle.verifier.specs.Loops.{Tested, tested-start, tested-step, tested-end}
+use Rattle.verifier.specs.Known.Facts.{tBlockOf, gBlockOf}
+use Rattle.verifier.specs.Laws.Loops.{Tested, tested-start, tested-step, tested-end}
 use Rattle.verifier.proofs.outer.first_outer.Statement.{statement}
 use Rattle.verifier.proofs.outer.first_outer.Tie as tie
 

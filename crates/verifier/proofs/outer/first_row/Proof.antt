@@ -1,10 +1,10 @@
 -- `verifier::outer::first_row` meets its contract.
 use Prim.Native.Nat.{_≤_}
 use native.Mathlib.Omega.{arith}
-use Rattle.verifier.specs.Places.{row-fits, part-fits, element-fits}
-use Rattle.fold.specs.PlaceBounds.{t-size-bound, g-size-bound}
-use Rattle.verifier.specs.SizeLaws.{t-within, g-within}
-use Rattle.verifier.specs.Rows.{first-row}
+use Rattle.verifier.specs.Laws.PlaceLaws.{row-fits, part-fits, element-fits}
+use Rattle.fold.specs.Laws.PlaceBounds.{t-size-bound, g-size-bound}
+use Rattle.verifier.specs.Laws.SizeLaws.{t-within, g-within}
+use Rattle.verifier.specs.Laws.Rows.{first-row}
 use borrow.Author.Needs.{needs}
 use Rattle.verifier.proofs.outer.first_row.Statement.{statement}
 use Rattle.verifier.proofs.outer.first_row.Tie as tie

@@ -3,7 +3,7 @@ use mathlib.Core.Path.{ap, _∙_}
 use Prim.Native.Nat.{_+_, _*_}
 use native.Mathlib.Omega.{arith}
 use Rattle.ring.specs.Element.{array}
-use Rattle.verifier.specs.Places.{row-times, place-within}
+use Rattle.verifier.specs.Laws.PlaceLaws.{row-times, place-within}
 use borrow.Author.Needs.{needs}
 use Rattle.verifier.proofs.outer.row_times.Statement.{statement}
 use Rattle.verifier.proofs.outer.row_times.Tie as tie

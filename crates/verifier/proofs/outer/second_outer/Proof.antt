@@ -4,8 +4,8 @@ use native.Mathlib.Omega.{arith}
 use Rattle.ring.specs.Element.{el, same}
 use Rattle.fold.specs.Messages.{outer₂}
 use Rattle.fold.specs.Verdict.{check₄}
-use Rattle.verifier.specs.Facts.{hBlockOf}
-use Rattle.verifier.specs.Loops.{Tested, tested-start, tested-step, tested-end}
+use Rattle.verifier.specs.Known.Facts.{hBlockOf}
+use Rattle.verifier.specs.Laws.Loops.{Tested, tested-start, tested-step, tested-end}
 use Rattle.verifier.proofs.outer.second_outer.Statement.{statement}
 use Rattle.verifier.proofs.outer.second_outer.Tie as tie
 

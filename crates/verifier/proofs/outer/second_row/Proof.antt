@@ -1,10 +1,10 @@
 -- `verifier::outer::second_row` meets its contract.
 use Prim.Native.Nat.{_≤_}
 use native.Mathlib.Omega.{arith}
-use Rattle.verifier.specs.Places.{row-fits, part-fits, element-fits}
-use Rattle.fold.specs.PlaceBounds.{h-size-bound}
-use Rattle.verifier.specs.SizeLaws.{h-within}
-use Rattle.verifier.specs.Rows.{second-row}
+use Rattle.verifier.specs.Laws.PlaceLaws.{row-fits, part-fits, element-fits}
+use Rattle.fold.specs.Laws.PlaceBounds.{h-size-bound}
+use Rattle.verifier.specs.Laws.SizeLaws.{h-within}
+use Rattle.verifier.specs.Laws.Rows.{second-row}
 use borrow.Author.Needs.{needs}
 use Rattle.verifier.proofs.outer.second_row.Statement.{statement}
 use Rattle.verifier.proofs.outer.second_row.Tie as tie

@@ -3,7 +3,7 @@ use mathlib.Core.Path.{refl, ap, _∙_}
 use Prim.Native.Nat.{_+_, _*_}
 use native.Mathlib.Omega.{arith}
 use Rattle.ring.specs.Element.{array}
-use Rattle.verifier.specs.Places.{garbage-recomposed, garbage-digit-fits, place-within}
+use Rattle.verifier.specs.Laws.PlaceLaws.{garbage-recomposed, garbage-digit-fits, place-within}
 use Rattle.verifier.proofs.recomposed.garbage_of.Statement.{statement}
 use Rattle.verifier.proofs.recomposed.garbage_of.Tie as tie
 

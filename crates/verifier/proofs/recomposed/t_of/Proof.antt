@@ -2,7 +2,7 @@
 use mathlib.Core.Path.{refl, ap, _∙_}
 use native.Mathlib.Omega.{arith}
 use Rattle.ring.specs.Element.{array}
-use Rattle.verifier.specs.Places.{t-recomposed, t-digit-fits, t-first-within}
+use Rattle.verifier.specs.Laws.PlaceLaws.{t-recomposed, t-digit-fits, t-first-within}
 use Rattle.verifier.proofs.recomposed.t_of.Statement.{statement}
 use Rattle.verifier.proofs.recomposed.t_of.Tie as tie
 

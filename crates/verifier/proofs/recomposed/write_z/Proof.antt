@@ -1,15 +1,13 @@
 -- `verifier::recomposed::write_z` meets its contract. The first k elements are written.
-use mathlib.Core.Path.{_≡_, refl, ap, _∙_}
+use mathlib.Core.Path.{_≡_, ap, _∙_}
 use Prim.Native.Nat.{_+_, _-_, _≤_}
 use native.Mathlib.Nat.{zero-mul}
 use native.Mathlib.Omega.{arith}
-use Rattle.integers.specs.Over.{over}
 use Rattle.ring.specs.Element.{el, array}
-use Rattle.ring.specs.ElementPlaces.{block-before}
-use Rattle.fold.specs.Messages.{elements}
-use Rattle.fold.specs.Verdict.{zOf}
-use Rattle.fold.specs.WriterLaws.{Elements, elements-start, elements-turn}
-use Rattle.verifier.specs.Places.{z-recomposed, z-digit-fits}
+use Rattle.ring.specs.Laws.ElementPlaces.{block-before}
+use Rattle.fold.specs.Opening.{zOf}
+use Rattle.fold.specs.Laws.WriterLaws.{Elements, elements-start, elements-turn}
+use Rattle.verifier.specs.Laws.PlaceLaws.{z-recomposed, z-digit-fits}
 use Rattle.verifier.proofs.recomposed.write_z.Statement.{statement}
 use Rattle.verifier.proofs.recomposed.write_z.Tie as tie
 

@@ -1,14 +1,14 @@
 -- `verifier::relation::diagonal_sum` meets its contract. The accumulator holds the terms so far, and q is the number of the next pair (i, i).
-use mathlib.Core.Path.{_≡_, refl, ap, _∙_}
-use Prim.Native.Nat.{_-_, _+_}
+use mathlib.Core.Path.{_≡_, ap, _∙_}
+use Prim.Native.Nat.{_-_}
 use native.Mathlib.Omega.{arith}
 use native.Mathlib.Nat.{le-refl}
 use Rattle.algebra.specs.Triangle.{pair}
 use Rattle.ring.specs.Element.{array}
-use Rattle.fold.specs.Verdict.{block, garbageOf}
-use Rattle.verifier.specs.Places.{garbage-at}
-use Rattle.verifier.specs.Mixed.{garbage-fits, pair-first, pair-next-row, pair-small}
-use Rattle.verifier.specs.Loops.{Summed, summed-start, summed-step, summed-end}
+use Rattle.fold.specs.Opening.{block, garbageOf}
+use Rattle.verifier.specs.Laws.PlaceLaws.{garbage-at}
+use Rattle.verifier.specs.Laws.MixedLaws.{garbage-fits, pair-first, pair-next-row, pair-small}
+use Rattle.verifier.specs.Laws.Loops.{Summed, summed-start, summed-step, summed-end}
 use Rattle.verifier.proofs.relation.diagonal_sum.Statement.{statement}
 use Rattle.verifier.proofs.relation.diagonal_sum.Tie as tie
 

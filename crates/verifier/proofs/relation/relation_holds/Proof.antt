@@ -1,7 +1,6 @@
 -- `verifier::relation::relation_holds` meets its contract.
-use native.Mathlib.Omega.{arith}
-use Rattle.verifier.specs.Mixed.{g-garbage, h-garbage}
-use Rattle.verifier.specs.Relation.{check-eight}
+use Rattle.verifier.specs.Laws.MixedLaws.{g-garbage, h-garbage}
+use Rattle.verifier.specs.Laws.RelationLaws.{check-eight}
 use borrow.Author.Needs.{needs}
 use Rattle.verifier.proofs.relation.relation_holds.Statement.{statement}
 use Rattle.verifier.proofs.relation.relation_holds.Tie as tie

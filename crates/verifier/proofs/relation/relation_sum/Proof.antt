@@ -5,7 +5,7 @@ use native.Mathlib.Omega.{arith}
 use Rattle.algebra.specs.Sum.{sum}
 use Rattle.ring.specs.Element.{R, array}
 use Rattle.verifier.specs.Relation.{relationTerm}
-use Rattle.verifier.specs.Loops.{Summed, summed-start, summed-step, summed-end}
+use Rattle.verifier.specs.Laws.Loops.{Summed, summed-start, summed-step, summed-end}
 use Rattle.verifier.proofs.relation.relation_sum.Statement.{statement}
 use Rattle.verifier.proofs.relation.relation_sum.Tie as tie
 

@@ -1,7 +1,6 @@
 -- `verifier::relation::relation_term` meets its contract.
-use native.Mathlib.Omega.{arith}
-use Rattle.verifier.specs.Mixed.{garbage-below}
-use Rattle.verifier.specs.Relation.{relation-term}
+use Rattle.verifier.specs.Laws.MixedLaws.{garbage-below}
+use Rattle.verifier.specs.Laws.RelationLaws.{relation-term}
 use borrow.Author.Needs.{needs}
 use Rattle.verifier.proofs.relation.relation_term.Statement.{statement}
 use Rattle.verifier.proofs.relation.relation_term.Tie as tie

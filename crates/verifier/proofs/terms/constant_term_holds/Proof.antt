@@ -3,9 +3,9 @@ use mathlib.Core.Path.{refl, ap}
 use Prim.Native.Nat.{ℕ, _*_, _≤_}
 use native.Mathlib.Nat.{mul-le-mul}
 use native.Mathlib.Omega.{arith}
-use Rattle.verifier.specs.Places.{element-fits}
-use Rattle.verifier.specs.SizeLaws.{function-size-bound}
-use Rattle.verifier.specs.ConstantTerms.{term-holds, weights-fit, constants-fit}
+use Rattle.verifier.specs.Laws.PlaceLaws.{element-fits}
+use Rattle.verifier.specs.Laws.SizeLaws.{function-size-bound}
+use Rattle.verifier.specs.Laws.ConstantTermLaws.{term-holds, weights-fit, constants-fit}
 use borrow.Author.Needs.{needs}
 use Rattle.verifier.proofs.terms.constant_term_holds.Statement.{statement}
 use Rattle.verifier.proofs.terms.constant_term_holds.Tie as tie

@@ -2,8 +2,9 @@
 use mathlib.Core.Path.{_∙_}
 use Prim.Native.Nat.{_-_}
 use native.Mathlib.Omega.{arith}
-use Rattle.verifier.specs.ConstantTerms.{termHolds, check-two}
-use Rattle.verifier.specs.Loops.{Tested, tested-start, tested-step, tested-end}
+use Rattle.verifier.specs.ConstantTerms.{termHolds}
+use Rattle.verifier.specs.Laws.ConstantTermLaws.{check-two}
+use Rattle.verifier.specs.Laws.Loops.{Tested, tested-start, tested-step, tested-end}
 use Rattle.verifier.proofs.terms.constant_terms.Statement.{statement}
 use Rattle.verifier.proofs.terms.constant_terms.Tie as tie
 

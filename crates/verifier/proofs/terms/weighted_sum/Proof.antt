@@ -1,7 +1,8 @@
 -- `verifier::terms::weighted_sum` meets its contract. The accumulator holds the sum of the products so far.
 use Prim.Native.Nat.{_-_}
 use native.Mathlib.Omega.{arith}
-use Rattle.verifier.specs.ConstantTerms.{weighted, Weighed, weighed-start, weighed-step, weighed-end, step-fits}
+use Rattle.verifier.specs.ConstantTerms.{weighted}
+use Rattle.verifier.specs.Laws.ConstantTermLaws.{Weighed, weighed-start, weighed-step, weighed-end, step-fits}
 use Rattle.verifier.proofs.terms.weighted_sum.Statement.{statement}
 use Rattle.verifier.proofs.terms.weighted_sum.Tie as tie
 

@@ -1,6 +1,6 @@
 -- `ring::element::Element::additive_identity` meets its contract.
 use mathlib.Core.Path.{sym}
-use Rattle.ring.specs.ElementArrays.{array-zero}
+use Rattle.ring.specs.Laws.ElementArrays.{array-zero}
 use Rattle.ring.proofs.element.Element.additive_identity.Statement.{statement}
 use Rattle.ring.proofs.element.Element.additive_identity.Tie as tie
 

@@ -2,8 +2,8 @@
 use mathlib.Core.Path.{sym, ap, _∙_}
 use lib.IntN.{pos}
 use lib.ListN.{set, replicate}
-use Rattle.ring.specs.ElementSteps.{stored-number}
-use Rattle.ring.specs.ElementArrays.{array-number}
+use Rattle.ring.specs.Laws.ElementSteps.{stored-number}
+use Rattle.ring.specs.Laws.ElementArrays.{array-number}
 use borrow.Author.Needs.{needs}
 use Rattle.ring.proofs.element.Element.constant.Statement.{statement}
 use Rattle.ring.proofs.element.Element.constant.Tie as tie

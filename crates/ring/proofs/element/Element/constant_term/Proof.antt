@@ -1,7 +1,7 @@
 -- `ring::element::Element::constant_term` meets its contract.
 use lib.IntN.{pos}
 use lib.ListN.{getD}
-use Rattle.ring.specs.ElementSteps.{stored-number}
+use Rattle.ring.specs.Laws.ElementSteps.{stored-number}
 use borrow.Author.Needs.{needs}
 use Rattle.ring.proofs.element.Element.constant_term.Statement.{statement}
 use Rattle.ring.proofs.element.Element.constant_term.Tie as tie

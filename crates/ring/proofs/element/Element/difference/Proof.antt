@@ -1,8 +1,8 @@
 -- `ring::element::Element::difference` meets its contract: the opposite is added.
 use mathlib.Core.Path.{ap, _∙_}
 use Rattle.ring.specs.Element.{R, lift, array}
-use Rattle.ring.specs.ElementLaws.{lift-array}
-use Rattle.ring.specs.Numbers.{minus-one}
+use Rattle.ring.specs.Laws.ElementLaws.{lift-array}
+use Rattle.ring.specs.Laws.Numbers.{minus-one}
 use borrow.Author.Needs.{needs}
 use Rattle.ring.proofs.element.Element.difference.Statement.{statement}
 use Rattle.ring.proofs.element.Element.difference.Tie as tie

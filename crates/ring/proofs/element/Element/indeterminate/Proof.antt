@@ -1,6 +1,6 @@
 -- `ring::element::Element::indeterminate` meets its contract.
 use mathlib.Core.Path.{sym}
-use Rattle.ring.specs.ElementArrays.{array-indeterminate}
+use Rattle.ring.specs.Laws.ElementArrays.{array-indeterminate}
 use Rattle.ring.proofs.element.Element.indeterminate.Statement.{statement}
 use Rattle.ring.proofs.element.Element.indeterminate.Tie as tie
 

@@ -1,6 +1,6 @@
 -- `ring::element::Element::multiplicative_identity` meets its contract.
 use mathlib.Core.Path.{sym}
-use Rattle.ring.specs.ElementArrays.{array-one}
+use Rattle.ring.specs.Laws.ElementArrays.{array-one}
 use Rattle.ring.proofs.element.Element.multiplicative_identity.Statement.{statement}
 use Rattle.ring.proofs.element.Element.multiplicative_identity.Tie as tie
 

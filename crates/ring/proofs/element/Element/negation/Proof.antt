@@ -1,7 +1,7 @@
 -- `ring::element::Element::negation` meets its contract: a product by -1 is the opposite.
 use mathlib.Core.Path.{ap, _∙_}
 use Rattle.ring.specs.Element.{lift, array}
-use Rattle.ring.specs.Numbers.{minus-one}
+use Rattle.ring.specs.Laws.Numbers.{minus-one}
 use borrow.Author.Needs.{needs}
 use Rattle.ring.proofs.element.Element.negation.Statement.{statement}
 use Rattle.ring.proofs.element.Element.negation.Tie as tie

@@ -1,0 +1,192 @@
+-- Laws of what Garbage.antt defines.
+use mathlib.Core.Path.{_≡_, refl, sym, ap, ap₂, _∙_}
+use mathlib.Core.List.{List}
+use Prim.Native.Nat.{ℕ, _+_, _*_, _<_, _≤_}
+use native.Mathlib.Nat.{mul-le-mul, zero-mul, zero-add}
+use native.Mathlib.Omega.{arith}
+use lib.ListN.{length, getD}
+use lib.IntN.{ℤ, pos}
+use Rattle.integers.specs.Over.{over}
+use Rattle.integers.specs.Laws.OverLaws.{over-nil, length-over}
+use Rattle.integers.specs.Flat.{flat}
+use Rattle.integers.specs.Laws.FlatLaws.{flat-cong, length-flat, getD-flat, over-flat, block-fits}
+use Rattle.algebra.specs.Sum.{sum}
+use Rattle.algebra.specs.Laws.SumLaws.{sum-cong}
+use Rattle.algebra.specs.DotProduct.{inner, garbage}
+use Rattle.algebra.specs.Triangle.{pair}
+use Rattle.ring.specs.Element.{R, Degree, lift, el, coeffs, array, number}
+use Rattle.ring.specs.Laws.ElementLaws.{lift-array}
+use Rattle.ring.specs.Laws.ElementPlaces.{block-before, el-cong, el-overs, el-flat-coeffs}
+use Rattle.residues.specs.Digits.{split}
+use Rattle.fold.specs.Known.Facts.{Shaped}
+use Rattle.fold.specs.Sizes.{pairs, garbageSize}
+use Rattle.fold.specs.Statement.{part}
+use Rattle.fold.specs.Messages.{elements, times, half, h, hDigits, aggregate, outer₂, u₂}
+use Rattle.fold.specs.Laws.EntryLaws.{aggregate-φ}
+use Rattle.fold.specs.Laws.WriterLaws.{length-elements, el-pairs, garbage-places, garbage-cong}
+use Rattle.fold.specs.PairElements.{pairElements}
+use Rattle.constraints.specs.Laws.AggregatedLaws.{values-sum}
+use Rattle.prover.specs.Laws.Places.{part-fits}
+use Rattle.aggregation.specs.Garbage.{aggregatePart, cross, partProduct, squareElements, halved}
+
+-- ---- one row of products
+
+pub part-product-end : (d n : ℕ) (phi s : List ℤ) (j : ℕ) {out : List ℤ}
+    → out ≡ array d (sum (R d) n (λ y. R d .mul (el d phi (0 + y)) (el d s (j * n + y)))) → out ≡ array d (partProduct d n phi s j)
+unfolding partProduct inner part
+part-product-end d n phi s j out =
+    out ∙ ap (array d) (sum-cong (R d) n _ _ (λ y _. ap (λ (p : ℕ). R d .mul (el d phi p) (el d s (j * n + y))) (zero-add y)))
+
+-- elements at the beginning of a list, read back
+el-written : (d m : ℕ) (x : ℕ → R d .Carrier) (old : List ℤ) {xs : List ℤ} → xs ≡ over old 0 (elements d m x) → (e : ℕ) → e < m → el d xs e ≡ x e
+unfolding elements
+el-written d m x old written e h =
+    let within : 0 * d ≤ length old = omega arith in
+    ap (λ (xs : List ℤ). el d xs e) written
+    ∙ (rw (zero-mul d, zero-add e) at (el-overs d old (elements d m x) 0 m e within (length-elements d m x) h))
+    ∙ el-flat-coeffs d m x e h
+
+pub row-written : (d n r : ℕ) (φ : ℕ → ℕ → R d .Carrier) (i : ℕ) (s old out : List ℤ) (a : ℕ) {phi next : List ℤ}
+    → phi ≡ over old 0 (elements d n (φ i)) → next ≡ over out a (elements d r (partProduct d n phi s))
+    → next ≡ over out a (elements d r (cross d n φ s i))
+unfolding elements partProduct cross inner
+row-written d n r φ i s old out a {phi} written next =
+    next
+    ∙ ap (over out a) (flat-cong r _ _ (λ j _. ap (coeffs d)
+    (sum-cong (R d) n _ _ (λ y l. ap (λ u. R d .mul u (part d n s j y)) (el-written d n (φ i) old written y l)))))
+
+-- ---- all rows
+
+pub record Squares (d r : ℕ) (x : ℕ → ℕ → R d .Carrier) (old : List ℤ) (i : ℕ) (new : List ℤ) : Type 0 where
+  pub within : i ≤ r
+  pub is : new ≡ over old 0 (flat i (λ k. elements d r (x k)))
+  pub same : length new ≡ length old
+
+module _ (d r : ℕ) (x : ℕ → ℕ → R d .Carrier) (old : List ℤ) where
+  pub squares-start : Squares d r x old 0 old
+  unfolding flat
+  squares-start = record { within = omega arith; is = sym (over-nil old 0); same = refl }
+
+  pub squares-turn : {i : ℕ} {new next : List ℤ} → r * r * d ≤ length old → Squares d r x old i new → i < r
+      → next ≡ over new (i * r * d) (elements d r (x i)) → Squares d r x old (i + 1) next
+  squares-turn {i} {new} {next} size sofar h written =
+      let place : i * r * d ≡ 0 + i * (r * d) = omega arith in
+      let fits = part-fits d r {i = i} h size in
+      record {
+        within = omega arith;
+        is =
+            written
+            ∙ rw (sofar .is, place)
+            (over-flat old 0 i (r * d) (λ k. elements d r (x k)) (λ k _. length-elements d r (x k)) (omega arith));
+        same =
+            ap length written
+            ∙ length-over new (i * r * d) (elements d r (x i)) (omega (arith, length-elements d r (x i), fits, sofar .same)) ∙ sofar .same;
+      }
+
+  pub squares-end : {i : ℕ} {new : List ℤ} → Squares d r x old i new → r ≤ i → new ≡ over old 0 (squareElements d r x)
+  unfolding squareElements
+  squares-end {i} done h = let all : i ≡ r = omega (arith, done .within) in rw all at (done .is)
+
+  square-entry : (i j k : ℕ) → i < r → j < r → k < d
+      → getD (squareElements d r x) ((i * r + j) * d + k) (pos 0) ≡ getD (elements d r (x i)) (j * d + k) (pos 0)
+  unfolding squareElements
+  square-entry i j k a b g =
+      let place : (i * r + j) * d + k ≡ i * (r * d) + (j * d + k) = omega arith in
+      ap (λ (p : ℕ). getD (flat r (λ k. elements d r (x k))) p (pos 0)) place
+      ∙ getD-flat r (r * d) (λ k. elements d r (x k)) (λ k _. length-elements d r (x k)) i (j * d + k) (pos 0) a (block-fits r d j k b g)
+
+  length-square : length (squareElements d r x) ≡ r * r * d
+  unfolding squareElements
+  length-square = omega (arith, length-flat r (r * d) (λ k. elements d r (x k)) (λ k _. length-elements d r (x k)))
+
+  pub el-square : {M : List ℤ} → M ≡ over old 0 (squareElements d r x) → (i j : ℕ) → i < r → j < r → el d M (i * r + j) ≡ x i j
+  unfolding elements
+  el-square written i j a b =
+      let within : 0 * d ≤ length old = omega arith in
+      let inside : i * r + j < r * r = block-fits r r i j a b in
+      ap (λ (xs : List ℤ). el d xs (i * r + j)) written
+      ∙ (rw (zero-mul d, zero-add (i * r + j)) at (el-overs d old (squareElements d r x) 0 (r * r) (i * r + j) within length-square inside))
+      ∙ el-cong d (squareElements d r x) (elements d r (x i)) (i * r + j) j (λ k g. square-entry i j k a b g)
+      ∙ el-flat-coeffs d r (x i) j b
+
+-- ---- one h_ij
+
+pub half-sum-end : (d r : ℕ) (M : List ℤ) (i j : ℕ) {one other both out : List ℤ} → Degree d
+    → one ≡ array d (el d M (i * r + j)) → other ≡ array d (el d M (j * r + i))
+    → both ≡ array d (R d .add (lift d one) (lift d other))
+    → out ≡ array d (R d .mul (number d (pos 2147483599)) (lift d both))
+    → out ≡ array d (halved d r M i j)
+unfolding halved half
+half-sum-end d r M i j degree is by sum out =
+    out
+    ∙ ap (λ u. array d (R d .mul (number d (pos 2147483599)) u)) (ap (lift d) (values-sum d degree _ _ is by sum) ∙ lift-array d _ (degree .small))
+
+-- element (i, j) of all products has its place
+pub square-place : (d r : ℕ) {i j len : ℕ} → i < r → j < r → r * r * d ≤ len → (i * r + j) * d + d ≤ len
+square-place d r {i} {j} a b size = omega (arith, block-before d (i * r + j) (r * r) (block-fits r r i j a b))
+
+pub square-small : (r : ℕ) {i j : ℕ} → i < r → j < r → i * r + j < r * r
+square-small r {i} {j} a b = block-fits r r i j a b
+
+cross-aggregate : (d n r K L w : ℕ) (whole term rows ψ ω α δ s : List ℤ) (i j : ℕ)
+    → cross d n (aggregatePart d n r K L w whole term rows ψ ω α δ) s i j
+    ≡ inner (R d) n (aggregate d n r K L w whole term rows ψ ω α δ .φ i) (part d n s j)
+unfolding cross inner aggregatePart
+cross-aggregate d n r K L w whole term rows ψ ω α δ s i j =
+    sum-cong (R d) n _ _ (λ y _. ap (λ u. R d .mul u (part d n s j y)) (sym (aggregate-φ d n r L w term rows ψ ω K whole α δ i y)))
+
+-- that is the h of the message
+halved-h : (d n r K L w : ℕ) (whole term rows ψ ω α δ s old : List ℤ) {M : List ℤ}
+    → M ≡ over old 0 (squareElements d r (cross d n (aggregatePart d n r K L w whole term rows ψ ω α δ) s)) → (i j : ℕ) → i < r → j < r
+    → halved d r M i j ≡ h d n (aggregate d n r K L w whole term rows ψ ω α δ .φ) s i j
+unfolding halved h garbage
+halved-h d n r K L w whole term rows ψ ω α δ s old {M} filled i j a b =
+    ap₂ (λ u v. R d .mul (half d) (R d .add u v)) (product i j a b) (product j i b a)
+  where
+    product : (i j : ℕ) → i < r → j < r
+        → el d M (i * r + j) ≡ inner (R d) n (aggregate d n r K L w whole term rows ψ ω α δ .φ i) (part d n s j)
+    product i j a b =
+        el-square d r (cross d n (aggregatePart d n r K L w whole term rows ψ ω α δ) s) old filled i j a b
+        ∙ cross-aggregate d n r K L w whole term rows ψ ω α δ s i j
+
+-- ---- the digits
+
+pub h-written : (d n r K L w b₁ t₁ : ℕ) (whole term rows ψ ω α δ s old older : List ℤ) {M values out : List ℤ} {count : ℕ}
+    → M ≡ over old 0 (squareElements d r (cross d n (aggregatePart d n r K L w whole term rows ψ ω α δ) s))
+    → pairs r * d ≤ length older
+    → values ≡ over older 0 (pairElements d r (halved d r M))
+    → count ≡ pairs r
+    → out ≡ flat count (λ e. split b₁ t₁ (coeffs d (el d values e)))
+    → out ≡ hDigits d n r b₁ t₁ (aggregate d n r K L w whole term rows ψ ω α δ .φ) s
+unfolding hDigits
+h-written d n r K L w b₁ t₁ whole term rows ψ ω α δ s old older {M} {values} filled room held all out =
+    out
+    ∙ ap (λ (m : ℕ). flat m (λ e. split b₁ t₁ (coeffs d (el d values e)))) all
+    ∙ garbage-places d r b₁ t₁ (el d values)
+    ∙ garbage-cong d r b₁ t₁ _ _ (λ i j a b.
+    ap (λ (xs : List ℤ). el d xs (pair r i j)) held ∙ el-pairs d r (halved d r M) older room i j a b
+    ∙ halved-h d n r K L w whole term rows ψ ω α δ s old filled i j (omega arith) b)
+
+-- ---- D·(h digits)
+
+pub row-end : (d m : ℕ) (M x : List ℤ) (k : ℕ) {out : List ℤ} → out ≡ array d (sum (R d) m (λ e. R d .mul (el d M (k * m + e)) (el d x (0 + e))))
+    → out ≡ array d (times d m M k (el d x))
+unfolding times inner
+row-end d m M x k out = out ∙ ap (array d) (sum-cong (R d) m _ _ (λ e _. ap (λ (p : ℕ). R d .mul (el d M (k * m + e)) (el d x p)) (zero-add e)))
+
+pub outer-end : (d r κ₂ t₁ m : ℕ) (D x : List ℤ) {out : List ℤ} → m ≡ garbageSize r t₁ → out ≡ elements d κ₂ (λ k. times d m D k (el d x))
+    → out ≡ u₂ d r κ₂ t₁ D x
+unfolding u₂ outer₂
+outer-end d r κ₂ t₁ m D x is out = out ∙ ap (λ (m : ℕ). elements d κ₂ (λ k. times d m D k (el d x))) is
+
+-- the h digits are pairs(r) blocks
+pub digits-length : (d r t₁ : ℕ) {len count : ℕ} → count ≡ pairs r → len ≡ garbageSize r t₁ * d → len ≡ count * (t₁ * d)
+unfolding garbageSize
+digits-length d r t₁ is e = e ∙ rw is (omega arith)
+
+-- the elements of one φ_i, and all products, have room in the local lists
+pub phi-room : {d n r : ℕ} → Shaped d n r → n * d ≤ 16384
+phi-room shaped = mul-le-mul (shaped .rank-small) (shaped .degree .small)
+
+pub square-room : {d n r : ℕ} → Shaped d n r → r * r * d ≤ 16384
+square-room shaped = mul-le-mul (mul-le-mul (shaped .parts-small) (shaped .parts-small)) (shaped .degree .small)

@@ -1,0 +1,16 @@
+pub mod RingLaws
+pub mod NormalForm
+pub mod Solver
+pub mod SumLaws
+pub mod TriangleLaws
+pub mod ResidueLaws
+pub mod SumMaps
+pub mod VecLaws
+pub mod PolynomialLaws
+pub mod ConstantLaws
+pub mod Convolution
+pub mod ConjugationLaws
+pub mod ConjugationProduct
+pub mod DotProductLaws
+pub mod FoldLaws
+pub mod Tables

@@ -1,0 +1,2 @@
+pub mod CutSizes
+pub mod NextFacts

@@ -1,0 +1,8 @@
+pub mod SizeLaws
+pub mod Running
+pub mod Rows
+pub mod Terms
+pub mod RowGroupLaws
+pub mod AccumulatorLaws
+pub mod ProjectedRowLaws
+pub mod AggregatedLaws

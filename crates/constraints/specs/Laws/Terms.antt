@@ -1,0 +1,158 @@
+-- The terms that the loops over constraints add, with the constraints `step` numbers apart, and the places that they read.
+--     termTerm, term-step, term-end        Σ_l ψ_kl f'_l at place e
+--     wholeTerm, whole-step, whole-end     Σ_k α_k f_k at place e
+use mathlib.Core.Path.{_≡_, refl, _∙_}
+use mathlib.Core.List.{List}
+use Prim.Native.Nat.{ℕ, _+_, _-_, _*_, _^_, _≤_, _<_}
+use native.Mathlib.Nat.{mul-le-mul, mul-le-mul-right}
+use native.Mathlib.Omega.{arith}
+use lib.ListN.{length, getD, take, drop, length-drop}
+use lib.Seq.{take-all}
+use lib.IntN.{ℤ, pos}
+use lib.Signed.{mag}
+use mir.Syntax.{w32}
+use mir.Val.{toZ, ofZ}
+use Rattle.integers.specs.Laws.FlatLaws.{block-fits}
+use Rattle.algebra.specs.Sum.{sum}
+use Rattle.ring.specs.Element.{R, Degree, lift, el, array, number}
+use Rattle.ring.specs.Laws.ElementLaws.{lift-array}
+use Rattle.residues.specs.Laws.Words.{word}
+use Rattle.fold.specs.Sizes.{functionSize}
+use Rattle.fold.specs.Statement.{termAt, wholeAt}
+use Rattle.fold.specs.Refusals.{termLength, wholeLength}
+use Rattle.fold.specs.Entries.{termEntry, wholeEntry}
+use Rattle.constraints.specs.Known.Facts.{TermFacts, WholeFacts}
+use Rattle.constraints.specs.Laws.SizeLaws.{function-small, numbers-small}
+use Rattle.constraints.specs.Laws.Running.{Summing, summing-step}
+
+-- ---- the part of a list from a place on
+
+rest-all : (xs : List ℤ) (at : ℕ) → take (length xs - at) (drop at xs) ≡ drop at xs
+rest-all xs at = take-all (length xs - at) (drop at xs) (omega (arith, length-drop at xs))
+
+pub rest-room : (xs : List ℤ) (at : ℕ) {m : ℕ} → at + m ≤ length xs → m ≤ length (take (length xs - at) (drop at xs))
+rest-room xs at h = rw (rest-all xs at) (omega (arith, length-drop at xs))
+
+product-small : {x a y b : ℕ} → x ≤ a → y ≤ b → x * y ≤ a * b
+product-small h k = mul-le-mul h k
+
+-- ---- the constant-term constraints
+
+unfoldable pub termTerm : (d : ℕ) (term ψ : List ℤ) (step first e : ℕ) → ℕ → R d .Carrier
+termTerm d term ψ step first e i = R d .mul (number d (getD ψ (first + i) (pos 0))) (el d (drop (i * step) term) e)
+
+module _ {d : ℕ} (term ψ : List ℤ) (step first e : ℕ) {L j : ℕ} {acc : List ℤ}
+    (running : Summing d (termTerm d term ψ step first e) L j acc) where
+  -- one turn of the loop
+  pub term-step : {at : ℕ} {entry weighted next : List ℤ} → Degree d → j < L → at ≡ j * step
+      → mag (getD ψ (first + j) (pos 0)) < 2 ^ 31
+      → entry ≡ array d (el d (take (length term - at) (drop at term)) e)
+      → weighted ≡ array d (R d .mul (number d (toZ w32 (ofZ w32 (getD ψ (first + j) (pos 0))))) (lift d entry))
+      → next ≡ array d (R d .add (lift d acc) (lift d weighted))
+      → Summing d (termTerm d term ψ step first e) L (j + 1) next
+  unfolding termTerm
+  term-step {at} {entry} {weighted} {next} degree h place small is scaled added =
+      summing-step running (degree .small) h
+      (scaled
+      ∙ rw (
+        word (getD ψ (first + j) (pos 0)) small,
+        is,
+        lift-array d (el d (take (length term - at) (drop at term)) e) (degree .small),
+        rest-all term at,
+        place,
+      ) refl)
+      added
+
+pub term-end : (d n r L : ℕ) (term ψ : List ℤ) (k e : ℕ) {size : ℕ} {acc : List ℤ} → size ≡ functionSize n r
+    → acc ≡ array d (sum (R d) L (termTerm d term ψ (size * d + 1) (k * L) e)) → acc ≡ array d (termEntry d n r L term ψ k e)
+unfolding termTerm termEntry termAt
+term-end d n r L term ψ k e is held = held ∙ rw is refl
+
+module _ {d n r L : ℕ} {term ψ : List ℤ} (facts : TermFacts d n r L term ψ) {size : ℕ} (is : size ≡ functionSize n r) where
+  pub term-step-small : size * d ≤ 270848
+  term-step-small = rw is (numbers-small (facts .shaped))
+
+  -- constraint j ends within the list
+  pub term-room : {j : ℕ} → j < L → j * (size * d + 1) + (size * d + 1) ≤ length term
+  unfolding termLength
+  term-room {j} h = rw is (omega (arith, facts .term-length, mul-le-mul-right (functionSize n r * d + 1) h))
+
+  pub term-small : length term ≤ 8667168
+  unfolding termLength
+  term-small =
+      let one : functionSize n r * d + 1 ≤ 270849 = omega (arith, numbers-small (facts .shaped)) in
+      omega (arith, facts .term-length, product-small (facts .term-count) one)
+
+  -- element e of constraint j, and the rest of the list from it on
+  pub term-place : {j e at : ℕ} → j < L → e < functionSize n r → at ≡ j * (size * d + 1) → at + (e * d + d) ≤ length term
+  term-place {j} {e} {at} h l place =
+      let below : e < size = omega (arith, is, l) in
+      omega (arith, term-room h, place, mul-le-mul-right d below)
+
+  pub term-start : {j at : ℕ} → j < L → at ≡ j * (size * d + 1) → at ≤ length term
+  term-start {j} {at} h place = omega (arith, term-room h, place)
+
+pub ψ-place : {d n r L : ℕ} {term ψ : List ℤ} → TermFacts d n r L term ψ → {k j : ℕ}
+    → k < 5 → j < L → (k * L + j < length ψ) × (k * L + j < 160)
+ψ-place {L} facts {k} {j} h l = (rw (facts .ψ-length) (block-fits 5 L k j h l), omega (arith, block-fits 5 L k j h l, facts .term-count))
+
+-- ---- the whole constraints
+
+unfoldable pub wholeTerm : (d : ℕ) (whole α : List ℤ) (step e : ℕ) → ℕ → R d .Carrier
+wholeTerm d whole α step e k = R d .mul (el d α k) (el d (drop (k * step) whole) e)
+
+module _ {d : ℕ} (whole α : List ℤ) (step e : ℕ) {K k : ℕ} {acc : List ℤ} (running : Summing d (wholeTerm d whole α step e) K k acc) where
+  pub whole-step : {at : ℕ} {entry weight weighted next : List ℤ} → Degree d → k < K → at ≡ k * step
+      → entry ≡ array d (el d (take (length whole - at) (drop at whole)) e)
+      → weight ≡ array d (el d α k)
+      → weighted ≡ array d (R d .mul (lift d weight) (lift d entry))
+      → next ≡ array d (R d .add (lift d acc) (lift d weighted))
+      → Summing d (wholeTerm d whole α step e) K (k + 1) next
+  unfolding wholeTerm
+  whole-step {at} degree h place is by product added =
+      summing-step running (degree .small) h
+      (product
+      ∙ rw (
+        is,
+        by,
+        lift-array d (el d α k) (degree .small),
+        lift-array d (el d (take (length whole - at) (drop at whole)) e) (degree .small),
+        rest-all whole at,
+        place,
+      ) refl)
+      added
+
+pub whole-end : (d n r K : ℕ) (whole α : List ℤ) (e : ℕ) {size : ℕ} {acc : List ℤ} → size ≡ functionSize n r
+    → acc ≡ array d (sum (R d) K (wholeTerm d whole α ((size + 1) * d) e)) → acc ≡ array d (wholeEntry d n r K whole α e)
+unfolding wholeTerm wholeEntry wholeAt
+whole-end d n r K whole α e is held = held ∙ rw is refl
+
+module _ {d n r K : ℕ} {whole α : List ℤ} (facts : WholeFacts d n r K whole α) {size : ℕ} (is : size ≡ functionSize n r) where
+  pub whole-size-small : size ≤ 4232
+  whole-size-small = rw is (function-small (facts .shaped))
+
+  pub whole-step-small : (size + 1) * d ≤ 270912
+  whole-step-small =
+      let more : size + 1 ≤ 4233 = omega (arith, whole-size-small) in
+      product-small more (facts .shaped .degree .small)
+
+  pub whole-room : {k : ℕ} → k < K → k * ((size + 1) * d) + (size + 1) * d ≤ length whole
+  unfolding wholeLength
+  whole-room {k} h = rw is (omega (arith, facts .whole-length, mul-le-mul-right ((functionSize n r + 1) * d) h))
+
+  pub whole-small : length whole ≤ 8669184
+  unfolding wholeLength
+  whole-small =
+      let one : (functionSize n r + 1) * d ≤ 270912 = rw is at whole-step-small in
+      omega (arith, facts .whole-length, product-small (facts .whole-count) one)
+
+  pub whole-place : {k e at : ℕ} → k < K → e ≤ functionSize n r → at ≡ k * ((size + 1) * d) → at + (e * d + d) ≤ length whole
+  whole-place {k} {e} {at} h l place =
+      let below : e ≤ size = omega (arith, is, l) in
+      omega (arith, whole-room h, place, mul-le-mul-right d below)
+
+  pub whole-start : {k at : ℕ} → k < K → at ≡ k * ((size + 1) * d) → at ≤ length whole
+  whole-start {k} {at} h place = omega (arith, whole-room h, place)
+
+pub α-place : {d n r K : ℕ} {whole α : List ℤ} → WholeFacts d n r K whole α → {k : ℕ} → k < K → k * d + d ≤ length α
+α-place {d} facts h = omega (arith, facts .α-length, mul-le-mul-right d h)

@@ -1,0 +1,9 @@
+pub mod Computing
+pub mod WholeCase
+pub mod WorkedValues
+pub mod RefusalCases
+pub mod LimitCases
+pub mod ListCases
+pub mod ProductCases
+pub mod SecondCaseNumbers
+pub mod SecondCase

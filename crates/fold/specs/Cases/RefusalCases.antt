@@ -1,0 +1,153 @@
+-- Document 01, 'Where a call stops' and 'Bench values': the example of each row and the sides that it names, computed. What is lent is zero and
+-- has the lengths that the sizes give, except where an example says otherwise. Row 12 is the sheet's. LimitCases has both sides of every
+-- limit in every call, ListCases a fault in every list.
+use mathlib.Core.Bool.{false}
+use mathlib.Core.Path.{_≡_, refl}
+use mathlib.Core.List.{List, [], _∷_, _++_}
+use Prim.Native.Nat.{ℕ, _*_}
+use lib.ListN.{replicate}
+use lib.IntN.{ℤ}
+use Rattle.integers.specs.Literals.{+_, -_, _zeros∷_}
+use Rattle.fold.specs.Answers.{firstRefusal}
+use Rattle.fold.specs.Sizes.{tSize, garbageSize, restSize, openingSize, nextRank, nextParts, nextCount}
+use Rattle.fold.specs.Statement.{Statement, Draws, Transcript}
+use Rattle.fold.specs.Refusals.{lengthBound, wholeLength, projectTests, amortizeTests, verifyTests, nextTests, partTests}
+use Rattle.fold.specs.Cases.Computing.{fold-computes}
+
+abbrev pub zeros : ℕ → List ℤ
+zeros k = k zeros∷ []
+
+-- sizes that vary; n, κ1 and κ2 are 1, K, L and w are 0
+module _ (d r κ b t₁ t₂ bound : ℕ) where
+  abbrev pub statement : Statement
+  statement =
+      record {
+        relation = record { d = d; n = 1; r = r; K = 0; L = 0; bound = bound; whole = []; term = [] };
+        w = 0;
+        tz = 2;
+        κ = κ;
+        κ₁ = 1;
+        κ₂ = 1;
+        b = b;
+        b₁ = 8;
+        b₂ = 4;
+        t₁ = t₁;
+        t₂ = t₂;
+        target = 13;
+        A = zeros (κ * d);
+        B = zeros (tSize r κ t₁ * d);
+        C = zeros (garbageSize r t₂ * d);
+        D = zeros (garbageSize r t₁ * d);
+      }
+
+  abbrev pub draws : Draws
+  draws = record { projections = []; ψ = []; ω = []; α = []; δ = zeros (5 * d); c = zeros (r * d) }
+
+  abbrev pub transcript : Transcript
+  transcript = record { u₁ = zeros d; p = []; b″ = zeros (5 * d); u₂ = zeros d }
+
+  -- the refusals of the verifier and of the next instance, 0 for none
+  abbrev pub verifierRefusal : ℕ
+  verifierRefusal = firstRefusal (verifyTests statement draws transcript (zeros (openingSize 2 1 r κ t₁ t₂ * d)))
+
+  abbrev pub nextRefusal : (ν μ : ℕ) → ℕ
+  nextRefusal ν μ = firstRefusal (nextTests statement draws transcript ν μ (zeros (wholeLength d n′ (nextParts 2 ν μ) (nextCount κ 1 1))))
+    where
+      n′ : ℕ
+      n′ = nextRank 1 ν (restSize r κ t₁ t₂) μ
+
+-- the refusal of message 5 for one part of rank 1: the challenge c, the witness s
+abbrev pub message₅Refusal : ℕ → List ℤ → List ℤ → ℕ
+message₅Refusal d c s = firstRefusal (amortizeTests d 1 1 2 4 c s (zeros (2 * d)))
+
+-- the refusal of message 2 for one part of rank 1 and degree 2 and one projection row
+abbrev pub message₂Refusal : List ℤ → ℕ
+message₂Refusal row = firstRefusal (projectTests 2 1 1 1 row (zeros 2) (zeros 1))
+
+-- the refusal of the question for part i of the next witness, ν = μ = 1
+abbrev pub partRefusal : ℕ → ℕ
+partRefusal i = firstRefusal (partTests 2 1 1 1 2 2 2 1 1 i (zeros (openingSize 2 1 1 1 2 2 * 2)))
+
+pub record RefusalCases : Type 0 where
+  pub none : verifierRefusal 2 1 1 4 2 2 5 ≡ 0
+  pub none-next : nextRefusal 2 1 1 4 2 2 5 1 1 ≡ 0
+  -- row 1: "d = 3"; "Lowest number first"
+  pub degree-3 : verifierRefusal 3 1 1 4 2 2 5 ≡ 1
+  pub lowest-first : verifierRefusal 3 17 0 1 2 2 1000000000000000 ≡ 1
+  -- row 2: "r = 17", "r 16/17", a part "outside 1..r'", where r' is 3
+  pub parts-16 : verifierRefusal 2 16 1 4 2 2 5 ≡ 0
+  pub parts-17 : verifierRefusal 2 17 1 4 2 2 5 ≡ 2
+  pub part-0 : partRefusal 0 ≡ 2
+  pub part-3 : partRefusal 3 ≡ 0
+  pub part-4 : partRefusal 4 ≡ 2
+  -- row 3: "κ = 0"; row 4: "b = 1"
+  pub commitment-rank-0 : verifierRefusal 2 1 0 4 2 2 5 ≡ 3
+  pub base-1 : verifierRefusal 2 1 1 1 2 2 5 ≡ 4
+  pub base-65536 : verifierRefusal 2 1 1 65536 2 2 5 ≡ 0
+  pub base-65537 : verifierRefusal 2 1 1 65537 2 2 5 ≡ 4
+  -- row 5: "ν = 8, μ = 1"
+  pub chunks-8-1 : nextRefusal 2 1 1 4 2 2 5 8 1 ≡ 5
+  pub chunks-7-2 : nextRefusal 2 1 1 4 2 2 5 7 2 ≡ 0
+  -- row 6: "-1", "β² 999999999999999 and one more"
+  pub bound-negative : lengthBound (- 1) ≡ false
+  pub bound-largest : verifierRefusal 2 1 1 4 2 2 999999999999999 ≡ 0
+  pub bound-above : verifierRefusal 2 1 1 4 2 2 1000000000000000 ≡ 6
+  -- row 7: "d = 2, n = r = 1, witness of 3 numbers"; row 8: "2147483599"; row 9: "2"
+  pub three-numbers : message₅Refusal 2 (zeros 2) (zeros 3) ≡ 7
+  pub coefficient-largest : message₅Refusal 2 (zeros 2) (+ 2147483598 ∷ - 2147483598 ∷ []) ≡ 0
+  pub coefficient-above : message₅Refusal 2 (zeros 2) (+ 2147483599 ∷ + 0 ∷ []) ≡ 8
+  pub coefficient-below : message₅Refusal 2 (zeros 2) (+ 0 ∷ - 2147483599 ∷ []) ≡ 8
+  pub projection-1 : message₂Refusal (+ 1 ∷ - 1 ∷ []) ≡ 0
+  pub projection-2 : message₂Refusal (+ 2 ∷ + 0 ∷ []) ≡ 9
+  -- row 10: "coefficient 3", "squared length of c 71/72": 71 = 31 + 10·4
+  pub challenge-3 : message₅Refusal 2 (+ 3 ∷ + 0 ∷ []) (zeros 2) ≡ 10
+  pub challenge-71 : message₅Refusal 64 (replicate 31 (+ 1) ++ replicate 10 (- 2) ++ zeros 23) (zeros 64) ≡ 0
+  pub challenge-72 : message₅Refusal 64 (replicate 32 (+ 1) ++ replicate 10 (- 2) ++ zeros 22) (zeros 64) ≡ 10
+  -- row 11: "m = 3200, μ = 1", "n' 256/257"
+  pub rest-3200 : restSize 16 8 8 8 ≡ 3200
+  pub rank-3200 : nextRefusal 2 16 8 4 8 8 5 1 1 ≡ 11
+  pub length-before-rank : firstRefusal (nextTests (statement 2 16 8 4 8 8 5) (draws 2 16 8 4 8 8 5) (transcript 2 16 8 4 8 8 5) 1 1 []) ≡ 7
+  pub next-rank-256 : nextRank 1 1 (restSize 8 7 4 4) 2 ≡ 256
+  pub next-rank-257 : nextRank 1 1 (restSize 9 6 2 7) 2 ≡ 257
+  pub rank-256 : nextRefusal 2 8 7 4 4 4 5 1 2 ≡ 0
+  pub rank-257 : nextRefusal 2 9 6 4 2 7 5 1 2 ≡ 11
+
+pub refusal-cases : RefusalCases
+unfolding fold-computes
+refusal-cases =
+    record {
+      none = refl;
+      none-next = refl;
+      degree-3 = refl;
+      lowest-first = refl;
+      parts-16 = refl;
+      parts-17 = refl;
+      part-0 = refl;
+      part-3 = refl;
+      part-4 = refl;
+      commitment-rank-0 = refl;
+      base-1 = refl;
+      base-65536 = refl;
+      base-65537 = refl;
+      chunks-8-1 = refl;
+      chunks-7-2 = refl;
+      bound-negative = refl;
+      bound-largest = refl;
+      bound-above = refl;
+      three-numbers = refl;
+      coefficient-largest = refl;
+      coefficient-above = refl;
+      coefficient-below = refl;
+      projection-1 = refl;
+      projection-2 = refl;
+      challenge-3 = refl;
+      challenge-71 = refl;
+      challenge-72 = refl;
+      rest-3200 = refl;
+      rank-3200 = refl;
+      length-before-rank = refl;
+      next-rank-256 = refl;
+      next-rank-257 = refl;
+      rank-256 = refl;
+      rank-257 = refl;
+    }

@@ -1,0 +1,101 @@
+-- Document 01, 'Sheet': the whole case, computed. "Its witness is 1+2X." Every field of WholeCase is closed, and holds by computation
+-- alone, so this file pins the definitions to numbers that stand in document 01. What 'Bench values' says of it stands in WorkedValues.
+use mathlib.Core.Path.{_≡_, refl}
+use mathlib.Core.List.{List, [], _∷_}
+use Prim.Native.Nat.{ℕ, zero, suc, _<_, _≤_}
+use native.Mathlib.Omega.{arith}
+use lib.IntN.{ℤ}
+use Rattle.integers.specs.Literals.{+_, -_, _zeros∷_}
+use Rattle.integers.specs.Sums.{normSq}
+use Rattle.algebra.specs.DotProduct.{value}
+use Rattle.ring.specs.Element.{R}
+use Rattle.fold.specs.declared.Verdict.the-variants.{Accepted}
+use Rattle.fold.specs.Answers.{firstRefusal}
+use Rattle.fold.specs.Statement.{Solves, part, function, wholeAt, wholeConstant}
+use Rattle.fold.specs.Statement.{Statement, Draws, Transcript}
+use Rattle.fold.specs.Verdict.{verdict}
+use Rattle.fold.specs.Honest.{honestTranscript, honestOpening}
+use Rattle.fold.specs.Refusals.{verifyTests, proverTests}
+use Rattle.fold.specs.Cases.Computing.{fold-computes}
+
+abbrev pub whole : List ℤ
+whole = + 1 ∷ + 0 ∷ + 0 ∷ + 0 ∷ - 3 ∷ + 4 ∷ []
+
+-- the statement, with the target bound β'² lent
+abbrev pub case : (target : ℕ) → Statement
+case target =
+    record {
+      relation = record { d = 2; n = 1; r = 1; K = 1; L = 0; bound = 5; whole = whole; term = [] };
+      w = 0;
+      tz = 2;
+      κ = 1;
+      κ₁ = 1;
+      κ₂ = 1;
+      b = 4;
+      b₁ = 8;
+      b₂ = 4;
+      t₁ = 2;
+      t₂ = 2;
+      target = target;
+      A = + 1 ∷ + 0 ∷ [];
+      B = + 1 ∷ + 0 ∷ + 0 ∷ + 0 ∷ [];
+      C = + 1 ∷ + 0 ∷ + 0 ∷ + 0 ∷ [];
+      D = + 1 ∷ + 0 ∷ + 1 ∷ + 0 ∷ [];
+    }
+
+abbrev pub witness : List ℤ
+witness = + 1 ∷ + 2 ∷ []
+
+abbrev pub draws : Draws
+draws = record { projections = []; ψ = []; ω = []; α = + 1 ∷ + 0 ∷ []; δ = 10 zeros∷ []; c = + 0 ∷ + 1 ∷ [] }
+
+abbrev pub transcript : Transcript
+transcript = record { u₁ = + 2 ∷ + 2 ∷ []; p = []; b″ = 10 zeros∷ []; u₂ = + 0 ∷ + 0 ∷ [] }
+
+-- z low, z high, t, g, h: an element a line
+abbrev pub digits : List ℤ
+digits =
+    - 2 ∷ + 1
+    ∷ + 0 ∷ + 0
+    ∷ + 1 ∷ + 2
+    ∷ + 0 ∷ + 0
+    ∷ + 1 ∷ + 0
+    ∷ - 1 ∷ + 1
+    ∷ + 0 ∷ + 0
+    ∷ + 0 ∷ + 0
+    ∷ []
+
+-- "Its witness is 1+2X": it solves the statement
+wholly-met
+    : (k : ℕ) → k < 1 → value (R 2) 1 1 (function 2 1 1 (wholeAt 2 1 1 whole k)) (part 2 1 witness) ≡ wholeConstant 2 1 1 whole k
+unfolding fold-computes
+wholly-met zero h = refl
+wholly-met (suc k) h = absurd (omega arith)
+
+short : normSq witness ≤ 5
+unfolding fold-computes
+short = omega arith
+
+pub solves : Solves (case 13 .relation) witness
+solves = record { meets = record { wholly = wholly-met; in-constant-term = λ l h. absurd (omega arith) }; short = short }
+
+pub record WholeCase : Type 0 where
+  -- the honest messages and opening of the witness are those of the sheet
+  pub transcript-honest : honestTranscript (case 13) draws witness ≡ transcript
+  pub opening-honest : honestOpening (case 13) draws witness ≡ digits
+  -- "The program of verdicts prints 0 0 in its two fields."
+  pub accepted : verdict (case 13) draws transcript digits ≡ Accepted
+  -- neither the verifier nor the prover is refused
+  pub verifier-not-refused : firstRefusal (verifyTests (case 13) draws transcript digits) ≡ 0
+  pub prover-not-refused : firstRefusal (proverTests (case 13) draws witness) ≡ 0
+
+pub whole-case : WholeCase
+unfolding fold-computes
+whole-case =
+    record {
+      transcript-honest = refl;
+      opening-honest = refl;
+      accepted = refl;
+      verifier-not-refused = refl;
+      prover-not-refused = refl;
+    }

@@ -1,0 +1,235 @@
+-- What a call that is not refused knows of its arguments, as far as its work needs it: the limits of its sizes, the length of every list, and
+-- that projection rows keep row 9. For each call a record, and the law that no refusal gives it.
+--     CommitFacts, ProjectFacts, AggregateFacts, GarbageFacts, AmortizeFacts, VerifyFacts
+--     commit-facts, project-facts, aggregate-facts, garbage-facts, amortize-facts, verify-facts
+use mathlib.Core.Path.{_≡_, refl}
+use mathlib.Core.Bool.{true}
+use mathlib.Core.List.{List}
+use Prim.Native.Nat.{ℕ, _*_}
+use lib.ListN.{length}
+use lib.IntN.{ℤ}
+use Rattle.residues.specs.Range.{projections}
+use Rattle.fold.specs.Sizes.{tSize, garbageSize, openingSize}
+use Rattle.fold.specs.Statement.{Relation}
+use Rattle.fold.specs.Statement.{Statement, Draws, Transcript}
+use Rattle.fold.specs.Answers.{firstRefusal}
+use Rattle.fold.specs.Refusals.{allOf, lengths, wholeLength, termLength, projectionLength}
+use Rattle.fold.specs.Refusals.{commitTests, projectTests, aggregateTests, garbageTests, amortizeTests, verifyTests}
+use Rattle.fold.specs.Laws.RefusalLaws.{refusal-passes, allOf-all, allOf-drop, sized-iff}
+use Rattle.fold.specs.Known.CallLimits.{CommitLimits, ProjectLimits, AggregateLimits, GarbageLimits, AmortizeLimits, VerifyLimits}
+use Rattle.fold.specs.Known.CallLimits.{commit-limits, project-limits, aggregate-limits, garbage-limits, amortize-limits, verify-limits}
+
+-- ---- message 1
+
+pub record CommitFacts (d n r κ κ₁ b₁ b₂ t₁ t₂ : ℕ) (A B C s ts gs u₁ : List ℤ) : Type 0 where
+  pub limits : CommitLimits d n r κ κ₁ b₁ b₂ t₁ t₂
+  pub A-length : length A ≡ κ * n * d
+  pub B-length : length B ≡ κ₁ * tSize r κ t₁ * d
+  pub C-length : length C ≡ κ₁ * garbageSize r t₂ * d
+  pub s-length : length s ≡ r * n * d
+  pub ts-length : length ts ≡ tSize r κ t₁ * d
+  pub gs-length : length gs ≡ garbageSize r t₂ * d
+  pub u₁-length : length u₁ ≡ κ₁ * d
+
+pub commit-facts : {d n r κ κ₁ b₁ b₂ t₁ t₂ : ℕ} {A B C s ts gs u₁ : List ℤ}
+    → firstRefusal (commitTests d n r κ κ₁ b₁ b₂ t₁ t₂ A B C s ts gs u₁) ≡ 0
+    → CommitFacts d n r κ κ₁ b₁ b₂ t₁ t₂ A B C s ts gs u₁
+unfolding commitTests
+commit-facts {d} {n} {r} {κ} {κ₁} {b₁} {b₂} {t₁} {t₂} {A} {B} {C} {s} {ts} {gs} {u₁} e =
+    let passed = refusal-passes (commitTests d n r κ κ₁ b₁ b₂ t₁ t₂ A B C s ts gs u₁) refl e in
+    let lengths = allOf-all _ (passed .1 .1 .1 .1 .0) in
+    record {
+      limits = commit-limits d n r κ κ₁ b₁ b₂ t₁ t₂ (passed .0) (passed .1 .0) (passed .1 .1 .0) (passed .1 .1 .1 .0);
+      A-length = sized-iff A _ .0 (lengths .0);
+      B-length = sized-iff B _ .0 (lengths .1 .0);
+      C-length = sized-iff C _ .0 (lengths .1 .1 .0);
+      s-length = sized-iff s _ .0 (lengths .1 .1 .1 .0);
+      ts-length = sized-iff ts _ .0 (lengths .1 .1 .1 .1 .0);
+      gs-length = sized-iff gs _ .0 (lengths .1 .1 .1 .1 .1 .0);
+      u₁-length = sized-iff u₁ _ .0 (lengths .1 .1 .1 .1 .1 .1 .0);
+    }
+
+-- ---- message 2
+
+pub record ProjectFacts (d n r w : ℕ) (rows s p : List ℤ) : Type 0 where
+  pub limits : ProjectLimits d n r w
+  pub rows-length : length rows ≡ projectionLength d n r w
+  pub s-length : length s ≡ r * n * d
+  pub p-length : length p ≡ w
+  pub rows-entries : projections rows ≡ true
+
+pub project-facts : {d n r w : ℕ} {rows s p : List ℤ}
+    → firstRefusal (projectTests d n r w rows s p) ≡ 0
+    → ProjectFacts d n r w rows s p
+unfolding projectTests
+project-facts {d} {n} {r} {w} {rows} {s} {p} e =
+    let passed = refusal-passes (projectTests d n r w rows s p) refl e in
+    let lengths = allOf-all _ (passed .1 .1 .0) in
+    record {
+      limits = project-limits d n r w (passed .0) (passed .1 .0);
+      rows-length = sized-iff rows _ .0 (lengths .0);
+      s-length = sized-iff s _ .0 (lengths .1 .0);
+      p-length = sized-iff p _ .0 (lengths .1 .1 .0);
+      rows-entries = passed .1 .1 .1 .1 .0;
+    }
+
+-- ---- message 3
+
+pub record AggregateFacts (d n r L w : ℕ) (term rows ψ ω s b″ : List ℤ) : Type 0 where
+  pub limits : AggregateLimits d n r L w
+  pub term-length : length term ≡ termLength d n r L
+  pub rows-length : length rows ≡ projectionLength d n r w
+  pub ψ-length : length ψ ≡ 5 * L
+  pub ω-length : length ω ≡ 5 * w
+  pub s-length : length s ≡ r * n * d
+  pub b″-length : length b″ ≡ 5 * d
+  pub rows-entries : projections rows ≡ true
+
+pub aggregate-facts : {d n r L w : ℕ} {term rows ψ ω s b″ : List ℤ}
+    → firstRefusal (aggregateTests d n r L w term rows ψ ω s b″) ≡ 0
+    → AggregateFacts d n r L w term rows ψ ω s b″
+unfolding aggregateTests
+aggregate-facts {d} {n} {r} {L} {w} {term} {rows} {ψ} {ω} {s} {b″} e =
+    let passed = refusal-passes (aggregateTests d n r L w term rows ψ ω s b″) refl e in
+    let lengths = allOf-all _ (passed .1 .1 .0) in
+    record {
+      limits = aggregate-limits d n r L w (passed .0) (passed .1 .0);
+      term-length = sized-iff term _ .0 (lengths .0);
+      rows-length = sized-iff rows _ .0 (lengths .1 .0);
+      ψ-length = sized-iff ψ _ .0 (lengths .1 .1 .0);
+      ω-length = sized-iff ω _ .0 (lengths .1 .1 .1 .0);
+      s-length = sized-iff s _ .0 (lengths .1 .1 .1 .1 .0);
+      b″-length = sized-iff b″ _ .0 (lengths .1 .1 .1 .1 .1 .0);
+      rows-entries = passed .1 .1 .1 .1 .0;
+    }
+
+-- ---- message 4
+
+pub record GarbageFacts (d n r K L w κ₂ b₁ t₁ : ℕ) (whole term rows ψ ω α δ D s hs u₂ : List ℤ) : Type 0 where
+  pub limits : GarbageLimits d n r K L w κ₂ b₁ t₁
+  pub whole-length : length whole ≡ wholeLength d n r K
+  pub term-length : length term ≡ termLength d n r L
+  pub rows-length : length rows ≡ projectionLength d n r w
+  pub ψ-length : length ψ ≡ 5 * L
+  pub ω-length : length ω ≡ 5 * w
+  pub α-length : length α ≡ K * d
+  pub δ-length : length δ ≡ 5 * d
+  pub D-length : length D ≡ κ₂ * garbageSize r t₁ * d
+  pub s-length : length s ≡ r * n * d
+  pub hs-length : length hs ≡ garbageSize r t₁ * d
+  pub u₂-length : length u₂ ≡ κ₂ * d
+  pub rows-entries : projections rows ≡ true
+
+pub garbage-facts : {d n r K L w κ₂ b₁ t₁ : ℕ} {whole term rows ψ ω α δ D s hs u₂ : List ℤ}
+    → firstRefusal (garbageTests d n r K L w κ₂ b₁ t₁ whole term rows ψ ω α δ D s hs u₂) ≡ 0
+    → GarbageFacts d n r K L w κ₂ b₁ t₁ whole term rows ψ ω α δ D s hs u₂
+unfolding garbageTests
+garbage-facts {d} {n} {r} {K} {L} {w} {κ₂} {b₁} {t₁} {whole} {term} {rows} {ψ} {ω} {α} {δ} {D} {s} {hs} {u₂} e =
+    let passed = refusal-passes (garbageTests d n r K L w κ₂ b₁ t₁ whole term rows ψ ω α δ D s hs u₂) refl e in
+    let lengths = allOf-all _ (passed .1 .1 .1 .1 .0) in
+    record {
+      limits = garbage-limits d n r K L w κ₂ b₁ t₁ (passed .0) (passed .1 .0) (passed .1 .1 .0) (passed .1 .1 .1 .0);
+      whole-length = sized-iff whole _ .0 (lengths .0);
+      term-length = sized-iff term _ .0 (lengths .1 .0);
+      rows-length = sized-iff rows _ .0 (lengths .1 .1 .0);
+      ψ-length = sized-iff ψ _ .0 (lengths .1 .1 .1 .0);
+      ω-length = sized-iff ω _ .0 (lengths .1 .1 .1 .1 .0);
+      α-length = sized-iff α _ .0 (lengths .1 .1 .1 .1 .1 .0);
+      δ-length = sized-iff δ _ .0 (lengths .1 .1 .1 .1 .1 .1 .0);
+      D-length = sized-iff D _ .0 (lengths .1 .1 .1 .1 .1 .1 .1 .0);
+      s-length = sized-iff s _ .0 (lengths .1 .1 .1 .1 .1 .1 .1 .1 .0);
+      hs-length = sized-iff hs _ .0 (lengths .1 .1 .1 .1 .1 .1 .1 .1 .1 .0);
+      u₂-length = sized-iff u₂ _ .0 (lengths .1 .1 .1 .1 .1 .1 .1 .1 .1 .1 .0);
+      rows-entries = passed .1 .1 .1 .1 .1 .1 .0;
+    }
+
+-- ---- message 5; z has two digits
+
+pub record AmortizeFacts (d n r b : ℕ) (c s zs : List ℤ) : Type 0 where
+  pub limits : AmortizeLimits d n r b
+  pub c-length : length c ≡ r * d
+  pub s-length : length s ≡ r * n * d
+  pub zs-length : length zs ≡ 2 * n * d
+
+pub amortize-facts : {d n r b : ℕ} {c s zs : List ℤ}
+    → firstRefusal (amortizeTests d n r 2 b c s zs) ≡ 0
+    → AmortizeFacts d n r b c s zs
+unfolding amortizeTests
+amortize-facts {d} {n} {r} {b} {c} {s} {zs} e =
+    let passed = refusal-passes (amortizeTests d n r 2 b c s zs) refl e in
+    let lengths = allOf-all _ (passed .1 .1 .1 .0) in
+    record {
+      limits = amortize-limits d n r b (passed .0) (passed .1 .0) (passed .1 .1 .0);
+      c-length = sized-iff c _ .0 (lengths .0);
+      s-length = sized-iff s _ .0 (lengths .1 .0);
+      zs-length = sized-iff zs _ .0 (lengths .1 .1 .0);
+    }
+
+-- ---- the verifier, with the opening o, and the next instance
+
+module _ (𝓢 : Statement) (𝓓 : Draws) (𝓣 : Transcript) where
+  open Statement 𝓢 using (relation, w, tz, κ, κ₁, κ₂, b, b₁, b₂, t₁, t₂, target, A, B, C, D)
+  open Relation relation using (d, n, r, K, L, bound, whole, term)
+  open Draws 𝓓 using (projections as rows, ψ, ω, α, δ, c)
+  open Transcript 𝓣 using (u₁, p, b″, u₂)
+
+  -- the lengths of the statement's lists, of the draws and of the messages
+  pub record Lengths : Type 0 where
+    pub u₁-length : length u₁ ≡ κ₁ * d
+    pub p-length : length p ≡ w
+    pub b″-length : length b″ ≡ 5 * d
+    pub u₂-length : length u₂ ≡ κ₂ * d
+    pub A-length : length A ≡ κ * n * d
+    pub B-length : length B ≡ κ₁ * tSize r κ t₁ * d
+    pub C-length : length C ≡ κ₁ * garbageSize r t₂ * d
+    pub D-length : length D ≡ κ₂ * garbageSize r t₁ * d
+    pub whole-length : length whole ≡ wholeLength d n r K
+    pub term-length : length term ≡ termLength d n r L
+    pub rows-length : length rows ≡ projectionLength d n r w
+    pub ψ-length : length ψ ≡ 5 * L
+    pub ω-length : length ω ≡ 5 * w
+    pub α-length : length α ≡ K * d
+    pub δ-length : length δ ≡ 5 * d
+    pub c-length : length c ≡ r * d
+
+  pub lengths-known : allOf (lengths 𝓢 𝓓 𝓣) ≡ true → Lengths
+  lengths-known e =
+      let each = allOf-all _ e in
+      record {
+        u₁-length = sized-iff u₁ _ .0 (each .0);
+        p-length = sized-iff p _ .0 (each .1 .0);
+        b″-length = sized-iff b″ _ .0 (each .1 .1 .0);
+        u₂-length = sized-iff u₂ _ .0 (each .1 .1 .1 .0);
+        A-length = sized-iff A _ .0 (each .1 .1 .1 .1 .0);
+        B-length = sized-iff B _ .0 (each .1 .1 .1 .1 .1 .0);
+        C-length = sized-iff C _ .0 (each .1 .1 .1 .1 .1 .1 .0);
+        D-length = sized-iff D _ .0 (each .1 .1 .1 .1 .1 .1 .1 .0);
+        whole-length = sized-iff whole _ .0 (each .1 .1 .1 .1 .1 .1 .1 .1 .0);
+        term-length = sized-iff term _ .0 (each .1 .1 .1 .1 .1 .1 .1 .1 .1 .0);
+        rows-length = sized-iff rows _ .0 (each .1 .1 .1 .1 .1 .1 .1 .1 .1 .1 .0);
+        ψ-length = sized-iff ψ _ .0 (each .1 .1 .1 .1 .1 .1 .1 .1 .1 .1 .1 .0);
+        ω-length = sized-iff ω _ .0 (each .1 .1 .1 .1 .1 .1 .1 .1 .1 .1 .1 .1 .0);
+        α-length = sized-iff α _ .0 (each .1 .1 .1 .1 .1 .1 .1 .1 .1 .1 .1 .1 .1 .0);
+        δ-length = sized-iff δ _ .0 (each .1 .1 .1 .1 .1 .1 .1 .1 .1 .1 .1 .1 .1 .1 .0);
+        c-length = sized-iff c _ .0 (each .1 .1 .1 .1 .1 .1 .1 .1 .1 .1 .1 .1 .1 .1 .1 .0);
+      }
+
+  pub record VerifyFacts (o : List ℤ) : Type 0 where
+    pub limits : VerifyLimits d n r K L w κ κ₁ κ₂ b b₁ b₂ t₁ t₂ bound target
+    pub lists : Lengths
+    pub o-length : length o ≡ openingSize tz n r κ t₁ t₂ * d
+    pub rows-entries : projections rows ≡ true
+
+  pub verify-facts : (o : List ℤ) → firstRefusal (verifyTests 𝓢 𝓓 𝓣 o) ≡ 0 → VerifyFacts o
+  unfolding verifyTests
+  verify-facts o e =
+      let passed = refusal-passes (verifyTests 𝓢 𝓓 𝓣 o) refl e in
+      let sizes = passed .1 .1 .1 .1 .1 .0 in
+      record {
+        limits =
+            verify-limits d n r K L w κ κ₁ κ₂ b b₁ b₂ t₁ t₂ bound target
+            (passed .0) (passed .1 .0) (passed .1 .1 .0) (passed .1 .1 .1 .0) (passed .1 .1 .1 .1 .0);
+        lists = lengths-known (allOf-drop 1 _ sizes);
+        o-length = sized-iff o _ .0 (allOf-all _ sizes .0);
+        rows-entries = passed .1 .1 .1 .1 .1 .1 .1 .0;
+      }

@@ -1,0 +1,193 @@
+-- What rows 1 to 6 leave known of the sizes of each call, as plain bounds. The laws take the tests of those rows one by one.
+--     CommitLimits, ProjectLimits, AggregateLimits, GarbageLimits, AmortizeLimits, VerifyLimits
+use mathlib.Core.Path.{_≡_}
+use mathlib.Core.Bool.{true}
+use mathlib.Core.List.{[], _∷_}
+use Prim.Native.Nat.{ℕ, _≤_}
+use lib.IntN.{pos}
+use Rattle.residues.specs.Digits.{Base}
+use Rattle.fold.specs.Known.Facts.{Shaped}
+use Rattle.fold.specs.Refusals.{allOf, degree, rank, parts, constraintCount, projectionCount, commitmentRank, base, digitCount}
+use Rattle.fold.specs.Refusals.{lengthBound}
+use Rattle.fold.specs.Laws.RefusalLaws.{allOf-all, degree-fits, rank-iff, parts-iff, constraintCount-iff, projectionCount-iff}
+use Rattle.fold.specs.Laws.RefusalLaws.{commitmentRank-iff, base-fits, digitCount-iff, lengthBound-iff}
+
+pub record CommitLimits (d n r κ κ₁ b₁ b₂ t₁ t₂ : ℕ) : Type 0 where
+  pub shaped : Shaped d n r
+  pub κ-positive : 1 ≤ κ
+  pub κ-small : κ ≤ 8
+  pub κ₁-positive : 1 ≤ κ₁
+  pub κ₁-small : κ₁ ≤ 8
+  pub base₁ : Base b₁
+  pub base₂ : Base b₂
+  pub t₁-least : 2 ≤ t₁
+  pub t₁-most : t₁ ≤ 8
+  pub t₂-least : 2 ≤ t₂
+  pub t₂-most : t₂ ≤ 8
+
+pub record ProjectLimits (d n r w : ℕ) : Type 0 where
+  pub shaped : Shaped d n r
+  pub w-small : w ≤ 256
+
+pub record AggregateLimits (d n r L w : ℕ) : Type 0 where
+  pub shaped : Shaped d n r
+  pub L-small : L ≤ 32
+  pub w-small : w ≤ 256
+
+pub record GarbageLimits (d n r K L w κ₂ b₁ t₁ : ℕ) : Type 0 where
+  pub shaped : Shaped d n r
+  pub K-small : K ≤ 32
+  pub L-small : L ≤ 32
+  pub w-small : w ≤ 256
+  pub κ₂-positive : 1 ≤ κ₂
+  pub κ₂-small : κ₂ ≤ 8
+  pub base₁ : Base b₁
+  pub t₁-least : 2 ≤ t₁
+  pub t₁-most : t₁ ≤ 8
+
+pub record AmortizeLimits (d n r b : ℕ) : Type 0 where
+  pub shaped : Shaped d n r
+  pub base : Base b
+
+pub record VerifyLimits (d n r K L w κ κ₁ κ₂ b b₁ b₂ t₁ t₂ bound target : ℕ) : Type 0 where
+  pub shaped : Shaped d n r
+  pub K-small : K ≤ 32
+  pub L-small : L ≤ 32
+  pub w-small : w ≤ 256
+  pub κ-positive : 1 ≤ κ
+  pub κ-small : κ ≤ 8
+  pub κ₁-positive : 1 ≤ κ₁
+  pub κ₁-small : κ₁ ≤ 8
+  pub κ₂-positive : 1 ≤ κ₂
+  pub κ₂-small : κ₂ ≤ 8
+  pub base : Base b
+  pub base₁ : Base b₁
+  pub base₂ : Base b₂
+  pub t₁-least : 2 ≤ t₁
+  pub t₁-most : t₁ ≤ 8
+  pub t₂-least : 2 ≤ t₂
+  pub t₂-most : t₂ ≤ 8
+  pub bound-small : bound ≤ 999999999999999
+  pub target-small : target ≤ 999999999999999
+
+-- ---- from the tests
+
+shaped-of : (d n r : ℕ) → degree (pos d) ≡ true → rank (pos n) ≡ true → parts (pos r) ≡ true → Shaped d n r
+shaped-of d n r e f g =
+    record {
+      degree = degree-fits d e;
+      rank-positive = rank-iff n .0 f .0;
+      rank-small = rank-iff n .0 f .1;
+      parts-positive = parts-iff r .0 g .0;
+      parts-small = parts-iff r .0 g .1;
+    }
+
+pub commit-limits : (d n r κ κ₁ b₁ b₂ t₁ t₂ : ℕ) → degree (pos d) ≡ true → allOf (rank (pos n) ∷ parts (pos r) ∷ []) ≡ true
+    → allOf (commitmentRank (pos κ) ∷ commitmentRank (pos κ₁) ∷ []) ≡ true
+    → allOf (base (pos b₁) ∷ base (pos b₂) ∷ digitCount (pos t₁) ∷ digitCount (pos t₂) ∷ []) ≡ true
+    → CommitLimits d n r κ κ₁ b₁ b₂ t₁ t₂
+commit-limits d n r κ κ₁ b₁ b₂ t₁ t₂ e₁ e₂ e₃ e₄ =
+    let h₂ = allOf-all _ e₂ in
+    let h₃ = allOf-all _ e₃ in
+    let h₄ = allOf-all _ e₄ in
+    let k = commitmentRank-iff κ .0 (h₃ .0) in
+    let k₁ = commitmentRank-iff κ₁ .0 (h₃ .1 .0) in
+    let c₁ = digitCount-iff t₁ .0 (h₄ .1 .1 .0) in
+    let c₂ = digitCount-iff t₂ .0 (h₄ .1 .1 .1 .0) in
+    record {
+      shaped = shaped-of d n r e₁ (h₂ .0) (h₂ .1 .0);
+      κ-positive = k .0;
+      κ-small = k .1;
+      κ₁-positive = k₁ .0;
+      κ₁-small = k₁ .1;
+      base₁ = base-fits b₁ (h₄ .0);
+      base₂ = base-fits b₂ (h₄ .1 .0);
+      t₁-least = c₁ .0;
+      t₁-most = c₁ .1;
+      t₂-least = c₂ .0;
+      t₂-most = c₂ .1;
+    }
+
+pub project-limits : (d n r w : ℕ) → degree (pos d) ≡ true
+    → allOf (rank (pos n) ∷ parts (pos r) ∷ projectionCount (pos w) ∷ []) ≡ true → ProjectLimits d n r w
+project-limits d n r w e₁ e₂ =
+    let h₂ = allOf-all _ e₂ in
+    record {
+      shaped = shaped-of d n r e₁ (h₂ .0) (h₂ .1 .0);
+      w-small = projectionCount-iff w .0 (h₂ .1 .1 .0) .1;
+    }
+
+pub aggregate-limits : (d n r L w : ℕ) → degree (pos d) ≡ true
+    → allOf (rank (pos n) ∷ parts (pos r) ∷ constraintCount (pos L) ∷ projectionCount (pos w) ∷ []) ≡ true → AggregateLimits d n r L w
+aggregate-limits d n r L w e₁ e₂ =
+    let h₂ = allOf-all _ e₂ in
+    record {
+      shaped = shaped-of d n r e₁ (h₂ .0) (h₂ .1 .0);
+      L-small = constraintCount-iff L .0 (h₂ .1 .1 .0) .1;
+      w-small = projectionCount-iff w .0 (h₂ .1 .1 .1 .0) .1;
+    }
+
+pub garbage-limits : (d n r K L w κ₂ b₁ t₁ : ℕ) → degree (pos d) ≡ true
+    → allOf (rank (pos n) ∷ parts (pos r) ∷ constraintCount (pos K) ∷ constraintCount (pos L) ∷ projectionCount (pos w) ∷ []) ≡ true
+    → commitmentRank (pos κ₂) ≡ true → allOf (base (pos b₁) ∷ digitCount (pos t₁) ∷ []) ≡ true
+    → GarbageLimits d n r K L w κ₂ b₁ t₁
+garbage-limits d n r K L w κ₂ b₁ t₁ e₁ e₂ e₃ e₄ =
+    let h₂ = allOf-all _ e₂ in
+    let h₄ = allOf-all _ e₄ in
+    let k₂ = commitmentRank-iff κ₂ .0 e₃ in
+    let c₁ = digitCount-iff t₁ .0 (h₄ .1 .0) in
+    record {
+      shaped = shaped-of d n r e₁ (h₂ .0) (h₂ .1 .0);
+      K-small = constraintCount-iff K .0 (h₂ .1 .1 .0) .1;
+      L-small = constraintCount-iff L .0 (h₂ .1 .1 .1 .0) .1;
+      w-small = projectionCount-iff w .0 (h₂ .1 .1 .1 .1 .0) .1;
+      κ₂-positive = k₂ .0;
+      κ₂-small = k₂ .1;
+      base₁ = base-fits b₁ (h₄ .0);
+      t₁-least = c₁ .0;
+      t₁-most = c₁ .1;
+    }
+
+pub amortize-limits : (d n r b : ℕ) → degree (pos d) ≡ true → allOf (rank (pos n) ∷ parts (pos r) ∷ []) ≡ true
+    → base (pos b) ≡ true → AmortizeLimits d n r b
+amortize-limits d n r b e₁ e₂ e₄ =
+    let h₂ = allOf-all _ e₂ in
+    record { shaped = shaped-of d n r e₁ (h₂ .0) (h₂ .1 .0); base = base-fits b e₄ }
+
+pub verify-limits : (d n r K L w κ κ₁ κ₂ b b₁ b₂ t₁ t₂ bound target : ℕ) → degree (pos d) ≡ true
+    → allOf (rank (pos n) ∷ parts (pos r) ∷ constraintCount (pos K) ∷ constraintCount (pos L) ∷ projectionCount (pos w) ∷ []) ≡ true
+    → allOf (commitmentRank (pos κ) ∷ commitmentRank (pos κ₁) ∷ commitmentRank (pos κ₂) ∷ []) ≡ true
+    → allOf (base (pos b) ∷ base (pos b₁) ∷ base (pos b₂) ∷ digitCount (pos t₁) ∷ digitCount (pos t₂) ∷ []) ≡ true
+    → allOf (lengthBound (pos bound) ∷ lengthBound (pos target) ∷ []) ≡ true
+    → VerifyLimits d n r K L w κ κ₁ κ₂ b b₁ b₂ t₁ t₂ bound target
+verify-limits d n r K L w κ κ₁ κ₂ b b₁ b₂ t₁ t₂ bound target e₁ e₂ e₃ e₄ e₆ =
+    let h₂ = allOf-all _ e₂ in
+    let h₃ = allOf-all _ e₃ in
+    let h₄ = allOf-all _ e₄ in
+    let h₆ = allOf-all _ e₆ in
+    let k = commitmentRank-iff κ .0 (h₃ .0) in
+    let k₁ = commitmentRank-iff κ₁ .0 (h₃ .1 .0) in
+    let k₂ = commitmentRank-iff κ₂ .0 (h₃ .1 .1 .0) in
+    let c₁ = digitCount-iff t₁ .0 (h₄ .1 .1 .1 .0) in
+    let c₂ = digitCount-iff t₂ .0 (h₄ .1 .1 .1 .1 .0) in
+    record {
+      shaped = shaped-of d n r e₁ (h₂ .0) (h₂ .1 .0);
+      K-small = constraintCount-iff K .0 (h₂ .1 .1 .0) .1;
+      L-small = constraintCount-iff L .0 (h₂ .1 .1 .1 .0) .1;
+      w-small = projectionCount-iff w .0 (h₂ .1 .1 .1 .1 .0) .1;
+      κ-positive = k .0;
+      κ-small = k .1;
+      κ₁-positive = k₁ .0;
+      κ₁-small = k₁ .1;
+      κ₂-positive = k₂ .0;
+      κ₂-small = k₂ .1;
+      base = base-fits b (h₄ .0);
+      base₁ = base-fits b₁ (h₄ .1 .0);
+      base₂ = base-fits b₂ (h₄ .1 .1 .0);
+      t₁-least = c₁ .0;
+      t₁-most = c₁ .1;
+      t₂-least = c₂ .0;
+      t₂-most = c₂ .1;
+      bound-small = lengthBound-iff bound .0 (h₆ .0) .1;
+      target-small = lengthBound-iff target .0 (h₆ .1 .0) .1;
+    }

@@ -1,0 +1,131 @@
+-- Accepted, check by check: the verdict is Accepted exactly when the nine facts of document 01's 'Verdict' hold.
+use mathlib.Core.Path.{_≡_, refl, sym, ap, subst}
+use mathlib.Core.Logic.{_↔_}
+use mathlib.Core.Bool.{Bool, true, false, cond}
+use mathlib.Core.List.{List, [], _∷_}
+use Prim.Native.Nat.{ℕ, suc, _+_, _*_, _<_, _≤_}
+use native.Mathlib.Omega.{arith}
+use lib.ListN.{getD}
+use lib.IntN.{ℤ, pos}
+use borrow.Author.Tests.{leb-true, le-leb, eqb-true, eq-eqb}
+use Rattle.integers.specs.Sums.{normSq}
+use Rattle.algebra.specs.Laws.ResidueLaws.{residue-eq}
+use Rattle.algebra.specs.Sum.{sum}
+use Rattle.algebra.specs.Triangle.{rows}
+use Rattle.algebra.specs.Conjugation.{ct}
+use Rattle.algebra.specs.DotProduct.{inner, mixed}
+use Rattle.residues.specs.Modulus.{Zq, red}
+use Rattle.ring.specs.Element.{R, el, same}
+use Rattle.ring.specs.Laws.ElementEquality.{every-true, true-every, same-true, same-refl}
+use Rattle.fold.specs.declared.Verdict.the-variants.{Accepted, Failed}
+use Rattle.fold.specs.Answers.{firstFailed}
+use Rattle.fold.specs.Statement.{Relation, termConstant}
+use Rattle.fold.specs.Messages.{five, times, outer₁, outer₂, aggregateConstant}
+use Rattle.fold.specs.Statement.{Statement, Draws, Transcript}
+use Rattle.fold.specs.Verdict.{verdict}
+use Rattle.fold.specs.Opening.{zLength, tgLength, hLength}
+use Rattle.fold.specs.Verdict.{tBlock, gBlock, hBlock, zᵒ, tᵒ, gᵒ, hᵒ, aggregated}
+use Rattle.fold.specs.Verdict.{check₁, check₂, check₃, check₄, check₅, check₆, check₇, check₈, check₉}
+
+module _ (𝓢 : Statement) (𝓓 : Draws) (𝓣 : Transcript) (o : List ℤ) where
+  open Statement 𝓢 using (relation, w, tz, κ, κ₁, κ₂, b, b₁, b₂, t₁, t₂, target, A, B, C, D)
+  open Relation relation using (d, n, r, K, L, bound, whole, term)
+  open Draws 𝓓 using (projections, ψ, ω, α, δ, c)
+  open Transcript 𝓣 using (u₁, p, b″, u₂)
+
+  -- checks 1 to 9 as facts
+  pub record Accepts : Type 0 where
+    -- "2·|p|² ≤ w·β²"
+    pub projected : 2 * normSq p ≤ w * bound
+    -- "Each b''_k has constant term Σψ b' + Σω p."
+    pub constant-term : (k : ℕ) → k < five
+        → ct Zq (el d b″ k)
+        ≡ Zq .add
+        (sum Zq L (λ l. Zq .mul (red (getD ψ (k * L + l) (pos 0))) (red (termConstant d n r term l))))
+        (sum Zq w (λ j. Zq .mul (red (getD ω (k * w + j) (pos 0))) (red (getD p j (pos 0)))))
+    -- "u1 equation"
+    pub first-outer : (k : ℕ) → k < κ₁ → outer₁ d r κ t₁ t₂ B C k (tBlock 𝓢 𝓓 𝓣 o) (gBlock 𝓢 𝓓 𝓣 o) ≡ el d u₁ k
+    -- "u2 equation"
+    pub second-outer : (k : ℕ) → k < κ₂ → outer₂ d r t₁ D k (hBlock 𝓢 𝓓 𝓣 o) ≡ el d u₂ k
+    -- "A z = Σ c_i t_i"
+    pub amortized : (k : ℕ) → k < κ → times d n A k (zᵒ 𝓢 𝓓 𝓣 o) ≡ sum (R d) r (λ i. R d .mul (el d c i) (tᵒ 𝓢 𝓓 𝓣 o i k))
+    -- "<z,z> = Σ g_ii c_i² + 2Σ_{i<j} g_ij c_i c_j"
+    pub self-product : inner (R d) n (zᵒ 𝓢 𝓓 𝓣 o) (zᵒ 𝓢 𝓓 𝓣 o) ≡ mixed (R d) r (gᵒ 𝓢 𝓓 𝓣 o) (el d c)
+    -- "Σ<φ_i,z>c_i = Σ h_ii c_i² + 2Σ_{i<j} h_ij c_i c_j"
+    pub linear-part : sum (R d) r (λ i. R d .mul (inner (R d) n (aggregated 𝓢 𝓓 𝓣 o .φ i) (zᵒ 𝓢 𝓓 𝓣 o)) (el d c i))
+        ≡ mixed (R d) r (hᵒ 𝓢 𝓓 𝓣 o) (el d c)
+    -- "Σ a_ij g_ij + Σ h_ii = b"
+    pub relation-holds : R d .add
+        (rows (R d) r (λ i j. R d .mul (aggregated 𝓢 𝓓 𝓣 o .a i j) (gᵒ 𝓢 𝓓 𝓣 o i j)))
+        (sum (R d) r (λ i. hᵒ 𝓢 𝓓 𝓣 o i i))
+        ≡ aggregateConstant d n r K whole α δ b″
+    -- "All digits' squared length ≤ β'²"
+    pub short : zLength d n tz o + tgLength d n r tz κ t₁ t₂ o + hLength d n r tz κ t₁ t₂ o ≤ target
+
+-- ---- the first failed test
+
+failed-accepted : {X : Type 0} {k : ℕ} → Failed k ≡ Accepted → X
+failed-accepted e = let z : _≡_ {A = ℕ} 0 1 = cc in absurd (omega arith)
+
+pub accepted-end : (k : ℕ) → firstFailed k [] ≡ Accepted
+unfolding firstFailed
+accepted-end k = refl
+
+pub accepted-step : (k : ℕ) (test : Bool) (tests : List Bool) → firstFailed k (test ∷ tests) ≡ Accepted
+    → (test ≡ true) × (firstFailed (suc k) tests ≡ Accepted)
+unfolding firstFailed
+accepted-step k true tests e = (refl, e)
+accepted-step k false tests e = failed-accepted e
+
+pub step-accepted : (k : ℕ) (test : Bool) (tests : List Bool) → test ≡ true → firstFailed (suc k) tests ≡ Accepted
+    → firstFailed k (test ∷ tests) ≡ Accepted
+unfolding firstFailed
+step-accepted k true tests e f = f
+step-accepted k false tests e f = absurd (subst (λ (t : Bool). cond t ⊥ Unit) e tt)
+
+true-same : (d : ℕ) {u v : R d .Carrier} → u ≡ v → same d u v ≡ true
+true-same d {v} e = rw e (same-refl d v)
+
+module _ (𝓢 : Statement) (𝓓 : Draws) (𝓣 : Transcript) (o : List ℤ) where
+  open Statement 𝓢 using (relation, κ, κ₁, κ₂)
+  open Relation relation using (d)
+
+  pub accepts : verdict 𝓢 𝓓 𝓣 o ≡ Accepted → Accepts 𝓢 𝓓 𝓣 o
+  unfolding verdict check₁ check₂ check₃ check₄ check₅ check₆ check₇ check₈ check₉
+  accepts e₁ =
+      let e₂ = accepted-step 1 _ _ e₁ in
+      let e₃ = accepted-step 2 _ _ (e₂ .1) in
+      let e₄ = accepted-step 3 _ _ (e₃ .1) in
+      let e₅ = accepted-step 4 _ _ (e₄ .1) in
+      let e₆ = accepted-step 5 _ _ (e₅ .1) in
+      let e₇ = accepted-step 6 _ _ (e₆ .1) in
+      let e₈ = accepted-step 7 _ _ (e₇ .1) in
+      let e₉ = accepted-step 8 _ _ (e₈ .1) in
+      let e₁₀ = accepted-step 9 _ _ (e₉ .1) in
+      record {
+        projected = leb-true _ _ (e₂ .0);
+        constant-term = λ k l. residue-eq (eqb-true _ _ (every-true five _ (e₃ .0) k l));
+        first-outer = λ k l. sym (same-true d _ _ (every-true κ₁ _ (e₄ .0) k l));
+        second-outer = λ k l. sym (same-true d _ _ (every-true κ₂ _ (e₅ .0) k l));
+        amortized = λ k l. same-true d _ _ (every-true κ _ (e₆ .0) k l);
+        self-product = same-true d _ _ (e₇ .0);
+        linear-part = same-true d _ _ (e₈ .0);
+        relation-holds = same-true d _ _ (e₉ .0);
+        short = leb-true _ _ (e₁₀ .0);
+      }
+
+  pub accepted : Accepts 𝓢 𝓓 𝓣 o → verdict 𝓢 𝓓 𝓣 o ≡ Accepted
+  unfolding verdict check₁ check₂ check₃ check₄ check₅ check₆ check₇ check₈ check₉
+  accepted h =
+      step-accepted 1 _ _ (le-leb _ _ (h .projected))
+      (step-accepted 2 _ _ (true-every five _ (λ k l. eq-eqb _ _ (ap (λ x. x .val) (h .constant-term k l))))
+      (step-accepted 3 _ _ (true-every κ₁ _ (λ k l. true-same d (sym (h .first-outer k l))))
+      (step-accepted 4 _ _ (true-every κ₂ _ (λ k l. true-same d (sym (h .second-outer k l))))
+      (step-accepted 5 _ _ (true-every κ _ (λ k l. true-same d (h .amortized k l)))
+      (step-accepted 6 _ _ (true-same d (h .self-product))
+      (step-accepted 7 _ _ (true-same d (h .linear-part))
+      (step-accepted 8 _ _ (true-same d (h .relation-holds))
+      (step-accepted 9 _ _ (le-leb _ _ (h .short)) (accepted-end 10)))))))))
+
+  pub accepted-iff : (verdict 𝓢 𝓓 𝓣 o ≡ Accepted) ↔ Accepts 𝓢 𝓓 𝓣 o
+  accepted-iff = (accepts, accepted)

@@ -1,0 +1,74 @@
+-- Laws of the padded opening, for ν and μ above 0 and an opening of tz · n + m elements.
+--     part-padded, part-padding     part s holds its chunk of the opening, then zeros
+--     zero-padding                  its padding is zero, as ZeroPadding says
+--     chunk-padded                the same as a list
+--     normSq-padded                 its squared length is the opening's
+--     unpadded-padded, padded-unpadded     padding is undone, and done again where it is zero
+use mathlib.Core.Path.{_≡_, sym, ap, _∙_}
+use mathlib.Core.Bool.{true}
+use mathlib.Core.List.{List, _++_}
+use Prim.Native.Nat.{ℕ, _+_, _-_, _*_, _≤_, _<_}
+use lib.ListN.{length, take, drop, replicate}
+use lib.IntN.{ℤ, pos}
+use Rattle.integers.specs.Sums.{normSq}
+use Rattle.algebra.specs.Triangle.{start}
+use Rattle.ring.specs.Element.{R, el}
+use Rattle.residues.specs.Range.{coefficients}
+use Rattle.fold.specs.Sizes.{nextRank, nextParts}
+use Rattle.fold.specs.Statement.{part}
+use Rattle.fold.specs.Chunks.{width, cut, cutPadded, padded, unpadded, ZeroPadding}
+use Rattle.fold.specs.Laws.ChunkLaws.{width-bound, widths-cover}
+use Rattle.fold.specs.Laws.CutLaws.{part-within, part-past, number-past, normSq-padded-cuts, block-cuts}
+use Rattle.fold.specs.Laws.TrimLaws.{coefficients-trimmed, length-all-trimmed, trimmed-padded}
+
+pub coefficients-unpadded : (d tz n ν m μ : ℕ) (s : List ℤ) → coefficients s ≡ true → coefficients (unpadded d tz n ν m μ s) ≡ true
+unfolding unpadded
+coefficients-unpadded d tz n ν m μ = coefficients-trimmed d (nextParts tz ν μ) (nextRank n ν m μ) (width tz n ν m μ)
+
+module _ (d tz n ν m μ : ℕ) (some-ν : 0 < ν) (some-μ : 0 < μ) where
+  fitting : (s : ℕ) → width tz n ν m μ s ≤ nextRank n ν m μ
+  fitting = width-bound tz n ν m μ
+
+  all : start (width tz n ν m μ) (nextParts tz ν μ) ≡ tz * n + m
+  all = widths-cover tz n ν m μ some-ν some-μ
+
+  module _ (o : List ℤ) (sized : length o ≡ (tz * n + m) * d) where
+    covered : length o ≡ start (width tz n ν m μ) (nextParts tz ν μ) * d
+    covered = sized ∙ ap (λ x. x * d) (sym all)
+
+    pub part-padded : (s k : ℕ) → s < nextParts tz ν μ → k < width tz n ν m μ s
+        → part d (nextRank n ν m μ) (padded d tz n ν m μ o) s k ≡ el d o (start (width tz n ν m μ) s + k)
+    unfolding part padded
+    part-padded = part-within d (nextParts tz ν μ) (nextRank n ν m μ) (width tz n ν m μ) fitting o covered
+
+    pub part-padding : (s k : ℕ) → s < nextParts tz ν μ → width tz n ν m μ s ≤ k → k < nextRank n ν m μ
+        → part d (nextRank n ν m μ) (padded d tz n ν m μ o) s k ≡ R d .zero
+    unfolding part padded
+    part-padding = part-past d (nextParts tz ν μ) (nextRank n ν m μ) (width tz n ν m μ) fitting o covered
+
+    pub zero-padding : ZeroPadding d tz n ν m μ (padded d tz n ν m μ o)
+    unfolding padded
+    zero-padding =
+        record { zero-past = number-past d (nextParts tz ν μ) (nextRank n ν m μ) (width tz n ν m μ) fitting o covered }
+
+    -- "the library hands back that stretch of the caller's own slice": with zeros after it, it is that part of the padded opening
+    pub chunk-padded : (s : ℕ) → s < nextParts tz ν μ
+        → take (nextRank n ν m μ * d) (drop (s * (nextRank n ν m μ * d)) (padded d tz n ν m μ o))
+        ≡ cut d (width tz n ν m μ) o s ++ replicate ((nextRank n ν m μ - width tz n ν m μ s) * d) (pos 0)
+    unfolding padded cutPadded
+    chunk-padded = block-cuts d (nextParts tz ν μ) (nextRank n ν m μ) (width tz n ν m μ) fitting o covered
+
+    pub normSq-padded : normSq (padded d tz n ν m μ o) ≡ normSq o
+    unfolding padded
+    normSq-padded = normSq-padded-cuts d (nextParts tz ν μ) (nextRank n ν m μ) (width tz n ν m μ) fitting o covered
+
+  module _ (s : List ℤ) (sized : length s ≡ nextParts tz ν μ * (nextRank n ν m μ * d)) (zeros : ZeroPadding d tz n ν m μ s) where
+    pub length-unpadded : length (unpadded d tz n ν m μ s) ≡ (tz * n + m) * d
+    unfolding unpadded
+    length-unpadded =
+        length-all-trimmed d (nextParts tz ν μ) (nextRank n ν m μ) (width tz n ν m μ) fitting s sized (zeros .zero-past)
+        ∙ ap (λ x. x * d) all
+
+    pub padded-unpadded : padded d tz n ν m μ (unpadded d tz n ν m μ s) ≡ s
+    unfolding padded unpadded
+    padded-unpadded = trimmed-padded d (nextParts tz ν μ) (nextRank n ν m μ) (width tz n ν m μ) fitting s sized (zeros .zero-past)

@@ -1,0 +1,211 @@
+-- Laws of the refusals: a call is not refused exactly when each of its tests holds, and what each test says.
+--     Passes, numbered, refusal-iff     the list of tests of a call
+--     passes-join, -front, -back        lists of tests joined
+--     All, allOf-iff, Any, anyOf-iff    the tests of one row
+--     between-iff, degree-fits, ..      the tests by name
+use mathlib.Core.Path.{_≡_, refl, sym, subst}
+use mathlib.Core.Bool.{Bool, true, false, cond}
+use mathlib.Core.Logic.{_↔_, _⊎_, inl, inr}
+use mathlib.Core.List.{List, [], _∷_, _++_}
+use Prim.Native.Nat.{ℕ, zero, suc, _+_, _*_, _<_, _≤_}
+use native.Mathlib.Omega.{arith}
+use lib.Dec.{T, leb, ltb, eqb, ltb→lt}
+use lib.ListN.{length, drop}
+use lib.IntN.{ℤ, pos}
+use borrow.Author.Tests.{le-leb, leb-true, eq-eqb, eqb-true}
+use Rattle.ring.specs.Element.{Degree}
+use Rattle.residues.specs.Digits.{Base}
+use Rattle.fold.specs.Answers.{firstRefusal}
+use Rattle.fold.specs.Refusals.{allOf, anyOf, between, degree, rank, parts, constraintCount, projectionCount, commitmentRank, base}
+use Rattle.fold.specs.Refusals.{digitCount, chunks, lengthBound, sized}
+
+false-true : {A : Type 0} → false ≡ true → A
+false-true e = absurd (subst T (sym e) tt)
+
+-- ---- a conjunction of two tests
+
+pub both-left : (s t : Bool) → cond s t false ≡ true → s ≡ true
+both-left true t e = refl
+both-left false t e = e
+
+pub both-right : (s t : Bool) → cond s t false ≡ true → t ≡ true
+both-right true t e = e
+both-right false t e = false-true e
+
+pub both-true : (s t : Bool) → s ≡ true → t ≡ true → cond s t false ≡ true
+both-true s t e h = rw e h
+
+-- ---- the tests of a call
+
+-- each test of a list holds
+abbrev pub Passes : List (ℕ × Bool) → Type 0
+Passes [] = Unit {0}
+Passes (test ∷ tests) = (test .1 ≡ true) × Passes tests
+
+-- no test has the number 0, which says that there is no refusal; computes on the calls' lists
+abbrev pub numbered : List (ℕ × Bool) → Bool
+numbered [] = true
+numbered (test ∷ tests) = cond (ltb 0 (test .0)) (numbered tests) false
+
+pub passes-refusal : (tests : List (ℕ × Bool)) → Passes tests → firstRefusal tests ≡ 0
+unfolding firstRefusal
+passes-refusal [] p = refl
+passes-refusal (test ∷ tests) p = rw (p .0) (passes-refusal tests (p .1))
+
+pub refusal-passes : (tests : List (ℕ × Bool)) → numbered tests ≡ true → firstRefusal tests ≡ 0 → Passes tests
+unfolding firstRefusal
+refusal-passes [] l e = tt
+refusal-passes (test ∷ tests) l e =
+    step (test .1) refl e (refusal-passes tests (both-right (ltb 0 (test .0)) (numbered tests) l))
+  where
+    positive : 0 < test .0
+    positive = ltb→lt 0 (test .0) (subst T (sym (both-left (ltb 0 (test .0)) (numbered tests) l)) tt)
+
+    step : (t : Bool) → test .1 ≡ t → cond t (firstRefusal tests) (test .0) ≡ 0
+        → (firstRefusal tests ≡ 0 → Passes tests) → (test .1 ≡ true) × Passes tests
+    step true q e next = (q, next e)
+    step false q e next = let none : test .0 ≡ 0 = e in absurd (omega (arith, positive))
+
+pub refusal-iff : (tests : List (ℕ × Bool)) → numbered tests ≡ true → (firstRefusal tests ≡ 0) ↔ Passes tests
+refusal-iff tests l = (refusal-passes tests l, passes-refusal tests)
+
+-- the tests of two lists, one after the other
+pub passes-join : (xs ys : List (ℕ × Bool)) → Passes xs → Passes ys → Passes (xs ++ ys)
+passes-join [] ys p q = q
+passes-join (x ∷ xs) ys p q = (p .0, passes-join xs ys (p .1) q)
+
+pub passes-front : (xs ys : List (ℕ × Bool)) → Passes (xs ++ ys) → Passes xs
+passes-front [] ys p = tt
+passes-front (x ∷ xs) ys p = (p .0, passes-front xs ys (p .1))
+
+pub passes-back : (xs ys : List (ℕ × Bool)) → Passes (xs ++ ys) → Passes ys
+passes-back [] ys p = p
+passes-back (x ∷ xs) ys p = passes-back xs ys (p .1)
+
+-- ---- the tests of one row
+
+abbrev pub All : List Bool → Type 0
+All [] = Unit {0}
+All (t ∷ ts) = (t ≡ true) × All ts
+
+pub allOf-head : (t : Bool) (ts : List Bool) → allOf (t ∷ ts) ≡ true → t ≡ true
+unfolding allOf
+allOf-head t ts e = both-left t (allOf ts) e
+
+pub allOf-tail : (t : Bool) (ts : List Bool) → allOf (t ∷ ts) ≡ true → allOf ts ≡ true
+unfolding allOf
+allOf-tail t ts e = both-right t (allOf ts) e
+
+-- without the first k of them
+pub allOf-drop : (k : ℕ) (ts : List Bool) → allOf ts ≡ true → allOf (drop k ts) ≡ true
+allOf-drop zero ts e = e
+allOf-drop (suc k) [] e = e
+allOf-drop (suc k) (t ∷ ts) e = allOf-drop k ts (allOf-tail t ts e)
+
+pub allOf-cons : (t : Bool) (ts : List Bool) → t ≡ true → allOf ts ≡ true → allOf (t ∷ ts) ≡ true
+unfolding allOf
+allOf-cons t ts e h = both-true t (allOf ts) e h
+
+pub allOf-all : (ts : List Bool) → allOf ts ≡ true → All ts
+allOf-all [] e = tt
+allOf-all (t ∷ ts) e = (allOf-head t ts e, allOf-all ts (allOf-tail t ts e))
+
+pub all-allOf : (ts : List Bool) → All ts → allOf ts ≡ true
+unfolding allOf
+all-allOf [] a = refl
+all-allOf (t ∷ ts) a = both-true t (allOf ts) (a .0) (all-allOf ts (a .1))
+
+pub allOf-iff : (ts : List Bool) → (allOf ts ≡ true) ↔ All ts
+allOf-iff ts = (allOf-all ts, all-allOf ts)
+
+abbrev pub Any : List Bool → Type 0
+Any [] = ⊥
+Any (t ∷ ts) = (t ≡ true) ⊎ Any ts
+
+pub anyOf-any : (ts : List Bool) → anyOf ts ≡ true → Any ts
+unfolding anyOf
+anyOf-any [] e = false-true e
+anyOf-any (true ∷ ts) e = inl refl
+anyOf-any (false ∷ ts) e = inr (anyOf-any ts e)
+
+pub any-anyOf : (ts : List Bool) → Any ts → anyOf ts ≡ true
+unfolding anyOf
+any-anyOf (true ∷ ts) a = refl
+any-anyOf (false ∷ ts) (inl e) = false-true e
+any-anyOf (false ∷ ts) (inr a) = any-anyOf ts a
+
+pub anyOf-iff : (ts : List Bool) → (anyOf ts ≡ true) ↔ Any ts
+anyOf-iff ts = (anyOf-any ts, any-anyOf ts)
+
+-- ---- the tests by name
+
+pub between-iff : (low high n : ℕ) → (between low high (pos n) ≡ true) ↔ ((low ≤ n) × (n ≤ high))
+unfolding between
+between-iff low high n = (
+  λ e. (leb-true low n (both-left (leb low n) (leb n high) e), leb-true n high (both-right (leb low n) (leb n high) e)),
+  λ h. both-true (leb low n) (leb n high) (le-leb low n (h .0)) (le-leb n high (h .1)),
+)
+
+pub degree-iff : (d : ℕ) → (degree (pos d) ≡ true) ↔ Any (eqb d 2 ∷ eqb d 4 ∷ eqb d 8 ∷ eqb d 16 ∷ eqb d 32 ∷ eqb d 64 ∷ [])
+unfolding degree
+degree-iff d = anyOf-iff _
+
+pub degree-fits : (d : ℕ) → degree (pos d) ≡ true → Degree d
+degree-fits d e = cases (degree-iff d .0 e)
+  where
+    at : (m : ℕ) → 0 < m → m ≤ 64 → eqb d m ≡ true → Degree d
+    at m h l e = record { positive = omega (arith, eqb-true d m e); small = omega (arith, eqb-true d m e) }
+
+    cases : Any (eqb d 2 ∷ eqb d 4 ∷ eqb d 8 ∷ eqb d 16 ∷ eqb d 32 ∷ eqb d 64 ∷ []) → Degree d
+    cases (inl e) = at 2 (omega arith) (omega arith) e
+    cases (inr (inl e)) = at 4 (omega arith) (omega arith) e
+    cases (inr (inr (inl e))) = at 8 (omega arith) (omega arith) e
+    cases (inr (inr (inr (inl e)))) = at 16 (omega arith) (omega arith) e
+    cases (inr (inr (inr (inr (inl e))))) = at 32 (omega arith) (omega arith) e
+    cases (inr (inr (inr (inr (inr (inl e)))))) = at 64 (omega arith) (omega arith) e
+
+pub rank-iff : (n : ℕ) → (rank (pos n) ≡ true) ↔ ((1 ≤ n) × (n ≤ 256))
+unfolding rank
+rank-iff n = between-iff 1 256 n
+
+pub parts-iff : (r : ℕ) → (parts (pos r) ≡ true) ↔ ((1 ≤ r) × (r ≤ 16))
+unfolding parts
+parts-iff r = between-iff 1 16 r
+
+pub constraintCount-iff : (k : ℕ) → (constraintCount (pos k) ≡ true) ↔ ((0 ≤ k) × (k ≤ 32))
+unfolding constraintCount
+constraintCount-iff k = between-iff 0 32 k
+
+pub projectionCount-iff : (w : ℕ) → (projectionCount (pos w) ≡ true) ↔ ((0 ≤ w) × (w ≤ 256))
+unfolding projectionCount
+projectionCount-iff w = between-iff 0 256 w
+
+pub commitmentRank-iff : (κ : ℕ) → (commitmentRank (pos κ) ≡ true) ↔ ((1 ≤ κ) × (κ ≤ 8))
+unfolding commitmentRank
+commitmentRank-iff κ = between-iff 1 8 κ
+
+pub base-iff : (b : ℕ) → (base (pos b) ≡ true) ↔ ((2 ≤ b) × (b ≤ 65536))
+unfolding base
+base-iff b = between-iff 2 65536 b
+
+pub base-fits : (b : ℕ) → base (pos b) ≡ true → Base b
+base-fits b e = record { least = base-iff b .0 e .0; most = base-iff b .0 e .1 }
+
+pub digitCount-iff : (t : ℕ) → (digitCount (pos t) ≡ true) ↔ ((2 ≤ t) × (t ≤ 8))
+unfolding digitCount
+digitCount-iff t = between-iff 2 8 t
+
+pub lengthBound-iff : (β² : ℕ) → (lengthBound (pos β²) ≡ true) ↔ ((0 ≤ β²) × (β² ≤ 999999999999999))
+unfolding lengthBound
+lengthBound-iff β² = between-iff 0 999999999999999 β²
+
+pub sized-iff : (xs : List ℤ) (k : ℕ) → (sized xs k ≡ true) ↔ (length xs ≡ k)
+unfolding sized
+sized-iff xs k = (eqb-true (length xs) k, eq-eqb (length xs) k)
+
+pub chunks-iff : (tz ν μ : ℕ) → (chunks tz (pos ν) (pos μ) ≡ true) ↔ ((1 ≤ ν) × ((1 ≤ μ) × (tz * ν + μ ≤ 16)))
+unfolding chunks
+chunks-iff tz ν μ = (
+  λ e. let a = allOf-all _ e in (leb-true 1 ν (a .0), (leb-true 1 μ (a .1 .0), leb-true (tz * ν + μ) 16 (a .1 .1 .0))),
+  λ h. all-allOf _ (le-leb 1 ν (h .0), (le-leb 1 μ (h .1 .0), (le-leb (tz * ν + μ) 16 (h .1 .1), tt))),
+)

@@ -1,0 +1,48 @@
+-- What it says that the verifier accepts: its call is not refused, so the opening has its length and range, and the verdict is Accepted.
+use mathlib.Core.Path.{_≡_, refl}
+use mathlib.Core.Bool.{true}
+use mathlib.Core.List.{List}
+use Prim.Native.Nat.{ℕ, zero, suc, _*_}
+use native.Mathlib.Omega.{arith}
+use lib.ListN.{length}
+use lib.IntN.{ℤ}
+use Rattle.residues.specs.Range.{coefficients}
+use Rattle.fold.specs.declared.Verdict.{Verdict}
+use Rattle.fold.specs.declared.Verdict.the-variants.{Accepted}
+use Rattle.fold.specs.declared.Answer.the-variants.{Judged}
+use Rattle.fold.specs.Answers.{firstRefusal, answered}
+use Rattle.fold.specs.Sizes.{openingSize}
+use Rattle.fold.specs.Statement.{Relation}
+use Rattle.fold.specs.Statement.{Statement, Draws, Transcript}
+use Rattle.fold.specs.Verdict.{verdict}
+use Rattle.fold.specs.Refusals.{verifyTests}
+use Rattle.fold.specs.Laws.RefusalLaws.{refusal-passes, allOf-head, sized-iff}
+use Rattle.fold.specs.Verification.{verification}
+use Rattle.fold.specs.Laws.Accepted.{Accepts, accepts}
+
+pub judged-accepted : (k : ℕ) (v : Verdict) → answered k (Judged v) ≡ Judged Accepted → (k ≡ 0) × (v ≡ Accepted)
+unfolding answered
+judged-accepted zero v e = (refl, cc)
+judged-accepted (suc k) v e = let z : _≡_ {A = ℕ} 0 1 = cc in absurd (omega arith)
+
+module _ (𝓢 : Statement) (𝓓 : Draws) (𝓣 : Transcript) (o : List ℤ) where
+  open Statement 𝓢 using (relation, tz, κ, t₁, t₂)
+  open Relation relation using (d, n, r)
+
+  -- tests 1, 2, 3, 4 and 6 pass, then 7 and 8, which look at the opening first
+  pub opening-unrefused : firstRefusal (verifyTests 𝓢 𝓓 𝓣 o) ≡ 0 → (length o ≡ openingSize tz n r κ t₁ t₂ * d) × (coefficients o ≡ true)
+  unfolding verifyTests
+  opening-unrefused e =
+      let rows = refusal-passes (verifyTests 𝓢 𝓓 𝓣 o) refl e .1 .1 .1 .1 .1 in
+      (sized-iff o _ .0 (allOf-head _ _ (rows .0)), allOf-head _ _ (rows .1 .0))
+
+  pub record AcceptedOpening : Type 0 where
+    pub facts : Accepts 𝓢 𝓓 𝓣 o
+    pub sized : length o ≡ openingSize tz n r κ t₁ t₂ * d
+    pub small : coefficients o ≡ true
+
+  pub accepted-opening : verification 𝓢 𝓓 𝓣 o ≡ Judged Accepted → AcceptedOpening
+  accepted-opening e =
+      let (unrefused, passed) = judged-accepted (firstRefusal (verifyTests 𝓢 𝓓 𝓣 o)) (verdict 𝓢 𝓓 𝓣 o) e in
+      let (size, range) = opening-unrefused unrefused in
+      record { facts = accepts 𝓢 𝓓 𝓣 o passed; sized = size; small = range }

@@ -1,0 +1,6 @@
+pub mod HonestRuns
+pub mod HonestFormed
+pub mod MessagesTaken
+pub mod LowestFirst
+pub mod TwoOpenings
+pub mod NextInstanceTheorem

@@ -1,0 +1,133 @@
+-- Demand 2: "When the checks on projection and constant terms pass and the next instance is not too large, an opening is accepted exactly
+-- if, padded, it solves the next instance." Document 01: "A solution of the next instance whose padding is zero is, with the padding cut
+-- off, an accepted opening." For any number tz of z digits.
+use mathlib.Core.Path.{_≡_, refl, sym, ap, subst, _∙_}
+use mathlib.Core.Logic.{_↔_}
+use mathlib.Core.Bool.{Bool, true, false}
+use mathlib.Core.List.{List}
+use Prim.Native.Nat.{ℕ, _*_, _≤_, _<_}
+use native.Mathlib.Nat.{mul-assoc, mul-le-mul}
+use native.Mathlib.Omega.{arith}
+use lib.Dec.{ltb}
+use lib.ListN.{length, getD}
+use lib.IntN.{ℤ, pos, natAbs}
+use borrow.Author.Tests.{ltb-true, ltb-false}
+use Rattle.integers.specs.Sums.{sq, normSq}
+use Rattle.integers.specs.Laws.SumLaws.{normSq-term}
+use Rattle.residues.specs.Range.{coefficients}
+use Rattle.residues.specs.Laws.RangeLaws.{coefficients-of}
+use Rattle.fold.specs.declared.Verdict.the-variants.{Accepted}
+use Rattle.fold.specs.declared.Answer.the-variants.{Judged}
+use Rattle.fold.specs.Answers.{firstRefusal, answered}
+use Rattle.fold.specs.Sizes.{openingSize}
+use Rattle.fold.specs.Statement.{Relation, Solves}
+use Rattle.fold.specs.Statement.{Statement, Draws, Transcript}
+use Rattle.fold.specs.Verdict.{verdict}
+use Rattle.fold.specs.Laws.Accepted.{accepts, accepted}
+use Rattle.fold.specs.Refusals.{verifyTests, nextTests}
+use Rattle.fold.specs.Laws.RefusalLaws.{Passes, refusal-passes, passes-refusal, allOf-all, allOf-cons, allOf-tail, sized-iff, chunks-iff, lengthBound-iff}
+use Rattle.fold.specs.Verification.{verification}
+use Rattle.fold.specs.Laws.VerificationLaws.{judged-accepted}
+use Rattle.fold.specs.Chunks.{unpadded, ZeroPadding}
+use Rattle.fold.specs.Laws.PaddingLaws.{zero-padding, normSq-padded, length-unpadded, padded-unpadded, coefficients-unpadded}
+use Rattle.fold.specs.NextInstance.{m, n′, r′, nextWitness, nextRelation}
+use Rattle.fold.specs.Laws.NextSolves.{FirstChecks, solved, accepts-of}
+
+-- a list of at most that squared length is in range
+short-coefficients : (xs : List ℤ) → normSq xs ≤ 999999999999999 → coefficients xs ≡ true
+unfolding sq
+short-coefficients xs h = coefficients-of xs (λ i l. small (natAbs (getD xs i (pos 0))) (omega (arith, normSq-term xs i l)))
+  where
+    small : (x : ℕ) → x * x ≤ 999999999999999 → x ≤ 2147483598
+    small x b = pick (ltb 2147483598 x) refl
+      where
+        pick : (t : Bool) → ltb 2147483598 x ≡ t → x ≤ 2147483598
+        pick false e = ltb-false 2147483598 x e
+        pick true e =
+            let above : 2147483599 ≤ x = omega (arith, ltb-true 2147483598 x e) in
+            absurd (omega (arith, mul-le-mul above above))
+
+-- the next instance is not refused, so that n' is at most 256, and checks 1 and 2 pass
+module _ (𝓢 : Statement) (𝓓 : Draws) (𝓣 : Transcript) (ν μ : ℕ) (out : List ℤ) (unrefused : firstRefusal (nextTests 𝓢 𝓓 𝓣 ν μ out) ≡ 0)
+    (pass : FirstChecks 𝓢 𝓓 𝓣) where
+  open Statement 𝓢 using (relation, tz, κ, t₁, t₂, target)
+  open Relation relation using (d, n, r)
+
+  tests : Passes (nextTests 𝓢 𝓓 𝓣 ν μ out)
+  unfolding nextTests
+  tests = refusal-passes (nextTests 𝓢 𝓓 𝓣 ν μ out) refl unrefused
+
+  some-ν : 0 < ν
+  unfolding nextTests
+  some-ν = chunks-iff tz ν μ .0 (tests .1 .1 .1 .1 .0) .0
+
+  some-μ : 0 < μ
+  unfolding nextTests
+  some-μ = chunks-iff tz ν μ .0 (tests .1 .1 .1 .1 .0) .1 .0
+
+  small-target : target ≤ 999999999999999
+  unfolding nextTests
+  small-target = lengthBound-iff target .0 (allOf-all _ (tests .1 .1 .1 .1 .1 .0) .1 .0) .1
+
+  -- an opening whose length and range are right is not refused
+  unrefused-opening : (o : List ℤ) → length o ≡ openingSize tz n r κ t₁ t₂ * d → coefficients o ≡ true → firstRefusal (verifyTests 𝓢 𝓓 𝓣 o) ≡ 0
+  unfolding nextTests verifyTests
+  unrefused-opening o size range =
+      let from₅ = tests .1 .1 .1 .1 in
+      let from₈ = from₅ .1 .1 .1 in
+      let row₇ = allOf-cons _ _ (sized-iff o _ .1 size) (allOf-tail _ _ (from₅ .1 .1 .0)) in
+      let row₈ = allOf-cons _ _ range (from₈ .0) in
+      passes-refusal (verifyTests 𝓢 𝓓 𝓣 o)
+      (tests .0, (tests .1 .0, (tests .1 .1 .0, (tests .1 .1 .1 .0, (from₅ .1 .0, (row₇, (row₈, (from₈ .1 .0, (from₈ .1 .1 .0, tt)))))))))
+
+  -- "an opening is accepted exactly if, padded, it solves the next instance": its verdict, and the verifier's answer. An opening has its length;
+  -- numbers out of range are refused, and are longer than any bound.
+  module _ (o : List ℤ) (size : length o ≡ openingSize tz n r κ t₁ t₂ * d) where
+    pub next-instance : (verdict 𝓢 𝓓 𝓣 o ≡ Accepted) ↔ Solves (nextRelation 𝓢 𝓓 𝓣 ν μ) (nextWitness 𝓢 𝓓 𝓣 ν μ o)
+    next-instance = (
+      λ v. solved 𝓢 𝓓 𝓣 ν μ o some-ν some-μ size (accepts 𝓢 𝓓 𝓣 o v),
+      λ h. accepted 𝓢 𝓓 𝓣 o (accepts-of 𝓢 𝓓 𝓣 ν μ o some-ν some-μ size pass h),
+    )
+
+    solving-range : Solves (nextRelation 𝓢 𝓓 𝓣 ν μ) (nextWitness 𝓢 𝓓 𝓣 ν μ o) → coefficients o ≡ true
+    unfolding openingSize
+    solving-range h =
+        short-coefficients o (omega (arith, normSq-padded d tz n ν (m 𝓢 𝓓 𝓣 ν μ) μ some-ν some-μ o size, h .short, small-target))
+
+    pub next-instance-judged : (verification 𝓢 𝓓 𝓣 o ≡ Judged Accepted) ↔ Solves (nextRelation 𝓢 𝓓 𝓣 ν μ) (nextWitness 𝓢 𝓓 𝓣 ν μ o)
+    unfolding answered
+    next-instance-judged = (
+      λ e. next-instance .0 (judged-accepted (firstRefusal (verifyTests 𝓢 𝓓 𝓣 o)) (verdict 𝓢 𝓓 𝓣 o) e .1),
+      λ h. rw (unrefused-opening o size (solving-range h)) (ap Judged (next-instance .1 h)),
+    )
+
+    -- a padded opening has zero padding, so that what is said of such solutions below is said of it
+    pub next-padding : ZeroPadding d tz n ν (m 𝓢 𝓓 𝓣 ν μ) μ (nextWitness 𝓢 𝓓 𝓣 ν μ o)
+    unfolding openingSize
+    next-padding = zero-padding d tz n ν (m 𝓢 𝓓 𝓣 ν μ) μ some-ν some-μ o size
+
+  -- a list of r' parts of n' elements, with zeros past the end of each chunk
+  module _ (s : List ℤ) (sized : length s ≡ r′ 𝓢 𝓓 𝓣 ν μ * n′ 𝓢 𝓓 𝓣 ν μ * d) (zeros : ZeroPadding d tz n ν (m 𝓢 𝓓 𝓣 ν μ) μ s) where
+    abbrev pub cutOff : List ℤ
+    cutOff = unpadded d tz n ν (m 𝓢 𝓓 𝓣 ν μ) μ s
+
+    length-s : length s ≡ r′ 𝓢 𝓓 𝓣 ν μ * (n′ 𝓢 𝓓 𝓣 ν μ * d)
+    length-s = sized ∙ mul-assoc (r′ 𝓢 𝓓 𝓣 ν μ) (n′ 𝓢 𝓓 𝓣 ν μ) d
+
+    length-cutOff : length cutOff ≡ openingSize tz n r κ t₁ t₂ * d
+    unfolding openingSize
+    length-cutOff = length-unpadded d tz n ν (m 𝓢 𝓓 𝓣 ν μ) μ some-ν some-μ s length-s zeros
+
+    -- "A solution of the next instance whose padding is zero is, with the padding cut off, an accepted opening"
+    pub next-solution : Solves (nextRelation 𝓢 𝓓 𝓣 ν μ) s → verdict 𝓢 𝓓 𝓣 cutOff ≡ Accepted
+    next-solution h =
+        let back = padded-unpadded d tz n ν (m 𝓢 𝓓 𝓣 ν μ) μ some-ν some-μ s length-s zeros in
+        accepted 𝓢 𝓓 𝓣 cutOff
+        (accepts-of 𝓢 𝓓 𝓣 ν μ cutOff some-ν some-μ length-cutOff pass (subst (Solves (nextRelation 𝓢 𝓓 𝓣 ν μ)) (sym back) h))
+
+    -- and the verifier accepts it
+    pub solution-accepted : Solves (nextRelation 𝓢 𝓓 𝓣 ν μ) s → verification 𝓢 𝓓 𝓣 cutOff ≡ Judged Accepted
+    unfolding answered
+    solution-accepted h =
+        let range = coefficients-unpadded d tz n ν (m 𝓢 𝓓 𝓣 ν μ) μ s (short-coefficients s (omega (arith, h .short, small-target))) in
+        rw (unrefused-opening cutOff length-cutOff range) (ap Judged (next-solution h))

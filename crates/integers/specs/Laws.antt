@@ -1,0 +1,10 @@
+pub mod Bridge
+pub mod CentreLaws
+pub mod Identities
+pub mod MachineDivision
+pub mod RemainderLaws
+pub mod SumLaws
+pub mod ListLaws
+pub mod OverLaws
+pub mod FlatLaws
+pub mod Squares

@@ -1,0 +1,6 @@
+pub mod ListLaws
+pub mod StageLaws
+pub mod RoomLaws
+pub mod ReadLaws
+pub mod PassLaws
+pub mod LineLaws

@@ -1,0 +1,76 @@
+-- Laws of the lists of a sheet.
+--     before, list-part     where list k starts, and that it is that part of the numbers
+--     length-list           its length
+--     lengths-total, rows-start, challenges-start    the lengths together, and where the projection rows and the challenges start
+use mathlib.Core.Path.{_≡_, refl, sym, ap, _∙_}
+use mathlib.Core.Bool.{true}
+use mathlib.Core.List.{List, [], _∷_}
+use Prim.Native.Nat.{ℕ, zero, suc, _+_, _*_, _≤_, _<_}
+use native.Mathlib.Omega.{arith}
+use lib.ListN.{length, getD, take, drop, length-drop}
+use lib.Seq.{length-take-le, drop-drop}
+use lib.IntN.{ℤ}
+use Rattle.residues.specs.Range.{coefficients}
+use Rattle.residues.specs.Laws.RangeLaws.{coefficients-part}
+use Rattle.fold.specs.Refusals.{wholeLength, termLength, projectionLength}
+use Rattle.sheet.specs.declared.sizes.SheetSizes.{SheetSizes}
+use Rattle.sheet.specs.Sections.{matrixCount, wholeCount, rowCount, lastCount, termSize, onesCount, total, rowsFrom, challengesFrom}
+use Rattle.sheet.specs.Reading.{rowsIn, challengesIn}
+use Rattle.judge.specs.Judging.{listLengths, listAt}
+
+-- ---- lists of any lengths
+
+-- the numbers before list k
+unfoldable pub before : List ℕ → ℕ → ℕ
+before [] k = 0
+before (m ∷ ms) zero = 0
+before (m ∷ ms) (suc k) = m + before ms k
+
+-- the numbers of all lists
+unfoldable pub together : List ℕ → ℕ
+together [] = 0
+together (m ∷ ms) = m + together ms
+
+no-numbers : (xs : List ℤ) → [] ≡ take 0 xs
+no-numbers [] = refl
+no-numbers (x ∷ xs) = refl
+
+pub list-part : (ms : List ℕ) (xs : List ℤ) (k : ℕ) → listAt ms xs k ≡ take (getD ms k 0) (drop (before ms k) xs)
+unfolding listAt before
+list-part [] xs k = no-numbers (drop 0 xs)
+list-part (m ∷ ms) xs zero = refl
+list-part (m ∷ ms) xs (suc k) = list-part ms (drop m xs) k ∙ ap (take (getD ms k 0)) (drop-drop (before ms k) m xs)
+
+pub length-list : (ms : List ℕ) (xs : List ℤ) (k : ℕ) → k < length ms → together ms ≤ length xs → length (listAt ms xs k) ≡ getD ms k 0
+unfolding listAt together
+length-list [] xs k h fits = let never : ⊥ = omega arith in absurd never
+length-list (m ∷ ms) xs zero h fits = length-take-le m xs (omega arith)
+length-list (m ∷ ms) xs (suc k) h fits = length-list ms (drop m xs) k (omega arith) (omega (arith, length-drop m xs))
+
+pub coefficients-list : (ms : List ℕ) (xs : List ℤ) (k : ℕ) → coefficients xs ≡ true → coefficients (listAt ms xs k) ≡ true
+coefficients-list ms xs k e = rw (list-part ms xs k) (coefficients-part (before ms k) (getD ms k 0) xs e)
+
+-- ---- the lists of a sheet
+
+module _ (s : SheetSizes) where
+  pub lengths-total : together (listLengths s) ≡ total s
+  unfolding together listLengths total matrixCount wholeCount rowCount lastCount termSize onesCount wholeLength termLength projectionLength
+  lengths-total = omega arith
+
+  pub rows-start : before (listLengths s) 7 ≡ rowsFrom s
+  unfolding before listLengths rowsFrom matrixCount wholeCount termSize wholeLength termLength
+  rows-start = omega arith
+
+  pub challenges-start : before (listLengths s) 15 ≡ challengesFrom s
+  unfolding before listLengths challengesFrom matrixCount wholeCount rowCount termSize onesCount wholeLength termLength projectionLength
+  challenges-start = omega arith
+
+  pub rows-list : (xs : List ℤ) → rowsIn s xs ≡ listAt (listLengths s) xs 7
+  unfolding rowsIn listLengths
+  rows-list xs =
+      ap (λ (m : ℕ). take (projectionLength (s .d) (s .n) (s .r) (s .w)) (drop m xs)) (sym rows-start) ∙ sym (list-part (listLengths s) xs 7)
+
+  pub challenges-list : (xs : List ℤ) → challengesIn s xs ≡ listAt (listLengths s) xs 15
+  unfolding challengesIn listLengths
+  challenges-list xs =
+      ap (λ (m : ℕ). take (s .r * s .d) (drop m xs)) (sym challenges-start) ∙ sym (list-part (listLengths s) xs 15)

@@ -1,0 +1,193 @@
+-- The answer to a text: document 01, 'Sheet'.
+--     text-answer       the reader's refusal, or the verdict on the numbers: the verifier refuses nothing after the reader
+--     sheet-judged      the text of a sheet is judged, by the verdict on its numbers
+--     judged-sheet      and a text that is judged is the text of a sheet
+--     refused-text      a text of at most 65536 bytes that the reader refuses is refused by its number; `refused-longer` for a longer one
+--     kind-printed      the kind is 0, 1 or 2: never "written"
+--     never-seven       no text is refused by row 7: the slice for the numbers has the length that the sizes give
+use mathlib.Core.Path.{_≡_, refl, sym, ap, _∙_, subst}
+use mathlib.Core.Bool.{Bool, true, false, cond}
+use mathlib.Core.List.{List, [], _∷_}
+use Prim.Native.Nat.{ℕ, zero, suc, _≤_, _<_}
+use native.Mathlib.Omega.{arith}
+use lib.Dec.{leb, eqb}
+use lib.ListN.{length}
+use lib.IntN.{ℤ}
+use borrow.Author.Tests.{le-leb, lt-leb, leb-true, leb-false, eq-eqb}
+use Rattle.fold.specs.declared.Verdict.{Verdict}
+use Rattle.fold.specs.declared.Verdict.the-variants.{Accepted, Failed}
+use Rattle.fold.specs.declared.Answer.{Answer}
+use Rattle.fold.specs.declared.Answer.the-variants.{Refused, Judged, Written}
+use Rattle.fold.specs.Verdict.{verdict}
+use Rattle.fold.specs.Answers.{kindOf, numberOf, firstRefusal, answered}
+use Rattle.sheet.specs.declared.sizes.SheetSizes.{SheetSizes}
+use Rattle.sheet.specs.declared.reader.SheetAnswer as reader
+use Rattle.sheet.specs.Sections.{total}
+use Rattle.sheet.specs.Reading.{headerNumbers, headerTests, sizesOf, bodyNumbers, numberTests, bodyTests}
+use Rattle.sheet.specs.Reading.{readingTests, sheetIf, reading}
+use Rattle.sheet.specs.Laws.PlaceLaws.{contradiction}
+use Rattle.sheet.specs.Laws.AnswerLaws.{header-bounded, reading-passed}
+use Rattle.sheet.specs.Laws.BodyLaws.{body-total}
+use Rattle.sheet.specs.Laws.SheetLaws.{length-body}
+use Rattle.sheet.specs.Layout.{sheetText, SheetNumbers}
+use Rattle.sheet.specs.Theorems.SheetTheorems.{sheet-exactly}
+use Rattle.judge.specs.Judging.{sheetStatement, sheetDraws, sheetTranscript, sheetOpening, judgedNumbers, judgedBy, judged, judgedText}
+use Rattle.judge.specs.Laws.PassLaws.{unrefused}
+
+-- the verdict on the numbers of a sheet
+abbrev pub sheetVerdict : SheetSizes → List ℤ → Verdict
+sheetVerdict s xs = verdict (sheetStatement s xs) (sheetDraws s xs) (sheetTranscript s xs) (sheetOpening s xs)
+
+-- how many numbers the header's sizes give
+abbrev pub roomOf : List ℕ → ℕ
+roomOf text = total (sizesOf (headerNumbers text))
+
+short : (text : List ℕ) → length text ≤ 65536 → judgedText text ≡ judged text
+unfolding judgedText
+short text h = rw (le-leb (length text) 65536 h) refl
+
+-- ---- every text
+
+taken : (text : List ℕ) → firstRefusal (readingTests (roomOf text) text) ≡ 0
+    → judgedNumbers (sizesOf (headerNumbers text)) (bodyNumbers (sizesOf (headerNumbers text)) text)
+    ≡ Judged (sheetVerdict (sizesOf (headerNumbers text)) (bodyNumbers (sizesOf (headerNumbers text)) text))
+unfolding judgedNumbers answered
+taken text e =
+    let h = headerNumbers text in
+    let s = sizesOf h in
+    let passed = reading-passed (roomOf text) text e in
+    let positive = header-bounded h (passed .sizes) .degree-positive in
+    rw (unrefused h (bodyNumbers s text) (passed .sizes) (passed .numbers) (length-body s positive text ∙ body-total s)) refl
+
+by-refusal : (text : List ℕ) (n : ℕ) → firstRefusal (readingTests (roomOf text) text) ≡ n
+    → judgedBy (sheetIf n (sizesOf (headerNumbers text))) (bodyNumbers (sizesOf (headerNumbers text)) text)
+    ≡ answered n (Judged (sheetVerdict (sizesOf (headerNumbers text)) (bodyNumbers (sizesOf (headerNumbers text)) text)))
+unfolding answered
+by-refusal text zero e = taken text e
+by-refusal text (suc n) e = refl
+
+pub text-answer : (text : List ℕ) → length text ≤ 65536
+    → judgedText text
+    ≡ answered (firstRefusal (readingTests (roomOf text) text))
+    (Judged (sheetVerdict (sizesOf (headerNumbers text)) (bodyNumbers (sizesOf (headerNumbers text)) text)))
+unfolding judged reading
+text-answer text h = short text h ∙ by-refusal text (firstRefusal (readingTests (roomOf text) text)) refl
+
+-- "longer: 12, before all else"
+pub refused-longer : (text : List ℕ) → 65536 < length text → judgedText text ≡ Refused 12
+unfolding judgedText
+refused-longer text h = rw (lt-leb (length text) 65536 h) refl
+
+pub refused-text : (text : List ℕ) → length text ≤ 65536 → (n : ℕ) → reading (roomOf text) text ≡ reader.the-variants.Refused n
+    → judgedText text ≡ Refused n
+unfolding judged
+refused-text text h n e = short text h ∙ rw e refl
+
+-- ---- a sheet
+
+none-if : (k : ℕ) (s t : SheetSizes) → sheetIf k s ≡ reader.the-variants.Sheet t → k ≡ 0
+none-if zero s t e = refl
+none-if (suc k) s t e = let f : _≡_ {A = ℕ} 0 1 = cc in absurd (omega arith)
+
+no-refusal : (room : ℕ) (text : List ℕ) (s : SheetSizes) → reading room text ≡ reader.the-variants.Sheet s
+    → firstRefusal (readingTests room text) ≡ 0
+unfolding reading
+no-refusal room text s e = none-if (firstRefusal (readingTests room text)) (sizesOf (headerNumbers text)) s e
+
+pub sheet-judged : (h xs : List ℤ) → SheetNumbers h xs → length (sheetText h xs) ≤ 65536
+    → judgedText (sheetText h xs) ≡ Judged (sheetVerdict (sizesOf h) xs)
+unfolding answered
+sheet-judged h xs n fits =
+    let text = sheetText h xs in
+    let first = sheet-exactly (length xs) text h xs .1 (refl, n, refl) in
+    let room : roomOf text ≡ length xs =
+    ap (λ (l : List ℤ). total (sizesOf l)) (first .header) ∙ sym (body-total (sizesOf h)) ∙ sym (n .count) in
+    let none : firstRefusal (readingTests (roomOf text) text) ≡ 0 = rw room (no-refusal (length xs) text (sizesOf h) (first .answer)) in
+    text-answer text fits ∙ rw (none, first .header, first .numbers) refl
+
+-- ---- what no text is answered
+
+judgement-kind : (n : ℕ) (v : Verdict) → kindOf (answered n (Judged v)) ≤ 2
+unfolding answered
+judgement-kind zero Accepted = omega arith
+judgement-kind zero (Failed k) = omega arith
+judgement-kind (suc n) v = omega arith
+
+-- a text is longer than the program reads, or not
+by-length : (P : Answer → Type 0) (text : List ℕ) → P (Refused 12)
+    → (length text ≤ 65536 → P (answered (firstRefusal (readingTests (roomOf text) text))
+    (Judged (sheetVerdict (sizesOf (headerNumbers text)) (bodyNumbers (sizesOf (headerNumbers text)) text)))))
+    → P (judgedText text)
+by-length P text longer other = step (leb (length text) 65536) refl
+  where
+    step : (t : Bool) → leb (length text) 65536 ≡ t → P (judgedText text)
+    step true e = let h = leb-true (length text) 65536 e in subst P (sym (text-answer text h)) (other h)
+    step false e = subst P (sym (refused-longer text (leb-false (length text) 65536 e))) longer
+
+-- a text that is judged is a sheet: that of the numbers read from it
+pub record Sheet (text : List ℕ) (v : Verdict) : Type 0 where
+  pub text-is : text ≡ sheetText (headerNumbers text) (bodyNumbers (sizesOf (headerNumbers text)) text)
+  pub numbers : SheetNumbers (headerNumbers text) (bodyNumbers (sizesOf (headerNumbers text)) text)
+  pub verdict-is : v ≡ sheetVerdict (sizesOf (headerNumbers text)) (bodyNumbers (sizesOf (headerNumbers text)) text)
+
+judgement-of : (n : ℕ) (v w : Verdict) → answered n (Judged w) ≡ Judged v → (n ≡ 0) × (v ≡ w)
+unfolding answered
+judgement-of zero v w e = (refl, sym cc)
+judgement-of (suc n) v w e = let f : _≡_ {A = ℕ} 0 1 = cc in absurd (omega arith)
+
+pub judged-sheet : (text : List ℕ) (v : Verdict) → judgedText text ≡ Judged v → Sheet text v
+unfolding reading
+judged-sheet text v = by-length (λ (a : Answer). a ≡ Judged v → Sheet text v) text longer within
+  where
+    longer : Refused 12 ≡ Judged v → Sheet text v
+    longer e = let f : _≡_ {A = ℕ} 0 1 = cc in absurd (omega arith)
+
+    within : length text ≤ 65536
+        → answered (firstRefusal (readingTests (roomOf text) text))
+        (Judged (sheetVerdict (sizesOf (headerNumbers text)) (bodyNumbers (sizesOf (headerNumbers text)) text))) ≡ Judged v
+        → Sheet text v
+    within h e =
+        let (none, same) = judgement-of (firstRefusal (readingTests (roomOf text) text)) v _ e in
+        let answer : reading (roomOf text) text ≡ reader.the-variants.Sheet (sizesOf (headerNumbers text)) = rw none refl in
+        let exactly = sheet-exactly (roomOf text) text (headerNumbers text) (bodyNumbers (sizesOf (headerNumbers text)) text) .0
+        (record { answer = answer; header = refl; numbers = refl }) in
+        record { text-is = exactly .0; numbers = exactly .1; verdict-is = same }
+
+pub kind-printed : (text : List ℕ) → kindOf (judgedText text) ≤ 2
+kind-printed text = by-length (λ (a : Answer). kindOf a ≤ 2) text (omega arith) (λ h. judgement-kind _ _)
+
+pub never-written : (text : List ℕ) → judgedText text ≡ Written → ⊥
+never-written text e = let three : 3 ≤ 2 = subst (λ (a : Answer). kindOf a ≤ 2) e (kind-printed text) in omega arith
+
+-- each test of row 7 in a list of tests holds
+abbrev sevenHolds : List (ℕ × Bool) → Bool
+sevenHolds [] = true
+sevenHolds (test ∷ tests) = cond (eqb (test .0) 7) (cond (test .1) (sevenHolds tests) false) (sevenHolds tests)
+
+no-seven : (tests : List (ℕ × Bool)) → sevenHolds tests ≡ true → firstRefusal tests ≡ 7 → ⊥
+unfolding firstRefusal
+no-seven [] holds e = omega arith
+no-seven (test ∷ tests) holds e = step (no-seven tests) (test .1) (eqb (test .0) 7) refl holds e
+  where
+    step : (sevenHolds tests ≡ true → firstRefusal tests ≡ 7 → ⊥) → (t u : Bool) → eqb (test .0) 7 ≡ u
+        → cond u (cond t (sevenHolds tests) false) (sevenHolds tests) ≡ true
+        → cond t (firstRefusal tests) (test .0) ≡ 7 → ⊥
+    step later true true q holds e = later holds e
+    step later true false q holds e = later holds e
+    step later false true q holds e = contradiction refl (sym holds)
+    step later false false q holds e = contradiction (eq-eqb (test .0) 7 e) q
+
+reading-seven : (text : List ℕ) → sevenHolds (readingTests (roomOf text) text) ≡ true
+unfolding readingTests headerTests bodyTests numberTests
+reading-seven text = rw (eq-eqb (roomOf text) (roomOf text) refl) refl
+
+no-refused-seven : (n : ℕ) (v : Verdict) → (n ≡ 7 → ⊥) → answered n (Judged v) ≡ Refused 7 → ⊥
+unfolding answered
+no-refused-seven zero Accepted never e = let f : _≡_ {A = ℕ} 0 2 = ap kindOf e in omega arith
+no-refused-seven zero (Failed k) never e = let f : _≡_ {A = ℕ} 1 2 = ap kindOf e in omega arith
+no-refused-seven (suc n) v never e = never (ap numberOf e)
+
+pub never-seven : (text : List ℕ) → judgedText text ≡ Refused 7 → ⊥
+never-seven text =
+    by-length (λ (a : Answer). a ≡ Refused 7 → ⊥) text (λ e. let f : _≡_ {A = ℕ} 12 7 = ap numberOf e in omega arith)
+    (λ h. no-refused-seven _ _ (no-seven (readingTests (roomOf text) text) (reading-seven text)))

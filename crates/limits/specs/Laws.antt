@@ -1,0 +1,4 @@
+pub mod RowLaws
+pub mod SizeLaws
+pub mod StageLaws
+pub mod ProductLaws

@@ -1,0 +1,15 @@
+-- Numbers of elements that code has computed, within the columns that `matrix_fits` takes.
+use mathlib.Core.Path.{_≡_}
+use Prim.Native.Nat.{ℕ, _≤_}
+use native.Mathlib.Omega.{arith}
+use Rattle.fold.specs.Sizes.{tSize, garbageSize, openingSize}
+use Rattle.fold.specs.Laws.SizeBounds.{tSize-bound, garbageSize-bound, openingSize-bound}
+
+pub t-within : (r κ t₁ : ℕ) {k : ℕ} → k ≡ tSize r κ t₁ → r ≤ 16 → κ ≤ 8 → t₁ ≤ 8 → k ≤ 8192
+t-within r κ t₁ e h l u = omega (arith, tSize-bound r κ t₁ h l u)
+
+pub garbage-within : (r t : ℕ) {k : ℕ} → k ≡ garbageSize r t → r ≤ 16 → t ≤ 8 → k ≤ 8192
+garbage-within r t e h u = omega (arith, garbageSize-bound r t h u)
+
+pub opening-within : (n r κ t₁ t₂ : ℕ) {k : ℕ} → k ≡ openingSize 2 n r κ t₁ t₂ → n ≤ 256 → r ≤ 16 → κ ≤ 8 → t₁ ≤ 8 → t₂ ≤ 8 → k ≤ 8192
+opening-within n r κ t₁ t₂ e h l u v x = omega (arith, openingSize-bound n r κ t₁ t₂ h l u v x)

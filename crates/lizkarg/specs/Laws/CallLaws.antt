@@ -1,0 +1,227 @@
+-- An answer and what was written, by the number of the refusal.
+use mathlib.Core.Path.{_≡_, refl, sym, ap, ap₂, _∙_}
+use mathlib.Core.List.{List}
+use Prim.Native.Nat.{ℕ, zero, suc, _*_}
+use native.Mathlib.Omega.{arith}
+use lib.ListN.{length, replicate}
+use lib.IntN.{ℤ, pos}
+use Rattle.ring.specs.declared.element.Element.{Element}
+use Rattle.ring.specs.Element.{R, lift, array}
+use Rattle.fold.specs.declared.Answer.{Answer}
+use Rattle.fold.specs.declared.Answer.the-variants.{Refused}
+use Rattle.fold.specs.declared.Answer.the-variants.{Written}
+use Rattle.fold.specs.declared.CommitSizes.{CommitSizes}
+use Rattle.fold.specs.declared.GarbageSizes.{GarbageSizes}
+use Rattle.fold.specs.declared.Shape.{Shape}
+use Rattle.fold.specs.Answers.{answered, written}
+use Rattle.fold.specs.Arguments.{productRefusal, commitRefusal, projectRefusal, aggregateRefusal, garbageRefusal, amortizeRefusal}
+use Rattle.fold.specs.Known.CallFacts as CallFacts
+use Rattle.fold.specs.Messages.{p, b″, u₂, zDigits}
+use Rattle.prover.specs.Known.Facts.{TFacts, GFacts, OuterFacts, ProjectFacts, AmortizeFacts}
+use Rattle.prover.specs.Known.Facts as ProverFacts
+use Rattle.prover.specs.Outputs.{tOf, gOf, u₁Of}
+use Rattle.aggregation.specs.Known.Facts.{ValueFacts, HFacts}
+use Rattle.aggregation.specs.Known.Facts as AggregationFacts
+use Rattle.lizkarg.specs.declared.Product.{Product}
+use Rattle.lizkarg.specs.Calls.{productOf, Committed, Projected, Aggregated, GarbageCommitted, Amortized, hOf}
+
+-- where the number is not 0, the call refuses with it and writes nothing
+refused-number : (n : ℕ) (answer : Answer) → (n ≡ 0 → ⊥) → Refused n ≡ answered n answer
+unfolding answered
+refused-number zero answer e = absurd (e refl)
+refused-number (suc n) answer e = refl
+
+pub refused : {x n : ℕ} (answer : Answer) → x ≡ n → (x ≡ 0 → ⊥) → Refused x ≡ answered n answer
+refused {x} answer e some = rw (← e) (refused-number x answer some)
+
+kept-number : (n : ℕ) (new old : List ℤ) → (n ≡ 0 → ⊥) → old ≡ written n new old
+unfolding written
+kept-number zero new old e = absurd (e refl)
+kept-number (suc n) new old e = refl
+
+pub kept : {x n : ℕ} (new old : List ℤ) → x ≡ n → (x ≡ 0 → ⊥) → old ≡ written n new old
+kept {x} new old e some = rw (← e) (kept-number x new old some)
+
+-- where it is 0, the call answers and writes
+pub answers : {n : ℕ} (answer : Answer) → n ≡ 0 → answer ≡ answered n answer
+unfolding answered
+answers answer e = rw e refl
+
+pub writes : {n : ℕ} {out new : List ℤ} (old : List ℤ) → n ≡ 0 → out ≡ new → out ≡ written n new old
+unfolding written
+writes old e new-is = rw e new-is
+
+-- ---- the ring product
+
+module _ (d : ℕ) (x y : List ℤ) {n : ℕ} (number : n ≡ productRefusal d x y) where
+  pub product-refused : (n ≡ 0 → ⊥) → _≡_ {A = Product} (record { answer = Refused n; element = record { coefficients = replicate 64 (pos 0) } }) (productOf d x y)
+  product-refused some =
+      λ i. record {
+        answer = refused Written number some i;
+        element = record { coefficients = kept (array d (R d .mul (lift d x) (lift d y))) (replicate 64 (pos 0)) number some i };
+      }
+
+  pub product-written : {product : Element} → n ≡ 0 → product .coefficients ≡ array d (R d .mul (lift d x) (lift d y))
+      → _≡_ {A = Product} (record { answer = Written; element = product }) (productOf d x y)
+  product-written none new =
+      λ i. record {
+        answer = answers Written (sym number ∙ none) i;
+        element = record { coefficients = writes (replicate 64 (pos 0)) (sym number ∙ none) new i };
+      }
+
+-- ---- message 1
+
+module _ (sizes : CommitSizes) (A B C s t g u : List ℤ) {x : ℕ} (number : x ≡ commitRefusal sizes A B C s t g u) where
+  pub commit-refused : (x ≡ 0 → ⊥) → Committed sizes A B C s t g u (Refused x) t g u
+  commit-refused some =
+      record {
+        answer-is = refused Written number some;
+        t-is = kept (tOf sizes A s) t number some;
+        g-is = kept (gOf sizes s) g number some;
+        u-is = kept (u₁Of sizes B C (tOf sizes A s) (gOf sizes s)) u number some;
+      }
+
+  facts : x ≡ 0 → CallFacts.CommitFacts (sizes .d) (sizes .n) (sizes .r) (sizes .kappa) (sizes .kappa1) (sizes .b1) (sizes .b2) (sizes .t1) (sizes .t2) A B C s t g u
+  facts none = CallFacts.commit-facts (sym number ∙ none)
+
+  limits : x ≡ 0 → ProverFacts.CommitFacts sizes
+  limits none =
+      let found = facts none .limits in
+      record {
+        shape = found .shaped;
+        rank-small = found .κ-small;
+        t-base = found .base₁;
+        g-base = found .base₂;
+        t-digits = omega (arith, found .t₁-least);
+        t-digits-few = found .t₁-most;
+        g-digits = omega (arith, found .t₂-least);
+        g-digits-few = found .t₂-most;
+      }
+
+  pub commit-t : x ≡ 0 → TFacts sizes A s t
+  commit-t none =
+      record { sized = limits none; matrix = facts none .A-length; witness = facts none .s-length; output = facts none .ts-length }
+
+  pub commit-g : x ≡ 0 → GFacts sizes s g
+  commit-g none = record { sized = limits none; witness = facts none .s-length; output = facts none .gs-length }
+
+  -- t′ and g′ are what the two calls before left
+  pub commit-u : {t′ g′ : List ℤ} → x ≡ 0 → length t′ ≡ length t → length g′ ≡ length g → OuterFacts sizes B C t′ g′ u
+  commit-u none t-long g-long =
+      record {
+        sized = limits none;
+        t-matrix = facts none .B-length;
+        g-matrix = facts none .C-length;
+        t-digits = t-long ∙ facts none .ts-length;
+        g-digits = g-long ∙ facts none .gs-length;
+        output = facts none .u₁-length;
+      }
+
+  pub commit-written : {t′ g′ u′ : List ℤ} → x ≡ 0 → t′ ≡ tOf sizes A s → g′ ≡ gOf sizes s → u′ ≡ u₁Of sizes B C t′ g′
+      → Committed sizes A B C s t g u Written t′ g′ u′
+  commit-written none t-new g-new u-new =
+      let zero-is = sym number ∙ none in
+      record {
+        answer-is = answers Written zero-is;
+        t-is = writes t zero-is t-new;
+        g-is = writes g zero-is g-new;
+        u-is = writes u zero-is (u-new ∙ ap₂ (u₁Of sizes B C) t-new g-new);
+      }
+
+-- ---- message 2
+
+module _ {shape : Shape} {w : ℕ} {rows s v : List ℤ} {x : ℕ} (number : x ≡ projectRefusal shape w rows s v) where
+  pub project-refused : (x ≡ 0 → ⊥) → Projected shape w rows s v (Refused x) v
+  project-refused some =
+      record { answer-is = refused Written number some; p-is = kept (p (shape .d) (shape .n) (shape .r) w rows s) v number some }
+
+  pub project-facts : x ≡ 0 → ProjectFacts shape w rows s v
+  project-facts none =
+      let facts = CallFacts.project-facts (sym number ∙ none) in
+      record {
+        shaped = facts .limits .shaped;
+        entries = facts .rows-entries;
+        matrix = facts .rows-length;
+        witness = facts .s-length;
+        output = facts .p-length;
+      }
+
+  pub project-written : {v′ : List ℤ} → x ≡ 0 → v′ ≡ p (shape .d) (shape .n) (shape .r) w rows s → Projected shape w rows s v Written v′
+  project-written none new = record { answer-is = answers Written (sym number ∙ none); p-is = writes v (sym number ∙ none) new }
+
+-- ---- message 3
+
+module _ (shape : Shape) (L w : ℕ) (term rows ψ ω s v : List ℤ) {x : ℕ} (number : x ≡ aggregateRefusal shape L w term rows ψ ω s v) where
+  pub aggregate-refused : (x ≡ 0 → ⊥) → Aggregated shape L w term rows ψ ω s v (Refused x) v
+  aggregate-refused some =
+      record {
+        answer-is = refused Written number some;
+        b-is = kept (b″ (shape .d) (shape .n) (shape .r) L w term rows ψ ω s) v number some;
+      }
+
+  pub aggregate-facts : x ≡ 0 → ValueFacts (shape .d) (shape .n) (shape .r) L w term rows ψ ω s
+  aggregate-facts none = AggregationFacts.value-facts (CallFacts.aggregate-facts {b″ = v} (sym number ∙ none))
+
+  pub aggregate-room : x ≡ 0 → length v ≡ 5 * shape .d
+  aggregate-room none = CallFacts.aggregate-facts {b″ = v} (sym number ∙ none) .b″-length
+
+  pub aggregate-written : {v′ : List ℤ} → x ≡ 0 → v′ ≡ b″ (shape .d) (shape .n) (shape .r) L w term rows ψ ω s
+      → Aggregated shape L w term rows ψ ω s v Written v′
+  aggregate-written none new = record { answer-is = answers Written (sym number ∙ none); b-is = writes v (sym number ∙ none) new }
+
+-- ---- message 4
+
+module _ (sizes : GarbageSizes) (whole term rows ψ ω α δ D s h u : List ℤ) {x : ℕ}
+    (number : x ≡ garbageRefusal sizes whole term rows ψ ω α δ D s h u) where
+  garbage-found : x ≡ 0
+      → CallFacts.GarbageFacts (sizes .d) (sizes .n) (sizes .r) (sizes .k) (sizes .l) (sizes .w) (sizes .kappa2) (sizes .b1) (sizes .t1)
+      whole term rows ψ ω α δ D s h u
+  garbage-found none = CallFacts.garbage-facts (sym number ∙ none)
+
+  pub garbage-refused : (x ≡ 0 → ⊥) → GarbageCommitted sizes whole term rows ψ ω α δ D s h u (Refused x) h u
+  garbage-refused some =
+      record {
+        answer-is = refused Written number some;
+        h-is = kept (hOf sizes whole term rows ψ ω α δ s) h number some;
+        u-is = kept (u₂ (sizes .d) (sizes .r) (sizes .kappa2) (sizes .t1) D (hOf sizes whole term rows ψ ω α δ s)) u number some;
+      }
+
+  pub garbage-h : x ≡ 0
+      → HFacts (sizes .d) (sizes .n) (sizes .r) (sizes .k) (sizes .l) (sizes .w) (sizes .b1) (sizes .t1) whole term rows ψ ω α δ s h
+  garbage-h none = AggregationFacts.h-facts (garbage-found none)
+
+  pub garbage-u : {h′ : List ℤ} → x ≡ 0 → length h′ ≡ length h
+      → AggregationFacts.OuterFacts (sizes .d) (sizes .r) (sizes .kappa2) (sizes .t1) D h′ u
+  garbage-u none long = AggregationFacts.outer-facts (garbage-found none) long
+
+  pub garbage-written : {h′ u′ : List ℤ} → x ≡ 0 → h′ ≡ hOf sizes whole term rows ψ ω α δ s
+      → u′ ≡ u₂ (sizes .d) (sizes .r) (sizes .kappa2) (sizes .t1) D h′
+      → GarbageCommitted sizes whole term rows ψ ω α δ D s h u Written h′ u′
+  garbage-written none h-new u-new =
+      let zero-is = sym number ∙ none in
+      record {
+        answer-is = answers Written zero-is;
+        h-is = writes h zero-is h-new;
+        u-is = writes u zero-is (u-new ∙ ap (u₂ (sizes .d) (sizes .r) (sizes .kappa2) (sizes .t1) D) h-new);
+      }
+
+-- ---- message 5
+
+module _ {shape : Shape} {b : ℕ} {c s v : List ℤ} {x : ℕ} (number : x ≡ amortizeRefusal shape b c s v) where
+  pub amortize-refused : (x ≡ 0 → ⊥) → Amortized shape b c s v (Refused x) v
+  amortize-refused some =
+      record { answer-is = refused Written number some; z-is = kept (zDigits (shape .d) (shape .n) (shape .r) 2 b c s) v number some }
+
+  pub amortize-facts : x ≡ 0 → AmortizeFacts shape b c s v
+  amortize-facts none =
+      let facts = CallFacts.amortize-facts (sym number ∙ none) in
+      record {
+        shaped = facts .limits .shaped;
+        base = facts .limits .base;
+        challenges = facts .c-length;
+        witness = facts .s-length;
+        output = facts .zs-length;
+      }
+
+  pub amortize-written : {v′ : List ℤ} → x ≡ 0 → v′ ≡ zDigits (shape .d) (shape .n) (shape .r) 2 b c s → Amortized shape b c s v Written v′
+  amortize-written none new = record { answer-is = answers Written (sym number ∙ none); z-is = writes v (sym number ∙ none) new }

@@ -1,0 +1,3 @@
+pub mod MessageLaws
+pub mod WitnessLaws
+pub mod RunLaws

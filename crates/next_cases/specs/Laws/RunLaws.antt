@@ -1,0 +1,312 @@
+-- From what a call promises over the lists that it was handed to what is promised over the numbers of the case: each list is moved along the
+-- equation that says which numbers it is.
+use mathlib.Core.Path.{_≡_, refl, sym, ap, _∙_}
+use mathlib.Core.List.{List, [], map}
+use Prim.Native.Nat.{ℕ, zero, suc, _-_, _≤_}
+use native.Mathlib.Omega.{arith}
+use lib.IntN.{ℤ, pos}
+use lib.ListN.{length, take, drop, replicate, length-replicate, length-drop}
+use Rattle.integers.specs.Over.{over}
+use Rattle.fold.specs.declared.Sizes.{Sizes}
+use Rattle.fold.specs.Arguments.{statementOf, drawsOf, transcriptOf}
+use Rattle.fold.specs.Verification.{verification}
+use Rattle.lizkarg.specs.Calls.{Committed, Projected, Aggregated, GarbageCommitted, Amortized}
+use Rattle.chunks.specs.declared.part.PartSizes.{PartSizes}
+use Rattle.chunks.specs.Parts.{partRefusalOf}
+use Rattle.next_instance.specs.Calls.{NextCalled}
+use Rattle.capi.specs.declared.types.CAnswer.{CAnswer}
+use Rattle.capi.specs.Codes.{Coded, codeOf}
+use Rattle.cases.specs.Numbers.{padded, word, sizeAt, sizeOf}
+use Rattle.cases.specs.Lists.{firstWidth, pastList, pastLists, nthList}
+use Rattle.cases.specs.Text.{lineNumbers}
+use Rattle.next_cases.specs.Input.{wideSize, sizesOf, shapeOf, commitSizesOf, garbageSizesOf, partSizesOf}
+use Rattle.next_cases.specs.Messages.{filled, messageOf, openingOf, kept}
+use Rattle.next_cases.specs.Laws.MessageLaws.{front-filled, length-filled, blank-is}
+use Rattle.next_cases.specs.Witness.{nextWitness, productOf, widthFor, countFor, witnessOf}
+use Rattle.next_cases.specs.Laws.WitnessLaws.{fitting-inside}
+use Rattle.next_cases.specs.Runs.{NextOfLists, InstanceRun, Committing, Projecting, Aggregating, GarbageCommitting, Amortizing}
+use Rattle.next_cases.specs.Runs.{verdictOf, Folded, NextOfFold, FirstRun, SecondRun, lengthsIn, secondIn, secondSizes, TwiceRun}
+use Rattle.next_cases.specs.Runs.{caseSizes, CaseRun, LineRun}
+
+-- an array to write, up to n
+abbrev front : ℕ → List ℤ
+front n = take n (replicate 32768 (pos 77))
+
+-- ---- kind 1
+
+module _ {sizes : Sizes} {ν μ : ℕ} {code : CAnswer} {out′ : List ℤ} where
+  pub next-of-lists : (lists : List ℤ) {out A B C D whole term u₁ rows p ψ ω b″ α δ u₂ c : List ℤ}
+      → A ≡ nthList 0 lists → B ≡ nthList 1 lists → C ≡ nthList 2 lists → D ≡ nthList 3 lists
+      → whole ≡ nthList 4 lists → term ≡ nthList 5 lists → u₁ ≡ nthList 6 lists → rows ≡ nthList 7 lists
+      → p ≡ nthList 8 lists → ψ ≡ nthList 9 lists → ω ≡ nthList 10 lists → b″ ≡ nthList 11 lists
+      → α ≡ nthList 12 lists → δ ≡ nthList 13 lists → u₂ ≡ nthList 14 lists → c ≡ nthList 15 lists
+      → Coded
+      (λ answer. NextCalled (statementOf sizes A B C D whole term) (drawsOf rows ψ ω α δ c) (transcriptOf u₁ p b″ u₂) ν μ out answer out′) code
+      → NextOfLists sizes ν μ lists out code out′
+  next-of-lists lists {out = out} A B C D whole term u₁ rows p ψ ω b″ α δ u₂ c called =
+      coe 0 1
+      (i. Coded
+      (λ answer. NextCalled (statementOf sizes (A i) (B i) (C i) (D i) (whole i) (term i)) (drawsOf (rows i) (ψ i) (ω i) (α i) (δ i) (c i))
+      (transcriptOf (u₁ i) (p i) (b″ i) (u₂ i)) ν μ out answer out′)
+      code)
+      called
+
+  pub instance-run : {xs lists rest : List ℤ} {n : ℕ} → lists ≡ drop 19 xs → rest ≡ pastLists 16 lists → n ≡ sizeAt 32768 rest 0
+      → NextOfLists sizes ν μ lists (front n) code out′ → InstanceRun sizes ν μ xs code
+  instance-run {xs} {lists} {rest} {n} e f count called =
+      let blank : front n ≡ filled (sizeAt 32768 rest 0) = blank-is 32768 rest 0 count in
+      let out : front n ≡ filled (sizeAt 32768 (pastLists 16 (drop 19 xs)) 0) =
+      blank ∙ ap (λ (l : List ℤ). filled (sizeAt 32768 l 0)) (f ∙ ap (λ (l : List ℤ). pastLists 16 l) e) in
+      record { out′ = out′; called = coe 0 1 (i. NextOfLists sizes ν μ (e i) (out i) code out′) called }
+
+-- ---- a fold
+
+module _ {sizes : Sizes} {s lengths m : List ℤ} {code : CAnswer} {m′ : List ℤ} where
+  pub committing : {setup A B C t′ g′ u′ : List ℤ} {k l n : ℕ}
+      → A ≡ nthList 0 setup → B ≡ nthList 1 setup → C ≡ nthList 2 setup
+      → k ≡ sizeAt 32768 lengths 1 → l ≡ sizeAt 32768 lengths 2 → n ≡ sizeAt 32768 lengths 4
+      → Coded (λ answer. Committed (commitSizesOf sizes) A B C s (front k) (front l) (front n) answer t′ g′ u′) code
+      → m′ ≡ kept (kept (kept m lengths 1 t′) lengths 2 g′) lengths 4 u′ → Committing sizes setup s lengths m code m′
+  committing {t′ = t′} {g′ = g′} {u′ = u′} A B C k l n called keeps =
+      let t = blank-is 32768 lengths 1 k in
+      let g = blank-is 32768 lengths 2 l in
+      let u = blank-is 32768 lengths 4 n in
+      record {
+        t′ = t′;
+        g′ = g′;
+        u′ = u′;
+        called = coe 0 1 (i. Coded (λ answer. Committed (commitSizesOf sizes) (A i) (B i) (C i) s (t i) (g i) (u i) answer t′ g′ u′) code) called;
+        keeps = keeps;
+      }
+
+  pub projecting : {rows p′ : List ℤ} {n : ℕ} → n ≡ sizeAt 32768 lengths 5
+      → Coded (λ answer. Projected (shapeOf sizes) (sizes .w) rows s (front n) answer p′) code → m′ ≡ kept m lengths 5 p′
+      → Projecting sizes rows s lengths m code m′
+  projecting {rows} {p′} n called keeps =
+      let p = blank-is 32768 lengths 5 n in
+      record {
+        p′ = p′;
+        called = coe 0 1 (i. Coded (λ answer. Projected (shapeOf sizes) (sizes .w) rows s (p i) answer p′) code) called;
+        keeps = keeps;
+      }
+
+  pub aggregating : {term rows ψ draws ω b′ : List ℤ} {n : ℕ} → ω ≡ nthList 0 draws
+      → n ≡ sizeAt 32768 lengths 6
+      → Coded (λ answer. Aggregated (shapeOf sizes) (sizes .l) (sizes .w) term rows ψ ω s (front n) answer b′) code → m′ ≡ kept m lengths 6 b′
+      → Aggregating sizes term rows ψ draws s lengths m code m′
+  aggregating {term} {rows} {ψ} {b′ = b′} ω n called keeps =
+      let b = blank-is 32768 lengths 6 n in
+      record {
+        b′ = b′;
+        called = coe 0 1 (i. Coded (λ answer. Aggregated (shapeOf sizes) (sizes .l) (sizes .w) term rows ψ (ω i) s (b i) answer b′) code) called;
+        keeps = keeps;
+      }
+
+  pub garbage-committing : {setup whole term rows ψ draws ω α δ D h′ u′ : List ℤ} {k n : ℕ}
+      → ω ≡ nthList 0 draws → α ≡ nthList 1 draws → δ ≡ nthList 2 draws → D ≡ nthList 3 setup
+      → k ≡ sizeAt 32768 lengths 3 → n ≡ sizeAt 32768 lengths 7
+      → Coded (λ answer. GarbageCommitted (garbageSizesOf sizes) whole term rows ψ ω α δ D s (front k) (front n) answer h′ u′) code
+      → m′ ≡ kept (kept m lengths 3 h′) lengths 7 u′ → GarbageCommitting sizes setup whole term rows ψ draws s lengths m code m′
+  garbage-committing {whole = whole} {term = term} {rows = rows} {ψ = ψ} {h′ = h′} {u′ = u′} ω α δ D k n called keeps =
+      let h = blank-is 32768 lengths 3 k in
+      let u = blank-is 32768 lengths 7 n in
+      record {
+        h′ = h′;
+        u′ = u′;
+        called =
+            coe 0 1
+            (i. Coded (λ answer. GarbageCommitted (garbageSizesOf sizes) whole term rows ψ (ω i) (α i) (δ i) (D i) s (h i) (u i) answer h′ u′) code)
+            called;
+        keeps = keeps;
+      }
+
+  pub amortizing : {draws c z′ : List ℤ} {n : ℕ} → c ≡ nthList 3 draws
+      → n ≡ sizeAt 32768 lengths 0 → Coded (λ answer. Amortized (shapeOf sizes) (sizes .b) c s (front n) answer z′) code
+      → m′ ≡ kept m lengths 0 z′ → Amortizing sizes draws s lengths m code m′
+  amortizing {z′ = z′} c n called keeps =
+      let z = blank-is 32768 lengths 0 n in
+      record {
+        z′ = z′;
+        called = coe 0 1 (i. Coded (λ answer. Amortized (shapeOf sizes) (sizes .b) (c i) s (z i) answer z′) code) called;
+        keeps = keeps;
+      }
+
+-- what the verifier and the next instance are given after a fold
+module _ (sizes : Sizes) (setup whole term rows ψ draws lengths m : List ℤ) {A B C D ω α δ c u₁ p b″ u₂ : List ℤ}
+    (A-is : A ≡ nthList 0 setup) (B-is : B ≡ nthList 1 setup) (C-is : C ≡ nthList 2 setup) (D-is : D ≡ nthList 3 setup)
+    (ω-is : ω ≡ nthList 0 draws) (α-is : α ≡ nthList 1 draws) (δ-is : δ ≡ nthList 2 draws) (c-is : c ≡ nthList 3 draws)
+    (u₁-is : u₁ ≡ messageOf m lengths 4) (p-is : p ≡ messageOf m lengths 5) (b″-is : b″ ≡ messageOf m lengths 6)
+    (u₂-is : u₂ ≡ messageOf m lengths 7) where
+  pub verdict-of : {opening : List ℤ} {code : CAnswer} → opening ≡ openingOf m lengths
+      → code
+      ≡ codeOf (verification (statementOf sizes A B C D whole term) (drawsOf rows ψ ω α δ c) (transcriptOf u₁ p b″ u₂) opening)
+      → code ≡ verdictOf sizes setup whole term rows ψ draws lengths m
+  verdict-of opening-is e =
+      e
+      ∙ (λ i. codeOf
+      (verification (statementOf sizes (A-is i) (B-is i) (C-is i) (D-is i) whole term)
+      (drawsOf rows ψ (ω-is i) (α-is i) (δ-is i) (c-is i)) (transcriptOf (u₁-is i) (p-is i) (b″-is i) (u₂-is i)) (opening-is i)))
+
+  pub next-of-fold : {ν μ : ℕ} {out out′ : List ℤ} {code : CAnswer}
+      → Coded
+      (λ answer. NextCalled (statementOf sizes A B C D whole term) (drawsOf rows ψ ω α δ c) (transcriptOf u₁ p b″ u₂) ν μ out answer out′) code
+      → NextOfFold sizes ν μ setup whole term rows ψ draws lengths m out code out′
+  next-of-fold {ν} {μ} {out} {out′} {code} called =
+      coe 0 1
+      (i. Coded
+      (λ answer. NextCalled (statementOf sizes (A-is i) (B-is i) (C-is i) (D-is i) whole term)
+      (drawsOf rows ψ (ω-is i) (α-is i) (δ-is i) (c-is i)) (transcriptOf (u₁-is i) (p-is i) (b″-is i) (u₂-is i)) ν μ out answer out′)
+      code)
+      called
+
+-- ---- kind 3
+
+pub first-run : {sizes : Sizes} {ν μ : ℕ} {lists lengths m m′ out out′ whole term rows ψ draws s : List ℤ} {verdict code : CAnswer}
+    → whole ≡ nthList 4 lists → term ≡ nthList 5 lists → rows ≡ nthList 6 lists → ψ ≡ nthList 7 lists → draws ≡ pastLists 8 lists
+    → s ≡ nthList 12 lists → Folded sizes lists whole term rows ψ draws s lengths m verdict m′
+    → NextOfFold sizes ν μ lists whole term rows ψ draws lengths m′ out code out′ → FirstRun sizes ν μ lists lengths m m′ out out′
+first-run {sizes} {ν} {μ} {lists} {lengths} {m} {m′} {out} {out′} {verdict = verdict} {code = code} whole term rows ψ draws s folded called =
+    record {
+      verdict = verdict;
+      folded = coe 0 1 (i. Folded sizes lists (whole i) (term i) (rows i) (ψ i) (draws i) (s i) lengths m verdict m′) folded;
+      code = code;
+      called = coe 0 1 (i. NextOfFold sizes ν μ lists (whole i) (term i) (rows i) (ψ i) (draws i) lengths m′ out code out′) called;
+    }
+
+-- an array that is filled whole
+all-filled : replicate 32768 (pos 77) ≡ filled 32768
+unfolding filled
+all-filled = refl
+
+pub second-run : {sizes : Sizes} {whole s lists rows draws lengths m′ : List ℤ} {verdict : CAnswer} → rows ≡ nthList 4 lists
+    → draws ≡ pastLists 5 lists → lengths ≡ pastLists 9 lists
+    → Folded sizes lists whole [] rows [] draws s lengths (replicate 32768 (pos 77)) verdict m′ → SecondRun sizes whole s lists verdict
+second-run {sizes} {whole} {s} {lists} {m′ = m′} {verdict = verdict} rows draws lengths folded =
+    record {
+      m′ = m′;
+      folded = coe 0 1 (i. Folded sizes lists whole [] (rows i) [] (draws i) s (lengths i) (all-filled i) verdict m′) folded;
+    }
+
+-- the witness as it is written
+pub witness-is : (m : PartSizes) (second : Sizes) (o : List ℤ) {s : List ℤ} {width all count : ℕ} → width ≡ widthFor second
+    → all ≡ productOf (second .r) width → count ≡ sizeOf 32768 (pos all)
+    → s ≡ over (front count) 0 (take (length (front count)) (nextWitness m (second .r) width o)) → s ≡ witnessOf m second o
+unfolding witnessOf
+witness-is m second o {s} {width} {all} {count} width-is all-is count-is e =
+    let number : count ≡ countFor second =
+    count-is ∙ ap (λ (k : ℕ). sizeOf 32768 (pos k)) (all-is ∙ ap (λ (k : ℕ). productOf (second .r) k) width-is) in
+    let small : count ≤ 32768 = fitting-inside 32768 all count-is in
+    let blank : front count ≡ filled (countFor second) = front-filled 32768 count small ∙ ap filled number in
+    let long : length (front count) ≡ countFor second = ap (λ (l : List ℤ). length l) blank ∙ length-filled (countFor second) in
+    e ∙ (λ i. over (blank i) 0 (take (long i) (nextWitness m (second .r) (width-is i) o)))
+
+pub second-of : {sizes : Sizes} {whole s s₂ lists : List ℤ} {verdict : CAnswer} → s ≡ s₂ → SecondRun sizes whole s lists verdict
+    → SecondRun sizes whole s₂ lists verdict
+second-of {sizes} {whole} {lists = lists} {verdict = verdict} e ran = coe 0 1 (i. SecondRun sizes whole (e i) lists verdict) ran
+
+past-short : (n : ℕ) (xs : List ℤ) → length (pastLists n xs) ≤ length xs
+unfolding pastLists pastList
+past-short zero xs = omega arith
+past-short (suc n) xs = omega (arith, past-short n xs, length-drop (firstWidth (pastLists n xs)) (pastLists n xs))
+
+module _ (xs : List ℤ) {lists lengths second : List ℤ} (lists-is : lists ≡ drop 19 xs) (lengths-is : lengths ≡ pastLists 13 lists)
+    (second-is : second ≡ drop 9 lengths) where
+  lengths-in : lengths ≡ lengthsIn xs
+  lengths-in = lengths-is ∙ ap (λ (l : List ℤ). pastLists 13 l) lists-is
+
+  second-in : second ≡ secondIn xs
+  second-in = second-is ∙ ap (λ (l : List ℤ). drop 9 l) lengths-in
+
+  pub second-inside : length second ≤ length xs
+  second-inside =
+      omega (
+        arith,
+        ap (λ (l : List ℤ). length l) second-in,
+        length-drop 9 (lengthsIn xs),
+        past-short 13 (drop 19 xs),
+        length-drop 19 xs,
+      )
+
+  pub twice-run : {sizes its : Sizes} {parts : PartSizes} {ν μ n : ℕ} {wides ws m′ whole opening rest : List ℤ} {verdict : CAnswer}
+      → n ≡ sizeAt 32768 lengths 8 → ws ≡ drop (length xs - length second) wides → its ≡ sizesOf ws → parts ≡ partSizesOf sizes ν μ
+      → opening ≡ openingOf m′ lengths → rest ≡ drop 18 second
+      → FirstRun sizes ν μ lists lengths (replicate 32768 (pos 77)) m′ (front n) whole
+      → SecondRun its whole (witnessOf parts its opening) rest verdict → TwiceRun sizes ν μ wides xs verdict
+  twice-run {sizes} {its} {ν = ν} {μ = μ} {n = n} {wides = wides} {ws = ws} {m′ = m′} {whole = whole} {opening = opening} {rest = rest}
+      {verdict = verdict} n-is ws-is its-is parts opening-is rest-is first second′ =
+      let wide : ws ≡ drop (length xs - length (secondIn xs)) wides =
+      ws-is ∙ ap (λ (l : List ℤ). drop (length xs - length l) wides) second-in in
+      let sized : its ≡ secondSizes wides xs = its-is ∙ ap (λ (l : List ℤ). sizesOf l) wide in
+      let out : front n ≡ filled (sizeAt 32768 (lengthsIn xs) 8) =
+      blank-is 32768 lengths 8 n-is ∙ ap (λ (l : List ℤ). filled (sizeAt 32768 l 8)) lengths-in in
+      let found : opening ≡ openingOf m′ (lengthsIn xs) = opening-is ∙ ap (λ (l : List ℤ). openingOf m′ l) lengths-in in
+      let after : rest ≡ drop 18 (secondIn xs) = rest-is ∙ ap (λ (l : List ℤ). drop 18 l) second-in in
+      record {
+        m′ = m′;
+        whole = whole;
+        first = coe 0 1 (i. FirstRun sizes ν μ (lists-is i) (lengths-in i) (all-filled i) m′ (out i) whole) first;
+        second = coe 0 1 (i. SecondRun (sized i) whole (witnessOf (parts i) (sized i) (found i)) (after i) verdict) second′;
+      }
+
+-- ---- a case
+
+pub part-number : (sizes : Sizes) (ν μ n : ℕ) (xs : List ℤ) {parts : PartSizes} {r : ℕ} {rest opening : List ℤ} → parts ≡ partSizesOf sizes ν μ
+    → rest ≡ drop 20 xs → opening ≡ nthList 0 rest → r ≡ partRefusalOf parts n opening
+    → r ≡ partRefusalOf (partSizesOf sizes ν μ) n (nthList 0 (drop 20 xs))
+part-number sizes ν μ n xs {opening = opening} parts rest opening-is e =
+    let found : opening ≡ nthList 0 (drop 20 xs) = opening-is ∙ ap (λ (l : List ℤ). nthList 0 l) rest in
+    e ∙ (λ i. partRefusalOf (parts i) n (found i))
+
+sized : (wides : List ℤ) {ws : List ℤ} {its : Sizes} → ws ≡ drop 1 wides → its ≡ sizesOf ws → its ≡ caseSizes wides
+sized wides ws-is its-is = its-is ∙ ap (λ (l : List ℤ). sizesOf l) ws-is
+
+module _ (wides : List ℤ) {xs ws : List ℤ} {its : Sizes} {ν μ kind : ℕ} (ws-is : ws ≡ drop 1 wides) (its-is : its ≡ sizesOf ws)
+    (ν-is : ν ≡ wideSize wides 15) (μ-is : μ ≡ wideSize wides 16) where
+  pub case-instance : {code : CAnswer} → kind ≡ 1 → InstanceRun its ν μ xs code → CaseRun wides xs kind (code .number)
+  case-instance {code} e ran =
+      record {
+        instance = λ _. record {
+          code = code;
+          ran = coe 0 1 (i. InstanceRun (sized wides ws-is its-is i) (ν-is i) (μ-is i) xs code) ran;
+          number-is = refl;
+        };
+        part = λ f. let no : ⊥ = omega arith in absurd no;
+        twice = λ f. let no : ⊥ = omega arith in absurd no;
+      }
+
+  pub case-part : {n r : ℕ} → kind ≡ 2 → n ≡ wideSize wides 19 → r ≡ partRefusalOf (partSizesOf its ν μ) n (nthList 0 (drop 20 xs))
+      → CaseRun wides xs kind r
+  case-part e n-is r-is =
+      record {
+        instance = λ f. let no : ⊥ = omega arith in absurd no;
+        part = λ _. r-is ∙ (λ i. partRefusalOf (partSizesOf (sized wides ws-is its-is i) (ν-is i) (μ-is i)) (n-is i) (nthList 0 (drop 20 xs)));
+        twice = λ f. let no : ⊥ = omega arith in absurd no;
+      }
+
+  pub case-twice : {code : CAnswer} → kind ≡ 3 → TwiceRun its ν μ wides xs code → CaseRun wides xs kind (code .number)
+  case-twice {code} e ran =
+      record {
+        instance = λ f. let no : ⊥ = omega arith in absurd no;
+        part = λ f. let no : ⊥ = omega arith in absurd no;
+        twice = λ _. record {
+          code = code;
+          ran = coe 0 1 (i. TwiceRun (sized wides ws-is its-is i) (ν-is i) (μ-is i) wides xs code) ran;
+          number-is = refl;
+        };
+      }
+
+pub case-none : {wides xs : List ℤ} {kind : ℕ} → (kind ≡ 1 → ⊥) → (kind ≡ 2 → ⊥) → (kind ≡ 3 → ⊥) → CaseRun wides xs kind 0
+case-none one two three = record { instance = λ f. absurd (one f); part = λ f. absurd (two f); twice = λ f. absurd (three f) }
+
+-- ---- a line
+
+pub zeros-are : (n : ℕ) → replicate n (pos 0) ≡ replicate (length (replicate n (pos 0))) (pos 0)
+zeros-are n = ap (λ (k : ℕ). replicate k (pos 0)) (sym (length-replicate n (pos 0)))
+
+pub line-run : (line : List ℕ) {wides xs : List ℤ} {kind r : ℕ} → wides ≡ padded 4096 (lineNumbers line) → xs ≡ map word wides
+    → kind ≡ sizeAt 3 xs 0 → CaseRun wides xs kind r → LineRun line r
+line-run line {wides} {xs} {kind} {r} wides-is xs-is kind-is ran =
+    let words : xs ≡ map word (padded 4096 (lineNumbers line)) = xs-is ∙ ap (λ (l : List ℤ). map word l) wides-is in
+    let number : kind ≡ sizeAt 3 (map word (padded 4096 (lineNumbers line))) 0 =
+    kind-is ∙ ap (λ (l : List ℤ). sizeAt 3 l 0) words in
+    coe 0 1 (i. CaseRun (wides-is i) (words i) (number i) r) ran

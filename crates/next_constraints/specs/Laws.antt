@@ -1,0 +1,10 @@
+pub mod TablePlaces
+pub mod TableLaws
+pub mod BlockPlaces
+pub mod Order
+pub mod EntrySteps
+pub mod EntryTables
+pub mod CoefficientLaws
+pub mod Powers
+pub mod EntryRoom
+pub mod Squares

@@ -1,0 +1,5 @@
+pub mod Filled
+pub mod Instance
+pub mod Places
+pub mod WrittenLaws
+pub mod CallLaws

@@ -1,0 +1,10 @@
+pub mod ModulusLaws
+pub mod Centring
+pub mod ResidueSteps
+pub mod DigitLaws
+pub mod DigitSteps
+pub mod DigitBlockLaws
+pub mod DigitSums
+pub mod Words
+pub mod LengthLaws
+pub mod RangeLaws

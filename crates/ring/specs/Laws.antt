@@ -1,0 +1,13 @@
+pub mod ElementLaws
+pub mod ElementArrays
+pub mod ElementPlaces
+pub mod ElementEquality
+pub mod ElementSteps
+pub mod Numbers
+pub mod Recomposition
+pub mod DigitElements
+pub mod ColumnLaws
+pub mod ProductArrays
+pub mod ProductLaws
+pub mod ShortOperand
+pub mod ShortLaws

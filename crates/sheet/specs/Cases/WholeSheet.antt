@@ -1,0 +1,103 @@
+-- Document 01's whole case as a sheet: the lines that the header gives are those of the document, and no row refuses its numbers.
+use mathlib.Core.Path.{_≡_, refl}
+use mathlib.Core.List.{List, [], _∷_, _++_}
+use lib.IntN.{ℤ}
+use Rattle.integers.specs.Literals.{+_, -_, _zeros∷_}
+use Rattle.algebra.specs.Triangle.{start, pairs-count}
+use Rattle.ring.specs.Element.{every}
+use Rattle.residues.specs.Range.{allWithin, coefficients, projections, challenge}
+use Rattle.integers.specs.Sums.{normSq, sq}
+use Rattle.fold.specs.Answers.{firstRefusal}
+use Rattle.fold.specs.Sizes.{pairs, functionSize, tSize, garbageSize, restSize, openingSize}
+use Rattle.fold.specs.Refusals.{allOf, anyOf, between, degree, rank, parts, constraintCount, projectionCount, commitmentRank, base, digitCount}
+use Rattle.fold.specs.Refusals.{chunks, lengthBound, challenges, projectionLength}
+use Rattle.sheet.specs.declared.sizes.SheetSizes.{SheetSizes}
+use Rattle.sheet.specs.Sections.{matrixCount, wholeCount, rowCount, termSize, onesCount, rowsFrom, challengesFrom}
+use Rattle.sheet.specs.Reading.{headerTests, sizesOf, rowsIn, challengesIn, numberTests}
+use Rattle.sheet.specs.Layout.{copies, elements, fields, matrixLines, wholeLines, termLines, rowLines, numberLines, lastLines, bodyLines}
+use Rattle.sheet.specs.Layout.{sheetText, SheetNumbers}
+use Rattle.sheet.specs.Laws.SheetLaws.{coefficients-fit}
+use Rattle.sheet.specs.Theorems.SheetTheorems.{Read, sheet-exactly}
+
+-- 2 1 1 1 0 0 1 1 1 4 8 4 2 2 1 1 5 13
+abbrev pub header : List ℤ
+header =
+    + 2
+    ∷ + 1
+    ∷ + 1
+    ∷ + 1
+    ∷ + 0
+    ∷ + 0
+    ∷ + 1
+    ∷ + 1
+    ∷ + 1
+    ∷ + 4
+    ∷ + 8
+    ∷ + 4
+    ∷ + 2
+    ∷ + 2
+    ∷ + 1
+    ∷ + 1
+    ∷ + 5
+    ∷ + 13
+    ∷ []
+
+-- A, B, C, D; the constraint; u1; b''; α; δ; u2; c; the opening
+abbrev pub numbers : List ℤ
+numbers =
+    + 1 ∷ + 0 ∷ + 1 ∷ 3 zeros∷ + 1 ∷ 3 zeros∷ + 1 ∷ + 0 ∷ + 1 ∷ + 0
+    ∷ + 1 ∷ 3 zeros∷ - 3 ∷ + 4
+    ∷ + 2 ∷ + 2
+    ∷ 10 zeros∷ + 1 ∷ 11 zeros∷ 2 zeros∷ + 0 ∷ + 1
+    ∷ - 2 ∷ + 1 ∷ 2 zeros∷ + 1 ∷ + 2 ∷ 2 zeros∷ + 1 ∷ + 0 ∷ - 1 ∷ + 1 ∷ 4 zeros∷ []
+
+-- 32 lines of two fields
+whole-lines : bodyLines (sizesOf header) ≡ copies 32 (2 ∷ [])
+unfolding bodyLines matrixLines wholeLines termLines rowLines numberLines lastLines elements copies sizesOf
+    pairs pairs-count start tSize garbageSize restSize openingSize
+whole-lines = refl
+
+pub whole-numbers : SheetNumbers header numbers
+unfolding headerTests numberTests firstRefusal sizesOf allOf anyOf between degree rank parts constraintCount projectionCount commitmentRank base
+    digitCount chunks lengthBound coefficients projections allWithin challenges challenge every normSq sq rowsIn challengesIn projectionLength
+    rowsFrom challengesFrom matrixCount wholeCount rowCount termSize onesCount functionSize fields copies pairs pairs-count start tSize garbageSize
+whole-numbers = record {
+  header = refl;
+  fit = coefficients-fit header refl;
+  sizes = refl;
+  count = rw whole-lines refl;
+  numbers = refl;
+}
+
+-- the reader takes the whole case and gives its numbers back
+pub whole-read : Read 64 (sheetText header numbers) header numbers
+whole-read = sheet-exactly 64 (sheetText header numbers) header numbers .1 (refl, whole-numbers, refl)
+
+-- lines for sizes that differ, with two constant-term constraints, one projection row and three g digits; the second implementation
+-- gives the same
+abbrev pub second : SheetSizes
+second = record {
+  d = 2;
+  n = 2;
+  r = 2;
+  k = 1;
+  l = 2;
+  w = 1;
+  kappa = 1;
+  kappa1 = 2;
+  kappa2 = 1;
+  b = 4;
+  b1 = 8;
+  b2 = 4;
+  t1 = 2;
+  t2 = 3;
+  nu = 1;
+  mu = 1;
+  bound = 5;
+  target = 13;
+}
+
+pub second-lines : bodyLines second ≡ elements 2 49 ++ (1 ∷ (elements 2 7 ++ (1 ∷ (elements 2 6 ++ (elements 1 16 ++ elements 2 37)))))
+unfolding bodyLines matrixLines wholeLines termLines rowLines numberLines lastLines elements copies
+    pairs pairs-count start tSize garbageSize restSize openingSize
+second-lines = refl

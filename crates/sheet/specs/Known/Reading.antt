@@ -1,0 +1,20 @@
+-- Where the lines of a text end, and what is known of a text whose lines are laid out.
+use mathlib.Core.Bool.{Bool, false}
+use mathlib.Core.List.{List}
+use Prim.Native.Nat.{ℕ, _≤_}
+use lib.Dec.{eqb}
+use lib.ListN.{length}
+use Rattle.sheet.specs.declared.sizes.SheetSizes.{SheetSizes}
+use Rattle.sheet.specs.declared.walk.End.{End}
+use Rattle.sheet.specs.declared.walk.End.the-variants.{At, Broken}
+use Rattle.sheet.specs.Sections.{Bounded, sectionsOf}
+use Rattle.sheet.specs.Sections.{total, endsLine}
+use Rattle.sheet.specs.Place.{place}
+
+abbrev pub endsAt : End → ℕ → Bool
+endsAt (At at) n = eqb at n
+endsAt Broken n = false
+
+pub record Inside (s : SheetSizes) (text : List ℕ) : Type 0 where
+  pub bounded : Bounded s
+  pub inside : place (endsLine (sectionsOf s)) 289 (total s) ≤ length text

@@ -1,0 +1,17 @@
+pub mod ByteLaws
+pub mod FieldLaws
+pub mod FieldSteps
+pub mod FieldsLaws
+pub mod NumberLaws
+pub mod SectionLaws
+pub mod PlaceLaws
+pub mod WalkLaws
+pub mod ChallengeLaws
+pub mod TextLaws
+pub mod LayoutLaws
+pub mod BodyLaws
+pub mod EndLaws
+pub mod SheetLaws
+pub mod HeaderLaws
+pub mod ReadingLaws
+pub mod AnswerLaws

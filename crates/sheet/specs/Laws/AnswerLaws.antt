@@ -1,0 +1,212 @@
+-- Laws of the reader's answer.
+--     refusal-first, refusal-rest    tests in two lists, one after the other
+--     header-bounded                 what rows 1 to 4 leave known of the sizes
+--     Passed                         what a text that is not refused is known to be
+--     count-refused, count-good      how many numbers a header gives
+--     read-refused, read-sheet       the reader's promise, refused or not
+--     read-is                        the promise fixes the answer
+use mathlib.Core.Path.{_≡_, refl, sym, ap, _∙_}
+use mathlib.Core.Bool.{Bool, true, false, cond}
+use mathlib.Core.List.{List, [], _∷_, _++_}
+use Prim.Native.Nat.{ℕ, zero, suc, _≤_, _<_}
+use native.Mathlib.Omega.{arith}
+use lib.ListN.{length, getD}
+use lib.IntN.{ℤ, pos, negsuc, natAbs}
+use borrow.Author.Tests.{eqb-true, eq-eqb, ne-eqb}
+use Rattle.ring.specs.Element.{Degree}
+use Rattle.integers.specs.Over.{over}
+use Rattle.integers.specs.Laws.OverLaws.{over-all}
+use Rattle.residues.specs.Range.{coefficients, projections}
+use Rattle.fold.specs.declared.Answer.the-variants as answer
+use Rattle.fold.specs.Answers.{kindOf, numberOf, firstRefusal, answered, written}
+use Rattle.fold.specs.Refusals.{degree, rank, parts, constraintCount, projectionCount, commitmentRank, digitCount}
+use Rattle.fold.specs.Laws.RefusalLaws.{Passes, refusal-passes, passes-refusal, passes-front, passes-back, passes-join, allOf-all, degree-fits}
+use Rattle.sheet.specs.declared.sizes.SheetSizes.{SheetSizes}
+use Rattle.sheet.specs.declared.reader.SheetAnswer.{SheetAnswer}
+use Rattle.sheet.specs.declared.reader.SheetAnswer.the-variants.{Sheet, Refused}
+use Rattle.sheet.specs.declared.sizes.Sections.{Sections}
+use Rattle.sheet.specs.Sections.{Bounded, Sectioned, total, endsLine}
+use Rattle.sheet.specs.Place.{numbersFrom}
+use Rattle.sheet.specs.Laws.PlaceLaws.{contradiction}
+use Rattle.sheet.specs.Laws.HeaderLaws.{between-size}
+use Rattle.sheet.specs.Reading.{headerLaid, headerNumbers, headerTests, sizesOf, bodyLaid, bodyNumbers}
+use Rattle.sheet.specs.Reading.{frontTests, numberCount, numberTests, bodyTests, readingTests, sheetIf, reading}
+use Rattle.sheet.specs.Reading.{answerOf, headerOf, headerIf, readingRefusal, SheetRead}
+use Rattle.sheet.specs.Known.Reading.{Inside}
+use Rattle.sheet.specs.Laws.ReadingLaws.{body-within, all-numbers}
+use Rattle.sheet.specs.Laws.BodyLaws.{body-total}
+use Rattle.sheet.specs.Laws.SheetLaws.{length-body}
+
+-- ---- two lists of tests, one after the other
+
+pub refusal-first : (xs ys : List (ℕ × Bool)) → 0 < firstRefusal xs → firstRefusal xs ≡ firstRefusal (xs ++ ys)
+unfolding firstRefusal
+refusal-first [] ys h = let never : ⊥ = omega arith in absurd never
+refusal-first (test ∷ tests) ys h = step (test .1) (refusal-first tests ys) h
+  where
+    step : (t : Bool) → (0 < firstRefusal tests → firstRefusal tests ≡ firstRefusal (tests ++ ys)) → 0 < cond t (firstRefusal tests) (test .0)
+        → cond t (firstRefusal tests) (test .0) ≡ cond t (firstRefusal (tests ++ ys)) (test .0)
+    step true rest h = rest h
+    step false rest h = refl
+
+pub refusal-rest : (xs ys : List (ℕ × Bool)) → Passes xs → firstRefusal (xs ++ ys) ≡ firstRefusal ys
+unfolding firstRefusal
+refusal-rest [] ys p = refl
+refusal-rest (test ∷ tests) ys p = rw (p .0) (refusal-rest tests ys (p .1))
+
+-- ---- the sizes that the header's tests leave
+
+degree-size : (z : ℤ) → degree z ≡ true → Degree (natAbs z)
+unfolding degree
+degree-size (pos n) e = degree-fits n e
+degree-size (negsuc n) e = contradiction e refl
+
+pub header-bounded : (h : List ℤ) → Passes (headerTests h) → Bounded (sizesOf h)
+unfolding headerTests sizesOf rank parts constraintCount projectionCount commitmentRank digitCount
+header-bounded h p =
+    let d = degree-size (getD h 0 (pos 0)) (p .0) in
+    let counts = allOf-all _ (p .1 .0) in
+    let ranks = allOf-all _ (p .1 .1 .0) in
+    let bases = allOf-all _ (p .1 .1 .1 .0) in
+    record {
+      degree-positive = d .positive;
+      degree = d .small;
+      rank = between-size 1 256 (getD h 1 (pos 0)) (counts .0);
+      parts = between-size 1 16 (getD h 2 (pos 0)) (counts .1 .0);
+      whole = between-size 0 32 (getD h 3 (pos 0)) (counts .1 .1 .0);
+      term = between-size 0 32 (getD h 4 (pos 0)) (counts .1 .1 .1 .0);
+      projections = between-size 0 256 (getD h 5 (pos 0)) (counts .1 .1 .1 .1 .0);
+      κ = between-size 1 8 (getD h 6 (pos 0)) (ranks .0);
+      κ₁ = between-size 1 8 (getD h 7 (pos 0)) (ranks .1 .0);
+      κ₂ = between-size 1 8 (getD h 8 (pos 0)) (ranks .1 .1 .0);
+      t₁ = between-size 2 8 (getD h 12 (pos 0)) (bases .1 .1 .1 .0);
+      t₂ = between-size 2 8 (getD h 13 (pos 0)) (bases .1 .1 .1 .1 .0);
+    }
+
+-- ---- the whole text
+
+pub front-passes : (text : List ℕ) → firstRefusal (frontTests text) ≡ 0 → Passes (frontTests text)
+unfolding headerTests
+front-passes text e = refusal-passes (frontTests text) refl e
+
+module _ (room : ℕ) (text : List ℕ) {header : ℕ} (e : header ≡ firstRefusal (frontTests text)) where
+  pub refused-header : 0 < header → header ≡ firstRefusal (readingTests room text)
+  unfolding readingTests
+  refused-header h = e ∙ refusal-first (frontTests text) (bodyTests room (sizesOf (headerNumbers text)) text) (rw e at h)
+
+  pub good-header : header ≤ 0 → {s : SheetSizes} → s ≡ sizesOf (headerNumbers text) → Bounded s
+  good-header h q =
+      let none : firstRefusal (frontTests text) ≡ 0 = omega (arith, e) in
+      rw q (header-bounded (headerNumbers text) (front-passes text none .1))
+
+  pub rest-refusal : header ≤ 0 → {s : SheetSizes} → s ≡ sizesOf (headerNumbers text) → {r : ℕ} → r ≡ firstRefusal (bodyTests room s text)
+      → r ≡ firstRefusal (readingTests room text)
+  unfolding readingTests
+  rest-refusal h q f =
+      let none : firstRefusal (frontTests text) ≡ 0 = omega (arith, e) in
+      f ∙ ap (λ (s : SheetSizes). firstRefusal (bodyTests room s text)) q
+      ∙ sym (refusal-rest (frontTests text) (bodyTests room (sizesOf (headerNumbers text)) text) (front-passes text none))
+
+-- what a text that is not refused is known to be
+pub record Passed (room : ℕ) (text : List ℕ) : Type 0 where
+  pub header : headerLaid text ≡ true
+  pub sizes : Passes (headerTests (headerNumbers text))
+  pub lines : bodyLaid (sizesOf (headerNumbers text)) text ≡ true
+  pub fits : room ≡ total (sizesOf (headerNumbers text))
+  pub numbers : Passes (numberTests (sizesOf (headerNumbers text)) (bodyNumbers (sizesOf (headerNumbers text)) text))
+
+pub reading-passed : (room : ℕ) (text : List ℕ) → firstRefusal (readingTests room text) ≡ 0 → Passed room text
+unfolding readingTests headerTests bodyTests numberTests
+reading-passed room text e =
+    let p = refusal-passes (frontTests text ++ bodyTests room (sizesOf (headerNumbers text)) text) refl e in
+    let front = passes-front (frontTests text) (bodyTests room (sizesOf (headerNumbers text)) text) p in
+    let back = passes-back (frontTests text) (bodyTests room (sizesOf (headerNumbers text)) text) p in
+    record {
+      header = front .0;
+      sizes = front .1;
+      lines = back .0;
+      fits = eqb-true room (total (sizesOf (headerNumbers text))) (back .1 .0);
+      numbers = back .1 .1;
+    }
+
+pub passed-reading : (room : ℕ) (text : List ℕ) → Passed room text → firstRefusal (readingTests room text) ≡ 0
+unfolding readingTests bodyTests
+passed-reading room text p =
+    passes-refusal (readingTests room text)
+    (passes-join (frontTests text) (bodyTests room (sizesOf (headerNumbers text)) text) (p .header, p .sizes)
+    (p .lines, (eq-eqb room (total (sizesOf (headerNumbers text))) (p .fits), p .numbers)))
+
+-- ---- how many numbers
+
+module _ (text : List ℕ) {header : ℕ} (e : header ≡ firstRefusal (frontTests text)) where
+  pub count-refused : 0 < header → 0 ≡ numberCount text
+  unfolding numberCount
+  count-refused h = rw (← e, ne-eqb header 0 (λ f. omega arith)) refl
+
+  pub count-good : header ≤ 0 → {s : SheetSizes} {m : ℕ} → s ≡ sizesOf (headerNumbers text) → m ≡ total s → m ≡ numberCount text
+  unfolding numberCount
+  count-good h q f = let none : header ≡ 0 = omega arith in f ∙ rw (← e, eq-eqb header 0 none, q) refl
+
+-- ---- the reader's promise
+
+-- numbers written over all of the slice
+pub stored : (s : SheetSizes) (text : List ℕ) (q : Sections) (i : Inside s text) (e : Sectioned s q) {count : ℕ} (c : count ≡ total s)
+    (before : List ℤ) {after : List ℤ} → length before ≡ total s
+    → after ≡ over before 0 (numbersFrom (endsLine q) 289 text 0 count) → after ≡ bodyNumbers s text
+stored s text q i e c before fits f =
+    let numbers = all-numbers s text q i e c in
+    let size : length (bodyNumbers s text) ≡ length before = length-body s (i .bounded .degree-positive) text ∙ body-total s ∙ sym fits in
+    f ∙ rw numbers (over-all before (bodyNumbers s text) size)
+
+module _ (text : List ℕ) (before : List ℤ) where
+  promised : (n : ℕ) → readingRefusal text before ≡ n → {read : SheetAnswer} {after : List ℤ}
+      → answerOf read ≡ answered n answer.Written → headerOf read ≡ headerIf n (sizesOf (headerNumbers text))
+      → after ≡ written n (bodyNumbers (sizesOf (headerNumbers text)) text) before → SheetRead text before read after
+  promised n q a h w = record { answer-is = rw q a; header-is = rw q h; numbers-are = rw q w }
+
+  module _ {r : ℕ} (e : r ≡ readingRefusal text before) where
+    pub read-refused : 0 < r → SheetRead text before (Refused r) before
+    unfolding answered written
+    read-refused h = step r h (sym e)
+      where
+        step : (n : ℕ) → 0 < n → readingRefusal text before ≡ n → SheetRead text before (Refused n) before
+        step zero h q = let never : ⊥ = omega arith in absurd never
+        step (suc n) h q = promised (suc n) q refl refl refl
+
+    module _ (h : r ≤ 0) {s : SheetSizes} (q : s ≡ sizesOf (headerNumbers text)) where
+      none : readingRefusal text before ≡ 0
+      none = omega (arith, e)
+
+      passed : Passed (length before) text
+      passed = reading-passed (length before) text none
+
+      pub read-sheet : {after : List ℤ} → after ≡ bodyNumbers s text → SheetRead text before (Sheet s) after
+      unfolding answered written
+      read-sheet w = promised 0 none refl q (w ∙ ap (λ (s : SheetSizes). bodyNumbers s text) q)
+
+      pub sheet-inside : Inside s text
+      sheet-inside =
+          rw q (record {
+            bounded = header-bounded (headerNumbers text) (passed .sizes);
+            inside = body-within
+                (sizesOf (headerNumbers text)) text (passed .lines);
+          })
+
+      pub sheet-coefficients : coefficients (bodyNumbers s text) ≡ true
+      unfolding numberTests
+      sheet-coefficients = rw q (passed .numbers .0)
+
+      pub sheet-fits : length before ≡ total s
+      sheet-fits = rw q (passed .fits)
+
+pub read-is : (text : List ℕ) (before : List ℤ) {read : SheetAnswer} {after : List ℤ} → SheetRead text before read after
+    → read ≡ reading (length before) text
+unfolding reading answered
+read-is text before {read} p = step (readingRefusal text before) read (p .answer-is) (p .header-is)
+  where
+    step : (n : ℕ) (read : SheetAnswer) → answerOf read ≡ answered n answer.Written
+        → headerOf read ≡ headerIf n (sizesOf (headerNumbers text)) → read ≡ sheetIf n (sizesOf (headerNumbers text))
+    step zero (Sheet s) a h = ap Sheet h
+    step zero (Refused m) a h = let f : _≡_ {A = ℕ} 2 3 = ap kindOf a in absurd (omega arith)
+    step (suc n) (Refused m) a h = ap Refused (ap numberOf a)
+    step (suc n) (Sheet s) a h = let f : _≡_ {A = ℕ} 3 2 = ap kindOf a in absurd (omega arith)

@@ -1,0 +1,119 @@
+-- Laws of the tests of the lines after the header and of their numbers, as the reader's functions form them.
+--     endsAt       fields end at a place
+--     Inside       sizes whose lines lie within the text
+--     front-span, later-span, body-part    some of the numbers after the header
+use mathlib.Core.Path.{_≡_, refl, sym, ap, _∙_}
+use mathlib.Core.Bool.{Bool, true, false, cond, not}
+use mathlib.Core.List.{List}
+use Prim.Native.Nat.{ℕ, _+_, _*_, _≤_, _<_}
+use native.Mathlib.Nat.{zero-add}
+use native.Mathlib.Omega.{arith}
+use lib.Dec.{eqb}
+use lib.ListN.{length, take, drop}
+use lib.IntN.{ℤ}
+use borrow.Author.Tests.{eqb-true, eq-eqb, ne-eqb, not-true, not-false}
+use Rattle.residues.specs.Laws.RangeLaws.{coefficients-part}
+use Rattle.residues.specs.Range.{coefficients, projections}
+use Rattle.fold.specs.Answers.{firstRefusal}
+use Rattle.fold.specs.Refusals.{challenges, projectionLength}
+use Rattle.sheet.specs.declared.sizes.SheetSizes.{SheetSizes}
+use Rattle.sheet.specs.declared.sizes.Sections.{Sections}
+use Rattle.sheet.specs.declared.walk.End.{End}
+use Rattle.sheet.specs.Sections.{Bounded, Sectioned, sectionsOf, termSize, rowCount, lastCount}
+use Rattle.sheet.specs.Sections.{total, rowsFrom, challengesFrom, endsLine}
+use Rattle.sheet.specs.Place.{place, laid, endIf, numbersFrom, Span}
+use Rattle.sheet.specs.Laws.PlaceLaws.{contradiction, place-mono}
+use Rattle.sheet.specs.Laws.ChallengeLaws.{numbers-part}
+use Rattle.sheet.specs.Reading.{bodyLaid, bodyNumbers, rowsIn, challengesIn}
+use Rattle.sheet.specs.Reading.{numberTests, bodyTests}
+use Rattle.sheet.specs.Known.Reading.{endsAt, Inside}
+
+pub lines-positive : (s : SheetSizes) (q : Sections) → Bounded s → Sectioned s q → (0 < q .d) × (0 < q .period)
+unfolding sectionsOf termSize
+lines-positive s q b e = (rw (e .is) (b .degree-positive), rw (e .is) (omega arith))
+
+module _ (s : SheetSizes) (text : List ℕ) (q : Sections) (i : Inside s text) (e : Sectioned s q) where
+  -- the first m numbers
+  pub front-span : (m : ℕ) → m ≤ total s → Span (endsLine q) text 0 289 m
+  unfolding place
+  front-span m h = record {
+    is = refl;
+    inside = rw (e .is, zero-add m) (omega (arith, i .inside, place-mono (endsLine (sectionsOf s)) 289 m (total s) h));
+  }
+
+  -- c numbers after them
+  pub later-span : (m c start : ℕ) → m + c ≤ total s → start ≡ place (endsLine q) 289 (0 + m) → Span (endsLine q) text m start c
+  later-span m c start h p = record {
+    is = p ∙ ap (place (endsLine q) 289) (zero-add m);
+    inside = rw (e .is) (omega (arith, i .inside, place-mono (endsLine (sectionsOf s)) 289 (m + c) (total s) h));
+  }
+
+  pub body-part : (m c : ℕ) → m + c ≤ total s → take c (drop m (bodyNumbers s text)) ≡ numbersFrom (endsLine q) 289 text m c
+  unfolding bodyNumbers
+  body-part m c h =
+      rw (e .is) (numbers-part (endsLine (sectionsOf s)) text 0 (total s) m c h
+      ∙ ap (λ (x : ℕ). numbersFrom (endsLine (sectionsOf s)) 289 text x c) (zero-add m))
+
+  pub body-coefficients : (m c : ℕ) → m + c ≤ total s → coefficients (bodyNumbers s text) ≡ true
+      → coefficients (numbersFrom (endsLine q) 289 text m c) ≡ true
+  body-coefficients m c h t = rw (← body-part m c h) (coefficients-part m c (bodyNumbers s text) t)
+
+  pub all-numbers : {count : ℕ} → count ≡ total s → numbersFrom (endsLine q) 289 text 0 count ≡ bodyNumbers s text
+  unfolding bodyNumbers
+  all-numbers c = rw (e .is, c) refl
+
+pub rows-end : (s : SheetSizes) → rowsFrom s + projectionLength (s .d) (s .n) (s .r) (s .w) ≤ total s
+unfolding rowsFrom total projectionLength rowCount
+rows-end s = omega arith
+
+pub challenges-end : (s : SheetSizes) → challengesFrom s + s .r * s .d ≤ total s
+unfolding challengesFrom total lastCount
+challenges-end s = omega arith
+
+module _ (s : SheetSizes) (xs : List ℤ) where
+  pub eight : {good : Bool} → good ≡ coefficients xs → not good ≡ true → 8 ≡ firstRefusal (numberTests s xs)
+  unfolding firstRefusal numberTests
+  eight {good} e t = rw (← e, not-true good t) refl
+
+  pub nine-ten : {good rows ok : Bool} {r₉ r₁₀ : ℕ} → good ≡ coefficients xs → not good ≡ false
+      → r₉ ≡ cond rows r₁₀ 9 → rows ≡ projections (rowsIn s xs)
+      → r₁₀ ≡ cond ok 0 10 → ok ≡ challenges (s .d) (s .r) (challengesIn s xs)
+      → r₉ ≡ firstRefusal (numberTests s xs)
+  unfolding firstRefusal numberTests
+  nine-ten {good} e t e₉ f₉ e₁₀ f₁₀ = rw (← e, not-false good t, e₉, f₉, e₁₀, f₁₀) refl
+
+pub body-within : (s : SheetSizes) (text : List ℕ) → bodyLaid s text ≡ true → place (endsLine (sectionsOf s)) 289 (total s) ≤ length text
+unfolding bodyLaid
+body-within s text e = step (laid (endsLine (sectionsOf s)) 289 text (total s)) e
+  where
+    step : (t : Bool) → cond t (eqb (place (endsLine (sectionsOf s)) 289 (total s)) (length text)) false ≡ true
+        → place (endsLine (sectionsOf s)) 289 (total s) ≤ length text
+    step true q = omega (arith, eqb-true (place (endsLine (sectionsOf s)) 289 (total s)) (length text) q)
+    step false q = contradiction q refl
+
+module _ (s : SheetSizes) (text : List ℕ) (q : Sections) (e : Sectioned s q) {count : ℕ} (c : count ≡ total s) {end : End}
+    (l : end ≡ endIf (laid (endsLine q) 289 text count) (place (endsLine q) 289 count)) {good : Bool}
+    (g : good ≡ endsAt end (length text)) where
+  ends-is : (t : Bool) (p n : ℕ) → endsAt (endIf t p) n ≡ cond t (eqb p n) false
+  ends-is true p n = refl
+  ends-is false p n = refl
+
+  laid-is : good ≡ bodyLaid s text
+  unfolding bodyLaid
+  laid-is = g ∙ rw (l, ends-is (laid (endsLine q) 289 text count) (place (endsLine q) 289 count) (length text), e .is, c) refl
+
+  pub twelve : (room : ℕ) → not good ≡ true → 12 ≡ firstRefusal (bodyTests room s text)
+  unfolding firstRefusal bodyTests
+  twelve room t = rw (← laid-is, not-true good t) refl
+
+  pub seven : (room : ℕ) → not good ≡ false → (room ≡ count → ⊥) → 7 ≡ firstRefusal (bodyTests room s text)
+  unfolding firstRefusal bodyTests
+  seven room t h = rw (← laid-is, not-false good t, ne-eqb room (total s) (λ e. h (e ∙ sym c))) refl
+
+  pub later : (room : ℕ) → not good ≡ false → room ≡ count → {r : ℕ} → r ≡ firstRefusal (numberTests s (bodyNumbers s text))
+      → r ≡ firstRefusal (bodyTests room s text)
+  unfolding firstRefusal bodyTests
+  later room t h n = rw (← laid-is, not-false good t, eq-eqb room (total s) (h ∙ c)) n
+
+  pub laid-inside : Bounded s → not good ≡ false → Inside s text
+  laid-inside b t = record { bounded = b; inside = body-within s text (sym laid-is ∙ not-false good t) }

@@ -1,0 +1,2 @@
+pub mod SheetTheorems
+pub mod HeaderTheorem

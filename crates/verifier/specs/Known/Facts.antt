@@ -1,0 +1,45 @@
+-- What the tests of document 01's rows 1 to 7 leave known of the verifier's sizes and slices, and names for the blocks of its opening.
+use mathlib.Core.Path.{_≡_}
+use mathlib.Core.List.{List}
+use Prim.Native.Nat.{ℕ, _*_}
+use lib.ListN.{length}
+use lib.IntN.{ℤ}
+use Rattle.ring.specs.Element.{R, el}
+use Rattle.fold.specs.declared.Sizes.{Sizes}
+use Rattle.fold.specs.Sizes.{openingSize}
+use Rattle.fold.specs.Opening.{block, tPlace, gPlace, hPlace, zOf, tOf, garbageOf}
+use Rattle.fold.specs.Arguments.{VerifySized}
+
+-- rows 1 to 6
+abbrev pub Fits : Sizes → Type 0
+Fits s = VerifySized s
+
+-- row 7: a list of m elements
+pub record Holds (d m : ℕ) (xs : List ℤ) : Type 0 where
+  pub sized : length xs ≡ m * d
+
+-- the verifier's opening
+abbrev pub Opening : Sizes → List ℤ → Type 0
+Opening s o = Holds (s .d) (openingSize 2 (s .n) (s .r) (s .kappa) (s .t1) (s .t2)) o
+
+module _ (s : Sizes) (o : List ℤ) where
+  abbrev pub tBlockOf : ℕ → R (s .d) .Carrier
+  tBlockOf = block (s .d) o (tPlace 2 (s .n))
+
+  abbrev pub gBlockOf : ℕ → R (s .d) .Carrier
+  gBlockOf = block (s .d) o (gPlace 2 (s .n) (s .r) (s .kappa) (s .t1))
+
+  abbrev pub hBlockOf : ℕ → R (s .d) .Carrier
+  hBlockOf = block (s .d) o (hPlace 2 (s .n) (s .r) (s .kappa) (s .t1) (s .t2))
+
+  abbrev pub zValue : ℕ → R (s .d) .Carrier
+  zValue = zOf (s .d) (s .n) 2 (s .b) (el (s .d) o)
+
+  abbrev pub tValue : ℕ → ℕ → R (s .d) .Carrier
+  tValue = tOf (s .d) (s .kappa) (s .b1) (s .t1) tBlockOf
+
+  abbrev pub gValue : ℕ → ℕ → R (s .d) .Carrier
+  gValue = garbageOf (s .d) (s .r) (s .b2) (s .t2) gBlockOf
+
+  abbrev pub hValue : ℕ → ℕ → R (s .d) .Carrier
+  hValue = garbageOf (s .d) (s .r) (s .b1) (s .t1) hBlockOf

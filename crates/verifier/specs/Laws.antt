@@ -1,0 +1,9 @@
+pub mod SizeLaws
+pub mod PlaceLaws
+pub mod Loops
+pub mod Rows
+pub mod NormLaws
+pub mod MixedLaws
+pub mod ConstantTermLaws
+pub mod RelationLaws
+pub mod JudgementLaws
