@@ -10,17 +10,8 @@ use Rattle.judge.proofs.judge_sheet.Tie as tie
 returns : tie.Need-returns
 returns c = longer (c .before .before .args .text .now) (omega (arith, c .if1 .taken))
 
-lent-count-requires : tie.Need-lent-count-requires
-lent-count-requires c κs = search needs
-
-array-borrow-prefix-numbers : tie.Need-array-borrow-prefix-numbers
-array-borrow-prefix-numbers c = search needs
-
 slice-aggregate-judge-into : tie.Need-slice-aggregate-judge-into
 slice-aggregate-judge-into c = sym (length-take-le (c .before .lent-count .result) _ (omega (arith, c .before .lent-count .ensures)))
-
-judge-into-requires : tie.Need-judge-into-requires
-judge-into-requires c κs = search needs
 
 returns-2 : tie.Need-returns-2
 returns-2 c =
@@ -35,8 +26,8 @@ judge-sheet-spec =
     tie.close
     (tie.spec
     returns
-    lent-count-requires
-    array-borrow-prefix-numbers
+    (λ c κs. search needs)
+    (λ c. search needs)
     slice-aggregate-judge-into
-    judge-into-requires
+    (λ c κs. search needs)
     returns-2)

@@ -8,9 +8,6 @@ use Rattle.limits.specs.Known.StageLimits.{aggregate-sized}
 use Rattle.limits.proofs.aggregate_refusal.Statement.{statement}
 use Rattle.limits.proofs.aggregate_refusal.Tie as tie
 
-aggregate-bounds-requires : tie.Need-aggregate-bounds-requires
-aggregate-bounds-requires c κs = tt
-
 returns : tie.Need-returns
 unfolding aggregateTests
 returns c =
@@ -37,29 +34,8 @@ returns-2 c =
     let bounds = aggregateBounds (m .d) (m .n) (m .r) (a .l) (a .w) in
     unfit bounds 7 _ _ refl (c3 .aggregate-bounds .ensures) (c2 .if1 .left) fits (c .if2 .taken)
 
-are-projection-entries-requires : tie.Need-are-projection-entries-requires
-are-projection-entries-requires c κs = tt
-
-are-coefficients-requires : tie.Need-are-coefficients-requires
-are-coefficients-requires c κs = tt
-
 rows-in-range-requires : tie.Need-rows-in-range-requires
 rows-in-range-requires c κs = c .before .are-projection-entries .ensures
-
-are-coefficients-requires-2 : tie.Need-are-coefficients-requires-2
-are-coefficients-requires-2 c κs = tt
-
-are-coefficients-requires-3 : tie.Need-are-coefficients-requires-3
-are-coefficients-requires-3 c κs = tt
-
-are-coefficients-requires-4 : tie.Need-are-coefficients-requires-4
-are-coefficients-requires-4 c κs = tt
-
-first-requires : tie.Need-first-requires
-first-requires c κs = tt
-
-first-requires-2 : tie.Need-first-requires-2
-first-requires-2 c κs = tt
 
 returns-3 : tie.Need-returns-3
 unfolding aggregateTests
@@ -90,16 +66,16 @@ pub aggregate-refusal-spec : {M : Type 1} → statement M
 aggregate-refusal-spec =
     tie.close
     (tie.spec
-    aggregate-bounds-requires
+    (λ c κs. tt)
     returns
     aggregate-lengths-requires
     returns-2
-    are-projection-entries-requires
-    are-coefficients-requires
+    (λ c κs. tt)
+    (λ c κs. tt)
     rows-in-range-requires
-    are-coefficients-requires-2
-    are-coefficients-requires-3
-    are-coefficients-requires-4
-    first-requires
-    first-requires-2
+    (λ c κs. tt)
+    (λ c κs. tt)
+    (λ c κs. tt)
+    (λ c κs. tt)
+    (λ c κs. tt)
     returns-3)

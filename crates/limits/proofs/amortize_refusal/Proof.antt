@@ -9,9 +9,6 @@ use Rattle.limits.specs.Known.StageLimits.{amortize-sized}
 use Rattle.limits.proofs.amortize_refusal.Statement.{statement}
 use Rattle.limits.proofs.amortize_refusal.Tie as tie
 
-amortize-bounds-requires : tie.Need-amortize-bounds-requires
-amortize-bounds-requires c κs = tt
-
 returns : tie.Need-returns
 unfolding amortizeTests
 returns c =
@@ -37,22 +34,10 @@ returns-2 c =
     let fits = (c1 .amortize-lengths .ensures) in
     unfit (amortizeBounds (m .d) (m .n) (m .r) (a .b)) 7 _ _ refl (c3 .amortize-bounds .ensures) (c2 .if1 .left) fits (c .if2 .taken)
 
-are-coefficients-requires : tie.Need-are-coefficients-requires
-are-coefficients-requires c κs = tt
-
-are-coefficients-requires-2 : tie.Need-are-coefficients-requires-2
-are-coefficients-requires-2 c κs = tt
-
 challenges-requires : tie.Need-challenges-requires
 challenges-requires c κs =
     let fits = fitting _ (c .before .before .before .amortize-lengths .ensures) (c .before .before .if2 .left) in
     sized-iff _ _ .0 (fits .0)
-
-first-requires : tie.Need-first-requires
-first-requires c κs = tt
-
-first-requires-2 : tie.Need-first-requires-2
-first-requires-2 c κs = tt
 
 returns-3 : tie.Need-returns-3
 unfolding amortizeTests
@@ -77,13 +62,13 @@ pub amortize-refusal-spec : {M : Type 1} → statement M
 amortize-refusal-spec =
     tie.close
     (tie.spec
-    amortize-bounds-requires
+    (λ c κs. tt)
     returns
     amortize-lengths-requires
     returns-2
-    are-coefficients-requires
-    are-coefficients-requires-2
+    (λ c κs. tt)
+    (λ c κs. tt)
     challenges-requires
-    first-requires
-    first-requires-2
+    (λ c κs. tt)
+    (λ c κs. tt)
     returns-3)

@@ -8,9 +8,6 @@ use Rattle.limits.specs.Known.StageLimits.{commit-sized}
 use Rattle.limits.proofs.commit_refusal.Statement.{statement}
 use Rattle.limits.proofs.commit_refusal.Tie as tie
 
-commit-bounds-requires : tie.Need-commit-bounds-requires
-commit-bounds-requires c κs = tt
-
 returns : tie.Need-returns
 unfolding commitTests
 returns c =
@@ -36,21 +33,6 @@ returns-2 c =
     let fits = c1 .commit-lengths .ensures in
     unfit (commitBounds m) 7 _ _ refl (c3 .commit-bounds .ensures) (c2 .if1 .left) fits (c .if2 .taken)
 
-are-coefficients-requires : tie.Need-are-coefficients-requires
-are-coefficients-requires c κs = tt
-
-are-coefficients-requires-2 : tie.Need-are-coefficients-requires-2
-are-coefficients-requires-2 c κs = tt
-
-are-coefficients-requires-3 : tie.Need-are-coefficients-requires-3
-are-coefficients-requires-3 c κs = tt
-
-are-coefficients-requires-4 : tie.Need-are-coefficients-requires-4
-are-coefficients-requires-4 c κs = tt
-
-first-requires : tie.Need-first-requires
-first-requires c κs = tt
-
 returns-3 : tie.Need-returns-3
 unfolding commitTests
 returns-3 c =
@@ -75,13 +57,13 @@ pub commit-refusal-spec : {M : Type 1} → statement M
 commit-refusal-spec =
     tie.close
     (tie.spec
-    commit-bounds-requires
+    (λ c κs. tt)
     returns
     commit-lengths-requires
     returns-2
-    are-coefficients-requires
-    are-coefficients-requires-2
-    are-coefficients-requires-3
-    are-coefficients-requires-4
-    first-requires
+    (λ c κs. tt)
+    (λ c κs. tt)
+    (λ c κs. tt)
+    (λ c κs. tt)
+    (λ c κs. tt)
     returns-3)

@@ -8,9 +8,6 @@ use Rattle.limits.specs.Known.StageLimits.{garbage-constraints, garbage-
 use Rattle.limits.proofs.garbage_refusal.Statement.{statement}
 use Rattle.limits.proofs.garbage_refusal.Tie as tie
 
-garbage-bounds-requires : tie.Need-garbage-bounds-requires
-garbage-bounds-requires c κs = tt
-
 returns : tie.Need-returns
 unfolding garbageTests
 returns c =
@@ -43,23 +40,8 @@ returns-2 c =
     let fits = append-rows _ _ (c2 .constraint-lengths .ensures) (c1 .garbage-lengths .ensures) in
     unfit (garbageBounds m) 7 _ _ refl (c4 .garbage-bounds .ensures) (c3 .if1 .left) fits (c .if2 .taken)
 
-are-projection-entries-requires : tie.Need-are-projection-entries-requires
-are-projection-entries-requires c κs = tt
-
-are-coefficients-requires : tie.Need-are-coefficients-requires
-are-coefficients-requires c κs = tt
-
-are-coefficients-requires-2 : tie.Need-are-coefficients-requires-2
-are-coefficients-requires-2 c κs = tt
-
 constraint-ranges-requires : tie.Need-constraint-ranges-requires
 constraint-ranges-requires c κs = c .before .before .are-projection-entries .ensures
-
-first-requires : tie.Need-first-requires
-first-requires c κs = tt
-
-first-requires-2 : tie.Need-first-requires-2
-first-requires-2 c κs = tt
 
 returns-3 : tie.Need-returns-3
 unfolding garbageTests
@@ -88,15 +70,15 @@ pub garbage-refusal-spec : {M : Type 1} → statement M
 garbage-refusal-spec =
     tie.close
     (tie.spec
-    garbage-bounds-requires
+    (λ c κs. tt)
     returns
     constraint-lengths-requires
     garbage-lengths-requires
     returns-2
-    are-projection-entries-requires
-    are-coefficients-requires
-    are-coefficients-requires-2
+    (λ c κs. tt)
+    (λ c κs. tt)
+    (λ c κs. tt)
     constraint-ranges-requires
-    first-requires
-    first-requires-2
+    (λ c κs. tt)
+    (λ c κs. tt)
     returns-3)

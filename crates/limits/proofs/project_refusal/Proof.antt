@@ -8,9 +8,6 @@ use Rattle.limits.specs.Known.StageLimits.{project-sized}
 use Rattle.limits.proofs.project_refusal.Statement.{statement}
 use Rattle.limits.proofs.project_refusal.Tie as tie
 
-project-bounds-requires : tie.Need-project-bounds-requires
-project-bounds-requires c κs = tt
-
 returns : tie.Need-returns
 unfolding projectTests
 returns c =
@@ -36,20 +33,8 @@ returns-2 c =
     let fits = c1 .project-lengths .ensures in
     unfit (projectBounds (m .d) (m .n) (m .r) (a .w)) 7 _ _ refl (c3 .project-bounds .ensures) (c2 .if1 .left) fits (c .if2 .taken)
 
-are-projection-entries-requires : tie.Need-are-projection-entries-requires
-are-projection-entries-requires c κs = tt
-
 rows-in-range-requires : tie.Need-rows-in-range-requires
 rows-in-range-requires c κs = c .are-projection-entries .ensures
-
-are-coefficients-requires : tie.Need-are-coefficients-requires
-are-coefficients-requires c κs = tt
-
-first-requires : tie.Need-first-requires
-first-requires c κs = tt
-
-first-requires-2 : tie.Need-first-requires-2
-first-requires-2 c κs = tt
 
 returns-3 : tie.Need-returns-3
 unfolding projectTests
@@ -74,13 +59,13 @@ pub project-refusal-spec : {M : Type 1} → statement M
 project-refusal-spec =
     tie.close
     (tie.spec
-    project-bounds-requires
+    (λ c κs. tt)
     returns
     project-lengths-requires
     returns-2
-    are-projection-entries-requires
+    (λ c κs. tt)
     rows-in-range-requires
-    are-coefficients-requires
-    first-requires
-    first-requires-2
+    (λ c κs. tt)
+    (λ c κs. tt)
+    (λ c κs. tt)
     returns-3)

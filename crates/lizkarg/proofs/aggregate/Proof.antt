@@ -4,13 +4,7 @@ use Rattle.lizkarg.proofs.aggregate.Statement.{statement}
 use Rattle.lizkarg.proofs.aggregate.Tie as tie
 
 -- src/lib.rt:61:9
-aggregate-refusal-requires : tie.Need-aggregate-refusal-requires
-aggregate-refusal-requires c κs = tt
-
 -- src/lib.rt:63:9
-same-length : tie.Need-same-length
-same-length c = search needs
-
 -- src/lib.rt:63:9
 returns : tie.Need-returns
 returns c = aggregate-refused _ _ _ _ _ _ _ _ _ (c .before .aggregate-refusal .ensures) (c .if1 .taken)
@@ -21,9 +15,6 @@ write-b2-requires c κs =
     (aggregate-facts _ _ _ _ _ _ _ _ _ (c .before .before .aggregate-refusal .ensures) (c .before .if1 .left), aggregate-room _ _ _ _ _ _ _ _ _ (c .before .before .aggregate-refusal .ensures) (c .before .if1 .left))
 
 -- src/lib.rt:46:1
-same-length-2 : tie.Need-same-length-2
-same-length-2 c = search needs
-
 -- src/lib.rt:46:1
 returns-2 : tie.Need-returns-2
 returns-2 c = aggregate-written _ _ _ _ _ _ _ _ _ (c .before .before .before .before .aggregate-refusal .ensures) (c .before .before .before .if1 .left) (c .before .write-b2 .ensures)
@@ -32,9 +23,9 @@ pub aggregate-spec : {M : Type 1} → statement M
 aggregate-spec =
     tie.close
     (tie.spec
-    aggregate-refusal-requires
-    same-length
+    (λ c κs. tt)
+    (λ c. search needs)
     returns
     write-b2-requires
-    same-length-2
+    (λ c. search needs)
     returns-2)

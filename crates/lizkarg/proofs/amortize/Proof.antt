@@ -4,13 +4,7 @@ use Rattle.lizkarg.proofs.amortize.Statement.{statement}
 use Rattle.lizkarg.proofs.amortize.Tie as tie
 
 -- src/lib.rt:48:9
-amortize-refusal-requires : tie.Need-amortize-refusal-requires
-amortize-refusal-requires c κs = tt
-
 -- src/lib.rt:50:9
-same-length : tie.Need-same-length
-same-length c = search needs
-
 -- src/lib.rt:50:9
 returns : tie.Need-returns
 returns c = amortize-refused (c .before .amortize-refusal .ensures) (c .if1 .taken)
@@ -20,9 +14,6 @@ write-z-requires : tie.Need-write-z-requires
 write-z-requires c κs = amortize-facts (c .before .before .amortize-refusal .ensures) (c .before .if1 .left)
 
 -- src/lib.rt:45:1
-same-length-2 : tie.Need-same-length-2
-same-length-2 c = search needs
-
 -- src/lib.rt:45:1
 returns-2 : tie.Need-returns-2
 returns-2 c = amortize-written (c .before .before .before .before .amortize-refusal .ensures) (c .before .before .before .if1 .left) (c .before .write-z .ensures)
@@ -31,9 +22,9 @@ pub amortize-spec : {M : Type 1} → statement M
 amortize-spec =
     tie.close
     (tie.spec
-    amortize-refusal-requires
-    same-length
+    (λ c κs. tt)
+    (λ c. search needs)
     returns
     write-z-requires
-    same-length-2
+    (λ c. search needs)
     returns-2)

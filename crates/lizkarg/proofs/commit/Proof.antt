@@ -4,21 +4,9 @@ use Rattle.lizkarg.proofs.commit.Statement.{statement}
 use Rattle.lizkarg.proofs.commit.Tie as tie
 
 -- src/lib.rt:22:9
-commit-refusal-requires : tie.Need-commit-refusal-requires
-commit-refusal-requires c κs = tt
-
 -- src/lib.rt:24:9
-same-length : tie.Need-same-length
-same-length c = search needs
-
 -- src/lib.rt:24:9
-same-length-2 : tie.Need-same-length-2
-same-length-2 c = search needs
-
 -- src/lib.rt:24:9
-same-length-3 : tie.Need-same-length-3
-same-length-3 c = search needs
-
 -- src/lib.rt:24:9
 returns : tie.Need-returns
 returns c = commit-refused _ _ _ _ _ _ _ _ (c .before .commit-refusal .ensures) (c .if1 .taken)
@@ -37,17 +25,8 @@ write-u1-requires c κs =
     commit-u _ _ _ _ _ _ _ _ (c .before .before .before .before .before .before .before .before .before .before .commit-refusal .ensures) (c .before .before .before .before .before .before .before .before .before .if1 .left) (c .before .before .before .before .before .before .before .write-t .kept .1 .1 .1 .0) (c .before .before .before .before .write-g .kept .1 .1 .0)
 
 -- src/lib.rt:8:1
-same-length-4 : tie.Need-same-length-4
-same-length-4 c = search needs
-
 -- src/lib.rt:8:1
-same-length-5 : tie.Need-same-length-5
-same-length-5 c = search needs
-
 -- src/lib.rt:8:1
-same-length-6 : tie.Need-same-length-6
-same-length-6 c = search needs
-
 -- src/lib.rt:8:1
 returns-2 : tie.Need-returns-2
 returns-2 c =
@@ -58,15 +37,15 @@ pub commit-spec : {M : Type 1} → statement M
 commit-spec =
     tie.close
     (tie.spec
-    commit-refusal-requires
-    same-length
-    same-length-2
-    same-length-3
+    (λ c κs. tt)
+    (λ c. search needs)
+    (λ c. search needs)
+    (λ c. search needs)
     returns
     write-t-requires
     write-g-requires
     write-u1-requires
-    same-length-4
-    same-length-5
-    same-length-6
+    (λ c. search needs)
+    (λ c. search needs)
+    (λ c. search needs)
     returns-2)

@@ -4,17 +4,8 @@ use Rattle.lizkarg.proofs.commit_garbage.Statement.{statement}
 use Rattle.lizkarg.proofs.commit_garbage.Tie as tie
 
 -- src/lib.rt:89:9
-garbage-refusal-requires : tie.Need-garbage-refusal-requires
-garbage-refusal-requires c κs = tt
-
 -- src/lib.rt:104:9
-same-length : tie.Need-same-length
-same-length c = search needs
-
 -- src/lib.rt:104:9
-same-length-2 : tie.Need-same-length-2
-same-length-2 c = search needs
-
 -- src/lib.rt:104:9
 returns : tie.Need-returns
 returns c = garbage-refused _ _ _ _ _ _ _ _ _ _ _ _ (c .before .garbage-refusal .ensures) (c .if1 .taken)
@@ -29,13 +20,7 @@ write-u2-requires c κs =
     garbage-u _ _ _ _ _ _ _ _ _ _ _ _ (c .before .before .before .before .before .before .garbage-refusal .ensures) (c .before .before .before .before .before .if1 .left) (c .before .before .before .write-h .kept .1 .1 .1 .1 .1 .1 .1 .1 .1 .0)
 
 -- src/lib.rt:70:1
-same-length-3 : tie.Need-same-length-3
-same-length-3 c = search needs
-
 -- src/lib.rt:70:1
-same-length-4 : tie.Need-same-length-4
-same-length-4 c = search needs
-
 -- src/lib.rt:70:1
 returns-2 : tie.Need-returns-2
 returns-2 c =
@@ -45,12 +30,12 @@ pub commit-garbage-spec : {M : Type 1} → statement M
 commit-garbage-spec =
     tie.close
     (tie.spec
-    garbage-refusal-requires
-    same-length
-    same-length-2
+    (λ c κs. tt)
+    (λ c. search needs)
+    (λ c. search needs)
     returns
     write-h-requires
     write-u2-requires
-    same-length-3
-    same-length-4
+    (λ c. search needs)
+    (λ c. search needs)
     returns-2)

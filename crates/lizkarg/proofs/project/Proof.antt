@@ -4,13 +4,7 @@ use Rattle.lizkarg.proofs.project.Statement.{statement}
 use Rattle.lizkarg.proofs.project.Tie as tie
 
 -- src/lib.rt:36:9
-project-refusal-requires : tie.Need-project-refusal-requires
-project-refusal-requires c κs = tt
-
 -- src/lib.rt:38:9
-same-length : tie.Need-same-length
-same-length c = search needs
-
 -- src/lib.rt:38:9
 returns : tie.Need-returns
 returns c = project-refused (c .before .project-refusal .ensures) (c .if1 .taken)
@@ -20,9 +14,6 @@ write-p-requires : tie.Need-write-p-requires
 write-p-requires c κs = project-facts (c .before .before .project-refusal .ensures) (c .before .if1 .left)
 
 -- src/lib.rt:33:1
-same-length-2 : tie.Need-same-length-2
-same-length-2 c = search needs
-
 -- src/lib.rt:33:1
 returns-2 : tie.Need-returns-2
 returns-2 c = project-written (c .before .before .before .before .project-refusal .ensures) (c .before .before .before .if1 .left) (c .before .write-p .ensures)
@@ -31,9 +22,9 @@ pub project-spec : {M : Type 1} → statement M
 project-spec =
     tie.close
     (tie.spec
-    project-refusal-requires
-    same-length
+    (λ c κs. tt)
+    (λ c. search needs)
     returns
     write-p-requires
-    same-length-2
+    (λ c. search needs)
     returns-2)

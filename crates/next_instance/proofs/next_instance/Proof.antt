@@ -4,12 +4,6 @@ use borrow.Author.Needs.{needs}
 use Rattle.next_instance.proofs.next_instance.Statement.{statement}
 use Rattle.next_instance.proofs.next_instance.Tie as tie
 
-next-refusal-requires : tie.Need-next-refusal-requires
-next-refusal-requires c κs = tt
-
-same-length : tie.Need-same-length
-same-length c = search needs
-
 returns : tie.Need-returns
 returns c =
     let a = c .before .before .before .args in
@@ -22,12 +16,6 @@ first-checks-requires c κs =
       call-facts (a .sizes) _ _ _ _ _ _ _ _ _ _ _ _ _ _ _ _ _ _ _ number (c .if1 .left) .limits,
       check-facts (a .sizes) _ _ _ _ _ _ _ _ _ _ _ _ _ _ _ _ _ _ _ number (c .if1 .left),
     )
-
-is-accepted-requires : tie.Need-is-accepted-requires
-is-accepted-requires c κs = tt
-
-same-length-2 : tie.Need-same-length-2
-same-length-2 c = search needs
 
 returns-2 : tie.Need-returns-2
 returns-2 c =
@@ -49,9 +37,6 @@ write-instance-requires c κs =
     let a = c5 .before .before .args in
     call-facts (a .sizes) _ _ _ _ _ _ _ _ _ _ _ _ _ _ _ _ _ _ _ (c5 .next-refusal .ensures) (c4 .if1 .left)
 
-same-length-3 : tie.Need-same-length-3
-same-length-3 c = search needs
-
 returns-3 : tie.Need-returns-3
 returns-3 c =
     let c1 = c .before in
@@ -69,13 +54,13 @@ pub next-instance-spec : {M : Type 1} → statement M
 next-instance-spec =
     tie.close
     (tie.spec
-    next-refusal-requires
-    same-length
+    (λ c κs. tt)
+    (λ c. search needs)
     returns
     first-checks-requires
-    is-accepted-requires
-    same-length-2
+    (λ c κs. tt)
+    (λ c. search needs)
     returns-2
     write-instance-requires
-    same-length-3
+    (λ c. search needs)
     returns-3)

@@ -8,15 +8,6 @@ use borrow.Author.Needs.{needs}
 use Rattle.sheet_cases.proofs.front.Statement.{statement}
 use Rattle.sheet_cases.proofs.front.Tie as tie
 
-sub-result : tie.Need-sub-result
-sub-result c = search needs
-
-part-result-start : tie.Need-part-result-start
-part-result-start c = search needs
-
-part-result-end : tie.Need-part-result-end
-part-result-end c = search needs
-
 returns : tie.Need-returns
 returns c =
     let s = c .before .before in
@@ -29,16 +20,13 @@ slice-aggregate-result c =
     let s = c .before .before in
     sym (length-take-le (s .args .count) (s .args .text .now) (omega arith))
 
-returns-2 : tie.Need-returns-2
-returns-2 c = search needs
-
 pub front-spec : {M : Type 1} → statement M
 front-spec =
     tie.close
     (tie.spec
-    sub-result
-    part-result-start
-    part-result-end
+    (λ c. search needs)
+    (λ c. search needs)
+    (λ c. search needs)
     returns
     slice-aggregate-result
-    returns-2)
+    (λ c. search needs))

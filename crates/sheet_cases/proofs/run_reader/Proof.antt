@@ -6,27 +6,15 @@ use borrow.Author.Needs.{needs}
 use Rattle.sheet_cases.proofs.run_reader.Statement.{statement}
 use Rattle.sheet_cases.proofs.run_reader.Tie as tie
 
-returns : tie.Need-returns
-returns c = search needs
-
-array-borrow-prefix-numbers : tie.Need-array-borrow-prefix-numbers
-array-borrow-prefix-numbers c = search needs
-
 slice-aggregate-print-read : tie.Need-slice-aggregate-print-read
 slice-aggregate-print-read c = sym (length-take-le (c .before .before .before .args .count) _ (omega arith))
-
-print-read-requires : tie.Need-print-read-requires
-print-read-requires c κs = search needs
-
-returns-2 : tie.Need-returns-2
-returns-2 c = search needs
 
 pub run-reader-spec : {M : Type 1} → statement M
 run-reader-spec =
     tie.close
     (tie.spec
-    returns
-    array-borrow-prefix-numbers
+    (λ c. search needs)
+    (λ c. search needs)
     slice-aggregate-print-read
-    print-read-requires
-    returns-2)
+    (λ c κs. search needs)
+    (λ c. search needs))

@@ -10,9 +10,6 @@ use Rattle.verdict.specs.Laws.ReadLaws.{place-between}
 use Rattle.verdict.proofs.read_more.Statement.{statement}
 use Rattle.verdict.proofs.read_more.Tie as tie
 
-same-length : tie.Need-same-length
-same-length c = search needs
-
 between : (r : ℕ) (got : ℤ) (from size : ℕ) → from ≤ size → r ≡ placeAfter got from size → (from ≤ r) × (r ≤ size)
 between r got from size h e = rw e (place-between got from size h)
 
@@ -32,5 +29,5 @@ read-more-spec =
     (λ c. search needs)
     (λ c κs. search needs)
     (λ c κs. search needs)
-    same-length
+    (λ c. search needs)
     returns)

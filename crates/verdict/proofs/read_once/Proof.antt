@@ -13,9 +13,6 @@ Inv-loop part₀ tries₀ part tries = length part ≡ length part₀
 abbrev μ-loop : tie.MeasureT-loop
 μ-loop part₀ tries₀ part tries = tries
 
-loop-holds : tie.Need-loop-holds Inv-loop μ-loop
-loop-holds c = refl
-
 same-length : tie.Need-same-length Inv-loop μ-loop
 same-length c =
     let read = c .before .before .before .before .before in
@@ -45,16 +42,13 @@ loop-again c =
 same-length-2 : tie.Need-same-length-2 Inv-loop μ-loop
 same-length-2 c = c .before .loop .inv
 
-returns-2 : tie.Need-returns-2 Inv-loop μ-loop
-returns-2 c = refl
-
 pub read-once-spec : {M : Type 1} → statement M
 read-once-spec =
     tie.close
     (tie.spec
     Inv-loop
     μ-loop
-    loop-holds
+    (λ c. refl)
     (λ c κs. tt)
     (λ c κs. tt)
     (λ c κs. tt)
@@ -64,4 +58,4 @@ read-once-spec =
     loop-less
     loop-again
     same-length-2
-    returns-2)
+    (λ c. refl))

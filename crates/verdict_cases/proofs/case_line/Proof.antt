@@ -9,9 +9,6 @@ use borrow.Author.Needs.{needs}
 use Rattle.verdict_cases.proofs.case_line.Statement.{statement}
 use Rattle.verdict_cases.proofs.case_line.Tie as tie
 
-judged-line-requires : tie.Need-judged-line-requires
-judged-line-requires c κs = search needs
-
 returns : tie.Need-returns
 returns c =
     let start = c .before .before .before in
@@ -23,18 +20,12 @@ slice-aggregate-judged-line c =
     let start = c .before .before .before in
     sym (length-take-le (start .args .count) (start .args .text .now) (omega arith))
 
-judged-line-requires-2 : tie.Need-judged-line-requires-2
-judged-line-requires-2 c κs = search needs
-
-returns-2 : tie.Need-returns-2
-returns-2 c = search needs
-
 pub case-line-spec : {M : Type 1} → statement M
 case-line-spec =
     tie.close
     (tie.spec
-    judged-line-requires
+    (λ c κs. search needs)
     returns
     slice-aggregate-judged-line
-    judged-line-requires-2
-    returns-2)
+    (λ c κs. search needs)
+    (λ c. search needs))

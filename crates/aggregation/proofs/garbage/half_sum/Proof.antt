@@ -35,12 +35,6 @@ from-slice-requires-2 c κs =
     let s = c .before in
     (s .pre .0, square-place (s .args .d) (s .args .r) (s .pre .1 .1) (s .pre .1 .0) (s .pre .1 .2))
 
-sum-requires : tie.Need-sum-requires
-sum-requires c κs = search needs
-
-half-requires : tie.Need-half-requires
-half-requires c κs = search needs
-
 returns : tie.Need-returns
 returns c =
     let s = c .before .before .before .before in
@@ -58,6 +52,6 @@ half-sum-spec =
     add-second
     from-slice-requires
     from-slice-requires-2
-    sum-requires
-    half-requires
+    (λ c κs. search needs)
+    (λ c κs. search needs)
     returns)

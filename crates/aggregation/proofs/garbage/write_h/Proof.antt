@@ -6,19 +6,10 @@ use Rattle.aggregation.specs.Laws.GarbageLaws.{square-room, digits-lengt
 use Rattle.aggregation.proofs.garbage.write_h.Statement.{statement}
 use Rattle.aggregation.proofs.garbage.write_h.Tie as tie
 
-slice-aggregate-write-products : tie.Need-slice-aggregate-write-products
-slice-aggregate-write-products c = search needs
-
 write-products-requires : tie.Need-write-products-requires
 write-products-requires c κs =
     let s = c .before in
     (s .pre .aggregated, (s .pre .s-length, square-room (s .pre .aggregated .wholes .shaped)))
-
-slice-aggregate-write-half-sums : tie.Need-slice-aggregate-write-half-sums
-slice-aggregate-write-half-sums c = search needs
-
-slice-aggregate-write-half-sums-2 : tie.Need-slice-aggregate-write-half-sums-2
-slice-aggregate-write-half-sums-2 c = search needs
 
 write-half-sums-requires : tie.Need-write-half-sums-requires
 write-half-sums-requires c κs =
@@ -26,12 +17,6 @@ write-half-sums-requires c κs =
     let shaped = s .pre .aggregated .wholes .shaped in
     let kept = c .before .before .before .write-products .kept .1 .1 .1 .1 .1 .1 .1 .1 .1 .1 .1 .1 .0 in
     (shaped .degree, (omega (arith, square-room shaped, kept), pairs-room shaped))
-
-pair-count-requires : tie.Need-pair-count-requires
-pair-count-requires c κs = search needs
-
-slice-aggregate-write-digits : tie.Need-slice-aggregate-write-digits
-slice-aggregate-write-digits c = search needs
 
 write-digits-requires : tie.Need-write-digits-requires
 write-digits-requires c κs =
@@ -52,9 +37,6 @@ write-digits-requires c κs =
       ),
     )
 
-same-length : tie.Need-same-length
-same-length c = search needs
-
 returns : tie.Need-returns
 returns c =
     let s = c .before .before .before .before .before .before .before .before .before .before .before .before in
@@ -67,13 +49,13 @@ pub write-h-spec : {M : Type 1} → statement M
 write-h-spec =
     tie.close
     (tie.spec
-    slice-aggregate-write-products
+    (λ c. search needs)
     write-products-requires
-    slice-aggregate-write-half-sums
-    slice-aggregate-write-half-sums-2
+    (λ c. search needs)
+    (λ c. search needs)
     write-half-sums-requires
-    pair-count-requires
-    slice-aggregate-write-digits
+    (λ c κs. search needs)
+    (λ c. search needs)
     write-digits-requires
-    same-length
+    (λ c. search needs)
     returns)

@@ -15,14 +15,8 @@ Inv-loop d r products i out₀ at count k₀ out k =
 abbrev μ-loop : tie.MeasureT-loop
 μ-loop d r products i out₀ at count k₀ out k = r - i - k
 
-sub-count : tie.Need-sub-count Inv-loop μ-loop
-sub-count c = omega arith
-
 loop-holds : tie.Need-loop-holds Inv-loop μ-loop
 loop-holds c = (omega arith, elements-start _ _ _ _)
-
-add-half-sum : tie.Need-add-half-sum Inv-loop μ-loop
-add-half-sum c = omega arith
 
 half-sum-requires : tie.Need-half-sum-requires Inv-loop μ-loop
 half-sum-requires c κs =
@@ -41,12 +35,6 @@ store-requires c κs =
     let s = l .before in
     let a = s .args in
     (s .pre .0, rw (l .loop .inv .1 .same) (element-fits (a .d) (a .at) {k = l .loop .k} (omega arith) (s .pre .1 .2)))
-
-add-k : tie.Need-add-k Inv-loop μ-loop
-add-k c = omega arith
-
-loop-less : tie.Need-loop-less Inv-loop μ-loop
-loop-less c = omega arith
 
 loop-again : tie.Need-loop-again Inv-loop μ-loop
 loop-again c =
@@ -74,14 +62,14 @@ write-half-row-spec =
     (tie.spec
     Inv-loop
     μ-loop
-    sub-count
+    (λ c. omega arith)
     loop-holds
-    add-half-sum
+    (λ c. omega arith)
     half-sum-requires
     add-store
     store-requires
-    add-k
-    loop-less
+    (λ c. omega arith)
+    (λ c. omega arith)
     loop-again
     same-length
     returns)

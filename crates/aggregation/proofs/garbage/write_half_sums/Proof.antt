@@ -24,9 +24,6 @@ write-half-row-requires c κs =
     let fits = rows-fit _ _ _ _ (s .pre .1 .1) (l .loop .inv) (c .before .loop-test .taken) in
     (s .pre .0, (omega arith, s .pre .1 .0, rw (l .loop .inv .same) fits))
 
-sub-at : tie.Need-sub-at Inv-loop μ-loop
-sub-at c = omega arith
-
 add-at : tie.Need-add-at Inv-loop μ-loop
 add-at c =
     let l = c .before .before .before .before in
@@ -34,12 +31,6 @@ add-at c =
     let a = s .args in
     let fits = rows-fit _ _ _ _ (s .pre .1 .1) (l .loop .inv) (c .before .before .before .loop-test .taken) in
     omega (arith, place-below (a .d) (l .loop .at + (a .r - l .loop .i)) (s .pre .0 .positive) fits)
-
-add-i : tie.Need-add-i Inv-loop μ-loop
-add-i c = omega arith
-
-loop-less : tie.Need-loop-less Inv-loop μ-loop
-loop-less c = omega arith
 
 loop-again : tie.Need-loop-again Inv-loop μ-loop
 loop-again c =
@@ -60,10 +51,10 @@ write-half-sums-spec =
     μ-loop
     loop-holds
     write-half-row-requires
-    sub-at
+    (λ c. omega arith)
     add-at
-    add-i
-    loop-less
+    (λ c. omega arith)
+    (λ c. omega arith)
     loop-again
     same-length
     returns)

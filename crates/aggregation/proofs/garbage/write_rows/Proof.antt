@@ -43,12 +43,6 @@ store-requires c κs =
     let fits = place-within (s .args .d) (c .before .before .loop-test .taken) (s .pre .1 .3) (l .loop .inv .1 .same) in
     (s .pre .0, fits)
 
-add-k : tie.Need-add-k Inv-loop μ-loop
-add-k c = omega arith
-
-loop-less : tie.Need-loop-less Inv-loop μ-loop
-loop-less c = omega arith
-
 loop-again : tie.Need-loop-again Inv-loop μ-loop
 loop-again c =
     let l = c .before .before .before .before .before in
@@ -82,8 +76,8 @@ write-rows-spec =
     mul-row
     inner-requires
     store-requires
-    add-k
-    loop-less
+    (λ c. omega arith)
+    (λ c. omega arith)
     loop-again
     same-length
     returns)

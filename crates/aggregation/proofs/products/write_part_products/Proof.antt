@@ -48,12 +48,6 @@ store-requires c κs =
     let a = s .args in
     (s .pre .0, rw (l .loop .inv .1 .same) (element-fits (a .d) (a .at) {k = l .loop .j} (omega arith) (s .pre .1 .3)))
 
-add-j : tie.Need-add-j Inv-loop μ-loop
-add-j c = omega arith
-
-loop-less : tie.Need-loop-less Inv-loop μ-loop
-loop-less c = omega arith
-
 loop-again : tie.Need-loop-again Inv-loop μ-loop
 loop-again c =
     let l = c .before .before .before .before .before in
@@ -86,8 +80,8 @@ write-part-products-spec =
     inner-requires
     add-store
     store-requires
-    add-j
-    loop-less
+    (λ c. omega arith)
+    (λ c. omega arith)
     loop-again
     same-length
     returns)

@@ -8,9 +8,6 @@ use Rattle.aggregation.specs.Laws.GarbageLaws.{phi-room, row-written}
 use Rattle.aggregation.proofs.products.write_row.Statement.{statement}
 use Rattle.aggregation.proofs.products.write_row.Tie as tie
 
-slice-aggregate-write-phi-part : tie.Need-slice-aggregate-write-phi-part
-slice-aggregate-write-phi-part c = search needs
-
 write-phi-part-requires : tie.Need-write-phi-part-requires
 write-phi-part-requires c κs =
     let s = c .before in
@@ -22,9 +19,6 @@ mul-at c =
     let z = s .args .shape in
     let few = s .pre .0 .wholes .shaped .parts-small in
     omega (arith, block-before (z .r) (s .args .i) (z .r) (s .pre .1 .1 .1), mul-le-mul few few)
-
-slice-aggregate-write-part-products : tie.Need-slice-aggregate-write-part-products
-slice-aggregate-write-part-products c = search needs
 
 write-part-products-requires : tie.Need-write-part-products-requires
 write-part-products-requires c κs =
@@ -41,9 +35,6 @@ write-part-products-requires c κs =
       ),
     )
 
-same-length : tie.Need-same-length
-same-length c = search needs
-
 returns : tie.Need-returns
 returns c =
     let s = c .before .before .before .before .before .before .before in
@@ -54,10 +45,10 @@ pub write-row-spec : {M : Type 1} → statement M
 write-row-spec =
     tie.close
     (tie.spec
-    slice-aggregate-write-phi-part
+    (λ c. search needs)
     write-phi-part-requires
     mul-at
-    slice-aggregate-write-part-products
+    (λ c. search needs)
     write-part-products-requires
-    same-length
+    (λ c. search needs)
     returns)

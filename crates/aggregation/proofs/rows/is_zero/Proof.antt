@@ -16,26 +16,11 @@ Inv-loop d row zero all₀ k₀ all k = (k ≤ 5) × (all ≡ every k (λ i. sam
 abbrev μ-loop : tie.MeasureT-loop
 μ-loop d row zero all₀ k₀ all k = 5 - k
 
-additive-identity-requires : tie.Need-additive-identity-requires Inv-loop μ-loop
-additive-identity-requires c κs = tt
-
 loop-holds : tie.Need-loop-holds Inv-loop μ-loop
 loop-holds c = (omega arith, sym (every-zero _))
 
-mul-entry : tie.Need-mul-entry Inv-loop μ-loop
-mul-entry c = omega arith
-
-array-copy-out-entry : tie.Need-array-copy-out-entry Inv-loop μ-loop
-array-copy-out-entry c = omega arith
-
 equal-requires : tie.Need-equal-requires Inv-loop μ-loop
 equal-requires c κs = c .before .before .before .before .before .pre
-
-add-k : tie.Need-add-k Inv-loop μ-loop
-add-k c = omega arith
-
-loop-less : tie.Need-loop-less Inv-loop μ-loop
-loop-less c = omega arith
 
 loop-again : tie.Need-loop-again Inv-loop μ-loop
 loop-again c =
@@ -59,12 +44,12 @@ is-zero-spec =
     (tie.spec
     Inv-loop
     μ-loop
-    additive-identity-requires
+    (λ c κs. tt)
     loop-holds
-    mul-entry
-    array-copy-out-entry
+    (λ c. omega arith)
+    (λ c. omega arith)
     equal-requires
-    add-k
-    loop-less
+    (λ c. omega arith)
+    (λ c. omega arith)
     loop-again
     returns)

@@ -19,9 +19,6 @@ Inv-loop shape l term psi witness i at d rank parts count sums₀ k₀ sums k =
 abbrev μ-loop : tie.MeasureT-loop
 μ-loop shape l term psi witness i at d rank parts count sums₀ k₀ sums k = count - k
 
-sub-count : tie.Need-sub-count Inv-loop μ-loop
-sub-count c = omega arith
-
 loop-holds : tie.Need-loop-holds Inv-loop μ-loop
 loop-holds c =
     let same : c .args .at ≡ c .args .at + 0 = omega arith in
@@ -32,9 +29,6 @@ add-place c =
     let s = c .before .before in
     let below = pair-below (s .args .shape .r) (s .args .i) (c .before .loop .k) (s .pre .1 .0 .1) (c .loop-test .taken) in
     omega (arith, below, pairs-bound _ (s .pre .0 .terms .shaped .parts-small))
-
-add-j : tie.Need-add-j Inv-loop μ-loop
-add-j c = omega arith
 
 second-row-a-requires : tie.Need-second-row-a-requires Inv-loop μ-loop
 second-row-a-requires c κs =
@@ -57,12 +51,6 @@ add-pair-requires c κs =
         canonical _ (shaped .degree .small) (c .before .before .loop .inv .1 .held),
       ),
     )
-
-add-k : tie.Need-add-k Inv-loop μ-loop
-add-k c = omega arith
-
-loop-less : tie.Need-loop-less Inv-loop μ-loop
-loop-less c = omega arith
 
 loop-again : tie.Need-loop-again Inv-loop μ-loop
 loop-again c =
@@ -87,13 +75,13 @@ add-part-pairs-spec =
     (tie.spec
     Inv-loop
     μ-loop
-    sub-count
+    (λ c. omega arith)
     loop-holds
     add-place
-    add-j
+    (λ c. omega arith)
     second-row-a-requires
     add-pair-requires
-    add-k
-    loop-less
+    (λ c. omega arith)
+    (λ c. omega arith)
     loop-again
     returns)

@@ -37,9 +37,6 @@ add-products-requires c κs = c .before .before .before .before .before .pre .0 
 add-e : tie.Need-add-e Inv-loop μ-loop
 add-e c = omega (arith, witness-small (c .before .before .before .before .before .before .pre .0 .seconds .terms .shaped), c .before .before .before .before .loop-test .taken)
 
-loop-less : tie.Need-loop-less Inv-loop μ-loop
-loop-less c = omega arith
-
 loop-again : tie.Need-loop-again Inv-loop μ-loop
 loop-again c =
     let l = c .before .before .before .before .before in
@@ -69,6 +66,6 @@ weigh-witness-spec =
     from-slice-requires
     add-products-requires
     add-e
-    loop-less
+    (λ c. omega arith)
     loop-again
     returns)

@@ -24,9 +24,6 @@ write-sums-requires-2 c κs =
     let s = c .before .before .before .before .before .before in
     (s .pre .0 .seconds .terms .shaped .degree, s .pre .1)
 
-same-length : tie.Need-same-length
-same-length c = search needs
-
 returns : tie.Need-returns
 returns c =
     let w = c .before .before .before in
@@ -43,5 +40,5 @@ write-b2-spec =
     weigh-pairs-requires
     weigh-witness-requires
     write-sums-requires-2
-    same-length
+    (λ c. search needs)
     returns)

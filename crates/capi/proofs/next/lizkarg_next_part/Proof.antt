@@ -6,9 +6,6 @@ use Rattle.capi.specs.Laws.PlaceLaws.{placed-refused, placed-found}
 use Rattle.capi.proofs.next.lizkarg_next_part.Statement.{statement}
 use Rattle.capi.proofs.next.lizkarg_next_part.Tie as tie
 
-next-part-refusal-requires : tie.Need-next-part-refusal-requires
-next-part-refusal-requires c κs = search needs
-
 returns : tie.Need-returns
 returns c =
     let a = c .before .before .args in
@@ -87,7 +84,7 @@ pub lizkarg-next-part-spec : {M : Type 1} → statement M
 lizkarg-next-part-spec =
     tie.close
     (tie.spec
-    next-part-refusal-requires
+    (λ c κs. search needs)
     returns
     rest-size-requires
     sub-s

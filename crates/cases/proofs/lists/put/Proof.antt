@@ -23,9 +23,6 @@ loop-holds : tie.Need-loop-holds Inv-loop μ-loop
 unfolding tab
 loop-holds c = (omega arith, sym (over-nil (c .before .args .out .now) (c .before .args .at)), refl)
 
-add-x : tie.Need-add-x Inv-loop μ-loop
-add-x c = omega arith
-
 loop-again : tie.Need-loop-again Inv-loop μ-loop
 loop-again c =
     let l = c .before .before in
@@ -54,7 +51,7 @@ put-spec =
     (λ c κs. tt)
     loop-holds
     (λ c κs. tt)
-    add-x
+    (λ c. omega arith)
     (λ c. omega arith)
     (λ c. omega arith)
     (λ c. omega arith)

@@ -5,18 +5,6 @@ use borrow.Author.Needs.{needs}
 use Rattle.chunks.proofs.part.next_part.Statement.{statement}
 use Rattle.chunks.proofs.part.next_part.Tie as tie
 
-next-part-refusal-requires : tie.Need-next-part-refusal-requires
-next-part-refusal-requires c κs = tt
-
-sub-result : tie.Need-sub-result
-sub-result c = search needs
-
-part-result-start : tie.Need-part-result-start
-part-result-start c = search needs
-
-part-result-end : tie.Need-part-result-end
-part-result-end c = search needs
-
 returns : tie.Need-returns
 returns c =
     let a = c .before .before .before .args in
@@ -110,12 +98,6 @@ mul-result c =
     let room = chunk-room (a .sizes) (a .part) _ e z (c4 .rest-size .ensures) (c3 .chunk-start .ensures) (c2 .chunk-width .ensures) in
     omega (arith, room)
 
-sub-result-2 : tie.Need-sub-result-2
-sub-result-2 c = search needs
-
-part-result-start-2 : tie.Need-part-result-start-2
-part-result-start-2 c = search needs
-
 part-result-end-2 : tie.Need-part-result-end-2
 part-result-end-2 c =
     let c1 = c .before in
@@ -150,10 +132,10 @@ pub next-part-spec : {M : Type 1} → statement M
 next-part-spec =
     tie.close
     (tie.spec
-    next-part-refusal-requires
-    sub-result
-    part-result-start
-    part-result-end
+    (λ c κs. tt)
+    (λ c. search needs)
+    (λ c. search needs)
+    (λ c. search needs)
     returns
     rest-size-requires
     sub-s
@@ -163,7 +145,7 @@ next-part-spec =
     mul-count
     add-end
     mul-result
-    sub-result-2
-    part-result-start-2
+    (λ c. search needs)
+    (λ c. search needs)
     part-result-end-2
     returns-2)

@@ -9,9 +9,6 @@ use Rattle.chunks.specs.Laws.PartLaws.{sizes-facts, later-rows}
 use Rattle.chunks.proofs.part.next_part_refusal.Statement.{statement}
 use Rattle.chunks.proofs.part.next_part_refusal.Tie as tie
 
-part-bounds-requires : tie.Need-part-bounds-requires
-part-bounds-requires c κs = tt
-
 returns : tie.Need-returns
 unfolding partRefusal partTests
 returns c = stopped (partBounds _ _) _ (c .before .part-bounds .ensures) (c .if1 .taken)
@@ -29,9 +26,6 @@ list-fits-requires c κs =
     let f = sizes-facts (a .sizes) (a .part) (c1 .before .part-bounds .ensures) (c1 .if1 .left) in
     (opening-within _ _ _ _ _ (c .opening-size .ensures) (f .n-small) (f .r-small) (f .κ-small) (f .t₁-small) (f .t₂-small), f .d-small)
 
-first-requires : tie.Need-first-requires
-first-requires c κs = tt
-
 returns-2 : tie.Need-returns-2
 unfolding partRefusal partTests
 returns-2 c =
@@ -48,9 +42,9 @@ pub next-part-refusal-spec : {M : Type 1} → statement M
 next-part-refusal-spec =
     tie.close
     (tie.spec
-    part-bounds-requires
+    (λ c κs. tt)
     returns
     opening-size-requires
     list-fits-requires
-    first-requires
+    (λ c κs. tt)
     returns-2)

@@ -4,45 +4,6 @@ use Rattle.limits.specs.Laws.StageLaws.{single, row, none}
 use Rattle.chunks.proofs.part.part_bounds.Statement.{statement}
 use Rattle.chunks.proofs.part.part_bounds.Tie as tie
 
-degree-requires : tie.Need-degree-requires
-degree-requires c κs = tt
-
-rank-requires : tie.Need-rank-requires
-rank-requires c κs = tt
-
-parts-requires : tie.Need-parts-requires
-parts-requires c κs = tt
-
-part-number-requires : tie.Need-part-number-requires
-part-number-requires c κs = tt
-
-commitment-rank-requires : tie.Need-commitment-rank-requires
-commitment-rank-requires c κs = tt
-
-digit-count-requires : tie.Need-digit-count-requires
-digit-count-requires c κs = tt
-
-digit-count-requires-2 : tie.Need-digit-count-requires-2
-digit-count-requires-2 c κs = tt
-
-chunk-counts-requires : tie.Need-chunk-counts-requires
-chunk-counts-requires c κs = tt
-
-first-requires : tie.Need-first-requires
-first-requires c κs = tt
-
-first-requires-2 : tie.Need-first-requires-2
-first-requires-2 c κs = tt
-
-first-requires-3 : tie.Need-first-requires-3
-first-requires-3 c κs = tt
-
-first-requires-4 : tie.Need-first-requires-4
-first-requires-4 c κs = tt
-
-first-requires-5 : tie.Need-first-requires-5
-first-requires-5 c κs = tt
-
 returns : tie.Need-returns
 returns c =
     let c1 = c .before in
@@ -67,17 +28,17 @@ pub part-bounds-spec : {M : Type 1} → statement M
 part-bounds-spec =
     tie.close
     (tie.spec
-    degree-requires
-    rank-requires
-    parts-requires
-    part-number-requires
-    commitment-rank-requires
-    digit-count-requires
-    digit-count-requires-2
-    chunk-counts-requires
-    first-requires
-    first-requires-2
-    first-requires-3
-    first-requires-4
-    first-requires-5
+    (λ c κs. tt)
+    (λ c κs. tt)
+    (λ c κs. tt)
+    (λ c κs. tt)
+    (λ c κs. tt)
+    (λ c κs. tt)
+    (λ c κs. tt)
+    (λ c κs. tt)
+    (λ c κs. tt)
+    (λ c κs. tt)
+    (λ c κs. tt)
+    (λ c κs. tt)
+    (λ c κs. tt)
     returns)

@@ -4,75 +4,6 @@ use Rattle.limits.specs.Laws.StageLaws.{single, row, none}
 use Rattle.chunks.proofs.refusals.next_bounds.Statement.{statement}
 use Rattle.chunks.proofs.refusals.next_bounds.Tie as tie
 
-degree-requires : tie.Need-degree-requires
-degree-requires c κs = tt
-
-rank-requires : tie.Need-rank-requires
-rank-requires c κs = tt
-
-parts-requires : tie.Need-parts-requires
-parts-requires c κs = tt
-
-constraint-count-requires : tie.Need-constraint-count-requires
-constraint-count-requires c κs = tt
-
-constraint-count-requires-2 : tie.Need-constraint-count-requires-2
-constraint-count-requires-2 c κs = tt
-
-projection-count-requires : tie.Need-projection-count-requires
-projection-count-requires c κs = tt
-
-commitment-rank-requires : tie.Need-commitment-rank-requires
-commitment-rank-requires c κs = tt
-
-commitment-rank-requires-2 : tie.Need-commitment-rank-requires-2
-commitment-rank-requires-2 c κs = tt
-
-commitment-rank-requires-3 : tie.Need-commitment-rank-requires-3
-commitment-rank-requires-3 c κs = tt
-
-base-requires : tie.Need-base-requires
-base-requires c κs = tt
-
-base-requires-2 : tie.Need-base-requires-2
-base-requires-2 c κs = tt
-
-base-requires-3 : tie.Need-base-requires-3
-base-requires-3 c κs = tt
-
-digit-count-requires : tie.Need-digit-count-requires
-digit-count-requires c κs = tt
-
-digit-count-requires-2 : tie.Need-digit-count-requires-2
-digit-count-requires-2 c κs = tt
-
-chunk-counts-requires : tie.Need-chunk-counts-requires
-chunk-counts-requires c κs = tt
-
-length-bound-requires : tie.Need-length-bound-requires
-length-bound-requires c κs = tt
-
-length-bound-requires-2 : tie.Need-length-bound-requires-2
-length-bound-requires-2 c κs = tt
-
-first-requires : tie.Need-first-requires
-first-requires c κs = tt
-
-first-requires-2 : tie.Need-first-requires-2
-first-requires-2 c κs = tt
-
-first-requires-3 : tie.Need-first-requires-3
-first-requires-3 c κs = tt
-
-first-requires-4 : tie.Need-first-requires-4
-first-requires-4 c κs = tt
-
-first-requires-5 : tie.Need-first-requires-5
-first-requires-5 c κs = tt
-
-first-requires-6 : tie.Need-first-requires-6
-first-requires-6 c κs = tt
-
 returns : tie.Need-returns
 returns c =
     let c1 = c .before in
@@ -113,27 +44,27 @@ pub next-bounds-spec : {M : Type 1} → statement M
 next-bounds-spec =
     tie.close
     (tie.spec
-    degree-requires
-    rank-requires
-    parts-requires
-    constraint-count-requires
-    constraint-count-requires-2
-    projection-count-requires
-    commitment-rank-requires
-    commitment-rank-requires-2
-    commitment-rank-requires-3
-    base-requires
-    base-requires-2
-    base-requires-3
-    digit-count-requires
-    digit-count-requires-2
-    chunk-counts-requires
-    length-bound-requires
-    length-bound-requires-2
-    first-requires
-    first-requires-2
-    first-requires-3
-    first-requires-4
-    first-requires-5
-    first-requires-6
+    (λ c κs. tt)
+    (λ c κs. tt)
+    (λ c κs. tt)
+    (λ c κs. tt)
+    (λ c κs. tt)
+    (λ c κs. tt)
+    (λ c κs. tt)
+    (λ c κs. tt)
+    (λ c κs. tt)
+    (λ c κs. tt)
+    (λ c κs. tt)
+    (λ c κs. tt)
+    (λ c κs. tt)
+    (λ c κs. tt)
+    (λ c κs. tt)
+    (λ c κs. tt)
+    (λ c κs. tt)
+    (λ c κs. tt)
+    (λ c κs. tt)
+    (λ c κs. tt)
+    (λ c κs. tt)
+    (λ c κs. tt)
+    (λ c κs. tt)
     returns)

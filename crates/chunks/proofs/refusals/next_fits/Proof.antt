@@ -8,9 +8,6 @@ use borrow.Author.Needs.{needs}
 use Rattle.chunks.proofs.refusals.next_fits.Statement.{statement}
 use Rattle.chunks.proofs.refusals.next_fits.Tie as tie
 
-pair-count-requires : tie.Need-pair-count-requires
-pair-count-requires c κs = search needs
-
 mul-function : tie.Need-mul-function
 mul-function c = product-fits _ _ 16 8192 (c .before .pre .2) (c .before .pre .1) tt
 
@@ -42,9 +39,6 @@ mul-length-2 c =
     let linear = product-bound (c .before .args .parts) (c .before .args .rank) 16 8192 (p .2) (p .1) in
     product-fits _ _ 32 8397376 (p .3) (product-bound _ _ 131209 64 (omega (arith, few, linear)) (p .0)) tt
 
-sized-requires : tie.Need-sized-requires
-sized-requires c κs = search needs
-
 returns : tie.Need-returns
 unfolding wholeLength functionSize
 returns c = rw (c .before .pair-count .ensures) at (c .sized .ensures)
@@ -53,11 +47,11 @@ pub next-fits-spec : {M : Type 1} → statement M
 next-fits-spec =
     tie.close
     (tie.spec
-    pair-count-requires
+    (λ c κs. search needs)
     mul-function
     add-function
     add-length
     mul-length
     mul-length-2
-    sized-requires
+    (λ c κs. search needs)
     returns)

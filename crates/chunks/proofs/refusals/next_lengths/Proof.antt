@@ -10,21 +10,6 @@ use borrow.Author.Needs.{needs}
 use Rattle.chunks.proofs.refusals.next_lengths.Statement.{statement}
 use Rattle.chunks.proofs.refusals.next_lengths.Tie as tie
 
-mul-parts : tie.Need-mul-parts
-mul-parts c = search needs
-
-add-parts : tie.Need-add-parts
-add-parts c = search needs
-
-add-count : tie.Need-add-count
-add-count c = search needs
-
-add-count-2 : tie.Need-add-count-2
-add-count-2 c = search needs
-
-add-count-3 : tie.Need-add-count-3
-add-count-3 c = search needs
-
 next-fits-requires : tie.Need-next-fits-requires
 next-fits-requires c κs =
     let p = c .before .before .pre in
@@ -36,18 +21,6 @@ next-fits-requires c κs =
       p .1 .0 .parts-small,
       omega (arith, l .κ-small, l .κ₁-small, l .κ₂-small),
     )
-
-list-fits-requires : tie.Need-list-fits-requires
-list-fits-requires c κs = search needs
-
-sized-requires : tie.Need-sized-requires
-sized-requires c κs = search needs
-
-five-fit-requires : tie.Need-five-fit-requires
-five-fit-requires c κs = search needs
-
-list-fits-requires-2 : tie.Need-list-fits-requires-2
-list-fits-requires-2 c κs = search needs
 
 returns : tie.Need-returns
 unfolding nextParts nextCount
@@ -66,14 +39,14 @@ pub next-lengths-spec : {M : Type 1} → statement M
 next-lengths-spec =
     tie.close
     (tie.spec
-    mul-parts
-    add-parts
-    add-count
-    add-count-2
-    add-count-3
+    (λ c. search needs)
+    (λ c. search needs)
+    (λ c. search needs)
+    (λ c. search needs)
+    (λ c. search needs)
     next-fits-requires
-    list-fits-requires
-    sized-requires
-    five-fit-requires
-    list-fits-requires-2
+    (λ c κs. search needs)
+    (λ c κs. search needs)
+    (λ c κs. search needs)
+    (λ c κs. search needs)
     returns)

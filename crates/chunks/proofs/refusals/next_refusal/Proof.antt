@@ -10,9 +10,6 @@ use Rattle.chunks.specs.Laws.StageLaws.{next-sized, next-cut}
 use Rattle.chunks.proofs.refusals.next_refusal.Statement.{statement}
 use Rattle.chunks.proofs.refusals.next_refusal.Tie as tie
 
-next-bounds-requires : tie.Need-next-bounds-requires
-next-bounds-requires c κs = tt
-
 returns : tie.Need-returns
 unfolding nextTests
 returns c =
@@ -63,17 +60,8 @@ returns-2 c =
     let fits = append-rows _ _ lists (c1 .draw-lengths .ensures) in
     unfit (nextBounds (a .sizes) (a .nu) (a .mu)) 7 _ _ refl (c6 .next-bounds .ensures) (c5 .if1 .left) fits (c .if2 .taken)
 
-are-projection-entries-requires : tie.Need-are-projection-entries-requires
-are-projection-entries-requires c κs = tt
-
-message-ranges-requires : tie.Need-message-ranges-requires
-message-ranges-requires c κs = tt
-
 constraint-ranges-requires : tie.Need-constraint-ranges-requires
 constraint-ranges-requires c κs = c .before .are-projection-entries .ensures
-
-are-coefficients-requires : tie.Need-are-coefficients-requires
-are-coefficients-requires c κs = tt
 
 challenges-requires : tie.Need-challenges-requires
 challenges-requires c κs =
@@ -87,18 +75,6 @@ challenges-requires c κs =
     let lists = append-rows _ _ (c7 .next-lengths .ensures) (c6 .matrix-lengths .ensures) in
     let fits = fitting _ (append-rows _ _ lists (c5 .draw-lengths .ensures)) (c4 .if2 .left) in
     sized-iff _ _ .0 (fits .1 .1 .1 .1 .1 .1 .1 .1 .1 .1 .1 .1 .1 .1 .1 .1 .0)
-
-first-requires : tie.Need-first-requires
-first-requires c κs = tt
-
-first-requires-2 : tie.Need-first-requires-2
-first-requires-2 c κs = tt
-
-first-requires-3 : tie.Need-first-requires-3
-first-requires-3 c κs = tt
-
-first-requires-4 : tie.Need-first-requires-4
-first-requires-4 c κs = tt
 
 returns-3 : tie.Need-returns-3
 unfolding nextTests
@@ -135,20 +111,20 @@ pub next-refusal-spec : {M : Type 1} → statement M
 next-refusal-spec =
     tie.close
     (tie.spec
-    next-bounds-requires
+    (λ c κs. tt)
     returns
     rank-of-requires
     next-lengths-requires
     matrix-lengths-requires
     draw-lengths-requires
     returns-2
-    are-projection-entries-requires
-    message-ranges-requires
+    (λ c κs. tt)
+    (λ c κs. tt)
     constraint-ranges-requires
-    are-coefficients-requires
+    (λ c κs. tt)
     challenges-requires
-    first-requires
-    first-requires-2
-    first-requires-3
-    first-requires-4
+    (λ c κs. tt)
+    (λ c κs. tt)
+    (λ c κs. tt)
+    (λ c κs. tt)
     returns-3)

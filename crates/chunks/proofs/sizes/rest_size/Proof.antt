@@ -7,15 +7,6 @@ use borrow.Author.Needs.{needs}
 use Rattle.chunks.proofs.sizes.rest_size.Statement.{statement}
 use Rattle.chunks.proofs.sizes.rest_size.Tie as tie
 
-t-size-requires : tie.Need-t-size-requires
-t-size-requires c κs = search needs
-
-garbage-size-requires : tie.Need-garbage-size-requires
-garbage-size-requires c κs = search needs
-
-garbage-size-requires-2 : tie.Need-garbage-size-requires-2
-garbage-size-requires-2 c κs = search needs
-
 add-result : tie.Need-add-result
 unfolding restSize
 add-result c =
@@ -48,9 +39,9 @@ pub rest-size-spec : {M : Type 1} → statement M
 rest-size-spec =
     tie.close
     (tie.spec
-    t-size-requires
-    garbage-size-requires
-    garbage-size-requires-2
+    (λ c κs. search needs)
+    (λ c κs. search needs)
+    (λ c κs. search needs)
     add-result
     add-result-2
     returns)

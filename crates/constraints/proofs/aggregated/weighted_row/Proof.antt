@@ -16,17 +16,8 @@ Inv-loop d delta row sum₀ k₀ sum k = Summing d (λ i. R d .mul (el d delta i
 abbrev μ-loop : tie.MeasureT-loop
 μ-loop d delta row sum₀ k₀ sum k = 5 - k
 
-additive-identity-requires : tie.Need-additive-identity-requires Inv-loop μ-loop
-additive-identity-requires c κs = tt
-
 loop-holds : tie.Need-loop-holds Inv-loop μ-loop
 loop-holds c = summing-start (c .additive-identity .ensures (c .before .args .d))
-
-mul-coefficients : tie.Need-mul-coefficients Inv-loop μ-loop
-mul-coefficients c = omega arith
-
-array-copy-out-coefficients : tie.Need-array-copy-out-coefficients Inv-loop μ-loop
-array-copy-out-coefficients c = omega arith
 
 from-slice-requires : tie.Need-from-slice-requires Inv-loop μ-loop
 from-slice-requires c κs =
@@ -38,12 +29,6 @@ multiplied-requires c κs = c .before .before .before .before .before .pre .0
 
 sum-requires : tie.Need-sum-requires Inv-loop μ-loop
 sum-requires c κs = c .before .before .before .before .before .before .pre .0
-
-add-k : tie.Need-add-k Inv-loop μ-loop
-add-k c = omega arith
-
-loop-less : tie.Need-loop-less Inv-loop μ-loop
-loop-less c = omega arith
 
 loop-again : tie.Need-loop-again Inv-loop μ-loop
 loop-again c =
@@ -64,14 +49,14 @@ weighted-row-spec =
     (tie.spec
     Inv-loop
     μ-loop
-    additive-identity-requires
+    (λ c κs. tt)
     loop-holds
-    mul-coefficients
-    array-copy-out-coefficients
+    (λ c. omega arith)
+    (λ c. omega arith)
     from-slice-requires
     multiplied-requires
     sum-requires
-    add-k
-    loop-less
+    (λ c. omega arith)
+    (λ c. omega arith)
     loop-again
     returns)

@@ -25,9 +25,6 @@ add-step c = omega (arith, whole-size-small (c .before .pre .0) (c .function-siz
 mul-step : tie.Need-mul-step Inv-loop μ-loop
 mul-step c = omega (arith, whole-step-small (c .before .pre .0) (c .function-size .ensures))
 
-additive-identity-requires : tie.Need-additive-identity-requires Inv-loop μ-loop
-additive-identity-requires c κs = tt
-
 loop-holds : tie.Need-loop-holds Inv-loop μ-loop
 loop-holds c = (omega arith, summing-start (c .additive-identity .ensures (c .before .before .args .shape .d)))
 
@@ -78,12 +75,6 @@ add-at c =
     let room = whole-room facts (f .function-size .ensures) (c .before .before .before .before .before .loop-test .taken) in
     omega (arith, room, l .loop .inv .0, whole-small facts (f .function-size .ensures))
 
-add-k : tie.Need-add-k Inv-loop μ-loop
-add-k c = omega arith
-
-loop-less : tie.Need-loop-less Inv-loop μ-loop
-loop-less c = omega arith
-
 loop-again : tie.Need-loop-again Inv-loop μ-loop
 loop-again c =
     let l = c .before .before .before .before .before .before in
@@ -107,7 +98,7 @@ whole-entry-spec =
     function-size-requires
     add-step
     mul-step
-    additive-identity-requires
+    (λ c κs. tt)
     loop-holds
     mul-rest
     sub-rest
@@ -118,7 +109,7 @@ whole-entry-spec =
     multiplied-requires
     sum-requires
     add-at
-    add-k
-    loop-less
+    (λ c. omega arith)
+    (λ c. omega arith)
     loop-again
     returns)

@@ -55,12 +55,6 @@ mul-new c = omega (arith, c .before .before .before .before .before .pre .0 .ins
 element-set-from-new : tie.Need-element-set-from-new Inv-loop μ-loop
 element-set-from-new c = omega (arith, c .before .before .before .before .before .pre .0 .inside)
 
-add-k : tie.Need-add-k Inv-loop μ-loop
-add-k c = omega arith
-
-loop-less : tie.Need-loop-less Inv-loop μ-loop
-loop-less c = omega arith
-
 loop-again : tie.Need-loop-again Inv-loop μ-loop
 loop-again c =
     let l = c .before .before .before .before in
@@ -92,7 +86,7 @@ add-five-spec =
     add-new
     mul-new
     element-set-from-new
-    add-k
-    loop-less
+    (λ c. omega arith)
+    (λ c. omega arith)
     loop-again
     returns)

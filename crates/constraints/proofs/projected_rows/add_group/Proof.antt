@@ -69,12 +69,6 @@ add-five-requires c κs =
       table-place (s .pre .1 .0) (s .pre .0 .1) (s .pre .0 .2) (coded .below),
     )
 
-add-y : tie.Need-add-y Inv-loop μ-loop
-add-y c = omega arith
-
-loop-less : tie.Need-loop-less Inv-loop μ-loop
-loop-less c = omega arith
-
 loop-again : tie.Need-loop-again Inv-loop μ-loop
 loop-again c =
     let l = c .before .before .before .before in
@@ -103,7 +97,7 @@ add-group-spec =
     mul-add-five
     mul-add-five-2
     add-five-requires
-    add-y
-    loop-less
+    (λ c. omega arith)
+    (λ c. omega arith)
     loop-again
     returns)

@@ -64,12 +64,6 @@ add-entry-requires c κs =
       ),
     )
 
-add-y : tie.Need-add-y Inv-loop μ-loop
-add-y c = omega arith
-
-loop-less : tie.Need-loop-less Inv-loop μ-loop
-loop-less c = omega arith
-
 loop-again : tie.Need-loop-again Inv-loop μ-loop
 loop-again c =
     let l = c .before .before .before .before in
@@ -94,7 +88,7 @@ add-row-spec =
     shared-slice-copy-out-x
     mul-add-entry
     add-entry-requires
-    add-y
-    loop-less
+    (λ c. omega arith)
+    (λ c. omega arith)
     loop-again
     returns)

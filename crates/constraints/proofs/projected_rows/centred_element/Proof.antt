@@ -40,20 +40,11 @@ element-copy-out-x c =
     let s = c .before .before in
     omega (arith, s .pre .0 .small, s .pre .1)
 
-centre-requires : tie.Need-centre-requires Inv-loop μ-loop
-centre-requires c κs = tt
-
 mul-out : tie.Need-mul-out Inv-loop μ-loop
 mul-out c = omega (arith, c .before .before .before .before .pre .0 .small)
 
 array-set-from-out : tie.Need-array-set-from-out Inv-loop μ-loop
 array-set-from-out c = omega (arith, c .before .before .before .before .pre .0 .small)
-
-add-y : tie.Need-add-y Inv-loop μ-loop
-add-y c = omega arith
-
-loop-less : tie.Need-loop-less Inv-loop μ-loop
-loop-less c = omega arith
 
 loop-again : tie.Need-loop-again Inv-loop μ-loop
 loop-again c =
@@ -78,10 +69,10 @@ centred-element-spec =
     add-x
     mul-x-2
     element-copy-out-x
-    centre-requires
+    (λ c κs. tt)
     mul-out
     array-set-from-out
-    add-y
-    loop-less
+    (λ c. omega arith)
+    (λ c. omega arith)
     loop-again
     returns)

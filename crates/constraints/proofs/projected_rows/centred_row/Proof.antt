@@ -23,18 +23,6 @@ loop-holds c = (omega arith, fill-start 5 _ (replicate 64 (pos 0)))
 centred-element-requires : tie.Need-centred-element-requires Inv-loop μ-loop
 centred-element-requires c κs = (c .before .before .pre, omega arith)
 
-mul-out : tie.Need-mul-out Inv-loop μ-loop
-mul-out c = omega arith
-
-array-set-from-out : tie.Need-array-set-from-out Inv-loop μ-loop
-array-set-from-out c = omega arith
-
-add-k : tie.Need-add-k Inv-loop μ-loop
-add-k c = omega arith
-
-loop-less : tie.Need-loop-less Inv-loop μ-loop
-loop-less c = omega arith
-
 loop-again : tie.Need-loop-again Inv-loop μ-loop
 loop-again c =
     let l = c .before .before in (
@@ -55,9 +43,9 @@ centred-row-spec =
     μ-loop
     loop-holds
     centred-element-requires
-    mul-out
-    array-set-from-out
-    add-k
-    loop-less
+    (λ c. omega arith)
+    (λ c. omega arith)
+    (λ c. omega arith)
+    (λ c. omega arith)
     loop-again
     returns)

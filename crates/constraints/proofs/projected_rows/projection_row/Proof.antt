@@ -24,12 +24,6 @@ add-groups-requires c κs =
       (s .pre .1 .0, (f .group-codes .ensures, summed-start _ _ _ _ _ _ (facts .shaped .degree .small))),
     )
 
-add-rest-requires : tie.Need-add-rest-requires
-add-rest-requires c κs = search needs
-
-centred-row-requires : tie.Need-centred-row-requires
-centred-row-requires c κs = search needs
-
 returns : tie.Need-returns
 returns c = c .centred-row .ensures ∙ row-end _ _ _ _ _ _ _ (c .before .before .add-rest .ensures)
 
@@ -40,6 +34,6 @@ projection-row-spec =
     mul-count
     group-codes-requires
     add-groups-requires
-    add-rest-requires
-    centred-row-requires
+    (λ c κs. search needs)
+    (λ c κs. search needs)
     returns)

@@ -5,39 +5,6 @@ use borrow.Author.Needs.{needs}
 use Rattle.constraints.proofs.row_groups.code_at.Statement.{statement}
 use Rattle.constraints.proofs.row_groups.code_at.Tie as tie
 
-add-second : tie.Need-add-second
-add-second c = search needs
-
-add-third : tie.Need-add-third
-add-third c = search needs
-
-add-fourth : tie.Need-add-fourth
-add-fourth c = search needs
-
-mul-x0 : tie.Need-mul-x0
-mul-x0 c = search needs
-
-shared-slice-copy-out-x0 : tie.Need-shared-slice-copy-out-x0
-shared-slice-copy-out-x0 c = search needs
-
-mul-x1 : tie.Need-mul-x1
-mul-x1 c = search needs
-
-shared-slice-copy-out-x1 : tie.Need-shared-slice-copy-out-x1
-shared-slice-copy-out-x1 c = search needs
-
-mul-x2 : tie.Need-mul-x2
-mul-x2 c = search needs
-
-shared-slice-copy-out-x2 : tie.Need-shared-slice-copy-out-x2
-shared-slice-copy-out-x2 c = search needs
-
-mul-x3 : tie.Need-mul-x3
-mul-x3 c = search needs
-
-shared-slice-copy-out-x3 : tie.Need-shared-slice-copy-out-x3
-shared-slice-copy-out-x3 c = search needs
-
 code-requires : tie.Need-code-requires
 code-requires c κs =
     let x₂ = c .before in
@@ -61,16 +28,16 @@ pub code-at-spec : {M : Type 1} → statement M
 code-at-spec =
     tie.close
     (tie.spec
-    add-second
-    add-third
-    add-fourth
-    mul-x0
-    shared-slice-copy-out-x0
-    mul-x1
-    shared-slice-copy-out-x1
-    mul-x2
-    shared-slice-copy-out-x2
-    mul-x3
-    shared-slice-copy-out-x3
+    (λ c. search needs)
+    (λ c. search needs)
+    (λ c. search needs)
+    (λ c. search needs)
+    (λ c. search needs)
+    (λ c. search needs)
+    (λ c. search needs)
+    (λ c. search needs)
+    (λ c. search needs)
+    (λ c. search needs)
+    (λ c. search needs)
     code-requires
     returns)

@@ -6,17 +6,8 @@ use Rattle.constraints.specs.Laws.RowGroupLaws.{four-terms}
 use Rattle.constraints.proofs.row_groups.weighted_sum.Statement.{statement}
 use Rattle.constraints.proofs.row_groups.weighted_sum.Tie as tie
 
-add-term-requires : tie.Need-add-term-requires
-add-term-requires c κs = search needs
-
-add-add-term : tie.Need-add-add-term
-add-add-term c = search needs
-
 add-term-requires-2 : tie.Need-add-term-requires-2
 add-term-requires-2 c κs = (omega (arith, c .before .pre), rw (toZ-ofZ (record { sfits = c .add-term .ok })) (omega (arith, c .add-term .ensures .small)))
-
-add-add-term-2 : tie.Need-add-add-term-2
-add-add-term-2 c = search needs
 
 add-term-requires-3 : tie.Need-add-term-requires-3
 add-term-requires-3 c κs =
@@ -24,9 +15,6 @@ add-term-requires-3 c κs =
       omega (arith, c .before .before .pre),
       rw (toZ-ofZ (record { sfits = c .add-term2 .ok })) (omega (arith, one, c .before .add-term .ensures .small)),
     )
-
-add-add-term-3 : tie.Need-add-add-term-3
-add-add-term-3 c = search needs
 
 add-term-requires-4 : tie.Need-add-term-requires-4
 add-term-requires-4 c κs =
@@ -49,11 +37,11 @@ pub weighted-sum-spec : {M : Type 1} → statement M
 weighted-sum-spec =
     tie.close
     (tie.spec
-    add-term-requires
-    add-add-term
+    (λ c κs. search needs)
+    (λ c. search needs)
     add-term-requires-2
-    add-add-term-2
+    (λ c. search needs)
     add-term-requires-3
-    add-add-term-3
+    (λ c. search needs)
     add-term-requires-4
     returns)

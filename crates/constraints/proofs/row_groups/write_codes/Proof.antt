@@ -39,12 +39,6 @@ element-write-codes c =
     let s = c .before .before .before in
     omega (arith, s .pre .1 .1 .0)
 
-add-y : tie.Need-add-y Inv-loop μ-loop
-add-y c = omega arith
-
-loop-less : tie.Need-loop-less Inv-loop μ-loop
-loop-less c = omega arith
-
 loop-again : tie.Need-loop-again Inv-loop μ-loop
 loop-again c =
     let l = c .before .before in
@@ -67,7 +61,7 @@ write-codes-spec =
     add-codes
     mul-codes
     element-write-codes
-    add-y
-    loop-less
+    (λ c. omega arith)
+    (λ c. omega arith)
     loop-again
     returns)

@@ -46,9 +46,6 @@ element-set-from-sum c = omega (arith, c .before .before .before .pre .0)
 add-i : tie.Need-add-i Inv-loop μ-loop
 add-i c = omega (arith, c .before .before .before .pre .0)
 
-loop-less : tie.Need-loop-less Inv-loop μ-loop
-loop-less c = omega arith
-
 loop-again : tie.Need-loop-again Inv-loop μ-loop
 loop-again c = tabled-step (c .before .before .loop .inv) (c .before .before .before .pre .0) (c .before .loop-test .taken) (c .weighted-sum .ok) (c .weighted-sum .ensures)
 
@@ -70,6 +67,6 @@ write-sums-spec =
     mul-sum
     element-set-from-sum
     add-i
-    loop-less
+    (λ c. omega arith)
     loop-again
     returns)

@@ -20,18 +20,6 @@ second-a-requires c κs =
     let s = c .before .before in
     (s .pre .0, (omega arith, s .pre .1))
 
-mul-row : tie.Need-mul-row Inv-loop μ-loop
-mul-row c = omega arith
-
-array-set-from-row : tie.Need-array-set-from-row Inv-loop μ-loop
-array-set-from-row c = omega arith
-
-add-k : tie.Need-add-k Inv-loop μ-loop
-add-k c = omega arith
-
-loop-less : tie.Need-loop-less Inv-loop μ-loop
-loop-less c = omega arith
-
 loop-again : tie.Need-loop-again Inv-loop μ-loop
 loop-again c = filling-step (c .before .before .before .loop .inv) (omega arith) (c .before .second-a .ensures)
 
@@ -46,9 +34,9 @@ second-row-a-spec =
     μ-loop
     loop-holds
     second-a-requires
-    mul-row
-    array-set-from-row
-    add-k
-    loop-less
+    (λ c. omega arith)
+    (λ c. omega arith)
+    (λ c. omega arith)
+    (λ c. omega arith)
     loop-again
     returns)

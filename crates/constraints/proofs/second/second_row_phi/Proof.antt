@@ -20,28 +20,10 @@ projection-row-requires c κs = (c .pre .0 .projected, c .pre .1)
 loop-holds : tie.Need-loop-holds Inv-loop μ-loop
 loop-holds c = filling-start _ _
 
-mul-coefficients : tie.Need-mul-coefficients Inv-loop μ-loop
-mul-coefficients c = omega arith
-
-array-copy-out-coefficients : tie.Need-array-copy-out-coefficients Inv-loop μ-loop
-array-copy-out-coefficients c = omega arith
-
 second-phi-requires : tie.Need-second-phi-requires Inv-loop μ-loop
 second-phi-requires c κs =
     let s = c .before .before .before .before in
     (s .pre .0 .terms, (omega arith, s .pre .1 .1))
-
-mul-row : tie.Need-mul-row Inv-loop μ-loop
-mul-row c = omega arith
-
-array-set-from-row : tie.Need-array-set-from-row Inv-loop μ-loop
-array-set-from-row c = omega arith
-
-add-k : tie.Need-add-k Inv-loop μ-loop
-add-k c = omega arith
-
-loop-less : tie.Need-loop-less Inv-loop μ-loop
-loop-less c = omega arith
 
 loop-again : tie.Need-loop-again Inv-loop μ-loop
 loop-again c =
@@ -63,12 +45,12 @@ second-row-phi-spec =
     μ-loop
     projection-row-requires
     loop-holds
-    mul-coefficients
-    array-copy-out-coefficients
+    (λ c. omega arith)
+    (λ c. omega arith)
     second-phi-requires
-    mul-row
-    array-set-from-row
-    add-k
-    loop-less
+    (λ c. omega arith)
+    (λ c. omega arith)
+    (λ c. omega arith)
+    (λ c. omega arith)
     loop-again
     returns)

@@ -28,9 +28,6 @@ add-step c = omega (arith, term-step-small (c .before .pre .0) (c .function-size
 mul-first : tie.Need-mul-first Inv-loop μ-loop
 mul-first c = omega (arith, c .before .pre .0 .term-count, mul-le-mul-right (c .before .args .l) (c .before .pre .1 .0))
 
-additive-identity-requires : tie.Need-additive-identity-requires Inv-loop μ-loop
-additive-identity-requires c κs = tt
-
 loop-holds : tie.Need-loop-holds Inv-loop μ-loop
 loop-holds c = (omega arith, summing-start (c .additive-identity .ensures (c .before .before .args .shape .d)))
 
@@ -91,12 +88,6 @@ add-at c =
     let room = term-room facts (f .function-size .ensures) (c .before .before .before .before .before .loop-test .taken) in
     omega (arith, room, l .loop .inv .0, term-small facts (f .function-size .ensures))
 
-add-j : tie.Need-add-j Inv-loop μ-loop
-add-j c = omega arith
-
-loop-less : tie.Need-loop-less Inv-loop μ-loop
-loop-less c = omega arith
-
 loop-again : tie.Need-loop-again Inv-loop μ-loop
 loop-again c =
     let l = c .before .before .before .before .before .before in
@@ -122,7 +113,7 @@ term-entry-spec =
     mul-step
     add-step
     mul-first
-    additive-identity-requires
+    (λ c κs. tt)
     loop-holds
     add-weight
     mul-weight
@@ -135,7 +126,7 @@ term-entry-spec =
     scale-requires
     sum-requires
     add-at
-    add-j
-    loop-less
+    (λ c. omega arith)
+    (λ c. omega arith)
     loop-again
     returns)

@@ -7,15 +7,6 @@ use Rattle.fold.specs.Laws.SizeBounds.{openingSize-bound}
 use Rattle.fold.proofs.counts.opening_size.Statement.{statement}
 use Rattle.fold.proofs.counts.opening_size.Tie as tie
 
-t-size-requires : tie.Need-t-size-requires
-t-size-requires c κs = search needs
-
-garbage-size-requires : tie.Need-garbage-size-requires
-garbage-size-requires c κs = search needs
-
-garbage-size-requires-2 : tie.Need-garbage-size-requires-2
-garbage-size-requires-2 c κs = search needs
-
 add-result : tie.Need-add-result
 unfolding openingSize restSize
 add-result c =
@@ -27,9 +18,6 @@ add-result c =
       c .garbage-size2 .ensures,
       openingSize-bound _ _ _ _ _ (p .0) (p .1) (p .2) (p .3) (p .4),
     )
-
-mul-result : tie.Need-mul-result
-mul-result c = search needs
 
 add-result-2 : tie.Need-add-result-2
 unfolding openingSize restSize
@@ -63,10 +51,10 @@ pub opening-size-spec : {M : Type 1} → statement M
 opening-size-spec =
     tie.close
     (tie.spec
-    t-size-requires
-    garbage-size-requires
-    garbage-size-requires-2
-    mul-result
+    (λ c κs. search needs)
+    (λ c κs. search needs)
+    (λ c κs. search needs)
+    (λ c. search needs)
     add-result
     add-result-2
     add-result-3

@@ -5,51 +5,6 @@ use borrow.Author.Needs.{needs}
 use Rattle.judge.proofs.line.verdict_line.Statement.{statement}
 use Rattle.judge.proofs.line.verdict_line.Tie as tie
 
-kind-requires : tie.Need-kind-requires
-kind-requires c κs = search needs
-
-number-requires : tie.Need-number-requires
-number-requires c κs = search needs
-
-column-requires : tie.Need-column-requires
-column-requires c κs = search needs
-
-array-write-line : tie.Need-array-write-line
-array-write-line c = search needs
-
-column-requires-2 : tie.Need-column-requires-2
-column-requires-2 c κs = search needs
-
-array-write-line-2 : tie.Need-array-write-line-2
-array-write-line-2 c = search needs
-
-digit-requires : tie.Need-digit-requires
-digit-requires c κs = search needs
-
-array-write-line-3 : tie.Need-array-write-line-3
-array-write-line-3 c = search needs
-
-column-requires-3 : tie.Need-column-requires-3
-column-requires-3 c κs = search needs
-
-array-write-line-4 : tie.Need-array-write-line-4
-array-write-line-4 c = search needs
-
-column-requires-4 : tie.Need-column-requires-4
-column-requires-4 c κs = search needs
-
-array-write-line-5 : tie.Need-array-write-line-5
-array-write-line-5 c = search needs
-
-digit-requires-2 : tie.Need-digit-requires-2
-digit-requires-2 c κs = search needs
-
-array-write-line-6 : tie.Need-array-write-line-6
-array-write-line-6 c = search needs
-
-array-write-line-7 : tie.Need-array-write-line-7
-array-write-line-7 c = search needs
-
 returns : tie.Need-returns
 returns c =
     let c1 = c .before in
@@ -66,19 +21,19 @@ pub verdict-line-spec : {M : Type 1} → statement M
 verdict-line-spec =
     tie.close
     (tie.spec
-    kind-requires
-    number-requires
-    column-requires
-    array-write-line
-    column-requires-2
-    array-write-line-2
-    digit-requires
-    array-write-line-3
-    column-requires-3
-    array-write-line-4
-    column-requires-4
-    array-write-line-5
-    digit-requires-2
-    array-write-line-6
-    array-write-line-7
+    (λ c κs. search needs)
+    (λ c κs. search needs)
+    (λ c κs. search needs)
+    (λ c. search needs)
+    (λ c κs. search needs)
+    (λ c. search needs)
+    (λ c κs. search needs)
+    (λ c. search needs)
+    (λ c κs. search needs)
+    (λ c. search needs)
+    (λ c κs. search needs)
+    (λ c. search needs)
+    (λ c κs. search needs)
+    (λ c. search needs)
+    (λ c. search needs)
     returns)

@@ -4,45 +4,6 @@ use borrow.Author.Needs.{needs}
 use Rattle.judge.proofs.numbers.judge_constraints.Statement.{statement}
 use Rattle.judge.proofs.numbers.judge_constraints.Tie as tie
 
-whole-length-requires : tie.Need-whole-length-requires
-whole-length-requires c κs = search needs
-
-term-length-requires : tie.Need-term-length-requires
-term-length-requires c κs = search needs
-
-list-length-requires : tie.Need-list-length-requires
-list-length-requires c κs = search needs
-
-rows-length-requires : tie.Need-rows-length-requires
-rows-length-requires c κs = search needs
-
-rest-requires : tie.Need-rest-requires
-rest-requires c κs = search needs
-
-rest-requires-2 : tie.Need-rest-requires-2
-rest-requires-2 c κs = search needs
-
-rest-requires-3 : tie.Need-rest-requires-3
-rest-requires-3 c κs = search needs
-
-rest-requires-4 : tie.Need-rest-requires-4
-rest-requires-4 c κs = search needs
-
-front-requires : tie.Need-front-requires
-front-requires c κs = search needs
-
-front-requires-2 : tie.Need-front-requires-2
-front-requires-2 c κs = search needs
-
-front-requires-3 : tie.Need-front-requires-3
-front-requires-3 c κs = search needs
-
-front-requires-4 : tie.Need-front-requires-4
-front-requires-4 c κs = search needs
-
-judge-numbers-requires : tie.Need-judge-numbers-requires
-judge-numbers-requires c κs = search needs
-
 returns : tie.Need-returns
 returns c =
     let c1 = c .before in
@@ -70,17 +31,17 @@ pub judge-constraints-spec : {M : Type 1} → statement M
 judge-constraints-spec =
     tie.close
     (tie.spec
-    whole-length-requires
-    term-length-requires
-    list-length-requires
-    rows-length-requires
-    rest-requires
-    rest-requires-2
-    rest-requires-3
-    rest-requires-4
-    front-requires
-    front-requires-2
-    front-requires-3
-    front-requires-4
-    judge-numbers-requires
+    (λ c κs. search needs)
+    (λ c κs. search needs)
+    (λ c κs. search needs)
+    (λ c κs. search needs)
+    (λ c κs. search needs)
+    (λ c κs. search needs)
+    (λ c κs. search needs)
+    (λ c κs. search needs)
+    (λ c κs. search needs)
+    (λ c κs. search needs)
+    (λ c κs. search needs)
+    (λ c κs. search needs)
+    (λ c κs. search needs)
     returns)

@@ -6,54 +6,6 @@ use borrow.Author.Needs.{needs}
 use Rattle.judge.proofs.numbers.judge_last.Statement.{statement}
 use Rattle.judge.proofs.numbers.judge_last.Tie as tie
 
-list-length-requires : tie.Need-list-length-requires
-list-length-requires c κs = search needs
-
-list-length-requires-2 : tie.Need-list-length-requires-2
-list-length-requires-2 c κs = search needs
-
-list-length-requires-3 : tie.Need-list-length-requires-3
-list-length-requires-3 c κs = search needs
-
-list-length-requires-4 : tie.Need-list-length-requires-4
-list-length-requires-4 c κs = search needs
-
-opening-length-requires : tie.Need-opening-length-requires
-opening-length-requires c κs = search needs
-
-rest-requires : tie.Need-rest-requires
-rest-requires c κs = search needs
-
-rest-requires-2 : tie.Need-rest-requires-2
-rest-requires-2 c κs = search needs
-
-rest-requires-3 : tie.Need-rest-requires-3
-rest-requires-3 c κs = search needs
-
-rest-requires-4 : tie.Need-rest-requires-4
-rest-requires-4 c κs = search needs
-
-fold-sizes-requires : tie.Need-fold-sizes-requires
-fold-sizes-requires c κs = search needs
-
-front-requires : tie.Need-front-requires
-front-requires c κs = search needs
-
-front-requires-2 : tie.Need-front-requires-2
-front-requires-2 c κs = search needs
-
-front-requires-3 : tie.Need-front-requires-3
-front-requires-3 c κs = search needs
-
-front-requires-4 : tie.Need-front-requires-4
-front-requires-4 c κs = search needs
-
-front-requires-5 : tie.Need-front-requires-5
-front-requires-5 c κs = search needs
-
-verify-requires : tie.Need-verify-requires
-verify-requires c κs = search needs
-
 returns : tie.Need-returns
 returns c =
     let c1 = c .before in
@@ -88,20 +40,20 @@ pub judge-last-spec : {M : Type 1} → statement M
 judge-last-spec =
     tie.close
     (tie.spec
-    list-length-requires
-    list-length-requires-2
-    list-length-requires-3
-    list-length-requires-4
-    opening-length-requires
-    rest-requires
-    rest-requires-2
-    rest-requires-3
-    rest-requires-4
-    fold-sizes-requires
-    front-requires
-    front-requires-2
-    front-requires-3
-    front-requires-4
-    front-requires-5
-    verify-requires
+    (λ c κs. search needs)
+    (λ c κs. search needs)
+    (λ c κs. search needs)
+    (λ c κs. search needs)
+    (λ c κs. search needs)
+    (λ c κs. search needs)
+    (λ c κs. search needs)
+    (λ c κs. search needs)
+    (λ c κs. search needs)
+    (λ c κs. search needs)
+    (λ c κs. search needs)
+    (λ c κs. search needs)
+    (λ c κs. search needs)
+    (λ c κs. search needs)
+    (λ c κs. search needs)
+    (λ c κs. search needs)
     returns)

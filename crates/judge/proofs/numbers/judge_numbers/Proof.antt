@@ -5,42 +5,6 @@ use borrow.Author.Needs.{needs}
 use Rattle.judge.proofs.numbers.judge_numbers.Statement.{statement}
 use Rattle.judge.proofs.numbers.judge_numbers.Tie as tie
 
-mul-psi-length : tie.Need-mul-psi-length
-mul-psi-length c = search needs
-
-mul-omega-length : tie.Need-mul-omega-length
-mul-omega-length c = search needs
-
-mul-b2-length : tie.Need-mul-b2-length
-mul-b2-length c = search needs
-
-rest-requires : tie.Need-rest-requires
-rest-requires c κs = search needs
-
-rest-requires-2 : tie.Need-rest-requires-2
-rest-requires-2 c κs = search needs
-
-rest-requires-3 : tie.Need-rest-requires-3
-rest-requires-3 c κs = search needs
-
-rest-requires-4 : tie.Need-rest-requires-4
-rest-requires-4 c κs = search needs
-
-front-requires : tie.Need-front-requires
-front-requires c κs = search needs
-
-front-requires-2 : tie.Need-front-requires-2
-front-requires-2 c κs = search needs
-
-front-requires-3 : tie.Need-front-requires-3
-front-requires-3 c κs = search needs
-
-front-requires-4 : tie.Need-front-requires-4
-front-requires-4 c κs = search needs
-
-judge-last-requires : tie.Need-judge-last-requires
-judge-last-requires c κs = search needs
-
 returns : tie.Need-returns
 returns c =
     let c1 = c .before in
@@ -67,16 +31,16 @@ pub judge-numbers-spec : {M : Type 1} → statement M
 judge-numbers-spec =
     tie.close
     (tie.spec
-    mul-psi-length
-    mul-omega-length
-    mul-b2-length
-    rest-requires
-    rest-requires-2
-    rest-requires-3
-    rest-requires-4
-    front-requires
-    front-requires-2
-    front-requires-3
-    front-requires-4
-    judge-last-requires
+    (λ c. search needs)
+    (λ c. search needs)
+    (λ c. search needs)
+    (λ c κs. search needs)
+    (λ c κs. search needs)
+    (λ c κs. search needs)
+    (λ c κs. search needs)
+    (λ c κs. search needs)
+    (λ c κs. search needs)
+    (λ c κs. search needs)
+    (λ c κs. search needs)
+    (λ c κs. search needs)
     returns)

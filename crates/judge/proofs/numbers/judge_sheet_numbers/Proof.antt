@@ -6,45 +6,6 @@ use borrow.Author.Needs.{needs}
 use Rattle.judge.proofs.numbers.judge_sheet_numbers.Statement.{statement}
 use Rattle.judge.proofs.numbers.judge_sheet_numbers.Tie as tie
 
-a-length-requires : tie.Need-a-length-requires
-a-length-requires c κs = search needs
-
-b-length-requires : tie.Need-b-length-requires
-b-length-requires c κs = search needs
-
-c-length-requires : tie.Need-c-length-requires
-c-length-requires c κs = search needs
-
-d-length-requires : tie.Need-d-length-requires
-d-length-requires c κs = search needs
-
-rest-requires : tie.Need-rest-requires
-rest-requires c κs = search needs
-
-rest-requires-2 : tie.Need-rest-requires-2
-rest-requires-2 c κs = search needs
-
-rest-requires-3 : tie.Need-rest-requires-3
-rest-requires-3 c κs = search needs
-
-rest-requires-4 : tie.Need-rest-requires-4
-rest-requires-4 c κs = search needs
-
-front-requires : tie.Need-front-requires
-front-requires c κs = search needs
-
-front-requires-2 : tie.Need-front-requires-2
-front-requires-2 c κs = search needs
-
-front-requires-3 : tie.Need-front-requires-3
-front-requires-3 c κs = search needs
-
-front-requires-4 : tie.Need-front-requires-4
-front-requires-4 c κs = search needs
-
-judge-constraints-requires : tie.Need-judge-constraints-requires
-judge-constraints-requires c κs = search needs
-
 returns : tie.Need-returns
 returns c =
     let c1 = c .before in
@@ -72,17 +33,17 @@ pub judge-sheet-numbers-spec : {M : Type 1} → statement M
 judge-sheet-numbers-spec =
     tie.close
     (tie.spec
-    a-length-requires
-    b-length-requires
-    c-length-requires
-    d-length-requires
-    rest-requires
-    rest-requires-2
-    rest-requires-3
-    rest-requires-4
-    front-requires
-    front-requires-2
-    front-requires-3
-    front-requires-4
-    judge-constraints-requires
+    (λ c κs. search needs)
+    (λ c κs. search needs)
+    (λ c κs. search needs)
+    (λ c κs. search needs)
+    (λ c κs. search needs)
+    (λ c κs. search needs)
+    (λ c κs. search needs)
+    (λ c κs. search needs)
+    (λ c κs. search needs)
+    (λ c κs. search needs)
+    (λ c κs. search needs)
+    (λ c κs. search needs)
+    (λ c κs. search needs)
     returns)

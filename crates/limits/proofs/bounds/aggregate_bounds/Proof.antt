@@ -5,27 +5,6 @@ use Rattle.limits.specs.Laws.StageLaws.{single, row, none}
 use Rattle.limits.proofs.bounds.aggregate_bounds.Statement.{statement}
 use Rattle.limits.proofs.bounds.aggregate_bounds.Tie as tie
 
-degree-requires : tie.Need-degree-requires
-degree-requires c κs = search needs
-
-rank-requires : tie.Need-rank-requires
-rank-requires c κs = search needs
-
-parts-requires : tie.Need-parts-requires
-parts-requires c κs = search needs
-
-constraint-count-requires : tie.Need-constraint-count-requires
-constraint-count-requires c κs = search needs
-
-projection-count-requires : tie.Need-projection-count-requires
-projection-count-requires c κs = search needs
-
-first-requires : tie.Need-first-requires
-first-requires c κs = search needs
-
-first-requires-2 : tie.Need-first-requires-2
-first-requires-2 c κs = search needs
-
 returns : tie.Need-returns
 returns c =
     let c1 = c .before in
@@ -43,11 +22,11 @@ pub aggregate-bounds-spec : {M : Type 1} → statement M
 aggregate-bounds-spec =
     tie.close
     (tie.spec
-    degree-requires
-    rank-requires
-    parts-requires
-    constraint-count-requires
-    projection-count-requires
-    first-requires
-    first-requires-2
+    (λ c κs. search needs)
+    (λ c κs. search needs)
+    (λ c κs. search needs)
+    (λ c κs. search needs)
+    (λ c κs. search needs)
+    (λ c κs. search needs)
+    (λ c κs. search needs)
     returns)

@@ -5,69 +5,6 @@ use Rattle.limits.specs.Laws.StageLaws.{single, row, none}
 use Rattle.limits.proofs.bounds.verify_bounds.Statement.{statement}
 use Rattle.limits.proofs.bounds.verify_bounds.Tie as tie
 
-degree-requires : tie.Need-degree-requires
-degree-requires c κs = search needs
-
-rank-requires : tie.Need-rank-requires
-rank-requires c κs = search needs
-
-parts-requires : tie.Need-parts-requires
-parts-requires c κs = search needs
-
-constraint-count-requires : tie.Need-constraint-count-requires
-constraint-count-requires c κs = search needs
-
-constraint-count-requires-2 : tie.Need-constraint-count-requires-2
-constraint-count-requires-2 c κs = search needs
-
-projection-count-requires : tie.Need-projection-count-requires
-projection-count-requires c κs = search needs
-
-commitment-rank-requires : tie.Need-commitment-rank-requires
-commitment-rank-requires c κs = search needs
-
-commitment-rank-requires-2 : tie.Need-commitment-rank-requires-2
-commitment-rank-requires-2 c κs = search needs
-
-commitment-rank-requires-3 : tie.Need-commitment-rank-requires-3
-commitment-rank-requires-3 c κs = search needs
-
-base-requires : tie.Need-base-requires
-base-requires c κs = search needs
-
-base-requires-2 : tie.Need-base-requires-2
-base-requires-2 c κs = search needs
-
-base-requires-3 : tie.Need-base-requires-3
-base-requires-3 c κs = search needs
-
-digit-count-requires : tie.Need-digit-count-requires
-digit-count-requires c κs = search needs
-
-digit-count-requires-2 : tie.Need-digit-count-requires-2
-digit-count-requires-2 c κs = search needs
-
-length-bound-requires : tie.Need-length-bound-requires
-length-bound-requires c κs = search needs
-
-length-bound-requires-2 : tie.Need-length-bound-requires-2
-length-bound-requires-2 c κs = search needs
-
-first-requires : tie.Need-first-requires
-first-requires c κs = search needs
-
-first-requires-2 : tie.Need-first-requires-2
-first-requires-2 c κs = search needs
-
-first-requires-3 : tie.Need-first-requires-3
-first-requires-3 c κs = search needs
-
-first-requires-4 : tie.Need-first-requires-4
-first-requires-4 c κs = search needs
-
-first-requires-5 : tie.Need-first-requires-5
-first-requires-5 c κs = search needs
-
 returns : tie.Need-returns
 returns c =
     let c1 = c .before in
@@ -105,25 +42,25 @@ pub verify-bounds-spec : {M : Type 1} → statement M
 verify-bounds-spec =
     tie.close
     (tie.spec
-    degree-requires
-    rank-requires
-    parts-requires
-    constraint-count-requires
-    constraint-count-requires-2
-    projection-count-requires
-    commitment-rank-requires
-    commitment-rank-requires-2
-    commitment-rank-requires-3
-    base-requires
-    base-requires-2
-    base-requires-3
-    digit-count-requires
-    digit-count-requires-2
-    length-bound-requires
-    length-bound-requires-2
-    first-requires
-    first-requires-2
-    first-requires-3
-    first-requires-4
-    first-requires-5
+    (λ c κs. search needs)
+    (λ c κs. search needs)
+    (λ c κs. search needs)
+    (λ c κs. search needs)
+    (λ c κs. search needs)
+    (λ c κs. search needs)
+    (λ c κs. search needs)
+    (λ c κs. search needs)
+    (λ c κs. search needs)
+    (λ c κs. search needs)
+    (λ c κs. search needs)
+    (λ c κs. search needs)
+    (λ c κs. search needs)
+    (λ c κs. search needs)
+    (λ c κs. search needs)
+    (λ c κs. search needs)
+    (λ c κs. search needs)
+    (λ c κs. search needs)
+    (λ c κs. search needs)
+    (λ c κs. search needs)
+    (λ c κs. search needs)
     returns)

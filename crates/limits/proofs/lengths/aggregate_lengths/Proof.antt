@@ -6,24 +6,6 @@ use Rattle.limits.specs.Laws.StageLaws.{joined-tests}
 use Rattle.limits.proofs.lengths.aggregate_lengths.Statement.{statement}
 use Rattle.limits.proofs.lengths.aggregate_lengths.Tie as tie
 
-term-fits-requires : tie.Need-term-fits-requires
-term-fits-requires c κs = search needs
-
-rows-fit-requires : tie.Need-rows-fit-requires
-rows-fit-requires c κs = search needs
-
-five-fit-requires : tie.Need-five-fit-requires
-five-fit-requires c κs = search needs
-
-five-fit-requires-2 : tie.Need-five-fit-requires-2
-five-fit-requires-2 c κs = search needs
-
-matrix-fits-requires : tie.Need-matrix-fits-requires
-matrix-fits-requires c κs = search needs
-
-five-fit-requires-3 : tie.Need-five-fit-requires-3
-five-fit-requires-3 c κs = search needs
-
 returns : tie.Need-returns
 returns c =
     let c1 = c .before in
@@ -39,10 +21,10 @@ pub aggregate-lengths-spec : {M : Type 1} → statement M
 aggregate-lengths-spec =
     tie.close
     (tie.spec
-    term-fits-requires
-    rows-fit-requires
-    five-fit-requires
-    five-fit-requires-2
-    matrix-fits-requires
-    five-fit-requires-3
+    (λ c κs. search needs)
+    (λ c κs. search needs)
+    (λ c κs. search needs)
+    (λ c κs. search needs)
+    (λ c κs. search needs)
+    (λ c κs. search needs)
     returns)

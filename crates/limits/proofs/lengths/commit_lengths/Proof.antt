@@ -8,15 +8,6 @@ use Rattle.limits.specs.Laws.StageLaws.{joined-tests}
 use Rattle.limits.proofs.lengths.commit_lengths.Statement.{statement}
 use Rattle.limits.proofs.lengths.commit_lengths.Tie as tie
 
-t-size-requires : tie.Need-t-size-requires
-t-size-requires c κs = search needs
-
-garbage-size-requires : tie.Need-garbage-size-requires
-garbage-size-requires c κs = search needs
-
-matrix-fits-requires : tie.Need-matrix-fits-requires
-matrix-fits-requires c κs = search needs
-
 matrix-fits-requires-2 : tie.Need-matrix-fits-requires-2
 matrix-fits-requires-2 c κs =
     let l = c .before .before .before .pre in
@@ -30,9 +21,6 @@ matrix-fits-requires-3 c κs =
     let c4 = c3 .before in
     let l = c4 .pre in
     (omega arith, garbage-within _ _ (c2 .garbage-size .ensures) (l .shaped .parts-small) (l .t₂-most), omega arith)
-
-matrix-fits-requires-4 : tie.Need-matrix-fits-requires-4
-matrix-fits-requires-4 c κs = search needs
 
 list-fits-requires : tie.Need-list-fits-requires
 list-fits-requires c κs =
@@ -57,9 +45,6 @@ list-fits-requires-2 c κs =
     let l = c7 .pre in
     (garbage-within _ _ (c5 .garbage-size .ensures) (l .shaped .parts-small) (l .t₂-most), omega arith)
 
-list-fits-requires-3 : tie.Need-list-fits-requires-3
-list-fits-requires-3 c κs = search needs
-
 returns : tie.Need-returns
 returns c =
     let c1 = c .before in
@@ -80,13 +65,13 @@ pub commit-lengths-spec : {M : Type 1} → statement M
 commit-lengths-spec =
     tie.close
     (tie.spec
-    t-size-requires
-    garbage-size-requires
-    matrix-fits-requires
+    (λ c κs. search needs)
+    (λ c κs. search needs)
+    (λ c κs. search needs)
     matrix-fits-requires-2
     matrix-fits-requires-3
-    matrix-fits-requires-4
+    (λ c κs. search needs)
     list-fits-requires
     list-fits-requires-2
-    list-fits-requires-3
+    (λ c κs. search needs)
     returns)

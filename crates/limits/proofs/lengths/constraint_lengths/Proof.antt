@@ -6,27 +6,6 @@ use Rattle.limits.specs.Laws.StageLaws.{joined-tests}
 use Rattle.limits.proofs.lengths.constraint_lengths.Statement.{statement}
 use Rattle.limits.proofs.lengths.constraint_lengths.Tie as tie
 
-whole-fits-requires : tie.Need-whole-fits-requires
-whole-fits-requires c κs = search needs
-
-term-fits-requires : tie.Need-term-fits-requires
-term-fits-requires c κs = search needs
-
-rows-fit-requires : tie.Need-rows-fit-requires
-rows-fit-requires c κs = search needs
-
-five-fit-requires : tie.Need-five-fit-requires
-five-fit-requires c κs = search needs
-
-five-fit-requires-2 : tie.Need-five-fit-requires-2
-five-fit-requires-2 c κs = search needs
-
-list-fits-requires : tie.Need-list-fits-requires
-list-fits-requires c κs = search needs
-
-five-fit-requires-3 : tie.Need-five-fit-requires-3
-five-fit-requires-3 c κs = search needs
-
 returns : tie.Need-returns
 returns c =
     let c1 = c .before in
@@ -43,11 +22,11 @@ pub constraint-lengths-spec : {M : Type 1} → statement M
 constraint-lengths-spec =
     tie.close
     (tie.spec
-    whole-fits-requires
-    term-fits-requires
-    rows-fit-requires
-    five-fit-requires
-    five-fit-requires-2
-    list-fits-requires
-    five-fit-requires-3
+    (λ c κs. search needs)
+    (λ c κs. search needs)
+    (λ c κs. search needs)
+    (λ c κs. search needs)
+    (λ c κs. search needs)
+    (λ c κs. search needs)
+    (λ c κs. search needs)
     returns)

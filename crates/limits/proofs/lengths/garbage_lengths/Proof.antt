@@ -8,24 +8,15 @@ use Rattle.limits.specs.Laws.StageLaws.{joined-tests}
 use Rattle.limits.proofs.lengths.garbage_lengths.Statement.{statement}
 use Rattle.limits.proofs.lengths.garbage_lengths.Tie as tie
 
-garbage-size-requires : tie.Need-garbage-size-requires
-garbage-size-requires c κs = search needs
-
 matrix-fits-requires : tie.Need-matrix-fits-requires
 matrix-fits-requires c κs =
     let l = c .before .pre in
     (omega arith, garbage-within _ _ (c .garbage-size .ensures) (l .shaped .parts-small) (l .t₁-most), omega arith)
 
-matrix-fits-requires-2 : tie.Need-matrix-fits-requires-2
-matrix-fits-requires-2 c κs = search needs
-
 list-fits-requires : tie.Need-list-fits-requires
 list-fits-requires c κs =
     let l = c .before .before .before .pre in
     (garbage-within _ _ (c .before .before .garbage-size .ensures) (l .shaped .parts-small) (l .t₁-most), omega arith)
-
-list-fits-requires-2 : tie.Need-list-fits-requires-2
-list-fits-requires-2 c κs = search needs
 
 returns : tie.Need-returns
 returns c =
@@ -41,9 +32,9 @@ pub garbage-lengths-spec : {M : Type 1} → statement M
 garbage-lengths-spec =
     tie.close
     (tie.spec
-    garbage-size-requires
+    (λ c κs. search needs)
     matrix-fits-requires
-    matrix-fits-requires-2
+    (λ c κs. search needs)
     list-fits-requires
-    list-fits-requires-2
+    (λ c κs. search needs)
     returns)

@@ -8,18 +8,6 @@ use Rattle.limits.specs.Laws.StageLaws.{joined-tests}
 use Rattle.limits.proofs.lengths.matrix_lengths.Statement.{statement}
 use Rattle.limits.proofs.lengths.matrix_lengths.Tie as tie
 
-t-size-requires : tie.Need-t-size-requires
-t-size-requires c κs = search needs
-
-garbage-size-requires : tie.Need-garbage-size-requires
-garbage-size-requires c κs = search needs
-
-garbage-size-requires-2 : tie.Need-garbage-size-requires-2
-garbage-size-requires-2 c κs = search needs
-
-matrix-fits-requires : tie.Need-matrix-fits-requires
-matrix-fits-requires c κs = search needs
-
 matrix-fits-requires-2 : tie.Need-matrix-fits-requires-2
 matrix-fits-requires-2 c κs =
     let c1 = c .before in
@@ -67,10 +55,10 @@ pub matrix-lengths-spec : {M : Type 1} → statement M
 matrix-lengths-spec =
     tie.close
     (tie.spec
-    t-size-requires
-    garbage-size-requires
-    garbage-size-requires-2
-    matrix-fits-requires
+    (λ c κs. search needs)
+    (λ c κs. search needs)
+    (λ c κs. search needs)
+    (λ c κs. search needs)
     matrix-fits-requires-2
     matrix-fits-requires-3
     matrix-fits-requires-4

@@ -8,27 +8,12 @@ use Rattle.limits.specs.Laws.StageLaws.{joined-tests}
 use Rattle.limits.proofs.lengths.message_lengths.Statement.{statement}
 use Rattle.limits.proofs.lengths.message_lengths.Tie as tie
 
-opening-size-requires : tie.Need-opening-size-requires
-opening-size-requires c κs = search needs
-
 list-fits-requires : tie.Need-list-fits-requires
 list-fits-requires c κs =
     let c1 = c .before in
     let l = c1 .pre in
     let x = l .shaped in
     (opening-within _ _ _ _ _ (c .opening-size .ensures) (x .rank-small) (x .parts-small) (l .κ-small) (l .t₁-most) (l .t₂-most), omega arith)
-
-list-fits-requires-2 : tie.Need-list-fits-requires-2
-list-fits-requires-2 c κs = search needs
-
-sized-requires : tie.Need-sized-requires
-sized-requires c κs = search needs
-
-five-fit-requires : tie.Need-five-fit-requires
-five-fit-requires c κs = search needs
-
-list-fits-requires-3 : tie.Need-list-fits-requires-3
-list-fits-requires-3 c κs = search needs
 
 returns : tie.Need-returns
 returns c =
@@ -44,10 +29,10 @@ pub message-lengths-spec : {M : Type 1} → statement M
 message-lengths-spec =
     tie.close
     (tie.spec
-    opening-size-requires
+    (λ c κs. search needs)
     list-fits-requires
-    list-fits-requires-2
-    sized-requires
-    five-fit-requires
-    list-fits-requires-3
+    (λ c κs. search needs)
+    (λ c κs. search needs)
+    (λ c κs. search needs)
+    (λ c κs. search needs)
     returns)

@@ -5,26 +5,8 @@ use Rattle.limits.specs.Laws.StageLaws.{joined-tests}
 use Rattle.limits.proofs.ranges.constraint_ranges.Statement.{statement}
 use Rattle.limits.proofs.ranges.constraint_ranges.Tie as tie
 
-are-coefficients-requires : tie.Need-are-coefficients-requires
-are-coefficients-requires c κs = tt
-
-are-coefficients-requires-2 : tie.Need-are-coefficients-requires-2
-are-coefficients-requires-2 c κs = tt
-
 rows-in-range-requires : tie.Need-rows-in-range-requires
 rows-in-range-requires c κs = c .before .before .pre
-
-are-coefficients-requires-3 : tie.Need-are-coefficients-requires-3
-are-coefficients-requires-3 c κs = tt
-
-are-coefficients-requires-4 : tie.Need-are-coefficients-requires-4
-are-coefficients-requires-4 c κs = tt
-
-are-coefficients-requires-5 : tie.Need-are-coefficients-requires-5
-are-coefficients-requires-5 c κs = tt
-
-are-coefficients-requires-6 : tie.Need-are-coefficients-requires-6
-are-coefficients-requires-6 c κs = tt
 
 returns : tie.Need-returns
 returns c =
@@ -49,11 +31,11 @@ pub constraint-ranges-spec : {M : Type 1} → statement M
 constraint-ranges-spec =
     tie.close
     (tie.spec
-    are-coefficients-requires
-    are-coefficients-requires-2
+    (λ c κs. tt)
+    (λ c κs. tt)
     rows-in-range-requires
-    are-coefficients-requires-3
-    are-coefficients-requires-4
-    are-coefficients-requires-5
-    are-coefficients-requires-6
+    (λ c κs. tt)
+    (λ c κs. tt)
+    (λ c κs. tt)
+    (λ c κs. tt)
     returns)

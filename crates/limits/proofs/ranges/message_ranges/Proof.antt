@@ -5,33 +5,6 @@ use Rattle.limits.specs.Laws.StageLaws.{joined-tests}
 use Rattle.limits.proofs.ranges.message_ranges.Statement.{statement}
 use Rattle.limits.proofs.ranges.message_ranges.Tie as tie
 
-are-coefficients-requires : tie.Need-are-coefficients-requires
-are-coefficients-requires c κs = tt
-
-are-coefficients-requires-2 : tie.Need-are-coefficients-requires-2
-are-coefficients-requires-2 c κs = tt
-
-are-coefficients-requires-3 : tie.Need-are-coefficients-requires-3
-are-coefficients-requires-3 c κs = tt
-
-are-coefficients-requires-4 : tie.Need-are-coefficients-requires-4
-are-coefficients-requires-4 c κs = tt
-
-are-coefficients-requires-5 : tie.Need-are-coefficients-requires-5
-are-coefficients-requires-5 c κs = tt
-
-are-coefficients-requires-6 : tie.Need-are-coefficients-requires-6
-are-coefficients-requires-6 c κs = tt
-
-are-coefficients-requires-7 : tie.Need-are-coefficients-requires-7
-are-coefficients-requires-7 c κs = tt
-
-are-coefficients-requires-8 : tie.Need-are-coefficients-requires-8
-are-coefficients-requires-8 c κs = tt
-
-are-coefficients-requires-9 : tie.Need-are-coefficients-requires-9
-are-coefficients-requires-9 c κs = tt
-
 returns : tie.Need-returns
 returns c =
     let c1 = c .before in
@@ -59,13 +32,13 @@ pub message-ranges-spec : {M : Type 1} → statement M
 message-ranges-spec =
     tie.close
     (tie.spec
-    are-coefficients-requires
-    are-coefficients-requires-2
-    are-coefficients-requires-3
-    are-coefficients-requires-4
-    are-coefficients-requires-5
-    are-coefficients-requires-6
-    are-coefficients-requires-7
-    are-coefficients-requires-8
-    are-coefficients-requires-9
+    (λ c κs. tt)
+    (λ c κs. tt)
+    (λ c κs. tt)
+    (λ c κs. tt)
+    (λ c κs. tt)
+    (λ c κs. tt)
+    (λ c κs. tt)
+    (λ c κs. tt)
+    (λ c κs. tt)
     returns)

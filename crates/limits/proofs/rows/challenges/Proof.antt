@@ -24,23 +24,8 @@ add-end c = omega (arith, block-before (c .before .before .args .d) _ _ (c .loop
 mul-is-challenge : tie.Need-mul-is-challenge Inv-loop μ-loop
 mul-is-challenge c = omega (arith, block-before (c .before .before .args .d) _ _ (c .loop-test .taken))
 
-sub-is-challenge : tie.Need-sub-is-challenge Inv-loop μ-loop
-sub-is-challenge c = omega arith
-
-part-is-challenge-start : tie.Need-part-is-challenge-start Inv-loop μ-loop
-part-is-challenge-start c = omega arith
-
 part-is-challenge-end : tie.Need-part-is-challenge-end Inv-loop μ-loop
 part-is-challenge-end c = omega (arith, block-before (c .before .before .args .d) _ _ (c .loop-test .taken))
-
-is-challenge-requires : tie.Need-is-challenge-requires Inv-loop μ-loop
-is-challenge-requires c κs = tt
-
-add-i : tie.Need-add-i Inv-loop μ-loop
-add-i c = omega arith
-
-loop-less : tie.Need-loop-less Inv-loop μ-loop
-loop-less c = omega arith
 
 loop-again : tie.Need-loop-again Inv-loop μ-loop
 loop-again c =
@@ -62,11 +47,11 @@ challenges-spec =
     mul-at
     add-end
     mul-is-challenge
-    sub-is-challenge
-    part-is-challenge-start
+    (λ c. omega arith)
+    (λ c. omega arith)
     part-is-challenge-end
-    is-challenge-requires
-    add-i
-    loop-less
+    (λ c κs. tt)
+    (λ c. omega arith)
+    (λ c. omega arith)
     loop-again
     returns)

@@ -31,12 +31,6 @@ add-sum c =
     let next = start-next (a .room) (a .lengths .now) i (round .loop .inv .1) (c .size .ensures) in
     omega (arith, next, start-inside (a .room) (a .lengths .now) (i + 1))
 
-add-i : tie.Need-add-i Inv-loop μ-loop
-add-i c = omega arith
-
-loop-less : tie.Need-loop-less Inv-loop μ-loop
-loop-less c = omega arith
-
 loop-again : tie.Need-loop-again Inv-loop μ-loop
 loop-again c =
     let round = c .before .before in
@@ -62,7 +56,7 @@ total-spec =
     sub-size
     (λ c κs. tt)
     add-sum
-    add-i
-    loop-less
+    (λ c. omega arith)
+    (λ c. omega arith)
     loop-again
     returns)

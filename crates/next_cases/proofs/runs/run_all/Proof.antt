@@ -19,9 +19,6 @@ loop-holds : tie.Need-loop-holds Inv-loop μ-loop
 unfolding pastLines
 loop-holds c = (omega arith, omega arith, refl)
 
-sub-line-length : tie.Need-sub-line-length Inv-loop μ-loop
-sub-line-length c = omega arith
-
 add-end : tie.Need-add-end Inv-loop μ-loop
 add-end c =
     let round = c .before .before .before in
@@ -81,7 +78,7 @@ run-all-spec =
     Inv-loop
     μ-loop
     loop-holds
-    sub-line-length
+    (λ c. omega arith)
     (λ c. search needs)
     (λ c. search needs)
     (λ c κs. tt)

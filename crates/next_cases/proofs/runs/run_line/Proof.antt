@@ -4,17 +4,11 @@ use Rattle.next_cases.specs.Laws.RunLaws.{zeros-are, line-run}
 use Rattle.next_cases.proofs.runs.run_line.Statement.{statement}
 use Rattle.next_cases.proofs.runs.run_line.Tie as tie
 
-slice-aggregate-scan : tie.Need-slice-aggregate-scan
-slice-aggregate-scan c = refl
-
 scan-requires : tie.Need-scan-requires
 scan-requires c κs = zeros-are 4096
 
 slice-aggregate-narrow : tie.Need-slice-aggregate-narrow
 slice-aggregate-narrow c = sym (c .before .before .scan .kept .1 .0)
-
-slice-aggregate-narrow-2 : tie.Need-slice-aggregate-narrow-2
-slice-aggregate-narrow-2 c = refl
 
 narrow-requires : tie.Need-narrow-requires
 narrow-requires c κs = c .before .before .before .scan .kept .1 .0
@@ -42,10 +36,10 @@ pub run-line-spec : {M : Type 1} → statement M
 run-line-spec =
     tie.close
     (tie.spec
-    slice-aggregate-scan
+    (λ c. refl)
     scan-requires
     slice-aggregate-narrow
-    slice-aggregate-narrow-2
+    (λ c. refl)
     narrow-requires
     slice-aggregate-size
     (λ c κs. tt)

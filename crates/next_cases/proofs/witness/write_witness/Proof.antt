@@ -14,18 +14,12 @@ abbrev μ-loop : tie.MeasureT-loop
 loop-holds : tie.Need-loop-holds Inv-loop μ-loop
 loop-holds c = writing-start _ _ _ _ _
 
-add-i : tie.Need-add-i Inv-loop μ-loop
-add-i c = omega arith
-
 put-requires : tie.Need-put-requires Inv-loop μ-loop
 put-requires c κs =
     let round = c .before .before .before in
     let start = round .before in
     let a = start .args in
     place-inside (a .sizes) (a .parts) (a .width) (a .opening .now) (a .out .now) (round .loop .inv)
-
-loop-less : tie.Need-loop-less Inv-loop μ-loop
-loop-less c = omega arith
 
 loop-again : tie.Need-loop-again Inv-loop μ-loop
 loop-again c =
@@ -58,10 +52,10 @@ write-witness-spec =
     Inv-loop
     μ-loop
     loop-holds
-    add-i
+    (λ c. omega arith)
     (λ c κs. tt)
     put-requires
-    loop-less
+    (λ c. omega arith)
     loop-again
     same-length
     returns)

@@ -6,23 +6,11 @@ use borrow.Author.Needs.{needs}
 use Rattle.next_constraints.proofs.coefficients.check3_entry.Statement.{statement}
 use Rattle.next_constraints.proofs.coefficients.check3_entry.Tie as tie
 
-t-place-requires : tie.Need-t-place-requires
-t-place-requires c κs = search needs
-
-additive-identity-requires : tie.Need-additive-identity-requires
-additive-identity-requires c κs = search needs
-
 returns : tie.Need-returns
 returns c =
     let a = c .before .before .before .args in
     let to = rw (c .before .before .t-place .ensures) at (c .before .if1 .taken) in
     holds-as _ (entry3-z (a .sizes) (a .p) _ _ (a .k) to) (c .additive-identity .ensures (a .sizes .d))
-
-g-place-requires : tie.Need-g-place-requires
-g-place-requires c κs = search needs
-
-t-size-requires : tie.Need-t-size-requires
-t-size-requires c κs = search needs
 
 row-entry-requires : tie.Need-row-entry-requires
 row-entry-requires c κs =
@@ -42,12 +30,6 @@ returns-2 c =
     let to = rw (g .g-place .ensures) at (c .before .before .if2 .taken) in
     holds-as _ (entry3-t (a .sizes) (a .p) _ _ (a .k) from to)
     (rw (t .t-place .ensures, c .before .t-size .ensures) at (c .row-entry .ensures))
-
-h-place-requires : tie.Need-h-place-requires
-h-place-requires c κs = search needs
-
-garbage-size-requires : tie.Need-garbage-size-requires
-garbage-size-requires c κs = search needs
 
 row-entry-requires-2 : tie.Need-row-entry-requires-2
 row-entry-requires-2 c κs =
@@ -70,9 +52,6 @@ returns-3 c =
     holds-as _ (entry3-g (a .sizes) (a .p) _ _ (a .k) first from to)
     (rw (g .g-place .ensures, c .before .garbage-size .ensures) at (c .row-entry2 .ensures))
 
-additive-identity-requires-2 : tie.Need-additive-identity-requires-2
-additive-identity-requires-2 c κs = search needs
-
 returns-4 : tie.Need-returns-4
 returns-4 c =
     let h = c .before .before in
@@ -88,16 +67,16 @@ pub check3-entry-spec : {M : Type 1} → statement M
 check3-entry-spec =
     tie.close
     (tie.spec
-    t-place-requires
-    additive-identity-requires
+    (λ c κs. search needs)
+    (λ c κs. search needs)
     returns
-    g-place-requires
-    t-size-requires
+    (λ c κs. search needs)
+    (λ c κs. search needs)
     row-entry-requires
     returns-2
-    h-place-requires
-    garbage-size-requires
+    (λ c κs. search needs)
+    (λ c κs. search needs)
     row-entry-requires-2
     returns-3
-    additive-identity-requires-2
+    (λ c κs. search needs)
     returns-4)

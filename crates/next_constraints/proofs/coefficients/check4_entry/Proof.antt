@@ -6,20 +6,11 @@ use borrow.Author.Needs.{needs}
 use Rattle.next_constraints.proofs.coefficients.check4_entry.Statement.{statement}
 use Rattle.next_constraints.proofs.coefficients.check4_entry.Tie as tie
 
-h-place-requires : tie.Need-h-place-requires
-h-place-requires c κs = search needs
-
-additive-identity-requires : tie.Need-additive-identity-requires
-additive-identity-requires c κs = search needs
-
 returns : tie.Need-returns
 returns c =
     let a = c .before .before .before .args in
     let to = rw (c .before .before .h-place .ensures) at (c .before .if1 .taken) in
     holds-as _ (entry4-before (a .sizes) (a .p) _ (a .k) to) (c .additive-identity .ensures (a .sizes .d))
-
-garbage-size-requires : tie.Need-garbage-size-requires
-garbage-size-requires c κs = search needs
 
 row-entry-requires : tie.Need-row-entry-requires
 row-entry-requires c κs =
@@ -41,9 +32,9 @@ pub check4-entry-spec : {M : Type 1} → statement M
 check4-entry-spec =
     tie.close
     (tie.spec
-    h-place-requires
-    additive-identity-requires
+    (λ c κs. search needs)
+    (λ c κs. search needs)
     returns
-    garbage-size-requires
+    (λ c κs. search needs)
     row-entry-requires
     returns-2)

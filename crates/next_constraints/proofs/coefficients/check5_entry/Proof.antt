@@ -9,9 +9,6 @@ use borrow.Author.Needs.{needs}
 use Rattle.next_constraints.proofs.coefficients.check5_entry.Statement.{statement}
 use Rattle.next_constraints.proofs.coefficients.check5_entry.Tie as tie
 
-t-place-requires : tie.Need-t-place-requires
-t-place-requires c κs = search needs
-
 mul-from : tie.Need-mul-from
 mul-from c =
     let s = c .before .before .before in
@@ -31,9 +28,6 @@ returns c =
     let t = c .before .before .before in
     let a = t .before .args in
     holds-as _ (entry5-z (a .sizes) (a .p) _ _ (a .k) (rw (t .t-place .ensures) at (c .before .before .if1 .taken))) (c .z-entry .ensures)
-
-g-place-requires : tie.Need-g-place-requires
-g-place-requires c κs = search needs
 
 t-entry-requires : tie.Need-t-entry-requires
 t-entry-requires c κs =
@@ -65,9 +59,6 @@ returns-2 c =
     let to = rw (c .before .before .g-place .ensures) at (c .before .if2 .taken) in
     holds-as _ (entry5-t (a .sizes) (a .p) _ _ (a .k) from to) (rw (t .t-place .ensures) at (c .t-entry .ensures))
 
-additive-identity-requires : tie.Need-additive-identity-requires
-additive-identity-requires c κs = search needs
-
 returns-3 : tie.Need-returns-3
 returns-3 c =
     let e = c .before .before .before in
@@ -81,12 +72,12 @@ pub check5-entry-spec : {M : Type 1} → statement M
 check5-entry-spec =
     tie.close
     (tie.spec
-    t-place-requires
+    (λ c κs. search needs)
     mul-from
     z-entry-requires
     returns
-    g-place-requires
+    (λ c κs. search needs)
     t-entry-requires
     returns-2
-    additive-identity-requires
+    (λ c κs. search needs)
     returns-3)

@@ -7,21 +7,12 @@ use borrow.Author.Needs.{needs}
 use Rattle.next_constraints.proofs.coefficients.check6_entry.Statement.{statement}
 use Rattle.next_constraints.proofs.coefficients.check6_entry.Tie as tie
 
-g-place-requires : tie.Need-g-place-requires
-g-place-requires c κs = search needs
-
-additive-identity-requires : tie.Need-additive-identity-requires
-additive-identity-requires c κs = search needs
-
 returns : tie.Need-returns
 returns c =
     let s = c .before .before .before in
     let a = s .args in
     let start = c .before .before .g-place .ensures in
     holds-as _ (entry6-before (a .sizes) (a .p) _ (rw start at (c .before .if1 .taken))) (c .additive-identity .ensures (a .sizes .d))
-
-h-place-requires : tie.Need-h-place-requires
-h-place-requires c κs = search needs
 
 garbage-entry-requires : tie.Need-garbage-entry-requires
 garbage-entry-requires c κs =
@@ -43,9 +34,6 @@ returns-2 c =
     let to = rw (c .before .before .h-place .ensures) at (c .before .if2 .taken) in
     holds-as _ (entry6-g (a .sizes) (a .p) _ from to) (rw (g .g-place .ensures) at (c .garbage-entry .ensures))
 
-additive-identity-requires-2 : tie.Need-additive-identity-requires-2
-additive-identity-requires-2 c κs = search needs
-
 returns-3 : tie.Need-returns-3
 returns-3 c =
     let e = c .before .before .before in
@@ -59,11 +47,11 @@ pub check6-entry-spec : {M : Type 1} → statement M
 check6-entry-spec =
     tie.close
     (tie.spec
-    g-place-requires
-    additive-identity-requires
+    (λ c κs. search needs)
+    (λ c κs. search needs)
     returns
-    h-place-requires
+    (λ c κs. search needs)
     garbage-entry-requires
     returns-2
-    additive-identity-requires-2
+    (λ c κs. search needs)
     returns-3)

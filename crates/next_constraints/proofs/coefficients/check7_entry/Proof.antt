@@ -7,23 +7,11 @@ use borrow.Author.Needs.{needs}
 use Rattle.next_constraints.proofs.coefficients.check7_entry.Statement.{statement}
 use Rattle.next_constraints.proofs.coefficients.check7_entry.Tie as tie
 
-t-place-requires : tie.Need-t-place-requires
-t-place-requires c κs = search needs
-
-z-entry-requires : tie.Need-z-entry-requires
-z-entry-requires c κs = search needs
-
 returns : tie.Need-returns
 returns c =
     let a = c .before .before .before .args in
     let start = c .before .before .t-place .ensures in
     holds-as _ (entry7-z (a .sizes) (a .p) _ _ (rw start at (c .before .if1 .taken))) (c .z-entry .ensures)
-
-h-place-requires : tie.Need-h-place-requires
-h-place-requires c κs = search needs
-
-additive-identity-requires : tie.Need-additive-identity-requires
-additive-identity-requires c κs = search needs
 
 returns-2 : tie.Need-returns-2
 returns-2 c =
@@ -57,11 +45,11 @@ pub check7-entry-spec : {M : Type 1} → statement M
 check7-entry-spec =
     tie.close
     (tie.spec
-    t-place-requires
-    z-entry-requires
+    (λ c κs. search needs)
+    (λ c κs. search needs)
     returns
-    h-place-requires
-    additive-identity-requires
+    (λ c κs. search needs)
+    (λ c κs. search needs)
     returns-2
     garbage-entry-requires
     returns-3)

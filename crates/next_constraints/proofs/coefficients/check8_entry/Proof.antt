@@ -7,20 +7,11 @@ use borrow.Author.Needs.{needs}
 use Rattle.next_constraints.proofs.coefficients.check8_entry.Statement.{statement}
 use Rattle.next_constraints.proofs.coefficients.check8_entry.Tie as tie
 
-g-place-requires : tie.Need-g-place-requires
-g-place-requires c κs = search needs
-
-additive-identity-requires : tie.Need-additive-identity-requires
-additive-identity-requires c κs = search needs
-
 returns : tie.Need-returns
 returns c =
     let a = c .before .before .before .args in
     let start = c .before .before .g-place .ensures in
     holds-as _ (entry8-before (a .sizes) (a .p) _ _ (rw start at (c .before .if1 .taken))) (c .additive-identity .ensures (a .sizes .d))
-
-h-place-requires : tie.Need-h-place-requires
-h-place-requires c κs = search needs
 
 garbage-entry-requires : tie.Need-garbage-entry-requires
 garbage-entry-requires c κs =
@@ -66,10 +57,10 @@ pub check8-entry-spec : {M : Type 1} → statement M
 check8-entry-spec =
     tie.close
     (tie.spec
-    g-place-requires
-    additive-identity-requires
+    (λ c κs. search needs)
+    (λ c κs. search needs)
     returns
-    h-place-requires
+    (λ c κs. search needs)
     garbage-entry-requires
     returns-2
     garbage-entry-requires-2

@@ -5,25 +5,16 @@ use borrow.Author.Needs.{needs}
 use Rattle.next_constraints.proofs.coefficients.middle_entry.Statement.{statement}
 use Rattle.next_constraints.proofs.coefficients.middle_entry.Tie as tie
 
-check6-entry-requires : tie.Need-check6-entry-requires
-check6-entry-requires c κs = search needs
-
 returns : tie.Need-returns
 returns c =
     let a = c .before .before .args in
     holds-as _ (middle-6 (a .sizes) (a .p) _ _ _ _ (a .y) (c .before .if1 .taken)) (c .check6-entry .ensures)
-
-check7-entry-requires : tie.Need-check7-entry-requires
-check7-entry-requires c κs = search needs
 
 returns-2 : tie.Need-returns-2
 returns-2 c =
     let e = c .before .before in
     let a = e .before .args in
     holds-as _ (middle-7 (a .sizes) (a .p) _ _ _ _ (a .y) (e .if1 .left) (c .before .if2 .taken)) (c .check7-entry .ensures)
-
-check8-entry-requires : tie.Need-check8-entry-requires
-check8-entry-requires c κs = search needs
 
 returns-3 : tie.Need-returns-3
 returns-3 c =
@@ -35,9 +26,9 @@ pub middle-entry-spec : {M : Type 1} → statement M
 middle-entry-spec =
     tie.close
     (tie.spec
-    check6-entry-requires
+    (λ c κs. search needs)
     returns
-    check7-entry-requires
+    (λ c κs. search needs)
     returns-2
-    check8-entry-requires
+    (λ c κs. search needs)
     returns-3)

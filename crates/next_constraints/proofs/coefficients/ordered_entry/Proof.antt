@@ -5,19 +5,10 @@ use borrow.Author.Needs.{needs}
 use Rattle.next_constraints.proofs.coefficients.ordered_entry.Statement.{statement}
 use Rattle.next_constraints.proofs.coefficients.ordered_entry.Tie as tie
 
-check5-entry-requires : tie.Need-check5-entry-requires
-check5-entry-requires c κs = search needs
-
 returns : tie.Need-returns
 returns c =
     let a = c .before .before .args in
     holds-as _ (coefficient-5 (a .sizes) (a .p) _ _ _ _ _ _ _ _ _ (a .x) (c .before .if1 .taken)) (c .check5-entry .ensures)
-
-add-second : tie.Need-add-second
-add-second c = search needs
-
-middle-entry-requires : tie.Need-middle-entry-requires
-middle-entry-requires c κs = search needs
 
 returns-2 : tie.Need-returns-2
 returns-2 c =
@@ -45,10 +36,10 @@ pub ordered-entry-spec : {M : Type 1} → statement M
 ordered-entry-spec =
     tie.close
     (tie.spec
-    check5-entry-requires
+    (λ c κs. search needs)
     returns
-    add-second
-    middle-entry-requires
+    (λ c. search needs)
+    (λ c κs. search needs)
     returns-2
     outer-entry-requires
     returns-3)

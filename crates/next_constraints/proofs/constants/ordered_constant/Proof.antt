@@ -5,34 +5,16 @@ use borrow.Author.Needs.{needs}
 use Rattle.next_constraints.proofs.constants.ordered_constant.Statement.{statement}
 use Rattle.next_constraints.proofs.constants.ordered_constant.Tie as tie
 
-add-eighth : tie.Need-add-eighth
-add-eighth c = search needs
-
-additive-identity-requires : tie.Need-additive-identity-requires
-additive-identity-requires c κs = search needs
-
 returns : tie.Need-returns
 returns c =
     let a = c .before .before .before .args in
     holds-as _ (constant-before (a .sizes) (a .x) _ _ _ _ _ _ (c .before .if1 .taken)) (c .additive-identity .ensures (a .sizes .d))
-
-aggregate-constant-requires : tie.Need-aggregate-constant-requires
-aggregate-constant-requires c κs = search needs
 
 returns-2 : tie.Need-returns-2
 returns-2 c =
     let e = c .before .before in
     let a = e .before .before .args in
     holds-as _ (constant-8 (a .sizes) (a .x) _ _ _ _ _ _ (e .if1 .left) (c .before .if2 .taken)) (c .aggregate-constant .ensures)
-
-add-third : tie.Need-add-third
-add-third c = search needs
-
-add-fourth : tie.Need-add-fourth
-add-fourth c = search needs
-
-sub-row : tie.Need-sub-row
-sub-row c = search needs
 
 from-slice-requires : tie.Need-from-slice-requires
 from-slice-requires c κs =
@@ -70,14 +52,14 @@ pub ordered-constant-spec : {M : Type 1} → statement M
 ordered-constant-spec =
     tie.close
     (tie.spec
-    add-eighth
-    additive-identity-requires
+    (λ c. search needs)
+    (λ c κs. search needs)
     returns
-    aggregate-constant-requires
+    (λ c κs. search needs)
     returns-2
-    add-third
-    add-fourth
-    sub-row
+    (λ c. search needs)
+    (λ c. search needs)
+    (λ c. search needs)
     from-slice-requires
     returns-3
     from-slice-requires-2

@@ -7,15 +7,6 @@ use borrow.Author.Needs.{needs}
 use Rattle.next_constraints.proofs.entries.z_entry.Statement.{statement}
 use Rattle.next_constraints.proofs.entries.z_entry.Tie as tie
 
-div-digit : tie.Need-div-digit
-div-digit c = search needs
-
-rem-place : tie.Need-rem-place
-rem-place c = search needs
-
-power-requires : tie.Need-power-requires
-power-requires c κs = search needs
-
 add-from-slice : tie.Need-add-from-slice
 add-from-slice c =
     let s = c .before in
@@ -32,9 +23,6 @@ from-slice-requires c κs =
     let a = s .args in
     (s .pre .0, z-room (a .d) (a .n) (a .from) (a .p % a .n) _ (mod-lt (a .p) (s .pre .1 .1 .0)) (s .pre .1 .1 .1))
 
-scale-requires : tie.Need-scale-requires
-scale-requires c κs = search needs
-
 returns : tie.Need-returns
 returns c =
     let f = c .before .before in
@@ -47,10 +35,10 @@ pub z-entry-spec : {M : Type 1} → statement M
 z-entry-spec =
     tie.close
     (tie.spec
-    div-digit
-    rem-place
-    power-requires
+    (λ c. search needs)
+    (λ c. search needs)
+    (λ c κs. search needs)
     add-from-slice
     from-slice-requires
-    scale-requires
+    (λ c κs. search needs)
     returns)

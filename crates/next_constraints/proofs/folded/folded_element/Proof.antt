@@ -15,9 +15,6 @@ Inv-loop sizes whole term rows psi omega table alpha delta c k d parts sum₀ i�
 abbrev μ-loop : tie.MeasureT-loop
 μ-loop sizes whole term rows psi omega table alpha delta c k d parts sum₀ i₀ sum i = parts - i
 
-additive-identity-requires : tie.Need-additive-identity-requires Inv-loop μ-loop
-additive-identity-requires c κs = tt
-
 loop-holds : tie.Need-loop-holds Inv-loop μ-loop
 loop-holds c = summing-start (c .additive-identity .ensures (c .before .args .sizes .d))
 
@@ -50,7 +47,7 @@ folded-element-spec =
     (tie.spec
     Inv-loop
     μ-loop
-    additive-identity-requires
+    (λ c κs. tt)
     loop-holds
     folded-term-requires
     sum-requires

@@ -31,9 +31,6 @@ from-slice-requires c κs =
     let s = c .before .before in
     (s .pre .0 .wholes .shaped .degree, element-within (s .args .sizes .d) (s .pre .1 .1 .2) (s .pre .1 .1 .0))
 
-product-requires : tie.Need-product-requires
-product-requires c κs = search needs
-
 returns : tie.Need-returns
 returns c =
     let f = c .before in
@@ -50,5 +47,5 @@ folded-term-spec =
     add-place
     aggregate-phi-requires
     from-slice-requires
-    product-requires
+    (λ c κs. search needs)
     returns)

@@ -24,18 +24,6 @@ write-diagonal-requires c κs =
     let s = c .before .before .before .before .before .before .before .before .before .before in
     (s .pre .0 .wholes .shaped .degree, s .pre .1 .1 .diagonal-length)
 
-same-length : tie.Need-same-length
-same-length c = search needs
-
-same-length-2 : tie.Need-same-length-2
-same-length-2 c = search needs
-
-same-length-3 : tie.Need-same-length-3
-same-length-3 c = search needs
-
-same-length-4 : tie.Need-same-length-4
-same-length-4 c = search needs
-
 returns : tie.Need-returns
 returns c =
     let diagonal = c .before in
@@ -57,8 +45,8 @@ write-tables-spec =
     write-products-requires
     write-relation-requires
     write-diagonal-requires
-    same-length
-    same-length-2
-    same-length-3
-    same-length-4
+    (λ c. search needs)
+    (λ c. search needs)
+    (λ c. search needs)
+    (λ c. search needs)
     returns)

@@ -4,24 +4,6 @@ use Rattle.next_constraints.specs.Laws.TableLaws.{product-end}
 use Rattle.next_constraints.proofs.tables.minus_product.Statement.{statement}
 use Rattle.next_constraints.proofs.tables.minus_product.Tie as tie
 
-from-slice-requires : tie.Need-from-slice-requires
-from-slice-requires c κs = search needs
-
-from-slice-requires-2 : tie.Need-from-slice-requires-2
-from-slice-requires-2 c κs = search needs
-
-product-requires : tie.Need-product-requires
-product-requires c κs = search needs
-
-pair-factor-requires : tie.Need-pair-factor-requires
-pair-factor-requires c κs = search needs
-
-scale-requires : tie.Need-scale-requires
-scale-requires c κs = search needs
-
-negation-requires : tie.Need-negation-requires
-negation-requires c κs = search needs
-
 returns : tie.Need-returns
 returns c =
     let scaled = c .before in
@@ -37,10 +19,10 @@ pub minus-product-spec : {M : Type 1} → statement M
 minus-product-spec =
     tie.close
     (tie.spec
-    from-slice-requires
-    from-slice-requires-2
-    product-requires
-    pair-factor-requires
-    scale-requires
-    negation-requires
+    (λ c κs. search needs)
+    (λ c κs. search needs)
+    (λ c κs. search needs)
+    (λ c κs. search needs)
+    (λ c κs. search needs)
+    (λ c κs. search needs)
     returns)

@@ -16,14 +16,8 @@ Inv-loop d r i out₀ at count k₀ out k = (k ≤ r - i) × Elements d at (λ k
 abbrev μ-loop : tie.MeasureT-loop
 μ-loop d r i out₀ at count k₀ out k = r - i - k
 
-sub-count : tie.Need-sub-count Inv-loop μ-loop
-sub-count c = omega arith
-
 loop-holds : tie.Need-loop-holds Inv-loop μ-loop
 loop-holds c = (omega arith, elements-start _ _ _ _)
-
-add-j : tie.Need-add-j Inv-loop μ-loop
-add-j c = omega arith
 
 add-place : tie.Need-add-place Inv-loop μ-loop
 add-place c =
@@ -31,21 +25,12 @@ add-place c =
     let a = s .args in
     omega (arith, place-below (a .d) (a .at + (a .r - a .i)) (s .pre .0 .positive) (s .pre .1 .1))
 
-diagonal-entry-requires : tie.Need-diagonal-entry-requires Inv-loop μ-loop
-diagonal-entry-requires c κs = tt
-
 store-requires : tie.Need-store-requires Inv-loop μ-loop
 store-requires c κs =
     let l = c .before .before .before in
     let s = l .before in
     let a = s .args in
     (s .pre .0, rw (l .loop .inv .1 .same) (element-after (a .d) (a .at) {k = l .loop .k} (omega arith) (s .pre .1 .1)))
-
-add-k : tie.Need-add-k Inv-loop μ-loop
-add-k c = omega arith
-
-loop-less : tie.Need-loop-less Inv-loop μ-loop
-loop-less c = omega arith
 
 loop-again : tie.Need-loop-again Inv-loop μ-loop
 loop-again c =
@@ -74,14 +59,14 @@ write-diagonal-row-spec =
     (tie.spec
     Inv-loop
     μ-loop
-    sub-count
+    (λ c. omega arith)
     loop-holds
-    add-j
+    (λ c. omega arith)
     add-place
-    diagonal-entry-requires
+    (λ c κs. tt)
     store-requires
-    add-k
-    loop-less
+    (λ c. omega arith)
+    (λ c. omega arith)
     loop-again
     same-length
     returns)

@@ -16,14 +16,8 @@ Inv-loop d r c i out₀ at count k₀ out k = (k ≤ r - i) × Elements d at (λ
 abbrev μ-loop : tie.MeasureT-loop
 μ-loop d r c i out₀ at count k₀ out k = r - i - k
 
-sub-count : tie.Need-sub-count Inv-loop μ-loop
-sub-count c = omega arith
-
 loop-holds : tie.Need-loop-holds Inv-loop μ-loop
 loop-holds c = (omega arith, elements-start _ _ _ _)
-
-add-j : tie.Need-add-j Inv-loop μ-loop
-add-j c = omega arith
 
 add-place : tie.Need-add-place Inv-loop μ-loop
 add-place c =
@@ -49,12 +43,6 @@ store-requires c κs =
     let s = l .before in
     let a = s .args in
     (s .pre .0, rw (l .loop .inv .1 .same) (element-after (a .d) (a .at) {k = l .loop .k} (omega arith) (s .pre .1 .2)))
-
-add-k : tie.Need-add-k Inv-loop μ-loop
-add-k c = omega arith
-
-loop-less : tie.Need-loop-less Inv-loop μ-loop
-loop-less c = omega arith
 
 loop-again : tie.Need-loop-again Inv-loop μ-loop
 loop-again c =
@@ -83,14 +71,14 @@ write-product-row-spec =
     (tie.spec
     Inv-loop
     μ-loop
-    sub-count
+    (λ c. omega arith)
     loop-holds
-    add-j
+    (λ c. omega arith)
     add-place
     minus-product-requires
     store-requires
-    add-k
-    loop-less
+    (λ c. omega arith)
+    (λ c. omega arith)
     loop-again
     same-length
     returns)

@@ -30,9 +30,6 @@ write-a-row-requires c κs =
     let fits = rows-fit _ _ _ _ (s .pre .1 .1) sofar (c .before .loop-test .taken) in
     (s .pre .0, ((s .pre .1 .0 .0, s .pre .1 .0 .1, s .pre .1 .0 .2, s .pre .1 .0 .3, omega (arith, sofar .within)), rw (sofar .same) fits))
 
-sub-at : tie.Need-sub-at Inv-loop μ-loop
-sub-at c = omega arith
-
 add-at : tie.Need-add-at Inv-loop μ-loop
 add-at c =
     let l = c .before .before .before .before in
@@ -41,12 +38,6 @@ add-at c =
     let sofar = l .loop .inv [] [] [] [] [] [] [] [] [] [] [] [] (transcriptOf [] [] [] []) 0 in
     let fits = rows-fit _ _ _ _ (s .pre .1 .1) sofar (c .before .before .before .loop-test .taken) in
     omega (arith, place-below (a .sizes .d) (l .loop .at + (a .parts - l .loop .s)) (s .pre .0 .shaped .degree .positive) fits)
-
-add-s : tie.Need-add-s Inv-loop μ-loop
-add-s c = omega arith
-
-loop-less : tie.Need-loop-less Inv-loop μ-loop
-loop-less c = omega arith
 
 loop-again : tie.Need-loop-again Inv-loop μ-loop
 loop-again c =
@@ -71,10 +62,10 @@ write-a-spec =
     μ-loop
     loop-holds
     write-a-row-requires
-    sub-at
+    (λ c. omega arith)
     add-at
-    add-s
-    loop-less
+    (λ c. omega arith)
+    (λ c. omega arith)
     loop-again
     same-length
     returns)

@@ -22,14 +22,8 @@ Inv-loop sizes nu parts x s out₀ at d count k₀ out k =
 abbrev μ-loop : tie.MeasureT-loop
 μ-loop sizes nu parts x s out₀ at d count k₀ out k = parts - s - k
 
-sub-count : tie.Need-sub-count Inv-loop μ-loop
-sub-count c = omega arith
-
 loop-holds : tie.Need-loop-holds Inv-loop μ-loop
 loop-holds c = (omega arith, refl, λ A B C D whole term rows ψ ω α δ c′ transcript μ. elements-start _ _ _ _)
-
-add-a-entry : tie.Need-add-a-entry Inv-loop μ-loop
-add-a-entry c = omega arith
 
 a-entry-requires : tie.Need-a-entry-requires Inv-loop μ-loop
 a-entry-requires c κs =
@@ -50,12 +44,6 @@ store-requires c κs =
       s .pre .0 .shaped .degree,
       rw (l .loop .inv .1) (element-fits (a .sizes .d) (a .at) {k = l .loop .k} (omega arith) (s .pre .1 .1)),
     )
-
-add-k : tie.Need-add-k Inv-loop μ-loop
-add-k c = omega arith
-
-loop-less : tie.Need-loop-less Inv-loop μ-loop
-loop-less c = omega arith
 
 loop-again : tie.Need-loop-again Inv-loop μ-loop
 loop-again c =
@@ -87,14 +75,14 @@ write-a-row-spec =
     (tie.spec
     Inv-loop
     μ-loop
-    sub-count
+    (λ c. omega arith)
     loop-holds
-    add-a-entry
+    (λ c. omega arith)
     a-entry-requires
     add-store
     store-requires
-    add-k
-    loop-less
+    (λ c. omega arith)
+    (λ c. omega arith)
     loop-again
     same-length
     returns)

@@ -7,9 +7,6 @@ use borrow.Author.Needs.{needs}
 use Rattle.next_instance.proofs.cut.cut_of.Statement.{statement}
 use Rattle.next_instance.proofs.cut.cut_of.Tie as tie
 
-rest-size-requires : tie.Need-rest-size-requires
-rest-size-requires c κs = search needs
-
 next-rank-requires : tie.Need-next-rank-requires
 next-rank-requires c κs =
     let s = c .before in
@@ -21,15 +18,6 @@ next-rank-requires c κs =
       μ-positive = limits .μ-positive;
       parts-small = limits .parts-small;
     }
-
-mul-parts : tie.Need-mul-parts
-mul-parts c = search needs
-
-add-parts : tie.Need-add-parts
-add-parts c = search needs
-
-pair-count-requires : tie.Need-pair-count-requires
-pair-count-requires c κs = search needs
 
 function-size-requires : tie.Need-function-size-requires
 function-size-requires c κs =
@@ -62,10 +50,10 @@ pub cut-of-spec : {M : Type 1} → statement M
 cut-of-spec =
     tie.close
     (tie.spec
-    rest-size-requires
+    (λ c κs. search needs)
     next-rank-requires
-    mul-parts
-    add-parts
-    pair-count-requires
+    (λ c. search needs)
+    (λ c. search needs)
+    (λ c κs. search needs)
     function-size-requires
     returns)

@@ -43,9 +43,6 @@ store-requires c κs =
     let room = φ .write-phi .kept .1 .1 .1 .1 .1 .1 .1 .1 .1 .1 .1 .1 .0 ∙ a .write-a .kept .1 .1 .1 .1 .0 ∙ s .pre .1 .1 .1 .1 .1 in
     (s .pre .0 .limits .shaped .degree, b-fits (s .args .sizes) (s .args .cut) (s .pre .1 .1 .1 .0) (s .args .sizes .d) room)
 
-same-length : tie.Need-same-length
-same-length c = search needs
-
 returns : tie.Need-returns
 returns c =
     λ term rows ψ ω p tables.
@@ -81,5 +78,5 @@ write-constraint-spec =
     write-phi-requires
     constant-entry-requires
     store-requires
-    same-length
+    (λ c. search needs)
     returns)

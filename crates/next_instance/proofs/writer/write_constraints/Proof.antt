@@ -73,12 +73,6 @@ mul-write-constraint c =
     let fits = filled-fit _ _ _ room (l .loop .inv .0) (c .loop-test .taken) in
     omega (arith, fits, s .good .1 .1 .1 .1 .1 .1 .1 .1 .1 .1 .1 .1 .1 .1 .1 .1 .1 .0)
 
-sub-write-constraint : tie.Need-sub-write-constraint Inv-loop μ-loop
-sub-write-constraint c = omega arith
-
-part-write-constraint-start : tie.Need-part-write-constraint-start Inv-loop μ-loop
-part-write-constraint-start c = omega arith
-
 part-write-constraint-end : tie.Need-part-write-constraint-end Inv-loop μ-loop
 part-write-constraint-end c =
     let l = c .before in
@@ -151,8 +145,8 @@ write-constraints-spec =
     loop-holds
     add-next
     mul-write-constraint
-    sub-write-constraint
-    part-write-constraint-start
+    (λ c. omega arith)
+    (λ c. omega arith)
     part-write-constraint-end
     write-constraint-requires
     add-x

@@ -8,21 +8,6 @@ use borrow.Author.Needs.{needs}
 use Rattle.next_instance.proofs.writer.write_instance.Statement.{statement}
 use Rattle.next_instance.proofs.writer.write_instance.Tie as tie
 
-cut-of-requires : tie.Need-cut-of-requires
-cut-of-requires c κs = search needs
-
-slice-aggregate-write-tables : tie.Need-slice-aggregate-write-tables
-slice-aggregate-write-tables c = search needs
-
-slice-aggregate-write-tables-2 : tie.Need-slice-aggregate-write-tables-2
-slice-aggregate-write-tables-2 c = search needs
-
-slice-aggregate-write-tables-3 : tie.Need-slice-aggregate-write-tables-3
-slice-aggregate-write-tables-3 c = search needs
-
-slice-aggregate-write-tables-4 : tie.Need-slice-aggregate-write-tables-4
-slice-aggregate-write-tables-4 c = search needs
-
 write-tables-requires : tie.Need-write-tables-requires
 write-tables-requires c κs =
     let s = c .before .before .before .before .before in
@@ -33,18 +18,6 @@ write-tables-requires c κs =
         table-room (s .args .sizes) (s .pre .limits) (le-refl 16384) (le-refl 8704) (le-refl 8704) (le-refl 8704),
       ),
     )
-
-slice-aggregate-write-constraints : tie.Need-slice-aggregate-write-constraints
-slice-aggregate-write-constraints c = search needs
-
-slice-aggregate-write-constraints-2 : tie.Need-slice-aggregate-write-constraints-2
-slice-aggregate-write-constraints-2 c = search needs
-
-slice-aggregate-write-constraints-3 : tie.Need-slice-aggregate-write-constraints-3
-slice-aggregate-write-constraints-3 c = search needs
-
-slice-aggregate-write-constraints-4 : tie.Need-slice-aggregate-write-constraints-4
-slice-aggregate-write-constraints-4 c = search needs
 
 write-constraints-requires : tie.Need-write-constraints-requires
 write-constraints-requires c κs =
@@ -64,9 +37,6 @@ write-constraints-requires c κs =
       ),
     )
 
-same-length : tie.Need-same-length
-same-length c = search needs
-
 returns : tie.Need-returns
 returns c =
     let f = c .before .before .before .before .before .before .before .before .before .before .before in
@@ -81,16 +51,16 @@ pub write-instance-spec : {M : Type 1} → statement M
 write-instance-spec =
     tie.close
     (tie.spec
-    cut-of-requires
-    slice-aggregate-write-tables
-    slice-aggregate-write-tables-2
-    slice-aggregate-write-tables-3
-    slice-aggregate-write-tables-4
+    (λ c κs. search needs)
+    (λ c. search needs)
+    (λ c. search needs)
+    (λ c. search needs)
+    (λ c. search needs)
     write-tables-requires
-    slice-aggregate-write-constraints
-    slice-aggregate-write-constraints-2
-    slice-aggregate-write-constraints-3
-    slice-aggregate-write-constraints-4
+    (λ c. search needs)
+    (λ c. search needs)
+    (λ c. search needs)
+    (λ c. search needs)
     write-constraints-requires
-    same-length
+    (λ c. search needs)
     returns)

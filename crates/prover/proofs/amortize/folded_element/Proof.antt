@@ -15,9 +15,6 @@ Inv-loop d n r c witness k sum₀ i₀ sum i = (i ≤ r) × (sum .coefficients �
 abbrev μ-loop : tie.MeasureT-loop
 μ-loop d n r c witness k sum₀ i₀ sum i = r - i
 
-additive-identity-requires : tie.Need-additive-identity-requires Inv-loop μ-loop
-additive-identity-requires c κs = tt
-
 loop-holds : tie.Need-loop-holds Inv-loop μ-loop
 loop-holds c =
     let a = c .before .args in
@@ -56,12 +53,6 @@ multiply-requires c κs = c .before .before .before .before .before .before .bef
 sum-requires : tie.Need-sum-requires Inv-loop μ-loop
 sum-requires c κs = c .before .before .before .before .before .before .before .before .pre .0
 
-add-i : tie.Need-add-i Inv-loop μ-loop
-add-i c = omega arith
-
-loop-less : tie.Need-loop-less Inv-loop μ-loop
-loop-less c = omega arith
-
 loop-again : tie.Need-loop-again Inv-loop μ-loop
 loop-again c =
     let l = c .before .before .before .before .before .before .before in
@@ -85,7 +76,7 @@ folded-element-spec =
     (tie.spec
     Inv-loop
     μ-loop
-    additive-identity-requires
+    (λ c κs. tt)
     loop-holds
     from-slice-requires
     mul-from-slice
@@ -93,7 +84,7 @@ folded-element-spec =
     from-slice-requires-2
     multiply-requires
     sum-requires
-    add-i
-    loop-less
+    (λ c. omega arith)
+    (λ c. omega arith)
     loop-again
     returns)

@@ -33,12 +33,6 @@ store-requires c κs =
     let a = s .args in
     (s .pre .0, rw (l .loop .inv .1 .same) (element-fits (a .d) (a .at) {k = l .loop .k} (omega arith) (s .pre .1 .2)))
 
-add-k : tie.Need-add-k Inv-loop μ-loop
-add-k c = omega arith
-
-loop-less : tie.Need-loop-less Inv-loop μ-loop
-loop-less c = omega arith
-
 loop-again : tie.Need-loop-again Inv-loop μ-loop
 loop-again c =
     let l = c .before .before .before .before .before in
@@ -69,8 +63,8 @@ write-folded-spec =
     folded-element-requires
     add-store
     store-requires
-    add-k
-    loop-less
+    (λ c. omega arith)
+    (λ c. omega arith)
     loop-again
     same-length
     returns)

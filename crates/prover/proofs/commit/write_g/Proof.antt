@@ -8,9 +8,6 @@ use Rattle.fold.specs.Laws.WriterLaws.{garbage-written}
 use Rattle.prover.proofs.commit.write_g.Statement.{statement}
 use Rattle.prover.proofs.commit.write_g.Tie as tie
 
-slice-aggregate-write-pair-products : tie.Need-slice-aggregate-write-pair-products
-slice-aggregate-write-pair-products c = search needs
-
 write-pair-products-requires : tie.Need-write-pair-products-requires
 write-pair-products-requires c κs =
     let s = c .before in
@@ -22,9 +19,6 @@ write-pair-products-requires c κs =
         mul-le-mul (pairs-bound (s .args .sizes .r) (shape .parts-small)) (shape .degree .small),
       ),
     )
-
-slice-aggregate-write-garbage-digits : tie.Need-slice-aggregate-write-garbage-digits
-slice-aggregate-write-garbage-digits c = search needs
 
 write-garbage-digits-requires : tie.Need-write-garbage-digits-requires
 write-garbage-digits-requires c κs =
@@ -44,9 +38,6 @@ write-garbage-digits-requires c κs =
       ),
     )
 
-same-length : tie.Need-same-length
-same-length c = search needs
-
 returns : tie.Need-returns
 unfolding gDigits
 returns c =
@@ -61,9 +52,9 @@ pub write-g-spec : {M : Type 1} → statement M
 write-g-spec =
     tie.close
     (tie.spec
-    slice-aggregate-write-pair-products
+    (λ c. search needs)
     write-pair-products-requires
-    slice-aggregate-write-garbage-digits
+    (λ c. search needs)
     write-garbage-digits-requires
-    same-length
+    (λ c. search needs)
     returns)

@@ -37,12 +37,6 @@ store-requires c κs =
     let a = s .args in
     (s .pre .0, omega (arith, block-fits (a .d) (l .loop .k) (a .rows) (omega arith), s .pre .1 .1 .1, l .loop .inv .1 .same))
 
-add-k : tie.Need-add-k Inv-loop μ-loop
-add-k c = omega arith
-
-loop-less : tie.Need-loop-less Inv-loop μ-loop
-loop-less c = omega arith
-
 loop-again : tie.Need-loop-again Inv-loop μ-loop
 loop-again c =
     let l = c .before .before .before .before .before in
@@ -74,8 +68,8 @@ write-outer-spec =
     loop-holds
     outer-row-requires
     store-requires
-    add-k
-    loop-less
+    (λ c. omega arith)
+    (λ c. omega arith)
     loop-again
     same-length
     returns)

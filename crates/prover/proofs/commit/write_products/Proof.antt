@@ -52,12 +52,6 @@ store-requires c κs =
     let a = s .args in
     (s .pre .0, rw (l .loop .inv .1 .same) (element-fits (a .d) (a .at) {k = l .loop .k} (omega arith) (s .pre .1 .1)))
 
-add-k : tie.Need-add-k Inv-loop μ-loop
-add-k c = omega arith
-
-loop-less : tie.Need-loop-less Inv-loop μ-loop
-loop-less c = omega arith
-
 loop-again : tie.Need-loop-again Inv-loop μ-loop
 unfolding t times inner part
 loop-again c =
@@ -91,8 +85,8 @@ write-products-spec =
     inner-requires
     add-store
     store-requires
-    add-k
-    loop-less
+    (λ c. omega arith)
+    (λ c. omega arith)
     loop-again
     same-length
     returns)

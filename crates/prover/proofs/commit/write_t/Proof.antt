@@ -42,12 +42,6 @@ mul-write-t-part c =
     let s = c .before .before in
     omega (arith, blocks-fit _ _ _ _ (t-length (s .pre)) (c .before .loop .inv) (c .loop-test .taken))
 
-sub-write-t-part : tie.Need-sub-write-t-part Inv-loop μ-loop
-sub-write-t-part c = omega arith
-
-part-write-t-part-start : tie.Need-part-write-t-part-start Inv-loop μ-loop
-part-write-t-part-start c = omega arith
-
 part-write-t-part-end : tie.Need-part-write-t-part-end Inv-loop μ-loop
 part-write-t-part-end c =
     let s = c .before .before in
@@ -71,12 +65,6 @@ write-t-part-requires c κs =
         ),
       ),
     )
-
-add-i : tie.Need-add-i Inv-loop μ-loop
-add-i c = omega arith
-
-loop-less : tie.Need-loop-less Inv-loop μ-loop
-loop-less c = omega arith
 
 loop-again : tie.Need-loop-again Inv-loop μ-loop
 loop-again c =
@@ -109,12 +97,12 @@ write-t-spec =
     loop-holds
     add-next
     mul-write-t-part
-    sub-write-t-part
-    part-write-t-part-start
+    (λ c. omega arith)
+    (λ c. omega arith)
     part-write-t-part-end
     write-t-part-requires
-    add-i
-    loop-less
+    (λ c. omega arith)
+    (λ c. omega arith)
     loop-again
     same-length
     returns)

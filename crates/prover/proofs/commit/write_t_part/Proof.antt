@@ -7,9 +7,6 @@ use Rattle.prover.specs.Laws.Places.{place-below, last-place, block-belo
 use Rattle.prover.proofs.commit.write_t_part.Statement.{statement}
 use Rattle.prover.proofs.commit.write_t_part.Tie as tie
 
-sub-last : tie.Need-sub-last
-sub-last c = search needs
-
 mul-last : tie.Need-mul-last
 mul-last c =
     let a = c .args in
@@ -29,12 +26,6 @@ mul-width c =
     let a = s .args in
     omega (arith, block-below (a .kappa * a .d) (a .t1) (s .pre .1 .1 .1 .0) (s .pre .1 .1 .1 .1))
 
-split-digits-requires : tie.Need-split-digits-requires
-split-digits-requires c κs = search needs
-
-same-length : tie.Need-same-length
-same-length c = search needs
-
 returns : tie.Need-returns
 returns c =
     let s = c .before .before .before .before .before .before in
@@ -46,10 +37,10 @@ pub write-t-part-spec : {M : Type 1} → statement M
 write-t-part-spec =
     tie.close
     (tie.spec
-    sub-last
+    (λ c. search needs)
     mul-last
     write-products-requires
     mul-width
-    split-digits-requires
-    same-length
+    (λ c κs. search needs)
+    (λ c. search needs)
     returns)

@@ -30,12 +30,6 @@ mul-write-element-digits : tie.Need-mul-write-element-digits Inv-loop μ-loop
 mul-write-element-digits c =
     omega (arith, blocks-fit _ _ _ _ (c .before .before .pre .1 .1 .3) (c .before .loop .inv) (c .loop-test .taken))
 
-sub-write-element-digits : tie.Need-sub-write-element-digits Inv-loop μ-loop
-sub-write-element-digits c = omega arith
-
-part-write-element-digits-start : tie.Need-part-write-element-digits-start Inv-loop μ-loop
-part-write-element-digits-start c = omega arith
-
 part-write-element-digits-end : tie.Need-part-write-element-digits-end Inv-loop μ-loop
 part-write-element-digits-end c =
     omega (arith, blocks-fit _ _ _ _ (c .before .before .pre .1 .1 .3) (c .before .loop .inv) (c .loop-test .taken))
@@ -55,12 +49,6 @@ write-element-digits-requires c κs =
         ),
       ),
     )
-
-add-e : tie.Need-add-e Inv-loop μ-loop
-add-e c = omega arith
-
-loop-less : tie.Need-loop-less Inv-loop μ-loop
-loop-less c = omega arith
 
 loop-again : tie.Need-loop-again Inv-loop μ-loop
 loop-again c =
@@ -89,12 +77,12 @@ write-digits-spec =
     loop-holds
     add-next
     mul-write-element-digits
-    sub-write-element-digits
-    part-write-element-digits-start
+    (λ c. omega arith)
+    (λ c. omega arith)
     part-write-element-digits-end
     write-element-digits-requires
-    add-e
-    loop-less
+    (λ c. omega arith)
+    (λ c. omega arith)
     loop-again
     same-length
     returns)

@@ -6,22 +6,10 @@ use Rattle.residues.specs.Laws.DigitBlockLaws.{last-fits}
 use Rattle.prover.proofs.garbage.write_element_digits.Statement.{statement}
 use Rattle.prover.proofs.garbage.write_element_digits.Tie as tie
 
-from-slice-requires : tie.Need-from-slice-requires
-from-slice-requires c κs = search needs
-
-sub-store : tie.Need-sub-store
-sub-store c = search needs
-
 store-requires : tie.Need-store-requires
 store-requires c κs =
     let s = c .before .before in
     (s .pre .0, omega (arith, last-fits (s .args .t) (s .args .d) (s .pre .1 .1 .0), s .pre .1 .1 .2))
-
-split-digits-requires : tie.Need-split-digits-requires
-split-digits-requires c κs = search needs
-
-same-length : tie.Need-same-length
-same-length c = search needs
 
 returns : tie.Need-returns
 returns c =
@@ -35,9 +23,9 @@ pub write-element-digits-spec : {M : Type 1} → statement M
 write-element-digits-spec =
     tie.close
     (tie.spec
-    from-slice-requires
-    sub-store
+    (λ c κs. search needs)
+    (λ c. search needs)
     store-requires
-    split-digits-requires
-    same-length
+    (λ c κs. search needs)
+    (λ c. search needs)
     returns)

@@ -16,9 +16,6 @@ Inv-loop d n r witness i out₀ at count k₀ out k = (k ≤ r - i) × Elements 
 abbrev μ-loop : tie.MeasureT-loop
 μ-loop d n r witness i out₀ at count k₀ out k = r - i - k
 
-sub-count : tie.Need-sub-count Inv-loop μ-loop
-sub-count c = omega arith
-
 loop-holds : tie.Need-loop-holds Inv-loop μ-loop
 loop-holds c = (omega arith, elements-start _ _ _ _)
 
@@ -28,9 +25,6 @@ mul-left c =
     let a = s .args in
     let fits = part-fits (a .d) (a .n) {i = a .i} (omega arith) (s .pre .1 .2) in
     omega (arith, place-below (a .d) (a .i * a .n + a .n) (s .pre .0 .positive) fits)
-
-add-right : tie.Need-add-right Inv-loop μ-loop
-add-right c = omega arith
 
 mul-right : tie.Need-mul-right Inv-loop μ-loop
 mul-right c =
@@ -65,12 +59,6 @@ store-requires c κs =
     let a = s .args in
     (s .pre .0, rw (l .loop .inv .1 .same) (element-fits (a .d) (a .at) {k = l .loop .k} (omega arith) (s .pre .1 .3)))
 
-add-k : tie.Need-add-k Inv-loop μ-loop
-add-k c = omega arith
-
-loop-less : tie.Need-loop-less Inv-loop μ-loop
-loop-less c = omega arith
-
 loop-again : tie.Need-loop-again Inv-loop μ-loop
 unfolding g inner part
 loop-again c =
@@ -99,16 +87,16 @@ write-pair-row-spec =
     (tie.spec
     Inv-loop
     μ-loop
-    sub-count
+    (λ c. omega arith)
     loop-holds
     mul-left
-    add-right
+    (λ c. omega arith)
     mul-right
     inner-requires
     add-store
     store-requires
-    add-k
-    loop-less
+    (λ c. omega arith)
+    (λ c. omega arith)
     loop-again
     same-length
     returns)

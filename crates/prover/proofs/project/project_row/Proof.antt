@@ -18,18 +18,6 @@ abbrev μ-loop : tie.MeasureT-loop
 loop-holds : tie.Need-loop-holds Inv-loop μ-loop
 loop-holds c = dotted-start _ _
 
-mul-add-product : tie.Need-mul-add-product Inv-loop μ-loop
-mul-add-product c = omega arith
-
-shared-slice-copy-out-add-product : tie.Need-shared-slice-copy-out-add-product Inv-loop μ-loop
-shared-slice-copy-out-add-product c = omega arith
-
-mul-add-product-2 : tie.Need-mul-add-product-2 Inv-loop μ-loop
-mul-add-product-2 c = omega arith
-
-shared-slice-copy-out-add-product-2 : tie.Need-shared-slice-copy-out-add-product-2 Inv-loop μ-loop
-shared-slice-copy-out-add-product-2 c = omega arith
-
 add-product-requires : tie.Need-add-product-requires Inv-loop μ-loop
 add-product-requires c κs =
     let l = c .before .before .before in
@@ -39,12 +27,6 @@ add-product-requires c κs =
       entry-small row (l .loop .y) (s .pre .0) (c .before .add-product-arg .given),
     )
 
-add-y : tie.Need-add-y Inv-loop μ-loop
-add-y c = omega arith
-
-loop-less : tie.Need-loop-less Inv-loop μ-loop
-loop-less c = omega arith
-
 loop-again : tie.Need-loop-again Inv-loop μ-loop
 loop-again c =
     let l = c .before .before .before .before in
@@ -52,9 +34,6 @@ loop-again c =
     dotted-turn (s .args .row .now) (s .args .witness .now) (s .pre .2) (l .loop .inv) (s .pre .0)
     (c .before .before .before .loop-test .taken)
     (c .before .before .add-product-arg .given) (c .before .add-product-arg2 .given) (c .add-product .ensures)
-
-centre-requires : tie.Need-centre-requires Inv-loop μ-loop
-centre-requires c κs = tt
 
 returns : tie.Need-returns Inv-loop μ-loop
 returns c =
@@ -70,13 +49,13 @@ project-row-spec =
     Inv-loop
     μ-loop
     loop-holds
-    mul-add-product
-    shared-slice-copy-out-add-product
-    mul-add-product-2
-    shared-slice-copy-out-add-product-2
+    (λ c. omega arith)
+    (λ c. omega arith)
+    (λ c. omega arith)
+    (λ c. omega arith)
     add-product-requires
-    add-y
-    loop-less
+    (λ c. omega arith)
+    (λ c. omega arith)
     loop-again
-    centre-requires
+    (λ c κs. tt)
     returns)

@@ -27,12 +27,6 @@ mul-project-row c =
     let s = c .before .before in
     omega (arith, projecting-fit _ _ _ _ (rows-length (s .pre)) (s .pre .output) (c .before .loop .inv) (c .loop-test .taken))
 
-sub-project-row : tie.Need-sub-project-row Inv-loop μ-loop
-sub-project-row c = omega arith
-
-part-project-row-start : tie.Need-part-project-row-start Inv-loop μ-loop
-part-project-row-start c = omega arith
-
 part-project-row-end : tie.Need-part-project-row-end Inv-loop μ-loop
 part-project-row-end c =
     let s = c .before .before in
@@ -46,18 +40,6 @@ project-row-requires c κs =
       projecting-part _ _ _ _ (rows-length (s .pre)) (s .pre .output) (l .loop .inv) (c .before .loop-test .taken),
       witness-short (s .pre),
     )
-
-mul-product : tie.Need-mul-product Inv-loop μ-loop
-mul-product c = omega arith
-
-slice-set-from-product : tie.Need-slice-set-from-product Inv-loop μ-loop
-slice-set-from-product c = omega arith
-
-add-j : tie.Need-add-j Inv-loop μ-loop
-add-j c = omega arith
-
-loop-less : tie.Need-loop-less Inv-loop μ-loop
-loop-less c = omega arith
 
 loop-again : tie.Need-loop-again Inv-loop μ-loop
 loop-again c =
@@ -86,14 +68,14 @@ write-p-spec =
     loop-holds
     add-next
     mul-project-row
-    sub-project-row
-    part-project-row-start
+    (λ c. omega arith)
+    (λ c. omega arith)
     part-project-row-end
     project-row-requires
-    mul-product
-    slice-set-from-product
-    add-j
-    loop-less
+    (λ c. omega arith)
+    (λ c. omega arith)
+    (λ c. omega arith)
+    (λ c. omega arith)
     loop-again
     same-length
     returns)

@@ -10,9 +10,6 @@ use Rattle.residues.proofs.digits.fold_digit.Tie as tie
 cast-product : tie.Need-cast-product
 cast-product c = rw (toZ-ofZ (c .fits .acc)) (widen (c .fits .acc))
 
-cast-product-2 : tie.Need-cast-product-2
-cast-product-2 c = search needs
-
 mul-product : tie.Need-mul-product
 mul-product c = rw (wide (c .fits .acc), base-held (c .pre)) (base-product-fits (c .pre) (c .fits .acc))
 
@@ -23,9 +20,6 @@ add-centre : tie.Need-add-centre
 add-centre c =
     let product = base-product-fits (c .pre) (c .fits .acc) in
     rw (wide (c .fits .acc), base-held (c .pre), wide (c .fits .x), toZ-ofZ product) (horner-fits (c .pre) (c .fits .acc) (c .fits .x))
-
-centre-requires : tie.Need-centre-requires
-centre-requires c κs = search needs
 
 returns : tie.Need-returns
 returns c =
@@ -40,9 +34,9 @@ fold-digit-spec =
     tie.close
     (tie.spec
     cast-product
-    cast-product-2
+    (λ c. search needs)
     mul-product
     cast-digit
     add-centre
-    centre-requires
+    (λ c κs. search needs)
     returns)

@@ -8,9 +8,6 @@ use borrow.Author.Needs.{needs}
 use Rattle.residues.proofs.digits.low_digit.Statement.{statement}
 use Rattle.residues.proofs.digits.low_digit.Tie as tie
 
-cast-b : tie.Need-cast-b
-cast-b c = search needs
-
 div-half : tie.Need-div-half
 div-half c = (omega arith, half-quotient-fits (c .pre))
 
@@ -46,7 +43,7 @@ pub low-digit-spec : {M : Type 1} → statement M
 low-digit-spec =
     tie.close
     (tie.spec
-    cast-b
+    (λ c. search needs)
     div-half
     cast-remainder
     rem-remainder

@@ -56,12 +56,6 @@ slice-set-from-left c =
     let at = c .before .before .before .before in
     simp length-set (omega (arith, at .before .pre .1, at .loop .inv .0 .same))
 
-add-i : tie.Need-add-i Inv-loop μ-loop
-add-i c = omega arith
-
-loop-less : tie.Need-loop-less Inv-loop μ-loop
-loop-less c = omega arith
-
 loop-again : tie.Need-loop-again Inv-loop μ-loop
 loop-again c =
     let start = c .before .before .before .before .before in
@@ -98,8 +92,8 @@ peel-spec =
     slice-set-from-low
     mul-left
     slice-set-from-left
-    add-i
-    loop-less
+    (λ c. omega arith)
+    (λ c. omega arith)
     loop-again
     same-length
     returns)

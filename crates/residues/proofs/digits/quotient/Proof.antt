@@ -9,9 +9,6 @@ use borrow.Author.Needs.{needs}
 use Rattle.residues.proofs.digits.quotient.Statement.{statement}
 use Rattle.residues.proofs.digits.quotient.Tie as tie
 
-low-digit-requires : tie.Need-low-digit-requires
-low-digit-requires c κs = search needs
-
 cast-difference : tie.Need-cast-difference
 cast-difference c = let x = c .before .fits .x in rw (toZ-ofZ x) (widen x)
 
@@ -20,9 +17,6 @@ cast-difference-2 c = let r : SFits w32 (c .low-digit .result) = record { sfits 
 
 sub-difference : tie.Need-sub-difference
 sub-difference c = sub-low-fits (c .before .pre) (c .before .fits .x) (record { sfits = c .low-digit .ok }) (c .low-digit .ensures)
-
-cast-result : tie.Need-cast-result
-cast-result c = search needs
 
 div-result : tie.Need-div-result
 div-result c = (
@@ -40,11 +34,11 @@ pub quotient-spec : {M : Type 1} → statement M
 quotient-spec =
     tie.close
     (tie.spec
-    low-digit-requires
+    (λ c κs. search needs)
     cast-difference
     cast-difference-2
     sub-difference
-    cast-result
+    (λ c. search needs)
     div-result
     cast-result-2
     returns)

@@ -24,9 +24,6 @@ abbrev μ-loop : tie.MeasureT-loop
 loop-holds : tie.Need-loop-holds Inv-loop μ-loop
 loop-holds c = (sum-start (c .args .base) (c .args .count) (digits-of (c .args .digits .now) (c .args .at) (c .args .width)), omega arith)
 
-sub-left : tie.Need-sub-left Inv-loop μ-loop
-sub-left c = omega arith
-
 mul-fold-digit : tie.Need-mul-fold-digit Inv-loop μ-loop
 mul-fold-digit c =
     let start = c .before .before in
@@ -49,9 +46,6 @@ shared-slice-copy-out-fold-digit c =
 
 fold-digit-requires : tie.Need-fold-digit-requires Inv-loop μ-loop
 fold-digit-requires c κs = c .before .before .before .pre .0
-
-loop-less : tie.Need-loop-less Inv-loop μ-loop
-loop-less c = omega arith
 
 loop-again : tie.Need-loop-again Inv-loop μ-loop
 loop-again c =
@@ -77,12 +71,12 @@ recompose-number-spec =
     Inv-loop
     μ-loop
     loop-holds
-    sub-left
+    (λ c. omega arith)
     mul-fold-digit
     add-fold-digit
     mul-fold-digit-2
     shared-slice-copy-out-fold-digit
     fold-digit-requires
-    loop-less
+    (λ c. omega arith)
     loop-again
     returns)

@@ -21,9 +21,6 @@ mul-last c = omega (arith, last-fits (c .args .count) (c .args .width) (c .pre .
 loop-holds : tie.Need-loop-holds Inv-loop μ-loop
 loop-holds c = (split-start (c .args .base) (c .args .count) (c .args .width) (c .args .block .now) (c .pre .1 .1), omega (arith, c .pre .1))
 
-add-loop : tie.Need-add-loop Inv-loop μ-loop
-add-loop c = omega arith
-
 mul-peel : tie.Need-mul-peel Inv-loop μ-loop
 mul-peel c =
     let start = c .before .before .before in
@@ -44,12 +41,6 @@ peel-requires c κs =
         omega (arith, last-fits (start .args .count) (start .args .width) (start .pre .1 .0), at .inv .0 .same),
       ),
     )
-
-add-k : tie.Need-add-k Inv-loop μ-loop
-add-k c = omega arith
-
-loop-less : tie.Need-loop-less Inv-loop μ-loop
-loop-less c = omega arith
 
 loop-again : tie.Need-loop-again Inv-loop μ-loop
 loop-again c =
@@ -79,11 +70,11 @@ split-digits-spec =
     sub-last
     mul-last
     loop-holds
-    add-loop
+    (λ c. omega arith)
     mul-peel
     peel-requires
-    add-k
-    loop-less
+    (λ c. omega arith)
+    (λ c. omega arith)
     loop-again
     same-length
     returns)

@@ -28,15 +28,6 @@ abbrev μ-loop : tie.MeasureT-loop
 loop-holds : tie.Need-loop-holds Inv-loop μ-loop
 loop-holds c = compared-start _ _
 
-mul-square : tie.Need-mul-square Inv-loop μ-loop
-mul-square c = omega arith
-
-shared-slice-copy-out-square : tie.Need-shared-slice-copy-out-square Inv-loop μ-loop
-shared-slice-copy-out-square c = omega arith
-
-square-requires : tie.Need-square-requires Inv-loop μ-loop
-square-requires c κs = tt
-
 returns : tie.Need-returns Inv-loop μ-loop
 returns c =
     compared-above _ _ _ _ _
@@ -44,12 +35,6 @@ returns c =
     (c .before .before .before .loop-test .taken)
     (squared _ (c .before .before .square-arg .given) (c .before .square .ensures))
     (omega arith)
-
-add-i : tie.Need-add-i Inv-loop μ-loop
-add-i c = omega arith
-
-loop-less : tie.Need-loop-less Inv-loop μ-loop
-loop-less c = omega arith
 
 loop-again : tie.Need-loop-again Inv-loop μ-loop
 loop-again c =
@@ -69,11 +54,11 @@ compare-spec =
     Inv-loop
     μ-loop
     loop-holds
-    mul-square
-    shared-slice-copy-out-square
-    square-requires
+    (λ c. omega arith)
+    (λ c. omega arith)
+    (λ c κs. tt)
     returns
-    add-i
-    loop-less
+    (λ c. omega arith)
+    (λ c. omega arith)
     loop-again
     returns-2)

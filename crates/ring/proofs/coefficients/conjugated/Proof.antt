@@ -17,15 +17,6 @@ Inv-loop d a out₀ first k₀ out k = (0 < k) × (k ≤ d) × (out ≡ tab 64 (
 abbrev μ-loop : tie.MeasureT-loop
 μ-loop d a out₀ first k₀ out k = d - k
 
-array-copy-out-first : tie.Need-array-copy-out-first Inv-loop μ-loop
-array-copy-out-first c = omega arith
-
-add-requires : tie.Need-add-requires Inv-loop μ-loop
-add-requires c κs = tt
-
-array-set-from-out : tie.Need-array-set-from-out Inv-loop μ-loop
-array-set-from-out c = omega arith
-
 loop-holds : tie.Need-loop-holds Inv-loop μ-loop
 loop-holds c =
     let s = c .before .before in
@@ -33,30 +24,6 @@ loop-holds c =
     let first = stored-number (c .add .result) x (c .before .first .given) (c .add .ensures) in
     let number = first ∙ sym (turned-zero (s .args .d) (s .args .t2)) in
     (omega arith, omega arith, fill-step 64 0 _ (pos 0) _ _ (fill-start 64 _ (pos 0)) (omega arith) number)
-
-sub-x : tie.Need-sub-x Inv-loop μ-loop
-sub-x c = omega arith
-
-mul-x : tie.Need-mul-x Inv-loop μ-loop
-mul-x c = omega arith
-
-array-copy-out-x : tie.Need-array-copy-out-x Inv-loop μ-loop
-array-copy-out-x c = omega arith
-
-multiply-requires : tie.Need-multiply-requires Inv-loop μ-loop
-multiply-requires c κs = tt
-
-mul-out : tie.Need-mul-out Inv-loop μ-loop
-mul-out c = omega arith
-
-array-set-from-out-2 : tie.Need-array-set-from-out-2 Inv-loop μ-loop
-array-set-from-out-2 c = omega arith
-
-add-k : tie.Need-add-k Inv-loop μ-loop
-add-k c = omega arith
-
-loop-less : tie.Need-loop-less Inv-loop μ-loop
-loop-less c = omega arith
 
 loop-again : tie.Need-loop-again Inv-loop μ-loop
 loop-again c =
@@ -79,17 +46,17 @@ conjugated-spec =
     (tie.spec
     Inv-loop
     μ-loop
-    array-copy-out-first
-    add-requires
-    array-set-from-out
+    (λ c. omega arith)
+    (λ c κs. tt)
+    (λ c. omega arith)
     loop-holds
-    sub-x
-    mul-x
-    array-copy-out-x
-    multiply-requires
-    mul-out
-    array-set-from-out-2
-    add-k
-    loop-less
+    (λ c. omega arith)
+    (λ c. omega arith)
+    (λ c. omega arith)
+    (λ c κs. tt)
+    (λ c. omega arith)
+    (λ c. omega arith)
+    (λ c. omega arith)
+    (λ c. omega arith)
     loop-again
     returns)

@@ -22,9 +22,6 @@ abbrev μ-loop : tie.MeasureT-loop
 cast-factor : tie.Need-cast-factor Inv-loop μ-loop
 cast-factor c = omega zarith
 
-sub-e : tie.Need-sub-e Inv-loop μ-loop
-sub-e c = omega arith
-
 mul-top : tie.Need-mul-top Inv-loop μ-loop
 mul-top c =
     let a = c .args in
@@ -46,9 +43,6 @@ loop-holds c =
       c .loaded .ensures ∙ ap (array (a .d)) (sym (horner-start (a .d) (a .base) (a .t) digits (omega arith))),
       refl,
     )
-
-sub-e-2 : tie.Need-sub-e-2 Inv-loop μ-loop
-sub-e-2 c = omega arith
 
 mul-place : tie.Need-mul-place Inv-loop μ-loop
 mul-place c =
@@ -77,9 +71,6 @@ scaled-requires c κs = c .before .before .before .before .pre .0
 
 added-requires : tie.Need-added-requires Inv-loop μ-loop
 added-requires c κs = c .before .before .before .before .before .pre .0
-
-loop-less : tie.Need-loop-less Inv-loop μ-loop
-loop-less c = omega arith
 
 loop-again : tie.Need-loop-again Inv-loop μ-loop
 loop-again c =
@@ -111,17 +102,17 @@ recomposed-spec =
     Inv-loop
     μ-loop
     cast-factor
-    sub-e
+    (λ c. omega arith)
     mul-top
     add-top
     loaded-requires
     loop-holds
-    sub-e-2
+    (λ c. omega arith)
     mul-place
     add-place
     loaded-requires-2
     scaled-requires
     added-requires
-    loop-less
+    (λ c. omega arith)
     loop-again
     returns)

@@ -7,12 +7,6 @@ use Rattle.ring.specs.Laws.ShortLaws.{short-value, weight-bound}
 use Rattle.ring.proofs.product.add_product.Statement.{statement}
 use Rattle.ring.proofs.product.add_product.Tie as tie
 
-load-requires : tie.Need-load-requires
-load-requires c κs = search needs
-
-is-short-requires : tie.Need-is-short-requires
-is-short-requires c κs = search needs
-
 raise-requires : tie.Need-raise-requires
 raise-requires c κs =
     let found = c .before .before in
@@ -52,12 +46,6 @@ returns c =
           (rw (weighed .raised-weight .ensures) (short-value (start .pre .0) (loaded .load .ensures) short (raised .raise .ensures))),
     )
 
-extend-requires : tie.Need-extend-requires
-extend-requires c κs = search needs
-
-add-pair-requires-2 : tie.Need-add-pair-requires-2
-add-pair-requires-2 c κs = search needs
-
 returns-2 : tie.Need-returns-2
 returns-2 c =
     let extended = c .before .before .before .before in
@@ -71,12 +59,12 @@ pub add-product-spec : {M : Type 1} → statement M
 add-product-spec =
     tie.close
     (tie.spec
-    load-requires
-    is-short-requires
+    (λ c κs. search needs)
+    (λ c κs. search needs)
     raise-requires
     raised-weight-requires
     add-pair-requires
     returns
-    extend-requires
-    add-pair-requires-2
+    (λ c κs. search needs)
+    (λ c κs. search needs)
     returns-2)

@@ -17,41 +17,11 @@ abbrev μ-loop : tie.MeasureT-loop
 loop-holds : tie.Need-loop-holds Inv-loop μ-loop
 loop-holds c = (running-start _ _ (term-small _ _ _), running-start _ _ (term-small _ _ _))
 
-mul-x : tie.Need-mul-x Inv-loop μ-loop
-mul-x c = omega arith
-
-element-copy-out-x : tie.Need-element-copy-out-x Inv-loop μ-loop
-element-copy-out-x c = omega arith
-
-add-y : tie.Need-add-y Inv-loop μ-loop
-add-y c = omega arith
-
-mul-y : tie.Need-mul-y Inv-loop μ-loop
-mul-y c = omega arith
-
-element-copy-out-y : tie.Need-element-copy-out-y Inv-loop μ-loop
-element-copy-out-y c = omega arith
-
-add-z : tie.Need-add-z Inv-loop μ-loop
-add-z c = omega arith
-
-mul-z : tie.Need-mul-z Inv-loop μ-loop
-mul-z c = omega arith
-
-element-copy-out-z : tie.Need-element-copy-out-z Inv-loop μ-loop
-element-copy-out-z c = omega arith
-
 mul-product : tie.Need-mul-product Inv-loop μ-loop
 mul-product c = product-fits _ _
 
 mul-product2 : tie.Need-mul-product2 Inv-loop μ-loop
 mul-product2 c = product-fits _ _
-
-wrapping-add-u64-requires : tie.Need-wrapping-add-u64-requires Inv-loop μ-loop
-wrapping-add-u64-requires c κs = tt
-
-wrapping-add-u64-requires-2 : tie.Need-wrapping-add-u64-requires-2 Inv-loop μ-loop
-wrapping-add-u64-requires-2 c κs = tt
 
 add-high : tie.Need-add-high Inv-loop μ-loop
 unfolding term
@@ -65,12 +35,6 @@ add-high2 c =
     let l = c .before .before .before .before .before .before in
     running-high-fits (l .loop .inv .1) (l .before .pre .0)
 
-add-i : tie.Need-add-i Inv-loop μ-loop
-add-i c = omega arith
-
-loop-less : tie.Need-loop-less Inv-loop μ-loop
-loop-less c = omega arith
-
 loop-again : tie.Need-loop-again Inv-loop μ-loop
 unfolding term
 loop-again c =
@@ -78,18 +42,6 @@ loop-again c =
       running-step (t .before .loop .inv .0) (t .before .before .pre .0) (t .loop-test .taken) (c .before .wrapping-add-u64 .ensures),
       running-step (t .before .loop .inv .1) (t .before .before .pre .0) (t .loop-test .taken) (c .wrapping-add-u642 .ensures),
     )
-
-mul-wrapping-sub-u64 : tie.Need-mul-wrapping-sub-u64 Inv-loop μ-loop
-mul-wrapping-sub-u64 c = omega arith
-
-wrapping-sub-u64-requires : tie.Need-wrapping-sub-u64-requires Inv-loop μ-loop
-wrapping-sub-u64-requires c κs = tt
-
-mul-wrapping-sub-u64-2 : tie.Need-mul-wrapping-sub-u64-2 Inv-loop μ-loop
-mul-wrapping-sub-u64-2 c = omega arith
-
-wrapping-sub-u64-requires-2 : tie.Need-wrapping-sub-u64-requires-2 Inv-loop μ-loop
-wrapping-sub-u64-requires-2 c κs = tt
 
 mul-first : tie.Need-mul-first Inv-loop μ-loop
 mul-first c = omega (arith, running-high (c .before .before .before .loop .inv .0) (c .before .before .before .before .pre .0))
@@ -127,27 +79,27 @@ columns-spec =
     Inv-loop
     μ-loop
     loop-holds
-    mul-x
-    element-copy-out-x
-    add-y
-    mul-y
-    element-copy-out-y
-    add-z
-    mul-z
-    element-copy-out-z
+    (λ c. omega arith)
+    (λ c. omega arith)
+    (λ c. omega arith)
+    (λ c. omega arith)
+    (λ c. omega arith)
+    (λ c. omega arith)
+    (λ c. omega arith)
+    (λ c. omega arith)
     mul-product
     mul-product2
-    wrapping-add-u64-requires
-    wrapping-add-u64-requires-2
+    (λ c κs. tt)
+    (λ c κs. tt)
     add-high
     add-high2
-    add-i
-    loop-less
+    (λ c. omega arith)
+    (λ c. omega arith)
     loop-again
-    mul-wrapping-sub-u64
-    wrapping-sub-u64-requires
-    mul-wrapping-sub-u64-2
-    wrapping-sub-u64-requires-2
+    (λ c. omega arith)
+    (λ c κs. tt)
+    (λ c. omega arith)
+    (λ c κs. tt)
     mul-first
     add-first
     mul-second

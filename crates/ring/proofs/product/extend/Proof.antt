@@ -14,59 +14,14 @@ Inv-loop d v p e₀ last i₀ e i = (i ≤ d) × Extended d (el d v p) i e
 abbrev μ-loop : tie.MeasureT-loop
 μ-loop d v p e₀ last i₀ e i = d - i
 
-mul-last : tie.Need-mul-last Inv-loop μ-loop
-mul-last c = omega arith
-
 sub-last : tie.Need-sub-last Inv-loop μ-loop
 sub-last c = c .pre .0 .positive
-
-add-last : tie.Need-add-last Inv-loop μ-loop
-add-last c = omega arith
 
 loop-holds : tie.Need-loop-holds Inv-loop μ-loop
 loop-holds c = (omega arith, extended-start _ _ _ (c .pre .1 .1))
 
-sub-residue : tie.Need-sub-residue Inv-loop μ-loop
-sub-residue c = omega arith
-
-mul-residue : tie.Need-mul-residue Inv-loop μ-loop
-mul-residue c = omega arith
-
-shared-slice-copy-out-residue : tie.Need-shared-slice-copy-out-residue Inv-loop μ-loop
-shared-slice-copy-out-residue c = omega arith
-
-residue-requires : tie.Need-residue-requires Inv-loop μ-loop
-residue-requires c κs = tt
-
-add-e : tie.Need-add-e Inv-loop μ-loop
-add-e c = omega arith
-
-mul-e : tie.Need-mul-e Inv-loop μ-loop
-mul-e c = omega arith
-
-element-write-e : tie.Need-element-write-e Inv-loop μ-loop
-element-write-e c = omega arith
-
 sub-e : tie.Need-sub-e Inv-loop μ-loop
 sub-e c = omega (arith, residue-small _ (c .residue .ensures))
-
-add-e-2 : tie.Need-add-e-2 Inv-loop μ-loop
-add-e-2 c = omega arith
-
-add-e-3 : tie.Need-add-e-3 Inv-loop μ-loop
-add-e-3 c = omega arith
-
-mul-e-2 : tie.Need-mul-e-2 Inv-loop μ-loop
-mul-e-2 c = omega arith
-
-element-write-e-2 : tie.Need-element-write-e-2 Inv-loop μ-loop
-element-write-e-2 c = omega arith
-
-add-i : tie.Need-add-i Inv-loop μ-loop
-add-i c = omega arith
-
-loop-less : tie.Need-loop-less Inv-loop μ-loop
-loop-less c = omega arith
 
 loop-again : tie.Need-loop-again Inv-loop μ-loop
 loop-again c =
@@ -89,23 +44,23 @@ extend-spec =
     (tie.spec
     Inv-loop
     μ-loop
-    mul-last
+    (λ c. omega arith)
     sub-last
-    add-last
+    (λ c. omega arith)
     loop-holds
-    sub-residue
-    mul-residue
-    shared-slice-copy-out-residue
-    residue-requires
-    add-e
-    mul-e
-    element-write-e
+    (λ c. omega arith)
+    (λ c. omega arith)
+    (λ c. omega arith)
+    (λ c κs. tt)
+    (λ c. omega arith)
+    (λ c. omega arith)
+    (λ c. omega arith)
     sub-e
-    add-e-2
-    add-e-3
-    mul-e-2
-    element-write-e-2
-    add-i
-    loop-less
+    (λ c. omega arith)
+    (λ c. omega arith)
+    (λ c. omega arith)
+    (λ c. omega arith)
+    (λ c. omega arith)
+    (λ c. omega arith)
     loop-again
     returns)

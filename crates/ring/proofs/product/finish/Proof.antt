@@ -20,27 +20,6 @@ abbrev μ-loop : tie.MeasureT-loop
 loop-holds : tie.Need-loop-holds Inv-loop μ-loop
 loop-holds c = (omega arith, fill-start 64 _ (pos 0))
 
-mul-from-residue : tie.Need-mul-from-residue Inv-loop μ-loop
-mul-from-residue c = omega arith
-
-element-copy-out-from-residue : tie.Need-element-copy-out-from-residue Inv-loop μ-loop
-element-copy-out-from-residue c = omega arith
-
-from-residue-requires : tie.Need-from-residue-requires Inv-loop μ-loop
-from-residue-requires c κs = tt
-
-mul-out : tie.Need-mul-out Inv-loop μ-loop
-mul-out c = omega arith
-
-array-set-from-out : tie.Need-array-set-from-out Inv-loop μ-loop
-array-set-from-out c = omega arith
-
-add-k : tie.Need-add-k Inv-loop μ-loop
-add-k c = omega arith
-
-loop-less : tie.Need-loop-less Inv-loop μ-loop
-loop-less c = omega arith
-
 loop-again : tie.Need-loop-again Inv-loop μ-loop
 loop-again c = (
   omega arith,
@@ -60,12 +39,12 @@ finish-spec =
     Inv-loop
     μ-loop
     loop-holds
-    mul-from-residue
-    element-copy-out-from-residue
-    from-residue-requires
-    mul-out
-    array-set-from-out
-    add-k
-    loop-less
+    (λ c. omega arith)
+    (λ c. omega arith)
+    (λ c κs. tt)
+    (λ c. omega arith)
+    (λ c. omega arith)
+    (λ c. omega arith)
+    (λ c. omega arith)
     loop-again
     returns)

@@ -14,35 +14,8 @@ Inv-loop d u p a₀ at i₀ a i = (i ≤ d) × Residues d (el d u p) i a
 abbrev μ-loop : tie.MeasureT-loop
 μ-loop d u p a₀ at i₀ a i = d - i
 
-mul-at : tie.Need-mul-at Inv-loop μ-loop
-mul-at c = omega arith
-
 loop-holds : tie.Need-loop-holds Inv-loop μ-loop
 loop-holds c = (omega arith, residues-start _ _ _ (c .pre .1 .1))
-
-add-residue : tie.Need-add-residue Inv-loop μ-loop
-add-residue c = omega arith
-
-mul-residue : tie.Need-mul-residue Inv-loop μ-loop
-mul-residue c = omega arith
-
-shared-slice-copy-out-residue : tie.Need-shared-slice-copy-out-residue Inv-loop μ-loop
-shared-slice-copy-out-residue c = omega arith
-
-residue-requires : tie.Need-residue-requires Inv-loop μ-loop
-residue-requires c κs = tt
-
-mul-a : tie.Need-mul-a Inv-loop μ-loop
-mul-a c = omega arith
-
-element-write-a : tie.Need-element-write-a Inv-loop μ-loop
-element-write-a c = omega arith
-
-add-i : tie.Need-add-i Inv-loop μ-loop
-add-i c = omega arith
-
-loop-less : tie.Need-loop-less Inv-loop μ-loop
-loop-less c = omega arith
 
 loop-again : tie.Need-loop-again Inv-loop μ-loop
 loop-again c =
@@ -65,15 +38,15 @@ load-spec =
     (tie.spec
     Inv-loop
     μ-loop
-    mul-at
+    (λ c. omega arith)
     loop-holds
-    add-residue
-    mul-residue
-    shared-slice-copy-out-residue
-    residue-requires
-    mul-a
-    element-write-a
-    add-i
-    loop-less
+    (λ c. omega arith)
+    (λ c. omega arith)
+    (λ c. omega arith)
+    (λ c κs. tt)
+    (λ c. omega arith)
+    (λ c. omega arith)
+    (λ c. omega arith)
+    (λ c. omega arith)
     loop-again
     returns)

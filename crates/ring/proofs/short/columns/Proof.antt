@@ -22,30 +22,6 @@ loop-holds c =
       sized-start _ _ _ (λ j h. narrow-term _ _ _ _ j narrow other≤d h),
     )
 
-mul-x : tie.Need-mul-x Inv-loop μ-loop
-mul-x c = omega arith
-
-element-copy-out-x : tie.Need-element-copy-out-x Inv-loop μ-loop
-element-copy-out-x c = omega arith
-
-add-y : tie.Need-add-y Inv-loop μ-loop
-add-y c = omega arith
-
-mul-y : tie.Need-mul-y Inv-loop μ-loop
-mul-y c = omega arith
-
-element-copy-out-y : tie.Need-element-copy-out-y Inv-loop μ-loop
-element-copy-out-y c = omega arith
-
-add-z : tie.Need-add-z Inv-loop μ-loop
-add-z c = omega arith
-
-mul-z : tie.Need-mul-z Inv-loop μ-loop
-mul-z c = omega arith
-
-element-copy-out-z : tie.Need-element-copy-out-z Inv-loop μ-loop
-element-copy-out-z c = omega arith
-
 mul-sum : tie.Need-mul-sum Inv-loop μ-loop
 mul-sum c = product-fits _ _
 
@@ -63,12 +39,6 @@ unfolding term
 add-sum2 c =
     let l = c .before .before .before .before in
     sized-fits (l .loop .inv .1) (l .before .pre .0) (l .before .pre .3) (c .before .before .before .loop-test .taken)
-
-add-i : tie.Need-add-i Inv-loop μ-loop
-add-i c = omega arith
-
-loop-less : tie.Need-loop-less Inv-loop μ-loop
-loop-less c = omega arith
 
 loop-again : tie.Need-loop-again Inv-loop μ-loop
 unfolding term
@@ -107,20 +77,20 @@ columns-spec =
     Inv-loop
     μ-loop
     loop-holds
-    mul-x
-    element-copy-out-x
-    add-y
-    mul-y
-    element-copy-out-y
-    add-z
-    mul-z
-    element-copy-out-z
+    (λ c. omega arith)
+    (λ c. omega arith)
+    (λ c. omega arith)
+    (λ c. omega arith)
+    (λ c. omega arith)
+    (λ c. omega arith)
+    (λ c. omega arith)
+    (λ c. omega arith)
     mul-sum
     add-sum
     mul-sum2
     add-sum2
-    add-i
-    loop-less
+    (λ c. omega arith)
+    (λ c. omega arith)
     loop-again
     mul-first
     add-first

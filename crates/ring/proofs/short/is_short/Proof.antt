@@ -15,23 +15,8 @@ Inv-loop d v p at excess₀ i₀ excess i = Counting d v p excess i
 abbrev μ-loop : tie.MeasureT-loop
 μ-loop d v p at excess₀ i₀ excess i = d - i
 
-mul-at : tie.Need-mul-at Inv-loop μ-loop
-mul-at c = omega arith
-
 loop-holds : tie.Need-loop-holds Inv-loop μ-loop
 loop-holds c = counting-start _ _ _
-
-add-magnitude : tie.Need-add-magnitude Inv-loop μ-loop
-add-magnitude c = omega arith
-
-mul-magnitude : tie.Need-mul-magnitude Inv-loop μ-loop
-mul-magnitude c = omega arith
-
-shared-slice-copy-out-magnitude : tie.Need-shared-slice-copy-out-magnitude Inv-loop μ-loop
-shared-slice-copy-out-magnitude c = omega arith
-
-magnitude-requires : tie.Need-magnitude-requires Inv-loop μ-loop
-magnitude-requires c κs = tt
 
 add-excess : tie.Need-add-excess Inv-loop μ-loop
 add-excess c =
@@ -40,12 +25,6 @@ add-excess c =
     let given = c .before .magnitude-arg .given in
     let small = magnitude-small x given (c .magnitude .ensures ∙ ap natAbs (word x given)) in
     omega (arith, l .loop .inv .small, l .loop .inv .within, l .before .pre .0 .small, small)
-
-add-i : tie.Need-add-i Inv-loop μ-loop
-add-i c = omega arith
-
-loop-less : tie.Need-loop-less Inv-loop μ-loop
-loop-less c = omega arith
 
 loop-again : tie.Need-loop-again Inv-loop μ-loop
 loop-again c =
@@ -64,14 +43,14 @@ is-short-spec =
     (tie.spec
     Inv-loop
     μ-loop
-    mul-at
+    (λ c. omega arith)
     loop-holds
-    add-magnitude
-    mul-magnitude
-    shared-slice-copy-out-magnitude
-    magnitude-requires
+    (λ c. omega arith)
+    (λ c. omega arith)
+    (λ c. omega arith)
+    (λ c κs. tt)
     add-excess
-    add-i
-    loop-less
+    (λ c. omega arith)
+    (λ c. omega arith)
     loop-again
     returns)

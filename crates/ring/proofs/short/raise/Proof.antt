@@ -16,43 +16,16 @@ Inv-loop d v p e₀ last i₀ e i = (i ≤ d) × Raised d v p i e
 abbrev μ-loop : tie.MeasureT-loop
 μ-loop d v p e₀ last i₀ e i = d - i
 
-mul-last : tie.Need-mul-last Inv-loop μ-loop
-mul-last c = omega arith
-
 sub-last : tie.Need-sub-last Inv-loop μ-loop
 sub-last c = c .pre .0 .positive
 
-add-last : tie.Need-add-last Inv-loop μ-loop
-add-last c = omega arith
-
-element-write-e : tie.Need-element-write-e Inv-loop μ-loop
-element-write-e c = omega arith
-
 loop-holds : tie.Need-loop-holds Inv-loop μ-loop
 loop-holds c = (omega arith, raised-start _ _ _ (c .args .e .now) (c .pre .1 .1))
-
-sub-raised : tie.Need-sub-raised Inv-loop μ-loop
-sub-raised c = omega arith
-
-mul-raised : tie.Need-mul-raised Inv-loop μ-loop
-mul-raised c = omega arith
-
-shared-slice-copy-out-raised : tie.Need-shared-slice-copy-out-raised Inv-loop μ-loop
-shared-slice-copy-out-raised c = omega arith
 
 raised-requires : tie.Need-raised-requires Inv-loop μ-loop
 raised-requires c κs =
     let start = c .before .before .before in
     rw (word _ (c .raised-arg .given)) (short-at (c .before .before .loop .i) _ (start .pre .1 .2) (c .before .loop-test .taken) (omega arith))
-
-add-e : tie.Need-add-e Inv-loop μ-loop
-add-e c = omega arith
-
-mul-e : tie.Need-mul-e Inv-loop μ-loop
-mul-e c = omega arith
-
-element-write-e-2 : tie.Need-element-write-e-2 Inv-loop μ-loop
-element-write-e-2 c = omega arith
 
 sub-e : tie.Need-sub-e Inv-loop μ-loop
 sub-e c =
@@ -62,24 +35,6 @@ sub-e c =
     let short = short-at (l .loop .i) place (l .before .pre .1 .2) (c .before .before .loop-test .taken) (omega arith) in
     let x = getD (args .v .now) place (pos 0) in
     raised-limit x (c .raised .ensures ∙ ap lifted (word x (c .before .raised-arg .given))) short
-
-add-e-2 : tie.Need-add-e-2 Inv-loop μ-loop
-add-e-2 c = omega arith
-
-add-e-3 : tie.Need-add-e-3 Inv-loop μ-loop
-add-e-3 c = omega arith
-
-mul-e-2 : tie.Need-mul-e-2 Inv-loop μ-loop
-mul-e-2 c = omega arith
-
-element-write-e-3 : tie.Need-element-write-e-3 Inv-loop μ-loop
-element-write-e-3 c = omega arith
-
-add-i : tie.Need-add-i Inv-loop μ-loop
-add-i c = omega arith
-
-loop-less : tie.Need-loop-less Inv-loop μ-loop
-loop-less c = omega arith
 
 loop-again : tie.Need-loop-again Inv-loop μ-loop
 loop-again c =
@@ -101,24 +56,24 @@ raise-spec =
     (tie.spec
     Inv-loop
     μ-loop
-    mul-last
+    (λ c. omega arith)
     sub-last
-    add-last
-    element-write-e
+    (λ c. omega arith)
+    (λ c. omega arith)
     loop-holds
-    sub-raised
-    mul-raised
-    shared-slice-copy-out-raised
+    (λ c. omega arith)
+    (λ c. omega arith)
+    (λ c. omega arith)
     raised-requires
-    add-e
-    mul-e
-    element-write-e-2
+    (λ c. omega arith)
+    (λ c. omega arith)
+    (λ c. omega arith)
     sub-e
-    add-e-2
-    add-e-3
-    mul-e-2
-    element-write-e-3
-    add-i
-    loop-less
+    (λ c. omega arith)
+    (λ c. omega arith)
+    (λ c. omega arith)
+    (λ c. omega arith)
+    (λ c. omega arith)
+    (λ c. omega arith)
     loop-again
     returns)

@@ -17,23 +17,11 @@ abbrev μ-loop : tie.MeasureT-loop
 loop-holds : tie.Need-loop-holds Inv-loop μ-loop
 loop-holds c = (omega arith, value-start (drop (c .before .args .at) (c .before .args .text .now)))
 
-add-digit-step : tie.Need-add-digit-step Inv-loop μ-loop
-add-digit-step c = omega arith
-
-shared-slice-read-digit-step : tie.Need-shared-slice-read-digit-step Inv-loop μ-loop
-shared-slice-read-digit-step c = omega arith
-
 digit-step-requires : tie.Need-digit-step-requires Inv-loop μ-loop
 digit-step-requires c κs =
     let at = c .before .before in
     let start = at .before .before in
     omega (arith, at .loop .inv .1, value-below (drop (start .args .at) (start .args .text .now)) (at .loop .k) (at .loop .inv .0))
-
-add-k : tie.Need-add-k Inv-loop μ-loop
-add-k c = omega arith
-
-loop-less : tie.Need-loop-less Inv-loop μ-loop
-loop-less c = omega arith
 
 loop-again : tie.Need-loop-again Inv-loop μ-loop
 loop-again c =
@@ -58,10 +46,10 @@ digits-value-spec =
     Inv-loop
     μ-loop
     loop-holds
-    add-digit-step
-    shared-slice-read-digit-step
+    (λ c. omega arith)
+    (λ c. omega arith)
     digit-step-requires
-    add-k
-    loop-less
+    (λ c. omega arith)
+    (λ c. omega arith)
     loop-again
     returns)

@@ -10,18 +10,6 @@ Inv-loop text at minus m last left₀ rest₀ due₀ left rest due = Matching te
 abbrev μ-loop : tie.MeasureT-loop
 μ-loop text at minus m last left₀ rest₀ due₀ left rest due = left
 
-cast-last : tie.Need-cast-last Inv-loop μ-loop
-cast-last c = omega arith
-
-add-last : tie.Need-add-last Inv-loop μ-loop
-add-last c = omega arith
-
-add-if1 : tie.Need-add-if1 Inv-loop μ-loop
-add-if1 c = omega arith
-
-shared-slice-read-if1 : tie.Need-shared-slice-read-if1 Inv-loop μ-loop
-shared-slice-read-if1 c = omega arith
-
 returns : tie.Need-returns Inv-loop μ-loop
 returns c =
     let start = c .before .before .before in
@@ -32,18 +20,6 @@ loop-holds c =
     let start = c .before .before .before in
     matching-start (start .args .text .now) (start .args .at) (start .pre) _ _ (c .if1 .left)
 
-column-byte-requires : tie.Need-column-byte-requires Inv-loop μ-loop
-column-byte-requires c κs = tt
-
-add-if2 : tie.Need-add-if2 Inv-loop μ-loop
-add-if2 c = omega arith
-
-sub-if2 : tie.Need-sub-if2 Inv-loop μ-loop
-sub-if2 c = omega arith
-
-shared-slice-read-if2 : tie.Need-shared-slice-read-if2 Inv-loop μ-loop
-shared-slice-read-if2 c = omega arith
-
 returns-2 : tie.Need-returns-2 Inv-loop μ-loop
 returns-2 c =
     let column = c .before .before in
@@ -52,15 +28,6 @@ returns-2 c =
     matching-other (start .args .text .now) (start .args .at) (start .pre) _ _ (at .loop .left) (at .loop .rest) (at .loop .due)
     (at .loop .inv)
     (column .before .loop-test .taken) (column .column-byte .ensures) (c .if2 .taken)
-
-minus-due-requires : tie.Need-minus-due-requires Inv-loop μ-loop
-minus-due-requires c κs = tt
-
-sub-left : tie.Need-sub-left Inv-loop μ-loop
-sub-left c = omega arith
-
-loop-less : tie.Need-loop-less Inv-loop μ-loop
-loop-less c = omega arith
 
 loop-again : tie.Need-loop-again Inv-loop μ-loop
 loop-again c =
@@ -83,19 +50,19 @@ is-field-of-spec =
     (tie.spec
     Inv-loop
     μ-loop
-    cast-last
-    add-last
-    add-if1
-    shared-slice-read-if1
+    (λ c. omega arith)
+    (λ c. omega arith)
+    (λ c. omega arith)
+    (λ c. omega arith)
     returns
     loop-holds
-    column-byte-requires
-    add-if2
-    sub-if2
-    shared-slice-read-if2
+    (λ c κs. tt)
+    (λ c. omega arith)
+    (λ c. omega arith)
+    (λ c. omega arith)
     returns-2
-    minus-due-requires
-    sub-left
-    loop-less
+    (λ c κs. tt)
+    (λ c. omega arith)
+    (λ c. omega arith)
     loop-again
     returns-3)

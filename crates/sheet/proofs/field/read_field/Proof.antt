@@ -11,22 +11,13 @@ use Rattle.sheet.proofs.field.read_field.Tie as tie
 returns : tie.Need-returns
 returns c = field-short (c .before .before .args .text .now) (c .before .before .args .at) (omega arith)
 
-sub-if2 : tie.Need-sub-if2
-sub-if2 c = search needs
-
 returns-2 : tie.Need-returns-2
 returns-2 c = field-short (c .before .before .before .args .text .now) (c .before .before .before .args .at) (omega arith)
-
-digits-value-requires : tie.Need-digits-value-requires
-digits-value-requires c κs = search needs
 
 plain-requires : tie.Need-plain-requires
 plain-requires c κs =
     let start = c .before .before .before .before in
     value-fits (drop (start .args .at) (start .args .text .now)) (c .digits-value .ensures)
-
-is-field-of-requires : tie.Need-is-field-of-requires
-is-field-of-requires c κs = search needs
 
 returns-3 : tie.Need-returns-3
 returns-3 c =
@@ -40,9 +31,6 @@ opposite-requires c κs =
     let v = c .before .before .before in
     let start = v .before .before .before .before in
     value-fits (drop (start .args .at) (start .args .text .now)) (v .digits-value .ensures)
-
-is-field-of-requires-2 : tie.Need-is-field-of-requires-2
-is-field-of-requires-2 c κs = search needs
 
 returns-4 : tie.Need-returns-4
 returns-4 c =
@@ -66,13 +54,13 @@ read-field-spec =
     tie.close
     (tie.spec
     returns
-    sub-if2
+    (λ c. search needs)
     returns-2
-    digits-value-requires
+    (λ c κs. search needs)
     plain-requires
-    is-field-of-requires
+    (λ c κs. search needs)
     returns-3
     opposite-requires
-    is-field-of-requires-2
+    (λ c κs. search needs)
     returns-4
     returns-5)

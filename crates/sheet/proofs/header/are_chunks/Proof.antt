@@ -8,12 +8,6 @@ use borrow.Author.Needs.{needs}
 use Rattle.sheet.proofs.header.are_chunks.Statement.{statement}
 use Rattle.sheet.proofs.header.are_chunks.Tie as tie
 
-is-between-requires : tie.Need-is-between-requires
-is-between-requires c κs = search needs
-
-is-between-requires-2 : tie.Need-is-between-requires-2
-is-between-requires-2 c κs = search needs
-
 returns : tie.Need-returns
 returns c =
     let start = c .before .before .before in
@@ -94,8 +88,8 @@ pub are-chunks-spec : {M : Type 1} → statement M
 are-chunks-spec =
     tie.close
     (tie.spec
-    is-between-requires
-    is-between-requires-2
+    (λ c κs. search needs)
+    (λ c κs. search needs)
     returns
     cast-x
     cast-y

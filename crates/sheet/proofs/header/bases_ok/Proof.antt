@@ -8,36 +8,6 @@ use borrow.Author.Needs.{needs}
 use Rattle.sheet.proofs.header.bases_ok.Statement.{statement}
 use Rattle.sheet.proofs.header.bases_ok.Tie as tie
 
-number-at-requires : tie.Need-number-at-requires
-number-at-requires c κs = search needs
-
-is-between-requires : tie.Need-is-between-requires
-is-between-requires c κs = search needs
-
-number-at-requires-2 : tie.Need-number-at-requires-2
-number-at-requires-2 c κs = search needs
-
-is-between-requires-2 : tie.Need-is-between-requires-2
-is-between-requires-2 c κs = search needs
-
-number-at-requires-3 : tie.Need-number-at-requires-3
-number-at-requires-3 c κs = search needs
-
-is-between-requires-3 : tie.Need-is-between-requires-3
-is-between-requires-3 c κs = search needs
-
-number-at-requires-4 : tie.Need-number-at-requires-4
-number-at-requires-4 c κs = search needs
-
-is-between-requires-4 : tie.Need-is-between-requires-4
-is-between-requires-4 c κs = search needs
-
-number-at-requires-5 : tie.Need-number-at-requires-5
-number-at-requires-5 c κs = search needs
-
-is-between-requires-5 : tie.Need-is-between-requires-5
-is-between-requires-5 c κs = search needs
-
 returns : tie.Need-returns
 unfolding basesTest base digitCount
 returns c =
@@ -67,14 +37,14 @@ pub bases-ok-spec : {M : Type 1} → statement M
 bases-ok-spec =
     tie.close
     (tie.spec
-    number-at-requires
-    is-between-requires
-    number-at-requires-2
-    is-between-requires-2
-    number-at-requires-3
-    is-between-requires-3
-    number-at-requires-4
-    is-between-requires-4
-    number-at-requires-5
-    is-between-requires-5
+    (λ c κs. search needs)
+    (λ c κs. search needs)
+    (λ c κs. search needs)
+    (λ c κs. search needs)
+    (λ c κs. search needs)
+    (λ c κs. search needs)
+    (λ c κs. search needs)
+    (λ c κs. search needs)
+    (λ c κs. search needs)
+    (λ c κs. search needs)
     returns)

@@ -8,18 +8,6 @@ use borrow.Author.Needs.{needs}
 use Rattle.sheet.proofs.header.bounds_ok.Statement.{statement}
 use Rattle.sheet.proofs.header.bounds_ok.Tie as tie
 
-number-at-requires : tie.Need-number-at-requires
-number-at-requires c κs = search needs
-
-is-between-requires : tie.Need-is-between-requires
-is-between-requires c κs = search needs
-
-number-at-requires-2 : tie.Need-number-at-requires-2
-number-at-requires-2 c κs = search needs
-
-is-between-requires-2 : tie.Need-is-between-requires-2
-is-between-requires-2 c κs = search needs
-
 returns : tie.Need-returns
 unfolding boundsTest lengthBound
 returns c =
@@ -34,8 +22,8 @@ pub bounds-ok-spec : {M : Type 1} → statement M
 bounds-ok-spec =
     tie.close
     (tie.spec
-    number-at-requires
-    is-between-requires
-    number-at-requires-2
-    is-between-requires-2
+    (λ c κs. search needs)
+    (λ c κs. search needs)
+    (λ c κs. search needs)
+    (λ c κs. search needs)
     returns)

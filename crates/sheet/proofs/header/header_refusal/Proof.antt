@@ -7,57 +7,6 @@ use borrow.Author.Needs.{needs}
 use Rattle.sheet.proofs.header.header_refusal.Statement.{statement}
 use Rattle.sheet.proofs.header.header_refusal.Tie as tie
 
-bounds-ok-requires : tie.Need-bounds-ok-requires
-bounds-ok-requires c κs = search needs
-
-number-at-requires : tie.Need-number-at-requires
-number-at-requires c κs = search needs
-
-number-at-requires-2 : tie.Need-number-at-requires-2
-number-at-requires-2 c κs = search needs
-
-are-chunks-requires : tie.Need-are-chunks-requires
-are-chunks-requires c κs = search needs
-
-first-requires : tie.Need-first-requires
-first-requires c κs = search needs
-
-first-requires-2 : tie.Need-first-requires-2
-first-requires-2 c κs = search needs
-
-bases-ok-requires : tie.Need-bases-ok-requires
-bases-ok-requires c κs = search needs
-
-first-requires-3 : tie.Need-first-requires-3
-first-requires-3 c κs = search needs
-
-ranks-ok-requires : tie.Need-ranks-ok-requires
-ranks-ok-requires c κs = search needs
-
-first-requires-4 : tie.Need-first-requires-4
-first-requires-4 c κs = search needs
-
-counts-ok-requires : tie.Need-counts-ok-requires
-counts-ok-requires c κs = search needs
-
-first-requires-5 : tie.Need-first-requires-5
-first-requires-5 c κs = search needs
-
-number-at-requires-3 : tie.Need-number-at-requires-3
-number-at-requires-3 c κs = search needs
-
-is-degree-requires : tie.Need-is-degree-requires
-is-degree-requires c κs = search needs
-
-first-requires-6 : tie.Need-first-requires-6
-first-requires-6 c κs = search needs
-
-header-laid-requires : tie.Need-header-laid-requires
-header-laid-requires c κs = search needs
-
-first-requires-7 : tie.Need-first-requires-7
-first-requires-7 c κs = search needs
-
 returns : tie.Need-returns
 returns c =
     let c1 = c .before in
@@ -93,21 +42,21 @@ pub header-refusal-spec : {M : Type 1} → statement M
 header-refusal-spec =
     tie.close
     (tie.spec
-    bounds-ok-requires
-    number-at-requires
-    number-at-requires-2
-    are-chunks-requires
-    first-requires
-    first-requires-2
-    bases-ok-requires
-    first-requires-3
-    ranks-ok-requires
-    first-requires-4
-    counts-ok-requires
-    first-requires-5
-    number-at-requires-3
-    is-degree-requires
-    first-requires-6
-    header-laid-requires
-    first-requires-7
+    (λ c κs. search needs)
+    (λ c κs. search needs)
+    (λ c κs. search needs)
+    (λ c κs. search needs)
+    (λ c κs. search needs)
+    (λ c κs. search needs)
+    (λ c κs. search needs)
+    (λ c κs. search needs)
+    (λ c κs. search needs)
+    (λ c κs. search needs)
+    (λ c κs. search needs)
+    (λ c κs. search needs)
+    (λ c κs. search needs)
+    (λ c κs. search needs)
+    (λ c κs. search needs)
+    (λ c κs. search needs)
+    (λ c κs. search needs)
     returns)

@@ -8,24 +8,6 @@ use borrow.Author.Needs.{needs}
 use Rattle.sheet.proofs.header.ranks_ok.Statement.{statement}
 use Rattle.sheet.proofs.header.ranks_ok.Tie as tie
 
-number-at-requires : tie.Need-number-at-requires
-number-at-requires c κs = search needs
-
-is-between-requires : tie.Need-is-between-requires
-is-between-requires c κs = search needs
-
-number-at-requires-2 : tie.Need-number-at-requires-2
-number-at-requires-2 c κs = search needs
-
-is-between-requires-2 : tie.Need-is-between-requires-2
-is-between-requires-2 c κs = search needs
-
-number-at-requires-3 : tie.Need-number-at-requires-3
-number-at-requires-3 c κs = search needs
-
-is-between-requires-3 : tie.Need-is-between-requires-3
-is-between-requires-3 c κs = search needs
-
 returns : tie.Need-returns
 unfolding ranksTest commitmentRank
 returns c =
@@ -45,10 +27,10 @@ pub ranks-ok-spec : {M : Type 1} → statement M
 ranks-ok-spec =
     tie.close
     (tie.spec
-    number-at-requires
-    is-between-requires
-    number-at-requires-2
-    is-between-requires-2
-    number-at-requires-3
-    is-between-requires-3
+    (λ c κs. search needs)
+    (λ c κs. search needs)
+    (λ c κs. search needs)
+    (λ c κs. search needs)
+    (λ c κs. search needs)
+    (λ c κs. search needs)
     returns)

@@ -14,9 +14,6 @@ total-numbers-requires c κs = c .before .before .pre
 laid-end-requires : tie.Need-laid-end-requires
 laid-end-requires c κs = lines-positive _ _ (c .before .before .before .pre) (c .before .sections-of .ensures)
 
-ends-at-requires : tie.Need-ends-at-requires
-ends-at-requires c κs = search needs
-
 returns : tie.Need-returns
 returns c =
     let start = c .before .before .before .before .before .before in
@@ -55,7 +52,7 @@ body-refusal-spec =
     sections-of-requires
     total-numbers-requires
     laid-end-requires
-    ends-at-requires
+    (λ c κs. search needs)
     returns
     returns-2
     number-refusal-requires

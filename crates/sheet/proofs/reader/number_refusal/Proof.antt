@@ -18,12 +18,6 @@ challenges-ok-requires c κs = (c .before .before .before .pre, sym (c .before .
 rows-ok-requires : tie.Need-rows-ok-requires
 rows-ok-requires c κs = c .before .before .before .before .pre
 
-first-requires : tie.Need-first-requires
-first-requires c κs = search needs
-
-first-requires-2 : tie.Need-first-requires-2
-first-requires-2 c κs = search needs
-
 returns-2 : tie.Need-returns-2
 returns-2 c =
     let c1 = c .before in
@@ -41,6 +35,6 @@ number-refusal-spec =
     returns
     challenges-ok-requires
     rows-ok-requires
-    first-requires
-    first-requires-2
+    (λ c κs. search needs)
+    (λ c κs. search needs)
     returns-2)

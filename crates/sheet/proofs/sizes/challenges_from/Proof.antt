@@ -6,18 +6,6 @@ use borrow.Author.Needs.{needs}
 use Rattle.sheet.proofs.sizes.challenges_from.Statement.{statement}
 use Rattle.sheet.proofs.sizes.challenges_from.Tie as tie
 
-sections-of-requires : tie.Need-sections-of-requires
-sections-of-requires c κs = search needs
-
-add-a : tie.Need-add-a
-add-a c = search needs
-
-add-a-2 : tie.Need-add-a-2
-add-a-2 c = search needs
-
-add-a-3 : tie.Need-add-a-3
-add-a-3 c = search needs
-
 mul-own : tie.Need-mul-own
 mul-own c =
     let start = c .before .before .before .before in
@@ -50,10 +38,10 @@ pub challenges-from-spec : {M : Type 1} → statement M
 challenges-from-spec =
     tie.close
     (tie.spec
-    sections-of-requires
-    add-a
-    add-a-2
-    add-a-3
+    (λ c κs. search needs)
+    (λ c. search needs)
+    (λ c. search needs)
+    (λ c. search needs)
     mul-own
     add-result
     add-result-2

@@ -4,20 +4,11 @@ use borrow.Author.Needs.{needs}
 use Rattle.sheet.proofs.sizes.ends_line.Statement.{statement}
 use Rattle.sheet.proofs.sizes.ends_line.Tie as tie
 
-ends-element-requires : tie.Need-ends-element-requires
-ends-element-requires c κs = search needs
-
 returns : tie.Need-returns
 returns c = line-head _ _ (c .before .if1 .taken) (c .ends-element .ensures)
 
-ends-term-requires : tie.Need-ends-term-requires
-ends-term-requires c κs = search needs
-
 returns-2 : tie.Need-returns-2
 returns-2 c = line-terms _ _ (c .before .before .before .before .if1 .left) (c .before .if2 .taken) (c .ends-term .ensures)
-
-ends-element-requires-2 : tie.Need-ends-element-requires-2
-ends-element-requires-2 c κs = search needs
 
 returns-3 : tie.Need-returns-3
 returns-3 c =
@@ -29,9 +20,6 @@ returns-4 c =
     line-ones _ _ (c .before .before .before .before .before .before .before .before .before .if1 .left)
     (c .before .before .before .before .before .before .if2 .left) (c .before .before .before .if3 .left) (c .if4 .taken)
 
-ends-element-requires-3 : tie.Need-ends-element-requires-3
-ends-element-requires-3 c κs = search needs
-
 returns-5 : tie.Need-returns-5
 returns-5 c =
     line-tail _ _ (c .before .before .before .before .before .before .before .before .before .before .before .if1 .left)
@@ -42,12 +30,12 @@ pub ends-line-spec : {M : Type 1} → statement M
 ends-line-spec =
     tie.close
     (tie.spec
-    ends-element-requires
+    (λ c κs. search needs)
     returns
-    ends-term-requires
+    (λ c κs. search needs)
     returns-2
-    ends-element-requires-2
+    (λ c κs. search needs)
     returns-3
     returns-4
-    ends-element-requires-3
+    (λ c κs. search needs)
     returns-5)

@@ -8,18 +8,6 @@ use borrow.Author.Needs.{needs}
 use Rattle.sheet.proofs.sizes.last_count.Statement.{statement}
 use Rattle.sheet.proofs.sizes.last_count.Tie as tie
 
-t-size-requires : tie.Need-t-size-requires
-t-size-requires c κs = search needs
-
-garbage-size-requires : tie.Need-garbage-size-requires
-garbage-size-requires c κs = search needs
-
-garbage-size-requires-2 : tie.Need-garbage-size-requires-2
-garbage-size-requires-2 c κs = search needs
-
-mul-opening : tie.Need-mul-opening
-mul-opening c = search needs
-
 add-opening : tie.Need-add-opening
 add-opening c =
     let h = c .before in
@@ -83,10 +71,10 @@ pub last-count-spec : {M : Type 1} → statement M
 last-count-spec =
     tie.close
     (tie.spec
-    t-size-requires
-    garbage-size-requires
-    garbage-size-requires-2
-    mul-opening
+    (λ c κs. search needs)
+    (λ c κs. search needs)
+    (λ c κs. search needs)
+    (λ c. search needs)
     add-opening
     add-opening-2
     add-opening-3

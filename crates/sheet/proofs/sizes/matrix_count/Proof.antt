@@ -7,15 +7,6 @@ use borrow.Author.Needs.{needs}
 use Rattle.sheet.proofs.sizes.matrix_count.Statement.{statement}
 use Rattle.sheet.proofs.sizes.matrix_count.Tie as tie
 
-t-size-requires : tie.Need-t-size-requires
-t-size-requires c κs = search needs
-
-garbage-size-requires : tie.Need-garbage-size-requires
-garbage-size-requires c κs = search needs
-
-garbage-size-requires-2 : tie.Need-garbage-size-requires-2
-garbage-size-requires-2 c κs = search needs
-
 mul-a : tie.Need-mul-a
 mul-a c =
     let h = c .before in
@@ -86,9 +77,9 @@ pub matrix-count-spec : {M : Type 1} → statement M
 matrix-count-spec =
     tie.close
     (tie.spec
-    t-size-requires
-    garbage-size-requires
-    garbage-size-requires-2
+    (λ c κs. search needs)
+    (λ c κs. search needs)
+    (λ c κs. search needs)
     mul-a
     mul-b
     mul-c

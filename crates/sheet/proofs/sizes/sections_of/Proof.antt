@@ -7,29 +7,8 @@ use borrow.Author.Needs.{needs}
 use Rattle.sheet.proofs.sizes.sections_of.Statement.{statement}
 use Rattle.sheet.proofs.sizes.sections_of.Tie as tie
 
-head-numbers-requires : tie.Need-head-numbers-requires
-head-numbers-requires c κs = search needs
-
-term-size-requires : tie.Need-term-size-requires
-term-size-requires c κs = search needs
-
-middle-numbers-requires : tie.Need-middle-numbers-requires
-middle-numbers-requires c κs = search needs
-
 mul-terms : tie.Need-mul-terms
 mul-terms c = omega (arith, mul-le-mul (c .before .before .before .before .pre .term) (c .before .before .term-size .ensures .1))
-
-mul-ones : tie.Need-mul-ones
-mul-ones c = search needs
-
-mul-ones-2 : tie.Need-mul-ones-2
-mul-ones-2 c = search needs
-
-add-ones : tie.Need-add-ones
-add-ones c = search needs
-
-add-ones-2 : tie.Need-add-ones-2
-add-ones-2 c = search needs
 
 returns : tie.Need-returns
 unfolding sectionsOf onesCount
@@ -61,12 +40,12 @@ pub sections-of-spec : {M : Type 1} → statement M
 sections-of-spec =
     tie.close
     (tie.spec
-    head-numbers-requires
-    term-size-requires
-    middle-numbers-requires
+    (λ c κs. search needs)
+    (λ c κs. search needs)
+    (λ c κs. search needs)
     mul-terms
-    mul-ones
-    mul-ones-2
-    add-ones
-    add-ones-2
+    (λ c. search needs)
+    (λ c. search needs)
+    (λ c. search needs)
+    (λ c. search needs)
     returns)

@@ -6,12 +6,6 @@ use borrow.Author.Needs.{needs}
 use Rattle.sheet.proofs.sizes.total_numbers.Statement.{statement}
 use Rattle.sheet.proofs.sizes.total_numbers.Tie as tie
 
-sections-of-requires : tie.Need-sections-of-requires
-sections-of-requires c κs = search needs
-
-last-count-requires : tie.Need-last-count-requires
-last-count-requires c κs = search needs
-
 mul-tail : tie.Need-mul-tail
 mul-tail c = omega (arith, mul-le-mul (c .before .last-count .ensures .1) (c .before .before .before .pre .degree))
 
@@ -47,8 +41,8 @@ pub total-numbers-spec : {M : Type 1} → statement M
 total-numbers-spec =
     tie.close
     (tie.spec
-    sections-of-requires
-    last-count-requires
+    (λ c κs. search needs)
+    (λ c κs. search needs)
     mul-tail
     add-result
     add-result-2

@@ -18,9 +18,6 @@ loop-holds c =
     ranged-start (endsLine (start .args .s)) (start .args .text .now) (start .args .from) (start .args .start) (start .args .count)
     (start .args .bound) (start .pre .1)
 
-is-within-requires : tie.Need-is-within-requires Inv-loop μ-loop
-is-within-requires c κs = tt
-
 returns : tie.Need-returns Inv-loop μ-loop
 returns c =
     let at = c .before .before .before in
@@ -42,9 +39,6 @@ add-ends-line c =
 ends-line-requires : tie.Need-ends-line-requires Inv-loop μ-loop
 ends-line-requires c κs = c .before .before .before .before .before .pre .0
 
-field-width-requires : tie.Need-field-width-requires Inv-loop μ-loop
-field-width-requires c κs = tt
-
 add-here : tie.Need-add-here Inv-loop μ-loop
 add-here c =
     let at = c .before .before .before .before .before in
@@ -58,9 +52,6 @@ add-here c =
 
 add-j : tie.Need-add-j Inv-loop μ-loop
 add-j c = omega (arith, c .before .before .before .before .loop-test .taken)
-
-loop-less : tie.Need-loop-less Inv-loop μ-loop
-loop-less c = omega arith
 
 loop-again : tie.Need-loop-again Inv-loop μ-loop
 loop-again c =
@@ -85,13 +76,13 @@ all-within-spec =
     Inv-loop
     μ-loop
     loop-holds
-    is-within-requires
+    (λ c κs. tt)
     returns
     add-ends-line
     ends-line-requires
-    field-width-requires
+    (λ c κs. tt)
     add-here
     add-j
-    loop-less
+    (λ c. omega arith)
     loop-again
     returns-2)

@@ -65,9 +65,6 @@ add-at c =
 add-e : tie.Need-add-e Inv-loop μ-loop
 add-e c = omega (arith, c .before .before .before .loop-test .taken)
 
-loop-less : tie.Need-loop-less Inv-loop μ-loop
-loop-less c = omega arith
-
 loop-again : tie.Need-loop-again Inv-loop μ-loop
 loop-again c =
     let at = c .before .before .before .before in
@@ -96,6 +93,6 @@ are-challenges-spec =
     place-after-requires
     add-at
     add-e
-    loop-less
+    (λ c. omega arith)
     loop-again
     returns-2)

@@ -20,9 +20,6 @@ loop-holds c =
     filled-start (endsLine (start .args .s)) (start .args .text .now) (start .args .from) (start .args .start) (start .args .count)
     (start .pre .1 .0) (start .args .out .now)
 
-number-at-requires : tie.Need-number-at-requires Inv-loop μ-loop
-number-at-requires c κs = tt
-
 narrow-requires : tie.Need-narrow-requires Inv-loop μ-loop
 narrow-requires c κs =
     let at = c .before .before in
@@ -31,9 +28,6 @@ narrow-requires c κs =
     (filled-small (endsLine (start .args .s)) (start .args .text .now) (start .args .from) (start .args .start) (start .args .count)
     (start .pre .1 .0) (start .args .out .now) (at .loop .out) (at .loop .here) (at .loop .j) (at .loop .inv)
     (c .before .loop-test .taken) (start .pre .1 .1 .0))
-
-mul-t13 : tie.Need-mul-t13 Inv-loop μ-loop
-mul-t13 c = omega arith
 
 slice-set-from-out : tie.Need-slice-set-from-out Inv-loop μ-loop
 slice-set-from-out c = omega (arith, c .before .before .before .loop .inv .size, c .before .before .before .before .before .pre .1 .1 .1)
@@ -52,9 +46,6 @@ add-ends-line c =
 ends-line-requires : tie.Need-ends-line-requires Inv-loop μ-loop
 ends-line-requires c κs = c .before .before .before .before .before .pre .0
 
-field-width-requires : tie.Need-field-width-requires Inv-loop μ-loop
-field-width-requires c κs = tt
-
 add-here : tie.Need-add-here Inv-loop μ-loop
 add-here c =
     let at = c .before .before .before .before .before in
@@ -68,9 +59,6 @@ add-here c =
 
 add-j : tie.Need-add-j Inv-loop μ-loop
 add-j c = omega (arith, c .before .before .before .before .loop-test .taken)
-
-loop-less : tie.Need-loop-less Inv-loop μ-loop
-loop-less c = omega arith
 
 loop-again : tie.Need-loop-again Inv-loop μ-loop
 loop-again c =
@@ -106,16 +94,16 @@ fill-spec =
     Inv-loop
     μ-loop
     loop-holds
-    number-at-requires
+    (λ c κs. tt)
     narrow-requires
-    mul-t13
+    (λ c. omega arith)
     slice-set-from-out
     add-ends-line
     ends-line-requires
-    field-width-requires
+    (λ c κs. tt)
     add-here
     add-j
-    loop-less
+    (λ c. omega arith)
     loop-again
     same-length
     returns)

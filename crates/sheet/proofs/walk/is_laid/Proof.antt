@@ -5,12 +5,6 @@ use borrow.Author.Needs.{needs}
 use Rattle.sheet.proofs.walk.is_laid.Statement.{statement}
 use Rattle.sheet.proofs.walk.is_laid.Tie as tie
 
-read-field-requires : tie.Need-read-field-requires
-read-field-requires c κs = search needs
-
-is-number-requires : tie.Need-is-number-requires
-is-number-requires c κs = search needs
-
 returns : tie.Need-returns
 returns c = laid-none _ _ _ (c .before .before .read-field .ensures) (c .before .is-number .ensures) (c .if1 .taken)
 
@@ -21,9 +15,6 @@ add-is-feed c =
       number-inside _ _ (c .before .before .before .read-field .ensures) (c .before .before .is-number .ensures)
           (c .before .if1 .left),
     )
-
-is-feed-requires : tie.Need-is-feed-requires
-is-feed-requires c κs = search needs
 
 returns-2 : tie.Need-returns-2
 returns-2 c =
@@ -39,10 +30,10 @@ pub is-laid-spec : {M : Type 1} → statement M
 is-laid-spec =
     tie.close
     (tie.spec
-    read-field-requires
-    is-number-requires
+    (λ c κs. search needs)
+    (λ c κs. search needs)
     returns
     add-is-feed
-    is-feed-requires
+    (λ c κs. search needs)
     returns-2
     returns-3)

@@ -18,16 +18,10 @@ loop-holds c = laid-start _ _ _ _
 ends-line-requires : tie.Need-ends-line-requires Inv-loop μ-loop
 ends-line-requires c κs = c .before .before .before .pre
 
-is-laid-requires : tie.Need-is-laid-requires Inv-loop μ-loop
-is-laid-requires c κs = tt
-
 returns : tie.Need-returns Inv-loop μ-loop
 returns c =
     laid-broken _ _ _ _ _ _ (c .before .before .before .before .loop .inv) (c .before .before .before .loop-test .taken)
     (c .before .before .ends-line .ensures) (c .before .is-laid .ensures) (c .if1 .taken)
-
-field-width-requires : tie.Need-field-width-requires Inv-loop μ-loop
-field-width-requires c κs = tt
 
 add-here : tie.Need-add-here Inv-loop μ-loop
 add-here c =
@@ -37,12 +31,6 @@ add-here c =
           (c .before .before .before .before .loop-test .taken) (c .before .before .before .ends-line .ensures)
           (c .before .before .is-laid .ensures) (c .before .if1 .left) (c .field-width .ensures),
     )
-
-add-i : tie.Need-add-i Inv-loop μ-loop
-add-i c = omega arith
-
-loop-less : tie.Need-loop-less Inv-loop μ-loop
-loop-less c = omega arith
 
 loop-again : tie.Need-loop-again Inv-loop μ-loop
 loop-again c =
@@ -60,11 +48,11 @@ laid-end-spec =
     μ-loop
     loop-holds
     ends-line-requires
-    is-laid-requires
+    (λ c κs. tt)
     returns
-    field-width-requires
+    (λ c κs. tt)
     add-here
-    add-i
-    loop-less
+    (λ c. omega arith)
+    (λ c. omega arith)
     loop-again
     returns-2)

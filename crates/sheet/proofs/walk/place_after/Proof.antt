@@ -31,9 +31,6 @@ add-ends-line c =
 ends-line-requires : tie.Need-ends-line-requires Inv-loop μ-loop
 ends-line-requires c κs = c .before .before .before .pre .0
 
-field-width-requires : tie.Need-field-width-requires Inv-loop μ-loop
-field-width-requires c κs = tt
-
 add-here : tie.Need-add-here Inv-loop μ-loop
 add-here c =
     let at = c .before .before .before in
@@ -44,12 +41,6 @@ add-here c =
           (start .args .count) (start .pre .1) (at .loop .here) (at .loop .j) (at .loop .inv) (c .before .before .loop-test .taken)
           (c .before .ends-line .ensures) (c .field-width .ensures),
     )
-
-add-j : tie.Need-add-j Inv-loop μ-loop
-add-j c = omega arith
-
-loop-less : tie.Need-loop-less Inv-loop μ-loop
-loop-less c = omega arith
 
 loop-again : tie.Need-loop-again Inv-loop μ-loop
 loop-again c =
@@ -75,9 +66,9 @@ place-after-spec =
     loop-holds
     add-ends-line
     ends-line-requires
-    field-width-requires
+    (λ c κs. tt)
     add-here
-    add-j
-    loop-less
+    (λ c. omega arith)
+    (λ c. omega arith)
     loop-again
     returns)

@@ -14,9 +14,6 @@ Inv-loop sizes c opening k d count acc₀ i₀ acc i = Summed (sizes .d) (sizes 
 abbrev μ-loop : tie.MeasureT-loop
 μ-loop sizes c opening k d count acc₀ i₀ acc i = count - i
 
-additive-identity-requires : tie.Need-additive-identity-requires Inv-loop μ-loop
-additive-identity-requires c κs = tt
-
 loop-holds : tie.Need-loop-holds Inv-loop μ-loop
 loop-holds c = summed-start _ _ _ (c .additive-identity .ensures _)
 
@@ -28,12 +25,6 @@ folded-term-requires c κs =
 
 sum-requires : tie.Need-sum-requires Inv-loop μ-loop
 sum-requires c κs = c .before .before .before .before .pre .0 .shaped .degree
-
-add-i : tie.Need-add-i Inv-loop μ-loop
-add-i c = omega arith
-
-loop-less : tie.Need-loop-less Inv-loop μ-loop
-loop-less c = omega arith
 
 loop-again : tie.Need-loop-again Inv-loop μ-loop
 loop-again c =
@@ -51,11 +42,11 @@ folded-row-spec =
     (tie.spec
     Inv-loop
     μ-loop
-    additive-identity-requires
+    (λ c κs. tt)
     loop-holds
     folded-term-requires
     sum-requires
-    add-i
-    loop-less
+    (λ c. omega arith)
+    (λ c. omega arith)
     loop-again
     returns)

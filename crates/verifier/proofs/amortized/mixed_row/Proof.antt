@@ -15,12 +15,6 @@ Inv-loop d r b t opening place c i q width acc₀ k₀ acc k = Summed d width (m
 abbrev μ-loop : tie.MeasureT-loop
 μ-loop d r b t opening place c i q width acc₀ k₀ acc k = width - k
 
-sub-width : tie.Need-sub-width Inv-loop μ-loop
-sub-width c = omega arith
-
-additive-identity-requires : tie.Need-additive-identity-requires Inv-loop μ-loop
-additive-identity-requires c κs = tt
-
 loop-holds : tie.Need-loop-holds Inv-loop μ-loop
 loop-holds c = summed-start _ _ _ (c .additive-identity .ensures _)
 
@@ -43,12 +37,6 @@ mixed-term-requires c κs =
 sum-requires : tie.Need-sum-requires Inv-loop μ-loop
 sum-requires c κs = c .before .before .before .before .pre .0 .degree
 
-add-k : tie.Need-add-k Inv-loop μ-loop
-add-k c = omega arith
-
-loop-less : tie.Need-loop-less Inv-loop μ-loop
-loop-less c = omega arith
-
 loop-again : tie.Need-loop-again Inv-loop μ-loop
 loop-again c =
     let l = c .before .before .before in
@@ -67,13 +55,13 @@ mixed-row-spec =
     (tie.spec
     Inv-loop
     μ-loop
-    sub-width
-    additive-identity-requires
+    (λ c. omega arith)
+    (λ c κs. tt)
     loop-holds
     add-mixed-term
     mixed-term-requires
     sum-requires
-    add-k
-    loop-less
+    (λ c. omega arith)
+    (λ c. omega arith)
     loop-again
     returns)

@@ -16,9 +16,6 @@ Inv-loop d r b t opening place c acc₀ q₀ i₀ acc q i = Summed d r (mixedRow
 abbrev μ-loop : tie.MeasureT-loop
 μ-loop d r b t opening place c acc₀ q₀ i₀ acc q i = r - i
 
-additive-identity-requires : tie.Need-additive-identity-requires Inv-loop μ-loop
-additive-identity-requires c κs = tt
-
 loop-holds : tie.Need-loop-holds Inv-loop μ-loop
 loop-holds c = (summed-start _ _ _ (c .additive-identity .ensures _), pair-first _)
 
@@ -30,9 +27,6 @@ mixed-row-requires c κs =
 sum-requires : tie.Need-sum-requires Inv-loop μ-loop
 sum-requires c κs = c .before .before .before .before .pre .0 .degree
 
-sub-q : tie.Need-sub-q Inv-loop μ-loop
-sub-q c = omega arith
-
 add-q : tie.Need-add-q Inv-loop μ-loop
 add-q c =
     let l = c .before .before .before in
@@ -43,12 +37,6 @@ add-q c =
           (l .loop .inv .1),
       s .pre .0 .parts,
     )
-
-add-i : tie.Need-add-i Inv-loop μ-loop
-add-i c = omega arith
-
-loop-less : tie.Need-loop-less Inv-loop μ-loop
-loop-less c = omega arith
 
 loop-again : tie.Need-loop-again Inv-loop μ-loop
 loop-again c =
@@ -70,13 +58,13 @@ mixed-sum-spec =
     (tie.spec
     Inv-loop
     μ-loop
-    additive-identity-requires
+    (λ c κs. tt)
     loop-holds
     mixed-row-requires
     sum-requires
-    sub-q
+    (λ c. omega arith)
     add-q
-    add-i
-    loop-less
+    (λ c. omega arith)
+    (λ c. omega arith)
     loop-again
     returns)

@@ -27,19 +27,10 @@ from-slice-requires c κs =
     let s = c .before in
     (s .pre .0 .degree, element-fits (s .args .d) (s .args .r) (s .args .i) _ (s .pre .1 .0) (omega (arith, s .pre .1 .1 .0)))
 
-add-from-slice : tie.Need-add-from-slice
-add-from-slice c = search needs
-
 from-slice-requires-2 : tie.Need-from-slice-requires-2
 from-slice-requires-2 c κs =
     let s = c .before .before in
     (s .pre .0 .degree, element-fits (s .args .d) (s .args .r) (s .args .i + s .args .k) _ (s .pre .1 .0) (s .pre .1 .1 .0))
-
-product-requires : tie.Need-product-requires
-product-requires c κs = search needs
-
-product-requires-2 : tie.Need-product-requires-2
-product-requires-2 c κs = search needs
 
 returns : tie.Need-returns
 returns c =
@@ -51,9 +42,6 @@ returns c =
     (s .pre .1 .1 .1) (p .before .before .before .garbage-of .ensures)
     (p .before .before .from-slice .ensures) (p .before .from-slice2 .ensures) (p .product .ensures)
     (c .before .product2 .ensures)
-
-sum-requires : tie.Need-sum-requires
-sum-requires c κs = search needs
 
 returns-2 : tie.Need-returns-2
 returns-2 c =
@@ -73,10 +61,10 @@ mixed-term-spec =
     (tie.spec
     garbage-of-requires
     from-slice-requires
-    add-from-slice
+    (λ c. search needs)
     from-slice-requires-2
-    product-requires
-    product-requires-2
+    (λ c κs. search needs)
+    (λ c κs. search needs)
     returns
-    sum-requires
+    (λ c κs. search needs)
     returns-2)

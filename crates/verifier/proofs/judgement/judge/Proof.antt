@@ -5,9 +5,6 @@ use borrow.Author.Needs.{needs}
 use Rattle.verifier.proofs.judgement.judge.Statement.{statement}
 use Rattle.verifier.proofs.judgement.judge.Tie as tie
 
-short-projection-requires : tie.Need-short-projection-requires
-short-projection-requires c κs = search needs
-
 returns : tie.Need-returns
 returns c =
     let s = c .before .before in
@@ -102,7 +99,7 @@ pub judge-spec : {M : Type 1} → statement M
 judge-spec =
     tie.close
     (tie.spec
-    short-projection-requires
+    (λ c κs. search needs)
     returns
     constant-terms-requires
     returns-2

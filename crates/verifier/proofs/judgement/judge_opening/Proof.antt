@@ -6,17 +6,11 @@ use borrow.Author.Needs.{needs}
 use Rattle.verifier.proofs.judgement.judge_opening.Statement.{statement}
 use Rattle.verifier.proofs.judgement.judge_opening.Tie as tie
 
-amortized-requires : tie.Need-amortized-requires
-amortized-requires c κs = search needs
-
 returns : tie.Need-returns
 returns c =
     let s = c .before .before in
     let agree = s .pre .1 .agree in
     fails 5 _ _ _ (c .before .amortized .ensures ∙ check-five-cong _ _ _ _ _ _ agree _ _ _) (c .if1 .taken)
-
-self-product-requires : tie.Need-self-product-requires
-self-product-requires c κs = search needs
 
 returns-2 : tie.Need-returns-2
 returns-2 c =
@@ -66,9 +60,6 @@ returns-4 c =
     (passes 7 _ _ _ (a3 .linear-part .ensures ∙ check-seven-cong _ _ _ _ _ _ agree _ _) (e3 .if3 .left)
     (fails 8 _ _ _ (c .before .relation-holds .ensures (s .args .sizes .w) (s .args .rows .now) (s .args .omega .now)) (c .if4 .taken))))
 
-short-opening-requires : tie.Need-short-opening-requires
-short-opening-requires c κs = search needs
-
 returns-5 : tie.Need-returns-5
 returns-5 c =
     let e4 = c .before .before in
@@ -110,14 +101,14 @@ pub judge-opening-spec : {M : Type 1} → statement M
 judge-opening-spec =
     tie.close
     (tie.spec
-    amortized-requires
+    (λ c κs. search needs)
     returns
-    self-product-requires
+    (λ c κs. search needs)
     returns-2
     linear-part-requires
     returns-3
     relation-holds-requires
     returns-4
-    short-opening-requires
+    (λ c κs. search needs)
     returns-5
     returns-6)

@@ -15,9 +15,6 @@ Inv-loop sizes whole term rows psi omega table alpha delta c z d count acc₀ i�
 abbrev μ-loop : tie.MeasureT-loop
 μ-loop sizes whole term rows psi omega table alpha delta c z d count acc₀ i₀ acc i = count - i
 
-additive-identity-requires : tie.Need-additive-identity-requires Inv-loop μ-loop
-additive-identity-requires c κs = tt
-
 loop-holds : tie.Need-loop-holds Inv-loop μ-loop
 loop-holds c = summed-start _ _ _ (c .additive-identity .ensures _)
 
@@ -66,7 +63,7 @@ linear-sum-spec =
     (tie.spec
     Inv-loop
     μ-loop
-    additive-identity-requires
+    (λ c κs. tt)
     loop-holds
     phi-product-requires
     from-slice-requires

@@ -26,9 +26,6 @@ mul-first c =
           (c .pre .0 .wholes .shaped),
     )
 
-additive-identity-requires : tie.Need-additive-identity-requires Inv-loop μ-loop
-additive-identity-requires c κs = tt
-
 loop-holds : tie.Need-loop-holds Inv-loop μ-loop
 loop-holds c = summed-start _ _ _ (c .additive-identity .ensures _)
 
@@ -66,12 +63,6 @@ phi-term-requires c κs =
 sum-requires : tie.Need-sum-requires Inv-loop μ-loop
 sum-requires c κs = c .before .before .before .before .pre .0 .wholes .shaped .degree
 
-add-y : tie.Need-add-y Inv-loop μ-loop
-add-y c = omega arith
-
-loop-less : tie.Need-loop-less Inv-loop μ-loop
-loop-less c = omega arith
-
 loop-again : tie.Need-loop-again Inv-loop μ-loop
 loop-again c =
     let l = c .before .before .before in
@@ -92,12 +83,12 @@ phi-product-spec =
     Inv-loop
     μ-loop
     mul-first
-    additive-identity-requires
+    (λ c κs. tt)
     loop-holds
     add-phi-term
     phi-term-requires
     sum-requires
-    add-y
-    loop-less
+    (λ c. omega arith)
+    (λ c. omega arith)
     loop-again
     returns)

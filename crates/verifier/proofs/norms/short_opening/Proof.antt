@@ -10,17 +10,11 @@ use borrow.Author.Needs.{needs}
 use Rattle.verifier.proofs.norms.short_opening.Statement.{statement}
 use Rattle.verifier.proofs.norms.short_opening.Tie as tie
 
-t-place-requires : tie.Need-t-place-requires
-t-place-requires c κs = search needs
-
 mul-t-start : tie.Need-mul-t-start
 mul-t-start c =
     let s = c .before in
     let small : c .t-place .result ≤ 512 = rw (c .t-place .ensures) (t-place-bound (s .args .sizes) (s .pre .0)) in
     omega (arith, mul-le-mul small (s .pre .0 .shaped .degree .small))
-
-h-place-requires : tie.Need-h-place-requires
-h-place-requires c κs = search needs
 
 mul-h-start : tie.Need-mul-h-start
 mul-h-start c =
@@ -46,9 +40,9 @@ pub short-opening-spec : {M : Type 1} → statement M
 short-opening-spec =
     tie.close
     (tie.spec
-    t-place-requires
+    (λ c κs. search needs)
     mul-t-start
-    h-place-requires
+    (λ c κs. search needs)
     mul-h-start
     short-parts-requires
     returns)

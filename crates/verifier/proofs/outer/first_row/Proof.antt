@@ -9,12 +9,6 @@ use borrow.Author.Needs.{needs}
 use Rattle.verifier.proofs.outer.first_row.Statement.{statement}
 use Rattle.verifier.proofs.outer.first_row.Tie as tie
 
-t-size-requires : tie.Need-t-size-requires
-t-size-requires c κs = search needs
-
-t-place-requires : tie.Need-t-place-requires
-t-place-requires c κs = search needs
-
 row-times-requires : tie.Need-row-times-requires
 row-times-requires c κs =
     let s = c .before .before in
@@ -23,12 +17,6 @@ row-times-requires c κs =
     let row = row-fits (z .d) _ (z .kappa1) (s .args .k) _ _ (c .before .t-size .ensures) (s .pre .1 .0) (s .pre .1 .1 .1 .1 .1) in
     let part = part-fits (z .d) (c .t-place .ensures) (c .before .t-size .ensures) (t-within z _ (s .pre .1 .1 .1 .1 .0)) in
     (s .pre .0 .shaped .degree, (small, (row, part)))
-
-garbage-size-requires : tie.Need-garbage-size-requires
-garbage-size-requires c κs = search needs
-
-g-place-requires : tie.Need-g-place-requires
-g-place-requires c κs = search needs
 
 row-times-requires-2 : tie.Need-row-times-requires-2
 row-times-requires-2 c κs =
@@ -39,16 +27,10 @@ row-times-requires-2 c κs =
     let part = part-fits (z .d) (c .g-place .ensures) (c .before .garbage-size .ensures) (g-within z _ (s .pre .1 .1 .1 .1 .0)) in
     (s .pre .0 .shaped .degree, (small, (row, part)))
 
-sum-requires : tie.Need-sum-requires
-sum-requires c κs = search needs
-
 from-slice-requires : tie.Need-from-slice-requires
 from-slice-requires c κs =
     let s = c .before .before .before .before .before .before .before in
     (s .pre .0 .shaped .degree, element-fits _ _ (s .args .k) _ (s .pre .1 .1 .1 .0) (s .pre .1 .1 .1 .1 .1))
-
-equals-requires : tie.Need-equals-requires
-equals-requires c κs = search needs
 
 returns : tie.Need-returns
 returns c =
@@ -69,13 +51,13 @@ pub first-row-spec : {M : Type 1} → statement M
 first-row-spec =
     tie.close
     (tie.spec
-    t-size-requires
-    t-place-requires
+    (λ c κs. search needs)
+    (λ c κs. search needs)
     row-times-requires
-    garbage-size-requires
-    g-place-requires
+    (λ c κs. search needs)
+    (λ c κs. search needs)
     row-times-requires-2
-    sum-requires
+    (λ c κs. search needs)
     from-slice-requires
-    equals-requires
+    (λ c κs. search needs)
     returns)

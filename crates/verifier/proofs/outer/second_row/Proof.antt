@@ -9,12 +9,6 @@ use borrow.Author.Needs.{needs}
 use Rattle.verifier.proofs.outer.second_row.Statement.{statement}
 use Rattle.verifier.proofs.outer.second_row.Tie as tie
 
-garbage-size-requires : tie.Need-garbage-size-requires
-garbage-size-requires c κs = search needs
-
-h-place-requires : tie.Need-h-place-requires
-h-place-requires c κs = search needs
-
 row-times-requires : tie.Need-row-times-requires
 row-times-requires c κs =
     let s = c .before .before in
@@ -28,9 +22,6 @@ from-slice-requires : tie.Need-from-slice-requires
 from-slice-requires c κs =
     let s = c .before .before .before in
     (s .pre .0 .shaped .degree, element-fits _ _ (s .args .k) _ (s .pre .1 .1 .0) (s .pre .1 .1 .1 .1))
-
-equals-requires : tie.Need-equals-requires
-equals-requires c κs = search needs
 
 returns : tie.Need-returns
 returns c =
@@ -46,9 +37,9 @@ pub second-row-spec : {M : Type 1} → statement M
 second-row-spec =
     tie.close
     (tie.spec
-    garbage-size-requires
-    h-place-requires
+    (λ c κs. search needs)
+    (λ c κs. search needs)
     row-times-requires
     from-slice-requires
-    equals-requires
+    (λ c κs. search needs)
     returns)

@@ -5,34 +5,22 @@ use borrow.Author.Needs.{needs}
 use Rattle.verifier.proofs.relation.relation_holds.Statement.{statement}
 use Rattle.verifier.proofs.relation.relation_holds.Tie as tie
 
-g-place-requires : tie.Need-g-place-requires
-g-place-requires c κs = search needs
-
 relation-sum-requires : tie.Need-relation-sum-requires
 relation-sum-requires c κs =
     let s = c .before in
     let p = s .pre in
     (p .1 .0, (p .1 .1 .0, (p .1 .1 .1 .0 .0, g-garbage (s .args .sizes) (p .0) _ (p .1 .1 .1 .1) _ (c .g-place .ensures))))
 
-h-place-requires : tie.Need-h-place-requires
-h-place-requires c κs = search needs
-
 diagonal-sum-requires : tie.Need-diagonal-sum-requires
 diagonal-sum-requires c κs =
     let s = c .before .before .before in
     h-garbage (s .args .sizes) (s .pre .0) _ (s .pre .1 .1 .1 .1) _ (c .h-place .ensures)
-
-sum-requires : tie.Need-sum-requires
-sum-requires c κs = search needs
 
 aggregate-constant-requires : tie.Need-aggregate-constant-requires
 aggregate-constant-requires c κs =
     let s = c .before .before .before .before .before in
     let p = s .pre in
     (p .1 .0, (p .1 .1 .1 .0 .0 .sized, p .1 .1 .1 .0 .1 .sized))
-
-equals-requires : tie.Need-equals-requires
-equals-requires c κs = search needs
 
 returns : tie.Need-returns
 returns c =
@@ -52,11 +40,11 @@ pub relation-holds-spec : {M : Type 1} → statement M
 relation-holds-spec =
     tie.close
     (tie.spec
-    g-place-requires
+    (λ c κs. search needs)
     relation-sum-requires
-    h-place-requires
+    (λ c κs. search needs)
     diagonal-sum-requires
-    sum-requires
+    (λ c κs. search needs)
     aggregate-constant-requires
-    equals-requires
+    (λ c κs. search needs)
     returns)

@@ -19,9 +19,6 @@ abbrev μ-loop : tie.MeasureT-loop
 pair-count-requires : tie.Need-pair-count-requires Inv-loop μ-loop
 pair-count-requires c κs = c .pre .0 .shaped .parts-small
 
-additive-identity-requires : tie.Need-additive-identity-requires Inv-loop μ-loop
-additive-identity-requires c κs = tt
-
 loop-holds : tie.Need-loop-holds Inv-loop μ-loop
 loop-holds c = summed-start _ _ _ (c .additive-identity .ensures _)
 
@@ -33,12 +30,6 @@ relation-term-requires c κs =
 
 sum-requires : tie.Need-sum-requires Inv-loop μ-loop
 sum-requires c κs = c .before .before .before .before .before .pre .0 .shaped .degree
-
-add-q : tie.Need-add-q Inv-loop μ-loop
-add-q c = omega arith
-
-loop-less : tie.Need-loop-less Inv-loop μ-loop
-loop-less c = omega arith
 
 loop-again : tie.Need-loop-again Inv-loop μ-loop
 loop-again c =
@@ -63,11 +54,11 @@ relation-sum-spec =
     Inv-loop
     μ-loop
     pair-count-requires
-    additive-identity-requires
+    (λ c κs. tt)
     loop-holds
     relation-term-requires
     sum-requires
-    add-q
-    loop-less
+    (λ c. omega arith)
+    (λ c. omega arith)
     loop-again
     returns)

@@ -10,9 +10,6 @@ use borrow.Author.Needs.{needs}
 use Rattle.verifier.proofs.terms.constant_term_holds.Statement.{statement}
 use Rattle.verifier.proofs.terms.constant_term_holds.Tie as tie
 
-function-size-requires : tie.Need-function-size-requires
-function-size-requires c κs = search needs
-
 mul-last : tie.Need-mul-last
 mul-last c =
     let s = c .before in
@@ -49,22 +46,10 @@ weighted-sum-requires-2 c κs =
     let s = c .before .before .before .before in
     (weights-fit (s .args .k) (s .args .sizes .w) _ (s .pre .1 .1) (s .pre .1 .0 .omega-length), omega (arith, s .pre .1 .0 .projections))
 
-add-requires : tie.Need-add-requires
-add-requires c κs = search needs
-
 from-slice-requires : tie.Need-from-slice-requires
 from-slice-requires c κs =
     let s = c .before .before .before .before .before .before in
     (s .pre .0 .shaped .degree, element-fits _ 5 (s .args .k) _ (s .pre .1 .0 .second) (s .pre .1 .1))
-
-constant-term-requires : tie.Need-constant-term-requires
-constant-term-requires c κs = search needs
-
-residue-requires : tie.Need-residue-requires
-residue-requires c κs = search needs
-
-residue-requires-2 : tie.Need-residue-requires-2
-residue-requires-2 c κs = search needs
 
 returns : tie.Need-returns
 returns c =
@@ -86,16 +71,16 @@ pub constant-term-holds-spec : {M : Type 1} → statement M
 constant-term-holds-spec =
     tie.close
     (tie.spec
-    function-size-requires
+    (λ c κs. search needs)
     mul-last
     mul-weighted-sum
     add-weighted-sum
     weighted-sum-requires
     mul-weighted-sum-2
     weighted-sum-requires-2
-    add-requires
+    (λ c κs. search needs)
     from-slice-requires
-    constant-term-requires
-    residue-requires
-    residue-requires-2
+    (λ c κs. search needs)
+    (λ c κs. search needs)
+    (λ c κs. search needs)
     returns)

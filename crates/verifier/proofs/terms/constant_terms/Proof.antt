@@ -23,12 +23,6 @@ constant-term-holds-requires c κs =
     let s = c .before .before in
     (s .pre .0, (s .pre .1, c .loop-test .taken))
 
-add-k : tie.Need-add-k Inv-loop μ-loop
-add-k c = omega arith
-
-loop-less : tie.Need-loop-less Inv-loop μ-loop
-loop-less c = omega arith
-
 loop-again : tie.Need-loop-again Inv-loop μ-loop
 loop-again c = tested-step _ _ (c .constant-term-holds .result) (c .before .before .loop .inv) (c .before .loop-test .taken)
     (c .constant-term-holds .ensures)
@@ -44,7 +38,7 @@ constant-terms-spec =
     μ-loop
     loop-holds
     constant-term-holds-requires
-    add-k
-    loop-less
+    (λ c. omega arith)
+    (λ c. omega arith)
     loop-again
     returns)

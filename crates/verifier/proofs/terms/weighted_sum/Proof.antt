@@ -56,18 +56,6 @@ shared-slice-copy-out-y c =
     let s = c .before .before .before in
     step-fits (s .args .count) (s .args .first) (s .args .step) (c .before .before .loop .l) _ (c .before .loop-test .taken) (s .pre .1)
 
-multiply-requires : tie.Need-multiply-requires Inv-loop μ-loop
-multiply-requires c κs = tt
-
-add-requires : tie.Need-add-requires Inv-loop μ-loop
-add-requires c κs = tt
-
-add-l : tie.Need-add-l Inv-loop μ-loop
-add-l c = omega arith
-
-loop-less : tie.Need-loop-less Inv-loop μ-loop
-loop-less c = omega arith
-
 loop-again : tie.Need-loop-again Inv-loop μ-loop
 loop-again c =
     let y = c .before .before in
@@ -94,9 +82,9 @@ weighted-sum-spec =
     add-y
     mul-y-2
     shared-slice-copy-out-y
-    multiply-requires
-    add-requires
-    add-l
-    loop-less
+    (λ c κs. tt)
+    (λ c κs. tt)
+    (λ c. omega arith)
+    (λ c. omega arith)
     loop-again
     returns)
