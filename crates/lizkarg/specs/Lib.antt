@@ -1,7 +1,5 @@
 -- Definitions
 pub mod Calls
--- Theorems
-pub mod Theorems
 -- Closed cases
 pub mod Cases
 -- Laws

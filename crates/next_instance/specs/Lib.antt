@@ -3,7 +3,5 @@ pub mod Written
 pub mod Calls
 -- What a call that is not refused knows
 pub mod Known
--- Theorems
-pub mod Theorems
 -- Laws
 pub mod Laws

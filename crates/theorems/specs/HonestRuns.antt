@@ -1,10 +1,14 @@
--- Demand 3 for the calls themselves: what the five messages wrote is the honest transcript and opening, so `verify` answers as the theorem
--- says; and two answers `accepted` of `verify` give the two cases. Each hypothesis is a call's promise, not its code: those of the messages
--- stand in Calls.antt, `answer ≡ verification ..` is that of `verify`.
+-- Demand 3, honest runs: "For every statement, every witness that meets all its constraints, and whatever projection rows, ψ, ω, α, δ and c
+-- come in, none of them refused, the verdict on the honest messages and opening is failed 1 exactly when 2·|p|² is above w·β²; otherwise
+-- failed 9 exactly when the squared length of all its digits is above the target bound; otherwise accepted."
+-- For the calls' answers: where the five messages answered `Written`, what they wrote is the honest transcript and opening, and `verify`
+-- answers so. Each hypothesis is a call's promise, not its code.
+--     Sent             the five calls' promises, with what they wrote
+--     honest-calls     what `verify` answers on it
 use mathlib.Core.Path.{_≡_, refl, sym, ap, ap₂, subst₂, _∙_}
-use mathlib.Core.Logic.{_↔_, _≢_}
+use mathlib.Core.Logic.{_↔_}
 use mathlib.Core.List.{List}
-use Prim.Native.Nat.{ℕ, zero, suc, _+_, _*_, _≤_, _<_}
+use Prim.Native.Nat.{ℕ, zero, suc, _*_, _≤_, _<_}
 use native.Mathlib.Omega.{arith}
 use lib.IntN.{ℤ}
 use Rattle.integers.specs.Sums.{normSq}
@@ -27,10 +31,7 @@ use Rattle.fold.specs.Theorems.MessagesTaken.{messages-test-all}
 use Rattle.fold.specs.Honest.{honestTranscript, honestOpening}
 use Rattle.fold.specs.Theorems.HonestRuns.{honest-runs}
 use Rattle.fold.specs.Theorems.HonestFormed.{honest-formed}
-use Rattle.fold.specs.Differences.{difference, tgDigits}
-use Rattle.fold.specs.Theorems.TwoOpenings.{ShortKernel, ShortPreimage, two-openings}
-use Rattle.ring.specs.Element.{el}
 use Rattle.lizkarg.specs.Calls.{Committed, Projected, Aggregated, GarbageCommitted, Amortized}
 
 -- a call that answers `Written` was not refused, and left what it promises
 written-zero : (n : ℕ) → Written ≡ answered n Written → n ≡ 0
@@ -94,16 +95,6 @@ module _ (sizes : Sizes) (A B C D whole term rows ψ ω α δ c s : List ℤ) wh
     pub failed-9 : (answer ≡ Judged (Failed 9)) ↔ ((2 * normSq p ≤ sizes .w * sizes .bound) × (sizes .target < normSq o))
     pub accepted : (answer ≡ Judged Accepted) ↔ ((2 * normSq p ≤ sizes .w * sizes .bound) × (normSq o ≤ sizes .target))
 
-  -- demand 3, second half: two answers `accepted` of `verify` for this statement and one u1, whatever else came with them
-  pub two-accepted : (𝓓₁ 𝓓₂ : Draws) (𝓣₁ 𝓣₂ : Transcript) (o₁ o₂ : List ℤ) (answer₁ answer₂ : Answer)
-      → answer₁ ≡ verification 𝓢 𝓓₁ 𝓣₁ o₁ → answer₂ ≡ verification 𝓢 𝓓₂ 𝓣₂ o₂
-      → answer₁ ≡ Judged Accepted → answer₂ ≡ Judged Accepted → 𝓣₁ .u₁ ≡ 𝓣₂ .u₁
-      → (i : ℕ) → i < sizes .r → ((j : ℕ) → j < sizes .r → j ≢ i → el (sizes .d) (𝓓₁ .c) j ≡ el (sizes .d) (𝓓₂ .c) j)
-      → (tgDigits 𝓢 o₁ ≢ tgDigits 𝓢 o₂ → ShortKernel 𝓢 (difference (tgDigits 𝓢 o₁) (tgDigits 𝓢 o₂)))
-      × (tgDigits 𝓢 o₁ ≡ tgDigits 𝓢 o₂ → ShortPreimage 𝓢 𝓓₁ 𝓓₂ 𝓣₁ 𝓣₂ o₁ o₂ i (1 + sizes .b * sizes .b))
-  two-accepted 𝓓₁ 𝓓₂ 𝓣₁ 𝓣₂ o₁ o₂ answer₁ answer₂ is₁ is₂ one two same =
-      two-openings 𝓢 𝓓₁ 𝓓₂ 𝓣₁ 𝓣₂ o₁ o₂ (sym is₁ ∙ one) (sym is₂ ∙ two) same refl
-
   -- the five calls, all from one statement, one witness and one set of draws, answered `Written` and left these numbers
   pub record Sent (u₁ p b″ u₂ z t g h : List ℤ) : Type 0 where
     pub before : record { t : List ℤ; g : List ℤ; u₁ : List ℤ; p : List ℤ; b″ : List ℤ; h : List ℤ; u₂ : List ℤ; z : List ℤ }
@@ -138,7 +129,7 @@ module _ (sizes : Sizes) (A B C D whole term rows ψ ω α δ c s : List ℤ) wh
         messages-test-all 𝓢 𝓓 s _ _ _ _ _ _ (written-zero _ (sent .message-1 .answer-is)) (written-zero _ (sent .message-4 .answer-is))
         (written-zero _ (sent .message-5 .answer-is)) bounds
 
-    -- demand 3, first half: what `verify` answered on what the calls wrote, where β² and β'² keep row 6
+    -- what `verify` answered on what the calls wrote, where β² and β'² keep row 6, which no message tests
     pub honest-calls : firstRefusal (boundTests 𝓢 𝓓) ≡ 0 → Meets (𝓢 .relation) s
         → (answer : Answer) → answer ≡ verification 𝓢 𝓓 (transcriptOf u₁ p b″ u₂) (opening z t g h)
         → HonestAnswer p (opening z t g h) answer

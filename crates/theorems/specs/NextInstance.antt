@@ -1,6 +1,9 @@
--- Demand 2 for the calls themselves, where `next_instance` answered `Written`: `verify` accepts an opening exactly if, padded, it solves the
--- relation whose constraints are the numbers written; and a solution whose padding is zero is, with the padding cut off, accepted.
--- Each hypothesis is a call's promise, not its code: `called` that of `next_instance`, `answer ≡ verification ..` that of `verify`.
+-- Demand 2: "When the checks on projection and constant terms pass and the next instance is not too large, an opening is accepted exactly if,
+-- padded, it solves the next instance."
+-- For the calls' answers, where `next_instance` answered `Written`: so the checks passed and n' is at most 256. Each hypothesis is a call's
+-- promise, not its code: `called` that of `next_instance`, `answer ≡ verification ..` that of `verify`.
+--     accepted-exactly     `verify` accepts an opening exactly if, padded, it solves the relation whose constraints are the numbers written
+--     solution-accepts     "A solution of the next instance whose padding is zero is, with the padding cut off, an accepted opening"
 use mathlib.Core.Path.{_≡_, sym, subst, _∙_}
 use mathlib.Core.Logic.{_↔_}
 use mathlib.Core.List.{List, []}
