@@ -2,8 +2,6 @@
 -- projection rows, ψ, ω, α, δ and c."
 use mathlib.Core.List.{List}
 use lib.IntN.{ℤ}
-use Rattle.algebra.specs.DotProduct.{Function}
-use Rattle.ring.specs.Element.{R}
 use Rattle.fold.specs.Statement.{Relation}
 use Rattle.fold.specs.Messages as Messages
 use Rattle.fold.specs.Statement.{Statement, Draws, Transcript}
@@ -19,11 +17,8 @@ module _ (𝓢 : Statement) (𝓓 : Draws) (s : List ℤ) where
   abbrev pub honestG : List ℤ
   honestG = Messages.gDigits d n r b₂ t₂ s
 
-  abbrev pub honestAggregate : Function (R d)
-  honestAggregate = Messages.aggregate d n r K L w whole term projections ψ ω α δ
-
   abbrev pub honestH : List ℤ
-  honestH = Messages.hDigits d n r b₁ t₁ (honestAggregate .φ) s
+  honestH = Messages.hDigits d n r b₁ t₁ (Messages.aggregated 𝓢 𝓓 .φ) s
 
   abbrev pub honestTranscript : Transcript
   honestTranscript =

@@ -14,7 +14,7 @@ use Rattle.residues.specs.Modulus.{Zq, centred}
 use Rattle.ring.specs.Element.{R, el, coeffs, number}
 use Rattle.residues.specs.Digits.{split}
 use Rattle.fold.specs.Sizes.{tSize, garbageSize}
-use Rattle.fold.specs.Statement.{part, function, wholeAt, wholeConstant, termAt}
+use Rattle.fold.specs.Statement.{part, function, wholeAt, wholeConstant, termAt, Relation, Statement, Draws}
 
 -- the elements x 0 .. x (n-1) as a flat list
 unfoldable pub elements : (d n : ℕ) → (ℕ → R d .Carrier) → List ℤ
@@ -77,6 +77,15 @@ aggregate d n r K L w whole term projections ψ ω α δ =
     plus (R d)
     (combination (R d) K (el d α) (λ k. function d n r (wholeAt d n r whole k)))
     (combination (R d) five (el d δ) (second d n r L w term projections ψ ω))
+
+module _ (𝓢 : Statement) (𝓓 : Draws) where
+  open Statement 𝓢 using (relation, w)
+  open Relation relation using (d, n, r, K, L, whole, term)
+  open Draws 𝓓 using (projections, ψ, ω, α, δ)
+
+  -- the aggregate of a statement and its draws
+  abbrev pub aggregated : Function (R d)
+  aggregated = aggregate d n r K L w whole term projections ψ ω α δ
 
 -- the aggregate's b: Σα b + Σδ b''
 unfoldable pub aggregateConstant : (d n r K : ℕ) → List ℤ → List ℤ → List ℤ → List ℤ → R d .Carrier

@@ -10,12 +10,11 @@ use Rattle.integers.specs.Lists.{tab}
 use Rattle.integers.specs.Flat.{flat}
 use Rattle.algebra.specs.CommRing.{CommRing}
 use Rattle.algebra.specs.Sum.{sum}
-use Rattle.algebra.specs.DotProduct.{Function}
 use Rattle.ring.specs.Element.{R, el, number}
 use Rattle.fold.specs.Chunks.{width, padded}
 use Rattle.fold.specs.Sizes.{tSize, garbageSize, restSize, nextRank, nextParts, nextCount}
 use Rattle.fold.specs.Statement.{Relation}
-use Rattle.fold.specs.Messages.{aggregate, aggregateConstant}
+use Rattle.fold.specs.Messages.{aggregated, aggregateConstant}
 use Rattle.fold.specs.Statement.{Statement, Draws, Transcript}
 use Rattle.fold.specs.Constraint.{Constraint, laidOut}
 
@@ -64,9 +63,6 @@ module _ (𝓢 : Statement) (𝓓 : Draws) (𝓣 : Transcript) (ν μ : ℕ) whe
 
   infixl 70 _⊗_
   infix 75 ⊖_
-  abbrev pub aggregated : Function (R d)
-  aggregated = aggregate d n r K L w whole term projections ψ ω α δ
-
   -- a table is a block for each of z, t, g, h; these are the empty ones
   abbrev pub noZ : List Rd
   noZ = zeros d (tz * n)
@@ -81,8 +77,8 @@ module _ (𝓢 : Statement) (𝓓 : Draws) (𝓣 : Transcript) (ν μ : ℕ) whe
   noH = zeros d (garbageSize r t₁)
 
   -- check 5, row k: A z - Σ c_i t_i
-  abbrev pub check5 : ℕ → Constraint d
-  check5 k =
+  abbrev pub constraint₅ : ℕ → Constraint d
+  constraint₅ k =
       record {
         a = no-a d;
         table =
@@ -93,8 +89,8 @@ module _ (𝓢 : Statement) (𝓓 : Draws) (𝓣 : Transcript) (ν μ : ℕ) whe
       }
 
   -- check 6: <z,z> - Σ g_ii c_i² - 2Σ g_ij c_i c_j
-  abbrev pub check6 : Constraint d
-  check6 =
+  abbrev pub constraint₆ : Constraint d
+  constraint₆ =
       record {
         a = squares d tz ν b;
         table = noZ ++ (noT ++ (garbageTable d r b₂ t₂ (λ i j. ⊖ product d (el d c) i j) ++ noH));
@@ -102,32 +98,32 @@ module _ (𝓢 : Statement) (𝓓 : Draws) (𝓣 : Transcript) (ν μ : ℕ) whe
       }
 
   -- check 7: Σ <φ_i,z> c_i - Σ h_ii c_i² - 2Σ h_ij c_i c_j
-  abbrev pub check7 : Constraint d
-  check7 =
+  abbrev pub constraint₇ : Constraint d
+  constraint₇ =
       record {
         a = no-a d;
         table =
-            zTable d n tz b (λ k. sum (R d) r (λ i. aggregated .φ i k ⊗ el d c i))
+            zTable d n tz b (λ k. sum (R d) r (λ i. aggregated 𝓢 𝓓 .φ i k ⊗ el d c i))
             ++ (noT
             ++ (noG ++ garbageTable d r b₁ t₁ (λ i j. ⊖ product d (el d c) i j)));
         constant = 𝟘;
       }
 
   -- check 8: Σ a_ij g_ij + Σ h_ii - b
-  abbrev pub check8 : Constraint d
-  check8 =
+  abbrev pub constraint₈ : Constraint d
+  constraint₈ =
       record {
         a = no-a d;
         table =
             noZ
             ++ (noT
-            ++ (garbageTable d r b₂ t₂ (aggregated .a) ++ garbageTable d r b₁ t₁ (λ i j. cond (eqb i j) 𝟙 𝟘)));
+            ++ (garbageTable d r b₂ t₂ (aggregated 𝓢 𝓓 .a) ++ garbageTable d r b₁ t₁ (λ i j. cond (eqb i j) 𝟙 𝟘)));
         constant = aggregateConstant d n r K whole α δ b″;
       }
 
   -- check 3, row k: B·t + C·g - u1
-  abbrev pub check3 : ℕ → Constraint d
-  check3 k =
+  abbrev pub constraint₃ : ℕ → Constraint d
+  constraint₃ k =
       record {
         a = no-a d;
         table =
@@ -138,8 +134,8 @@ module _ (𝓢 : Statement) (𝓓 : Draws) (𝓣 : Transcript) (ν μ : ℕ) whe
       }
 
   -- check 4, row k: D·h - u2
-  abbrev pub check4 : ℕ → Constraint d
-  check4 k =
+  abbrev pub constraint₄ : ℕ → Constraint d
+  constraint₄ k =
       record {
         a = no-a d;
         table = noZ ++ (noT ++ (noG ++ tab (garbageSize r t₁) (λ y. el d D (k * garbageSize r t₁ + y))));
@@ -148,7 +144,7 @@ module _ (𝓢 : Statement) (𝓓 : Draws) (𝓣 : Transcript) (ν μ : ℕ) whe
 
   -- "Constraints, all of the whole kind: checks 5 (κ), 6, 7, 8, 3 (κ1), 4 (κ2)"
   unfoldable pub constraint : ℕ → Constraint d
-  constraint x = getD (tab κ check5 ++ (check6 ∷ check7 ∷ check8 ∷ (tab κ₁ check3 ++ tab κ₂ check4))) x check6
+  constraint x = getD (tab κ constraint₅ ++ (constraint₆ ∷ constraint₇ ∷ constraint₈ ∷ (tab κ₁ constraint₃ ++ tab κ₂ constraint₄))) x constraint₆
 
   -- ---- the instance
 

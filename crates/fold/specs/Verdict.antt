@@ -11,13 +11,13 @@ use Rattle.integers.specs.Sums.{normSq}
 use Rattle.algebra.specs.Sum.{sum}
 use Rattle.algebra.specs.Triangle.{rows}
 use Rattle.algebra.specs.Conjugation.{ct}
-use Rattle.algebra.specs.DotProduct.{Function, inner, mixed}
+use Rattle.algebra.specs.DotProduct.{inner, mixed}
 use Rattle.residues.specs.Modulus.{Zq, red}
 use Rattle.ring.specs.Element.{R, el, every, same}
 use Rattle.fold.specs.declared.Verdict.{Verdict}
 use Rattle.fold.specs.Answers.{firstFailed}
 use Rattle.fold.specs.Statement.{Relation, termConstant}
-use Rattle.fold.specs.Messages.{five, times, outer₁, outer₂, aggregate, aggregateConstant}
+use Rattle.fold.specs.Messages.{five, times, outer₁, outer₂, aggregated, aggregateConstant}
 use Rattle.fold.specs.Opening.{block, tPlace, gPlace, hPlace, zOf, tOf, garbageOf, zLength, tgLength, hLength}
 use Rattle.fold.specs.Statement.{Statement, Draws, Transcript}
 
@@ -96,9 +96,6 @@ module _ (𝓢 : Statement) (𝓓 : Draws) (𝓣 : Transcript) (o : List ℤ) wh
   abbrev pub hᵒ : ℕ → ℕ → R d .Carrier
   hᵒ = garbageOf d r b₁ t₁ hBlock
 
-  abbrev pub aggregated : Function (R d)
-  aggregated = aggregate d n r K L w whole term projections ψ ω α δ
-
   -- checks 1 to 9 in order
   abbrev pub checks : List Bool
   checks =
@@ -108,8 +105,8 @@ module _ (𝓢 : Statement) (𝓓 : Draws) (𝓣 : Transcript) (o : List ℤ) wh
       ∷ check₄ d r κ₂ t₁ D u₂ hBlock
       ∷ check₅ d n r κ A c zᵒ tᵒ
       ∷ check₆ d n r c zᵒ gᵒ
-      ∷ check₇ d n r c (aggregated .φ) zᵒ hᵒ
-      ∷ check₈ d r (aggregated .a) (aggregateConstant d n r K whole α δ b″) gᵒ hᵒ
+      ∷ check₇ d n r c (aggregated 𝓢 𝓓 .φ) zᵒ hᵒ
+      ∷ check₈ d r (aggregated 𝓢 𝓓 .a) (aggregateConstant d n r K whole α δ b″) gᵒ hᵒ
       ∷ check₉ d n r tz κ t₁ t₂ target o
       ∷ []
 

@@ -20,11 +20,11 @@ use Rattle.ring.specs.Laws.ElementEquality.{every-true, true-every, same-true, 
 use Rattle.fold.specs.declared.Verdict.the-variants.{Accepted, Failed}
 use Rattle.fold.specs.Answers.{firstFailed}
 use Rattle.fold.specs.Statement.{Relation, termConstant}
-use Rattle.fold.specs.Messages.{five, times, outer₁, outer₂, aggregateConstant}
+use Rattle.fold.specs.Messages.{five, times, outer₁, outer₂, aggregateConstant, aggregated}
 use Rattle.fold.specs.Statement.{Statement, Draws, Transcript}
 use Rattle.fold.specs.Verdict.{verdict}
 use Rattle.fold.specs.Opening.{zLength, tgLength, hLength}
-use Rattle.fold.specs.Verdict.{tBlock, gBlock, hBlock, zᵒ, tᵒ, gᵒ, hᵒ, aggregated}
+use Rattle.fold.specs.Verdict.{tBlock, gBlock, hBlock, zᵒ, tᵒ, gᵒ, hᵒ}
 use Rattle.fold.specs.Verdict.{check₁, check₂, check₃, check₄, check₅, check₆, check₇, check₈, check₉}
 
 module _ (𝓢 : Statement) (𝓓 : Draws) (𝓣 : Transcript) (o : List ℤ) where
@@ -52,11 +52,11 @@ module _ (𝓢 : Statement) (𝓓 : Draws) (𝓣 : Transcript) (o : List ℤ) wh
     -- "<z,z> = Σ g_ii c_i² + 2Σ_{i<j} g_ij c_i c_j"
     pub self-product : inner (R d) n (zᵒ 𝓢 𝓓 𝓣 o) (zᵒ 𝓢 𝓓 𝓣 o) ≡ mixed (R d) r (gᵒ 𝓢 𝓓 𝓣 o) (el d c)
     -- "Σ<φ_i,z>c_i = Σ h_ii c_i² + 2Σ_{i<j} h_ij c_i c_j"
-    pub linear-part : sum (R d) r (λ i. R d .mul (inner (R d) n (aggregated 𝓢 𝓓 𝓣 o .φ i) (zᵒ 𝓢 𝓓 𝓣 o)) (el d c i))
+    pub linear-part : sum (R d) r (λ i. R d .mul (inner (R d) n (aggregated 𝓢 𝓓 .φ i) (zᵒ 𝓢 𝓓 𝓣 o)) (el d c i))
         ≡ mixed (R d) r (hᵒ 𝓢 𝓓 𝓣 o) (el d c)
     -- "Σ a_ij g_ij + Σ h_ii = b"
     pub relation-holds : R d .add
-        (rows (R d) r (λ i j. R d .mul (aggregated 𝓢 𝓓 𝓣 o .a i j) (gᵒ 𝓢 𝓓 𝓣 o i j)))
+        (rows (R d) r (λ i j. R d .mul (aggregated 𝓢 𝓓 .a i j) (gᵒ 𝓢 𝓓 𝓣 o i j)))
         (sum (R d) r (λ i. hᵒ 𝓢 𝓓 𝓣 o i i))
         ≡ aggregateConstant d n r K whole α δ b″
     -- "All digits' squared length ≤ β'²"

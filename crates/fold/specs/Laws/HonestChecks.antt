@@ -34,7 +34,7 @@ use Rattle.fold.specs.Statement.{Statement, Draws, Transcript}
 use Rattle.fold.specs.Verdict.{tBlock, gBlock, hBlock, zᵒ, tᵒ, gᵒ, hᵒ}
 use Rattle.fold.specs.Verdict.{check₂, check₃, check₄, check₅, check₆, check₇, check₈, check₉}
 use Rattle.fold.specs.Opening.{zLength, tgLength, hLength}
-use Rattle.fold.specs.Honest.{honestT, honestG, honestAggregate, honestH, honestTranscript, honestOpening}
+use Rattle.fold.specs.Honest.{honestT, honestG, honestH, honestTranscript, honestOpening}
 
 -- some coefficient, bases from 2 on, some digits
 pub record Shaped (𝓢 : Statement) : Type 0 where
@@ -58,7 +58,7 @@ module _ (𝓢 : Statement) (𝓓 : Draws) (s : List ℤ) where
   𝓣 = honestTranscript 𝓢 𝓓 s
 
   abbrev φ : ℕ → ℕ → R d .Carrier
-  φ = honestAggregate 𝓢 𝓓 s .φ
+  φ = Messages.aggregated 𝓢 𝓓 .φ
 
   -- ---- lengths
 
@@ -165,14 +165,14 @@ module _ (𝓢 : Statement) (𝓓 : Draws) (s : List ℤ) where
         ∙ sym (mixed-cong (R d) r _ _ (el d c) (el d c) honest-h (λ i _. refl)))
 
     pub passes₈ : Meets relation s
-        → check₈ d r (honestAggregate 𝓢 𝓓 s .a) (Messages.aggregateConstant d n r K whole α δ (𝓣 .b″)) (gᵒ 𝓢 𝓓 𝓣 o) (hᵒ 𝓢 𝓓 𝓣 o) ≡ true
+        → check₈ d r (Messages.aggregated 𝓢 𝓓 .a) (Messages.aggregateConstant d n r K whole α δ (𝓣 .b″)) (gᵒ 𝓢 𝓓 𝓣 o) (hᵒ 𝓢 𝓓 𝓣 o) ≡ true
     unfolding check₈ Messages.g Messages.h
     passes₈ meets =
         test _ _
         (ap₂ (R d .add)
-        (rows-cong (R d) r _ _ (λ i j l h. ap (R d .mul (honestAggregate 𝓢 𝓓 s .a i j)) (honest-g i j l h)))
+        (rows-cong (R d) r _ _ (λ i j l h. ap (R d .mul (Messages.aggregated 𝓢 𝓓 .a i j)) (honest-g i j l h)))
         (sum-cong (R d) r _ _ (λ i l. honest-h i i (omega arith) l))
-        ∙ value-garbage (R d) (half d) (half-law d) r n (honestAggregate 𝓢 𝓓 s .a) φ (part d n s)
+        ∙ value-garbage (R d) (half d) (half-law d) r n (Messages.aggregated 𝓢 𝓓 .a) φ (part d n s)
         ∙ value-aggregate relation s meets w projections ψ ω α δ)
 
   pub states₉ : check₉ d n r tz κ t₁ t₂ target o ≡ leb (normSq o) target

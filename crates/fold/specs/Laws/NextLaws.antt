@@ -19,10 +19,10 @@ use Rattle.ring.specs.Element.{R, el}
 use Rattle.ring.specs.Joined.{joined}
 use Rattle.fold.specs.Sizes.{tSize, garbageSize, restSize, openingSize, nextRank, nextParts}
 use Rattle.fold.specs.Statement.{Relation, part}
-use Rattle.fold.specs.Messages.{times, outer₁, outer₂}
+use Rattle.fold.specs.Messages.{times, outer₁, outer₂, aggregated}
 use Rattle.fold.specs.Statement.{Statement, Draws, Transcript}
 use Rattle.fold.specs.Opening.{block, tPlace, gPlace, hPlace, zOf}
-use Rattle.fold.specs.Verdict.{tBlock, gBlock, hBlock, zᵒ, tᵒ, gᵒ, hᵒ, aggregated}
+use Rattle.fold.specs.Verdict.{tBlock, gBlock, hBlock, zᵒ, tᵒ, gᵒ, hᵒ}
 use Rattle.fold.specs.Chunks.{width, padded}
 use Rattle.fold.specs.Laws.ChunkLaws.{width-bound, widths-cover}
 use Rattle.fold.specs.Laws.PaddingLaws.{part-padded, part-padding}
@@ -30,7 +30,7 @@ use Rattle.fold.specs.Laws.ChunkSums.{chunk-products}
 use Rattle.fold.specs.Laws.TableSums.{dot-two, rows-zero, inner-aggregate}
 use Rattle.fold.specs.Laws.SelfProduct.{self-product}
 use Rattle.fold.specs.Constraint.{Constraint, φ′}
-use Rattle.fold.specs.NextInstance.{power, zeros, no-a, squares, check3, check4, check5, check6, check7, check8}
+use Rattle.fold.specs.NextInstance.{power, zeros, no-a, squares, constraint₃, constraint₄, constraint₅, constraint₆, constraint₇, constraint₈}
 use Rattle.fold.specs.Laws.TableLaws.{Summed, squares-once, squares-twice, zTable-sums, garbageTable-sums, mixed-sums}
 use Rattle.fold.specs.Laws.TableLaws.{row-sums, diagonal-sums, tab-sums, empty-sums}
 
@@ -167,7 +167,7 @@ module _ (𝓢 : Statement) (𝓓 : Draws) (𝓣 : Transcript) (ν μ : ℕ) (o 
 
     -- A z - Σ c_i t_i
     pub value-five : (k : ℕ) → k < κ
-        → valued (check5 𝓢 𝓓 𝓣 ν μ k)
+        → valued (constraint₅ 𝓢 𝓓 𝓣 ν μ k)
         ≡ sub (R d) (times d n A k (zᵒ 𝓢 𝓓 𝓣 o)) (sum (R d) r (λ i. el d c i ⊗ tᵒ 𝓢 𝓓 𝓣 o i k))
     unfolding times
     value-five k l =
@@ -176,7 +176,7 @@ module _ (𝓢 : Statement) (𝓓 : Draws) (𝓣 : Transcript) (ν μ : ℕ) (o 
         ∙ in-five (R d) _ _
 
     -- <z,z> - Σ g_ii c_i² - 2Σ g_ij c_i c_j
-    pub value-six : valued (check6 𝓢 𝓓 𝓣 ν μ)
+    pub value-six : valued (constraint₆ 𝓢 𝓓 𝓣 ν μ)
         ≡ sub (R d) (inner (R d) n (zᵒ 𝓢 𝓓 𝓣 o) (zᵒ 𝓢 𝓓 𝓣 o)) (mixed (R d) r (gᵒ 𝓢 𝓓 𝓣 o) (el d c))
     unfolding zOf joined
     value-six =
@@ -186,32 +186,32 @@ module _ (𝓢 : Statement) (𝓓 : Draws) (𝓣 : Transcript) (ν μ : ℕ) (o 
         ∙ in-six (R d) _ _
 
     -- Σ <φ_i,z> c_i - Σ h_ii c_i² - 2Σ h_ij c_i c_j
-    pub value-seven : valued (check7 𝓢 𝓓 𝓣 ν μ)
+    pub value-seven : valued (constraint₇ 𝓢 𝓓 𝓣 ν μ)
         ≡ sub (R d)
-        (sum (R d) r (λ i. inner (R d) n (aggregated 𝓢 𝓓 𝓣 o .φ i) (zᵒ 𝓢 𝓓 𝓣 o) ⊗ el d c i))
+        (sum (R d) r (λ i. inner (R d) n (aggregated 𝓢 𝓓 .φ i) (zᵒ 𝓢 𝓓 𝓣 o) ⊗ el d c i))
         (mixed (R d) r (hᵒ 𝓢 𝓓 𝓣 o) (el d c))
     value-seven =
         value-linear (zTable-sums d n tz b _ (el d o)) no-t no-g (mixed-sums d r b₁ t₁ (el d c) (hBlock 𝓢 𝓓 𝓣 o))
         ∙ in-seven (R d) _ _
         ∙ ap (λ x. sub (R d) x (mixed (R d) r (hᵒ 𝓢 𝓓 𝓣 o) (el d c)))
-        (inner-aggregate (R d) r n (aggregated 𝓢 𝓓 𝓣 o .φ) (el d c) (zᵒ 𝓢 𝓓 𝓣 o))
+        (inner-aggregate (R d) r n (aggregated 𝓢 𝓓 .φ) (el d c) (zᵒ 𝓢 𝓓 𝓣 o))
 
     -- Σ a_ij g_ij + Σ h_ii
-    pub value-eight : valued (check8 𝓢 𝓓 𝓣 ν μ)
-        ≡ rows (R d) r (λ i j. aggregated 𝓢 𝓓 𝓣 o .a i j ⊗ gᵒ 𝓢 𝓓 𝓣 o i j) ⊕ sum (R d) r (λ i. hᵒ 𝓢 𝓓 𝓣 o i i)
+    pub value-eight : valued (constraint₈ 𝓢 𝓓 𝓣 ν μ)
+        ≡ rows (R d) r (λ i j. aggregated 𝓢 𝓓 .a i j ⊗ gᵒ 𝓢 𝓓 𝓣 o i j) ⊕ sum (R d) r (λ i. hᵒ 𝓢 𝓓 𝓣 o i i)
     value-eight =
-        value-linear no-z no-t (garbageTable-sums d r b₂ t₂ (aggregated 𝓢 𝓓 𝓣 o .a) (gBlock 𝓢 𝓓 𝓣 o))
+        value-linear no-z no-t (garbageTable-sums d r b₂ t₂ (aggregated 𝓢 𝓓 .a) (gBlock 𝓢 𝓓 𝓣 o))
         (diagonal-sums d r b₁ t₁ (hBlock 𝓢 𝓓 𝓣 o))
         ∙ in-eight (R d) _ _
 
     -- B·t + C·g
-    pub value-three : (k : ℕ) → valued (check3 𝓢 𝓓 𝓣 ν μ k) ≡ outer₁ d r κ t₁ t₂ B C k (tBlock 𝓢 𝓓 𝓣 o) (gBlock 𝓢 𝓓 𝓣 o)
+    pub value-three : (k : ℕ) → valued (constraint₃ 𝓢 𝓓 𝓣 ν μ k) ≡ outer₁ d r κ t₁ t₂ B C k (tBlock 𝓢 𝓓 𝓣 o) (gBlock 𝓢 𝓓 𝓣 o)
     unfolding outer₁ times
     value-three k =
         value-linear no-z (tab-sums d (tSize r κ t₁) _ (tBlock 𝓢 𝓓 𝓣 o)) (tab-sums d (garbageSize r t₂) _ (gBlock 𝓢 𝓓 𝓣 o)) no-h
         ∙ in-three (R d) _ _
 
     -- D·h
-    pub value-four : (k : ℕ) → valued (check4 𝓢 𝓓 𝓣 ν μ k) ≡ outer₂ d r t₁ D k (hBlock 𝓢 𝓓 𝓣 o)
+    pub value-four : (k : ℕ) → valued (constraint₄ 𝓢 𝓓 𝓣 ν μ k) ≡ outer₂ d r t₁ D k (hBlock 𝓢 𝓓 𝓣 o)
     unfolding outer₂ times
     value-four k = value-linear no-z no-t no-g (tab-sums d (garbageSize r t₁) _ (hBlock 𝓢 𝓓 𝓣 o)) ∙ in-four (R d) _

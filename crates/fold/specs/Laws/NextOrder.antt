@@ -17,7 +17,7 @@ use Rattle.fold.specs.Sizes.{nextCount}
 use Rattle.fold.specs.Statement.{Relation}
 use Rattle.fold.specs.Statement.{Statement, Draws, Transcript}
 use Rattle.fold.specs.Constraint.{Constraint}
-use Rattle.fold.specs.NextInstance.{constraint, check3, check4, check5, check6, check7, check8}
+use Rattle.fold.specs.NextInstance.{constraint, constraint₃, constraint₄, constraint₅, constraint₆, constraint₇, constraint₈}
 
 -- ---- elements of lists laid out one after the other
 
@@ -66,24 +66,24 @@ module _ (𝓢 : Statement) (𝓓 : Draws) (𝓣 : Transcript) (ν μ : ℕ) whe
   open Relation relation using (d)
 
   pub record Each (P : Constraint d → Type 0) : Type 0 where
-    pub five : (k : ℕ) → k < κ → P (check5 𝓢 𝓓 𝓣 ν μ k)
-    pub six : P (check6 𝓢 𝓓 𝓣 ν μ)
-    pub seven : P (check7 𝓢 𝓓 𝓣 ν μ)
-    pub eight : P (check8 𝓢 𝓓 𝓣 ν μ)
-    pub three : (k : ℕ) → k < κ₁ → P (check3 𝓢 𝓓 𝓣 ν μ k)
-    pub four : (k : ℕ) → k < κ₂ → P (check4 𝓢 𝓓 𝓣 ν μ k)
+    pub five : (k : ℕ) → k < κ → P (constraint₅ 𝓢 𝓓 𝓣 ν μ k)
+    pub six : P (constraint₆ 𝓢 𝓓 𝓣 ν μ)
+    pub seven : P (constraint₇ 𝓢 𝓓 𝓣 ν μ)
+    pub eight : P (constraint₈ 𝓢 𝓓 𝓣 ν μ)
+    pub three : (k : ℕ) → k < κ₁ → P (constraint₃ 𝓢 𝓓 𝓣 ν μ k)
+    pub four : (k : ℕ) → k < κ₂ → P (constraint₄ 𝓢 𝓓 𝓣 ν μ k)
 
   fives : List (Constraint d)
-  fives = tab κ (check5 𝓢 𝓓 𝓣 ν μ)
+  fives = tab κ (constraint₅ 𝓢 𝓓 𝓣 ν μ)
 
   threes : List (Constraint d)
-  threes = tab κ₁ (check3 𝓢 𝓓 𝓣 ν μ)
+  threes = tab κ₁ (constraint₃ 𝓢 𝓓 𝓣 ν μ)
 
   fours : List (Constraint d)
-  fours = tab κ₂ (check4 𝓢 𝓓 𝓣 ν μ)
+  fours = tab κ₂ (constraint₄ 𝓢 𝓓 𝓣 ν μ)
 
   others : List (Constraint d)
-  others = check6 𝓢 𝓓 𝓣 ν μ ∷ check7 𝓢 𝓓 𝓣 ν μ ∷ check8 𝓢 𝓓 𝓣 ν μ ∷ (threes ++ fours)
+  others = constraint₆ 𝓢 𝓓 𝓣 ν μ ∷ constraint₇ 𝓢 𝓓 𝓣 ν μ ∷ constraint₈ 𝓢 𝓓 𝓣 ν μ ∷ (threes ++ fours)
 
   length-all : length (fives ++ others) ≡ nextCount κ κ₁ κ₂
   unfolding fives threes fours others nextCount
@@ -92,20 +92,20 @@ module _ (𝓢 : Statement) (𝓓 : Draws) (𝓣 : Transcript) (ν μ : ℕ) whe
         arith,
         length-append fives others,
         length-append threes fours,
-        length-tab κ (check5 𝓢 𝓓 𝓣 ν μ),
-        length-tab κ₁ (check3 𝓢 𝓓 𝓣 ν μ),
-        length-tab κ₂ (check4 𝓢 𝓓 𝓣 ν μ),
+        length-tab κ (constraint₅ 𝓢 𝓓 𝓣 ν μ),
+        length-tab κ₁ (constraint₃ 𝓢 𝓓 𝓣 ν μ),
+        length-tab κ₂ (constraint₄ 𝓢 𝓓 𝓣 ν μ),
       )
 
-  after : (k : ℕ) → constraint 𝓢 𝓓 𝓣 ν μ (κ + k) ≡ getD others k (check6 𝓢 𝓓 𝓣 ν μ)
+  after : (k : ℕ) → constraint 𝓢 𝓓 𝓣 ν μ (κ + k) ≡ getD others k (constraint₆ 𝓢 𝓓 𝓣 ν μ)
   unfolding constraint fives threes fours others
-  after k = getD-after (check6 𝓢 𝓓 𝓣 ν μ) fives others κ k (length-tab κ (check5 𝓢 𝓓 𝓣 ν μ))
+  after k = getD-after (constraint₆ 𝓢 𝓓 𝓣 ν μ) fives others κ k (length-tab κ (constraint₅ 𝓢 𝓓 𝓣 ν μ))
 
   module _ (P : Constraint d → Type 0) where
     pub each : Each P → (x : ℕ) → x < nextCount κ κ₁ κ₂ → P (constraint 𝓢 𝓓 𝓣 ν μ x)
     unfolding constraint fives threes fours others
     each h x l =
-        all-append (check6 𝓢 𝓓 𝓣 ν μ) P fives others
+        all-append (constraint₆ 𝓢 𝓓 𝓣 ν μ) P fives others
         (all-tab _ P κ _ (h .five))
         (all-cons _ P _ _ (h .six) (all-cons _ P _ _ (h .seven) (all-cons _ P _ _ (h .eight)
         (all-append _ P threes fours (all-tab _ P κ₁ _ (h .three)) (all-tab _ P κ₂ _ (h .four))))))
@@ -124,21 +124,21 @@ module _ (𝓢 : Statement) (𝓓 : Draws) (𝓣 : Transcript) (ν μ : ℕ) whe
         }
       where
         last : Constraint d
-        last = check6 𝓢 𝓓 𝓣 ν μ
+        last = constraint₆ 𝓢 𝓓 𝓣 ν μ
 
-        in-first : (k : ℕ) → k < κ → constraint 𝓢 𝓓 𝓣 ν μ k ≡ check5 𝓢 𝓓 𝓣 ν μ k
+        in-first : (k : ℕ) → k < κ → constraint 𝓢 𝓓 𝓣 ν μ k ≡ constraint₅ 𝓢 𝓓 𝓣 ν μ k
         in-first k l =
-            List·getD-append fives others last k (omega (arith, length-tab κ (check5 𝓢 𝓓 𝓣 ν μ)))
-            ∙ getD-tab κ (check5 𝓢 𝓓 𝓣 ν μ) k last l
+            List·getD-append fives others last k (omega (arith, length-tab κ (constraint₅ 𝓢 𝓓 𝓣 ν μ)))
+            ∙ getD-tab κ (constraint₅ 𝓢 𝓓 𝓣 ν μ) k last l
 
-        in-third : (k : ℕ) → k < κ₁ → constraint 𝓢 𝓓 𝓣 ν μ (κ + suc (suc (suc k))) ≡ check3 𝓢 𝓓 𝓣 ν μ k
+        in-third : (k : ℕ) → k < κ₁ → constraint 𝓢 𝓓 𝓣 ν μ (κ + suc (suc (suc k))) ≡ constraint₃ 𝓢 𝓓 𝓣 ν μ k
         in-third k l =
             after (suc (suc (suc k)))
-            ∙ List·getD-append threes fours last k (omega (arith, length-tab κ₁ (check3 𝓢 𝓓 𝓣 ν μ)))
-            ∙ getD-tab κ₁ (check3 𝓢 𝓓 𝓣 ν μ) k last l
+            ∙ List·getD-append threes fours last k (omega (arith, length-tab κ₁ (constraint₃ 𝓢 𝓓 𝓣 ν μ)))
+            ∙ getD-tab κ₁ (constraint₃ 𝓢 𝓓 𝓣 ν μ) k last l
 
-        in-fourth : (k : ℕ) → k < κ₂ → constraint 𝓢 𝓓 𝓣 ν μ (κ + suc (suc (suc (κ₁ + k)))) ≡ check4 𝓢 𝓓 𝓣 ν μ k
+        in-fourth : (k : ℕ) → k < κ₂ → constraint 𝓢 𝓓 𝓣 ν μ (κ + suc (suc (suc (κ₁ + k)))) ≡ constraint₄ 𝓢 𝓓 𝓣 ν μ k
         in-fourth k l =
             after (suc (suc (suc (κ₁ + k))))
-            ∙ getD-after last threes fours κ₁ k (length-tab κ₁ (check3 𝓢 𝓓 𝓣 ν μ))
-            ∙ getD-tab κ₂ (check4 𝓢 𝓓 𝓣 ν μ) k last l
+            ∙ getD-after last threes fours κ₁ k (length-tab κ₁ (constraint₃ 𝓢 𝓓 𝓣 ν μ))
+            ∙ getD-tab κ₂ (constraint₄ 𝓢 𝓓 𝓣 ν μ) k last l

@@ -22,8 +22,9 @@ use Rattle.fold.specs.Opening.{tPlace, gPlace, hPlace}
 use Rattle.fold.specs.Arguments.{statementOf, drawsOf, VerifySized}
 use Rattle.fold.specs.Laws.TableSums.{length-parts}
 use Rattle.fold.specs.Laws.TableLaws.{zTable-sums, garbageTable-sums}
+use Rattle.fold.specs.Messages.{aggregated}
 use Rattle.fold.specs.NextInstance.{power, zeros, zTable, tTable, garbageTable, product}
-use Rattle.fold.specs.NextInstance.{aggregated, check3, check4, check5, check6, check7, check8}
+use Rattle.fold.specs.NextInstance.{constraint₃, constraint₄, constraint₅, constraint₆, constraint₇, constraint₈}
 use Rattle.next_constraints.specs.Tables.{Tables}
 use Rattle.next_constraints.specs.Laws.BlockPlaces.{zTable-at, tTable-at, garbageTable-at, zeros-at, z-part, t-part, g-part, h-part}
 use Rattle.next_constraints.specs.Entries.{zEntry, partEntry, tEntry, garbageEntry, tFrom, gFrom, hFrom}
@@ -184,7 +185,7 @@ module _ (s : Sizes) (fits : VerifySized s) (A B C D c whole term rows ψ ω α 
     t-next : p < tFrom s → p < gFrom s
     t-next l = omega (arith, starts s .g-after-t)
 
-    pub is-5 : (k : ℕ) → entry5 s A c k p ≡ getD (check5 𝓢 𝓓 𝓣 ν μ k .table) p 𝟘
+    pub is-5 : (k : ℕ) → entry5 s A c k p ≡ getD (constraint₅ 𝓢 𝓓 𝓣 ν μ k .table) p 𝟘
     is-5 k = by-place s _ p
         (λ h. step.entry5-z s p A c k h
         ∙ z-entry (s .d) (s .n) (s .b) A (k * s .n) _ (λ y _. refl) p (fits .shaped .rank-positive) (in-z h)
@@ -201,7 +202,7 @@ module _ (s : Sizes) (fits : VerifySized s) (A B C D c whole term rows ψ ω α 
             noG noH
         long = record { z-long = z-length _; t-long = length-t (s .d) _ _ _ _; g-long = zeros-length gCount }
 
-    pub is-3 : (k : ℕ) → entry3 s B C k p ≡ getD (check3 𝓢 𝓓 𝓣 ν μ k .table) p 𝟘
+    pub is-3 : (k : ℕ) → entry3 s B C k p ≡ getD (constraint₃ 𝓢 𝓓 𝓣 ν μ k .table) p 𝟘
     is-3 k = by-place s _ p
         (λ h. step.entry3-z s p B C k h ∙ sym (at-z long p h ∙ zeros-at (s .d) (2 * s .n) p))
         (λ l h. step.entry3-t s p B C k l h ∙ sym (at-t long p l h ∙ getD-tab tCount _ (p - tFrom s) 𝟘 (in-t l h)))
@@ -211,7 +212,7 @@ module _ (s : Sizes) (fits : VerifySized s) (A B C D c whole term rows ψ ω α 
         long : Blocks noZ (tab tCount (λ y. el (s .d) B (k * tCount + y))) (tab gCount (λ y. el (s .d) C (k * gCount + y))) noH
         long = record { z-long = zeros-length (2 * s .n); t-long = length-tab tCount _; g-long = length-tab gCount _ }
 
-    pub is-4 : (k : ℕ) → entry4 s D k p ≡ getD (check4 𝓢 𝓓 𝓣 ν μ k .table) p 𝟘
+    pub is-4 : (k : ℕ) → entry4 s D k p ≡ getD (constraint₄ 𝓢 𝓓 𝓣 ν μ k .table) p 𝟘
     is-4 k = by-place s _ p
         (λ h. step.entry4-before s p D k (g-next (t-next h)) ∙ sym (at-z long p h ∙ zeros-at (s .d) (2 * s .n) p))
         (λ l h. step.entry4-before s p D k (g-next h) ∙ sym (at-t long p l h ∙ zeros-at (s .d) tCount (p - tFrom s)))
@@ -229,7 +230,7 @@ module _ (s : Sizes) (fits : VerifySized s) (A B C D c whole term rows ψ ω α 
       t₂-some : 0 < s .t2
       t₂-some = omega (arith, fits .t₂-least)
 
-      pub is-6 : entry6 s products p ≡ getD (check6 𝓢 𝓓 𝓣 ν μ .table) p 𝟘
+      pub is-6 : entry6 s products p ≡ getD (constraint₆ 𝓢 𝓓 𝓣 ν μ .table) p 𝟘
       is-6 = by-place s _ p
           (λ h. step.entry6-before s p products (t-next h) ∙ sym (at-z long p h ∙ zeros-at (s .d) (2 * s .n) p))
           (λ l h. step.entry6-before s p products h ∙ sym (at-t long p l h ∙ zeros-at (s .d) tCount (p - tFrom s)))
@@ -242,7 +243,7 @@ module _ (s : Sizes) (fits : VerifySized s) (A B C D c whole term rows ψ ω α 
               (garbageTable (s .d) (s .r) (s .b2) (s .t2) (λ i j. R (s .d) .neg (product (s .d) (el (s .d) c) i j))) noH
           long = record { z-long = zeros-length (2 * s .n); t-long = zeros-length tCount; g-long = g-length _ _ _ }
 
-      pub is-7 : entry7 s folded products p ≡ getD (check7 𝓢 𝓓 𝓣 ν μ .table) p 𝟘
+      pub is-7 : entry7 s folded products p ≡ getD (constraint₇ 𝓢 𝓓 𝓣 ν μ .table) p 𝟘
       is-7 = by-place s _ p
           (λ h. step.entry7-z s p folded products h
           ∙ z-entry (s .d) (s .n) (s .b) folded 0 _
@@ -256,12 +257,12 @@ module _ (s : Sizes) (fits : VerifySized s) (A B C D c whole term rows ψ ω α 
         where
           long : Blocks
               (zTable (s .d) (s .n) 2 (s .b)
-              (λ k. sum (R (s .d)) (s .r) (λ i. R (s .d) .mul (aggregated 𝓢 𝓓 𝓣 ν μ .φ i k) (el (s .d) c i))))
+              (λ k. sum (R (s .d)) (s .r) (λ i. R (s .d) .mul (aggregated 𝓢 𝓓 .φ i k) (el (s .d) c i))))
               noT noG
               (garbageTable (s .d) (s .r) (s .b1) (s .t1) (λ i j. R (s .d) .neg (product (s .d) (el (s .d) c) i j)))
           long = record { z-long = z-length _; t-long = zeros-length tCount; g-long = zeros-length gCount }
 
-      pub is-8 : entry8 s relation diagonal p ≡ getD (check8 𝓢 𝓓 𝓣 ν μ .table) p 𝟘
+      pub is-8 : entry8 s relation diagonal p ≡ getD (constraint₈ 𝓢 𝓓 𝓣 ν μ .table) p 𝟘
       is-8 = by-place s _ p
           (λ h. step.entry8-before s p relation diagonal (t-next h) ∙ sym (at-z long p h ∙ zeros-at (s .d) (2 * s .n) p))
           (λ l h. step.entry8-before s p relation diagonal h ∙ sym (at-t long p l h ∙ zeros-at (s .d) tCount (p - tFrom s)))
@@ -272,6 +273,6 @@ module _ (s : Sizes) (fits : VerifySized s) (A B C D c whole term rows ψ ω α 
           ∙ garbage-entry (s .d) (s .r) (s .b1) (s .t1) diagonal _ (tables .diagonal-is) (p - hFrom s) t₁-some (in-h l)
           ∙ sym (at-h long p l))
         where
-          long : Blocks noZ noT (garbageTable (s .d) (s .r) (s .b2) (s .t2) (aggregated 𝓢 𝓓 𝓣 ν μ .a))
+          long : Blocks noZ noT (garbageTable (s .d) (s .r) (s .b2) (s .t2) (aggregated 𝓢 𝓓 .a))
               (garbageTable (s .d) (s .r) (s .b1) (s .t1) (λ i j. cond (eqb i j) (R (s .d) .one) 𝟘))
           long = record { z-long = zeros-length (2 * s .n); t-long = zeros-length tCount; g-long = g-length _ _ _ }
