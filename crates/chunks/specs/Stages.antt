@@ -5,7 +5,7 @@ use Prim.Native.Nat.{ℕ, _*_}
 use lib.IntN.{ℤ, pos}
 use Rattle.residues.specs.Range.{coefficients}
 use Rattle.fold.specs.declared.Sizes.{Sizes}
-use Rattle.fold.specs.Sizes.{restSize, nextRank, nextParts, nextCount}
+use Rattle.fold.specs.Sizes.{five, restSize, nextRank, nextParts, nextCount}
 use Rattle.fold.specs.Refusals.{allOf, degree, rank, parts, constraintCount, projectionCount, commitmentRank, base, digitCount}
 use Rattle.fold.specs.Refusals.{chunks, lengthBound, sized, wholeLength}
 
@@ -39,7 +39,7 @@ nextLengths m ν μ out u₁ p b″ u₂ =
     sized out (wholeLength (m .d) (rankOf m ν μ) (nextParts 2 ν μ) (nextCount (m .kappa) (m .kappa1) (m .kappa2)))
     ∷ sized u₁ (m .kappa1 * m .d)
     ∷ sized p (m .w)
-    ∷ sized b″ (5 * m .d)
+    ∷ sized b″ (five * m .d)
     ∷ sized u₂ (m .kappa2 * m .d)
     ∷ []
 

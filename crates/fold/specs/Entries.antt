@@ -10,7 +10,7 @@ use Rattle.residues.specs.Modulus.{Zq}
 use Rattle.ring.specs.Element.{R, el, number}
 use Rattle.fold.specs.Sizes.{pairs}
 use Rattle.fold.specs.Statement.{wholeAt, termAt}
-use Rattle.fold.specs.Messages.{five}
+use Rattle.fold.specs.Sizes.{five}
 
 module _ (d n r : ℕ) where
   -- Σ_l ψ_kl f'_l at place e

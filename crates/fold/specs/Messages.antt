@@ -13,7 +13,7 @@ use Rattle.algebra.specs.DotProduct.{Function, inner, value, plus, combination,
 use Rattle.residues.specs.Modulus.{Zq, centred}
 use Rattle.ring.specs.Element.{R, el, coeffs, number}
 use Rattle.residues.specs.Digits.{split}
-use Rattle.fold.specs.Sizes.{tSize, garbageSize}
+use Rattle.fold.specs.Sizes.{five, tSize, garbageSize}
 use Rattle.fold.specs.Statement.{part, function, wholeAt, wholeConstant, termAt, Relation, Statement, Draws}
 
 -- the elements x 0 .. x (n-1) as a flat list
@@ -59,9 +59,6 @@ projection d n r projections j = record { a = λ i i′. R d .zero; φ = λ i k.
 
 -- Message 3: "Given ψ (5 by L) and ω (5 by w), for k = 1..5: a''= Σψ a'; φ''_i = Σψ φ'_i + Σω_j σ(row j, part i); b''_k is the value of
 -- that function without its constant. Five is the count, since q^4 < 2^128."
-unfoldable pub five : ℕ
-five = 5
-
 abbrev pub second : (d n r L w : ℕ) → List ℤ → List ℤ → List ℤ → List ℤ → ℕ → Function (R d)
 second d n r L w term projections ψ ω k =
     plus (R d)

@@ -8,7 +8,7 @@ use lib.ListN.{length, take, drop}
 use lib.IntN.{ℤ, pos, negsuc}
 use Rattle.ring.specs.Element.{every}
 use Rattle.residues.specs.Range.{allWithin, coefficients, projections, challenge}
-use Rattle.fold.specs.Sizes.{functionSize, tSize, garbageSize, restSize, openingSize, nextRank, nextParts, nextCount}
+use Rattle.fold.specs.Sizes.{five, functionSize, tSize, garbageSize, restSize, openingSize, nextRank, nextParts, nextCount}
 use Rattle.fold.specs.Statement.{Relation}
 use Rattle.fold.specs.Statement.{Statement, Draws, Transcript}
 
@@ -128,10 +128,10 @@ aggregateTests d n r L w term rows ψ ω s b″ =
       allOf (
           sized term (termLength d n r L)
           ∷ sized rows (projectionLength d n r w)
-          ∷ sized ψ (5 * L)
-          ∷ sized ω (5 * w)
+          ∷ sized ψ (five * L)
+          ∷ sized ω (five * w)
           ∷ sized s (r * n * d)
-          ∷ sized b″ (5 * d)
+          ∷ sized b″ (five * d)
           ∷ []),
     )
     ∷ (8, allOf (coefficients term ∷ coefficients rows ∷ coefficients ψ ∷ coefficients ω ∷ coefficients s ∷ []))
@@ -151,10 +151,10 @@ garbageTests d n r K L w κ₂ b₁ t₁ whole term rows ψ ω α δ D s hs u₂
           sized whole (wholeLength d n r K)
           ∷ sized term (termLength d n r L)
           ∷ sized rows (projectionLength d n r w)
-          ∷ sized ψ (5 * L)
-          ∷ sized ω (5 * w)
+          ∷ sized ψ (five * L)
+          ∷ sized ω (five * w)
           ∷ sized α (K * d)
-          ∷ sized δ (5 * d)
+          ∷ sized δ (five * d)
           ∷ sized D (κ₂ * garbageSize r t₁ * d)
           ∷ sized s (r * n * d)
           ∷ sized hs (garbageSize r t₁ * d)
@@ -215,10 +215,10 @@ module _ (𝓢 : Statement) (𝓓 : Draws) where
       ∷ sized whole (wholeLength d n r K)
       ∷ sized term (termLength d n r L)
       ∷ sized projectionRows (projectionLength d n r w)
-      ∷ sized ψ (5 * L)
-      ∷ sized ω (5 * w)
+      ∷ sized ψ (five * L)
+      ∷ sized ω (five * w)
       ∷ sized α (K * d)
-      ∷ sized δ (5 * d)
+      ∷ sized δ (five * d)
       ∷ sized c (r * d)
       ∷ []
 
@@ -257,7 +257,7 @@ module _ (𝓢 : Statement) (𝓓 : Draws) (𝓣 : Transcript) where
   open Transcript 𝓣 using (u₁, p, b″, u₂)
 
   abbrev pub lengths : List Bool
-  lengths = sized u₁ (κ₁ * d) ∷ sized p w ∷ sized b″ (5 * d) ∷ sized u₂ (κ₂ * d) ∷ givenLengths 𝓢 𝓓
+  lengths = sized u₁ (κ₁ * d) ∷ sized p w ∷ sized b″ (five * d) ∷ sized u₂ (κ₂ * d) ∷ givenLengths 𝓢 𝓓
 
   abbrev pub ranges : List Bool
   ranges = coefficients u₁ ∷ coefficients p ∷ coefficients b″ ∷ coefficients u₂ ∷ givenRanges 𝓢 𝓓

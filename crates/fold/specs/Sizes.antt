@@ -2,6 +2,10 @@
 use Prim.Native.Nat.{ℕ, _+_, _*_, _-_, _/_, max}
 use Rattle.algebra.specs.Triangle.{pairs-count}
 
+-- message 3: "Five is the count, since q^4 < 2^128."
+abbrev pub five : ℕ
+five = 5
+
 -- the number of pairs i ≤ j of r parts: (r² + r)/2
 unfoldable pub pairs : ℕ → ℕ
 pairs r = pairs-count r

@@ -17,7 +17,8 @@ use Rattle.ring.specs.Element.{R, el, every, same}
 use Rattle.fold.specs.declared.Verdict.{Verdict}
 use Rattle.fold.specs.Answers.{firstFailed}
 use Rattle.fold.specs.Statement.{Relation, termConstant}
-use Rattle.fold.specs.Messages.{five, times, outer₁, outer₂, aggregated, aggregateConstant}
+use Rattle.fold.specs.Messages.{times, outer₁, outer₂, aggregated, aggregateConstant}
+use Rattle.fold.specs.Sizes.{five}
 use Rattle.fold.specs.Opening.{block, tPlace, gPlace, hPlace, zOf, tOf, garbageOf, zLength, tgLength, hLength}
 use Rattle.fold.specs.Statement.{Statement, Draws, Transcript}
 

@@ -12,7 +12,7 @@ use lib.IntN.{ℤ, pos}
 use Rattle.fold.specs.declared.Sizes.{Sizes}
 use Rattle.fold.specs.declared.Answer.{Answer}
 use Rattle.fold.specs.declared.Answer.the-variants as answer
-use Rattle.fold.specs.Sizes.{tSize, garbageSize, openingSize}
+use Rattle.fold.specs.Sizes.{five, tSize, garbageSize, openingSize}
 use Rattle.fold.specs.Refusals.{wholeLength, termLength, projectionLength}
 use Rattle.fold.specs.Statement.{Statement, Draws, Transcript}
 use Rattle.fold.specs.Arguments.{statementOf, drawsOf, transcriptOf}
@@ -39,11 +39,11 @@ listLengths s =
     ∷ s .kappa1 * s .d
     ∷ projectionLength (s .d) (s .n) (s .r) (s .w)
     ∷ s .w
-    ∷ 5 * s .l
-    ∷ 5 * s .w
-    ∷ 5 * s .d
+    ∷ five * s .l
+    ∷ five * s .w
+    ∷ five * s .d
     ∷ s .k * s .d
-    ∷ 5 * s .d
+    ∷ five * s .d
     ∷ s .kappa2 * s .d
     ∷ s .r * s .d
     ∷ openingSize 2 (s .n) (s .r) (s .kappa) (s .t1) (s .t2) * s .d

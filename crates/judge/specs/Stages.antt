@@ -9,7 +9,7 @@ use Prim.Native.Nat.{_*_}
 use lib.ListN.{take, drop}
 use lib.IntN.{ℤ}
 use Rattle.fold.specs.declared.Answer.{Answer}
-use Rattle.fold.specs.Sizes.{openingSize}
+use Rattle.fold.specs.Sizes.{five, openingSize}
 use Rattle.fold.specs.Refusals.{wholeLength, termLength, projectionLength}
 use Rattle.fold.specs.Arguments.{statementOf, drawsOf, transcriptOf}
 use Rattle.fold.specs.Verification.{verification}
@@ -20,7 +20,7 @@ module _ (s : SheetSizes) where
   unfoldable pub lastStage : (A B C D whole term u₁ rows p ψ ω b″ xs : List ℤ) → Answer
   lastStage A B C D whole term u₁ rows p ψ ω b″ xs =
       let α = s .k * s .d in
-      let δ = 5 * s .d in
+      let δ = five * s .d in
       let u₂ = s .kappa2 * s .d in
       let c = s .r * s .d in
       let o = openingSize 2 (s .n) (s .r) (s .kappa) (s .t1) (s .t2) * s .d in
@@ -31,9 +31,9 @@ module _ (s : SheetSizes) where
   unfoldable pub numberStage : (A B C D whole term u₁ rows xs : List ℤ) → Answer
   numberStage A B C D whole term u₁ rows xs =
       let p = s .w in
-      let ψ = 5 * s .l in
-      let ω = 5 * s .w in
-      let b″ = 5 * s .d in
+      let ψ = five * s .l in
+      let ω = five * s .w in
+      let b″ = five * s .d in
       lastStage A B C D whole term u₁ rows (take p xs) (take ψ (drop p xs)) (take ω (drop ψ (drop p xs)))
       (take b″ (drop ω (drop ψ (drop p xs)))) (drop b″ (drop ω (drop ψ (drop p xs))))
 

@@ -8,7 +8,7 @@ use Rattle.fold.specs.declared.CommitSizes.{CommitSizes}
 use Rattle.fold.specs.declared.GarbageSizes.{GarbageSizes}
 use Rattle.fold.specs.declared.Sizes.{Sizes}
 use Rattle.fold.specs.Known.Facts.{Shaped}
-use Rattle.fold.specs.Sizes.{tSize, garbageSize, openingSize}
+use Rattle.fold.specs.Sizes.{five, tSize, garbageSize, openingSize}
 use Rattle.fold.specs.Refusals.{allOf, degree, rank, parts, constraintCount, projectionCount, commitmentRank, base, digitCount}
 use Rattle.fold.specs.Refusals.{lengthBound, sized, wholeLength, termLength, projectionLength}
 
@@ -91,10 +91,10 @@ abbrev pub aggregateLengths : (d n r L w : ℕ) (term rows ψ ω s b″ : List �
 aggregateLengths d n r L w term rows ψ ω s b″ =
     sized term (termLength d n r L)
     ∷ sized rows (projectionLength d n r w)
-    ∷ sized ψ (5 * L)
-    ∷ sized ω (5 * w)
+    ∷ sized ψ (five * L)
+    ∷ sized ω (five * w)
     ∷ sized s (r * n * d)
-    ∷ sized b″ (5 * d)
+    ∷ sized b″ (five * d)
     ∷ []
 
 -- both kinds of constraints and what is lent to aggregate them
@@ -103,10 +103,10 @@ constraintLengths d n r K L w whole term rows ψ ω α δ =
     sized whole (wholeLength d n r K)
     ∷ sized term (termLength d n r L)
     ∷ sized rows (projectionLength d n r w)
-    ∷ sized ψ (5 * L)
-    ∷ sized ω (5 * w)
+    ∷ sized ψ (five * L)
+    ∷ sized ω (five * w)
     ∷ sized α (K * d)
-    ∷ sized δ (5 * d)
+    ∷ sized δ (five * d)
     ∷ []
 
 abbrev pub garbageLengths : GarbageSizes → (D s hs u₂ : List ℤ) → List Bool
@@ -126,7 +126,7 @@ messageLengths m o u₁ p b″ u₂ =
     sized o (openingSize 2 (m .n) (m .r) (m .kappa) (m .t1) (m .t2) * m .d)
     ∷ sized u₁ (m .kappa1 * m .d)
     ∷ sized p (m .w)
-    ∷ sized b″ (5 * m .d)
+    ∷ sized b″ (five * m .d)
     ∷ sized u₂ (m .kappa2 * m .d)
     ∷ []
 

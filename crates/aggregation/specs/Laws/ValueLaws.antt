@@ -17,7 +17,8 @@ use Rattle.ring.specs.Laws.ElementPlaces.{block-before}
 use Rattle.fold.specs.Known.Facts.{Shaped}
 use Rattle.fold.specs.Sizes.{pairs}
 use Rattle.fold.specs.Statement.{part}
-use Rattle.fold.specs.Messages.{five, elements, g, second, b″}
+use Rattle.fold.specs.Messages.{elements, g, second, b″}
+use Rattle.fold.specs.Sizes.{five}
 use Rattle.fold.specs.Entries.{secondA, secondΦ}
 use Rattle.fold.specs.Laws.EntryLaws.{second-value, el-inners}
 use Rattle.constraints.specs.Laws.Rows.{row-entry}
@@ -96,7 +97,7 @@ pub values-end : (d n r L w : ℕ) (term rows ψ ω s : List ℤ) {quadratic lin
     → Sums d (pairTerm d n r L term ψ s) (pairs r) quadratic
     → Sums d (witnessTerm d n r L w term rows ψ ω s) (r * n) linear
     → out ≡ elements d 5 (added d quadratic linear) → out ≡ b″ d n r L w term rows ψ ω s
-unfolding b″ five elements added pairTerm pairProduct witnessTerm
+unfolding b″ elements added pairTerm pairProduct witnessTerm
 values-end d n r L w term rows ψ ω s degree pairSums witnessSums out =
     out
     ∙ flat-cong 5 _ _ (λ k h. ap (coeffs d)

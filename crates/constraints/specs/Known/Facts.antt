@@ -9,20 +9,21 @@ use lib.IntN.{ℤ}
 use Rattle.residues.specs.Range.{projections}
 use Rattle.fold.specs.Known.Facts.{Shaped}
 use Rattle.fold.specs.Refusals.{wholeLength, termLength, projectionLength}
+use Rattle.fold.specs.Sizes.{five}
 
 -- the constant-term constraints and ψ
 pub record TermFacts (d n r L : ℕ) (term ψ : List ℤ) : Type 0 where
   pub shaped : Shaped d n r
   pub term-count : L ≤ 32
   pub term-length : length term ≡ termLength d n r L
-  pub ψ-length : length ψ ≡ 5 * L
+  pub ψ-length : length ψ ≡ five * L
 
 -- the projection rows and ω
 pub record ProjectionFacts (d n r w : ℕ) (rows ω : List ℤ) : Type 0 where
   pub shaped : Shaped d n r
   pub row-count : w ≤ 256
   pub rows-length : length rows ≡ projectionLength d n r w
-  pub ω-length : length ω ≡ 5 * w
+  pub ω-length : length ω ≡ five * w
   pub tested : projections rows ≡ true
 
 -- the second functions
@@ -41,4 +42,4 @@ pub record WholeFacts (d n r K : ℕ) (whole α : List ℤ) : Type 0 where
 pub record AggregateFacts (d n r K L w : ℕ) (whole term rows ψ ω α δ : List ℤ) : Type 0 where
   pub wholes : WholeFacts d n r K whole α
   pub seconds : SecondFacts d n r L w term rows ψ ω
-  pub δ-length : length δ ≡ 5 * d
+  pub δ-length : length δ ≡ five * d

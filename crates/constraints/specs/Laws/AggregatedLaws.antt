@@ -15,7 +15,8 @@ use Rattle.ring.specs.Element.{R, Degree, lift, el, array}
 use Rattle.ring.specs.Laws.ElementLaws.{lift-array}
 use Rattle.fold.specs.Sizes.{pairs, functionSize}
 use Rattle.fold.specs.Statement.{wholeConstant}
-use Rattle.fold.specs.Messages.{five, aggregateConstant}
+use Rattle.fold.specs.Messages.{aggregateConstant}
+use Rattle.fold.specs.Sizes.{five}
 use Rattle.fold.specs.Entries.{termEntry, projectionEntry, secondΦ, wholeEntry, aggregateA, aggregateΦ}
 use Rattle.constraints.specs.Laws.Rows.{row-entry}
 use Rattle.constraints.specs.Aggregated.{weightedA, weightedΦ}
@@ -65,7 +66,7 @@ pub constant-end : (d n r K : ℕ) (whole α δ b″ : List ℤ) {wholes seconds
     → wholes ≡ array d (wholeEntry d n r K whole α (functionSize n r))
     → seconds ≡ array d (sum (R d) 5 (λ k. R d .mul (el d δ (0 + k)) (el d b″ (0 + k))))
     → out ≡ array d (R d .add (lift d wholes) (lift d seconds)) → out ≡ array d (aggregateConstant d n r K whole α δ b″)
-unfolding aggregateConstant wholeEntry wholeConstant five
+unfolding aggregateConstant wholeEntry wholeConstant
 constant-end d n r K whole α δ b″ degree is by sum =
     values-sum d degree _ _ is
     (by ∙ ap (array d) (sum-cong (R d) 5 _ _ (λ k _. ap₂ (λ i j. R d .mul (el d δ i) (el d b″ j)) (zero-add k) (zero-add k)))) sum

@@ -14,7 +14,7 @@ use Rattle.algebra.specs.Sum.{sum}
 use Rattle.algebra.specs.Laws.SumLaws.{sum-cong}
 use Rattle.ring.specs.Element.{R, lift, el, array}
 use Rattle.ring.specs.Laws.ElementLaws.{lift-array}
-use Rattle.fold.specs.Messages.{five}
+use Rattle.fold.specs.Sizes.{five}
 
 -- the first k entries are in place, zeros follow
 pub record Filling (d : ℕ) (x : ℕ → R d .Carrier) (k : ℕ) (row : List (List ℤ)) : Type 0 where
@@ -52,5 +52,4 @@ row-term d δ entry k small is product = product ∙ rw (is, lift-array d (el d 
 -- Σ_k δ_k x_k
 pub row-weighted : (d : ℕ) (δ : List ℤ) (x : ℕ → R d .Carrier) {row : List (List ℤ)} → d ≤ 64 → row ≡ tab 5 (λ k. array d (x k))
     → sum (R d) 5 (λ k. R d .mul (el d δ k) (lift d (getD row k []))) ≡ sum (R d) five (λ k. R d .mul (el d δ k) (x k))
-unfolding five
 row-weighted d δ x small held = sum-cong (R d) 5 _ _ (λ k h. ap (R d .mul (el d δ k)) (row-entry d x small held k h))

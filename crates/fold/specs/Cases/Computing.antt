@@ -3,7 +3,8 @@ use Rattle.ring.specs.Cases.Computing.{ring-computes}
 use Rattle.fold.specs.Answers.{firstFailed, firstRefusal}
 use Rattle.fold.specs.Sizes.{pairs, functionSize, tSize, garbageSize, restSize, openingSize, ceiling, nextRank, nextParts, nextCount}
 use Rattle.fold.specs.Statement.{part, wholeAt, wholeConstant, termAt, termConstant}
-use Rattle.fold.specs.Messages.{elements, times, garbageDigits, t, g, tDigits, gDigits, outer₁, u₁, p, five, b″}
+use Rattle.fold.specs.Messages.{elements, times, garbageDigits, t, g, tDigits, gDigits, outer₁, u₁, p, b″}
+use Rattle.fold.specs.Sizes.{five}
 use Rattle.fold.specs.Messages.{aggregateConstant, half, h, hDigits, outer₂, u₂, z, zDigits, opening}
 use Rattle.fold.specs.Opening.{block, tPlace, gPlace, hPlace, zOf, tOf, garbageOf, zLength, tgLength, hLength}
 use Rattle.fold.specs.Verdict.{check₁, check₂, check₃, check₄, check₅, check₆, check₇, check₈, check₉, verdict}
@@ -20,7 +21,7 @@ unfolding pairs functionSize tSize garbageSize restSize openingSize ceiling next
 sizes-compute = tt
 
 unfoldable pub messages-compute : Unit {0}
-unfolding part wholeAt wholeConstant termAt termConstant elements times garbageDigits t g tDigits gDigits outer₁ u₁ p five b″
+unfolding part wholeAt wholeConstant termAt termConstant elements times garbageDigits t g tDigits gDigits outer₁ u₁ p b″
 messages-compute = tt
 
 unfoldable pub later-messages-compute : Unit {0}

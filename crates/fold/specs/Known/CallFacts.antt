@@ -9,7 +9,7 @@ use Prim.Native.Nat.{ℕ, _*_}
 use lib.ListN.{length}
 use lib.IntN.{ℤ}
 use Rattle.residues.specs.Range.{projections}
-use Rattle.fold.specs.Sizes.{tSize, garbageSize, openingSize}
+use Rattle.fold.specs.Sizes.{five, tSize, garbageSize, openingSize}
 use Rattle.fold.specs.Statement.{Relation}
 use Rattle.fold.specs.Statement.{Statement, Draws, Transcript}
 use Rattle.fold.specs.Answers.{firstRefusal}
@@ -79,10 +79,10 @@ pub record AggregateFacts (d n r L w : ℕ) (term rows ψ ω s b″ : List ℤ) 
   pub limits : AggregateLimits d n r L w
   pub term-length : length term ≡ termLength d n r L
   pub rows-length : length rows ≡ projectionLength d n r w
-  pub ψ-length : length ψ ≡ 5 * L
-  pub ω-length : length ω ≡ 5 * w
+  pub ψ-length : length ψ ≡ five * L
+  pub ω-length : length ω ≡ five * w
   pub s-length : length s ≡ r * n * d
-  pub b″-length : length b″ ≡ 5 * d
+  pub b″-length : length b″ ≡ five * d
   pub rows-entries : projections rows ≡ true
 
 pub aggregate-facts : {d n r L w : ℕ} {term rows ψ ω s b″ : List ℤ}
@@ -110,10 +110,10 @@ pub record GarbageFacts (d n r K L w κ₂ b₁ t₁ : ℕ) (whole term rows ψ 
   pub whole-length : length whole ≡ wholeLength d n r K
   pub term-length : length term ≡ termLength d n r L
   pub rows-length : length rows ≡ projectionLength d n r w
-  pub ψ-length : length ψ ≡ 5 * L
-  pub ω-length : length ω ≡ 5 * w
+  pub ψ-length : length ψ ≡ five * L
+  pub ω-length : length ω ≡ five * w
   pub α-length : length α ≡ K * d
-  pub δ-length : length δ ≡ 5 * d
+  pub δ-length : length δ ≡ five * d
   pub D-length : length D ≡ κ₂ * garbageSize r t₁ * d
   pub s-length : length s ≡ r * n * d
   pub hs-length : length hs ≡ garbageSize r t₁ * d
@@ -177,7 +177,7 @@ module _ (𝓢 : Statement) (𝓓 : Draws) (𝓣 : Transcript) where
   pub record Lengths : Type 0 where
     pub u₁-length : length u₁ ≡ κ₁ * d
     pub p-length : length p ≡ w
-    pub b″-length : length b″ ≡ 5 * d
+    pub b″-length : length b″ ≡ five * d
     pub u₂-length : length u₂ ≡ κ₂ * d
     pub A-length : length A ≡ κ * n * d
     pub B-length : length B ≡ κ₁ * tSize r κ t₁ * d
@@ -186,10 +186,10 @@ module _ (𝓢 : Statement) (𝓓 : Draws) (𝓣 : Transcript) where
     pub whole-length : length whole ≡ wholeLength d n r K
     pub term-length : length term ≡ termLength d n r L
     pub rows-length : length rows ≡ projectionLength d n r w
-    pub ψ-length : length ψ ≡ 5 * L
-    pub ω-length : length ω ≡ 5 * w
+    pub ψ-length : length ψ ≡ five * L
+    pub ω-length : length ω ≡ five * w
     pub α-length : length α ≡ K * d
-    pub δ-length : length δ ≡ 5 * d
+    pub δ-length : length δ ≡ five * d
     pub c-length : length c ≡ r * d
 
   pub lengths-known : allOf (lengths 𝓢 𝓓 𝓣) ≡ true → Lengths

@@ -20,7 +20,8 @@ use Rattle.ring.specs.Laws.ElementEquality.{every-true, true-every, same-true, 
 use Rattle.fold.specs.declared.Verdict.the-variants.{Accepted, Failed}
 use Rattle.fold.specs.Answers.{firstFailed}
 use Rattle.fold.specs.Statement.{Relation, termConstant}
-use Rattle.fold.specs.Messages.{five, times, outer₁, outer₂, aggregateConstant, aggregated}
+use Rattle.fold.specs.Messages.{times, outer₁, outer₂, aggregateConstant, aggregated}
+use Rattle.fold.specs.Sizes.{five}
 use Rattle.fold.specs.Statement.{Statement, Draws, Transcript}
 use Rattle.fold.specs.Verdict.{verdict}
 use Rattle.fold.specs.Opening.{zLength, tgLength, hLength}

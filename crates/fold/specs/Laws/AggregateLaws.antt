@@ -28,7 +28,8 @@ use Rattle.residues.specs.Laws.ModulusLaws.{red-mul, red-centred, two-halves}
 use Rattle.ring.specs.Element.{R, el, number}
 use Rattle.ring.specs.Laws.ElementPlaces.{coeff-el}
 use Rattle.fold.specs.Statement.{Relation, Meets, part, function, wholeAt, termAt, termConstant}
-use Rattle.fold.specs.Messages.{five, half, p, projection, second, b″, aggregate, aggregateConstant}
+use Rattle.fold.specs.Messages.{half, p, projection, second, b″, aggregate, aggregateConstant}
+use Rattle.fold.specs.Sizes.{five}
 use Rattle.fold.specs.Laws.MessageLaws.{el-elements}
 
 pub half-law : (d : ℕ) → R d .mul (R d .add (R d .one) (R d .one)) (half d) ≡ R d .one

@@ -30,7 +30,8 @@ use Rattle.ring.specs.Laws.ElementLaws.{length-coeffs, lift-coeffs}
 use Rattle.ring.specs.Laws.ElementPlaces.{el-cong, el-zero}
 use Rattle.fold.specs.Sizes.{pairs}
 use Rattle.fold.specs.Statement.{part}
-use Rattle.fold.specs.Messages.{five, elements, g, second, aggregate}
+use Rattle.fold.specs.Messages.{elements, g, second, aggregate}
+use Rattle.fold.specs.Sizes.{five}
 use Rattle.fold.specs.Entries.{termEntry, projectionEntry, secondA, secondΦ, wholeEntry, aggregateA, aggregateΦ}
 use Rattle.fold.specs.Laws.Layout.{getD-triangle}
 

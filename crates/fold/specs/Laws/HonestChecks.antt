@@ -24,7 +24,8 @@ use Rattle.ring.specs.Laws.ElementEquality.{true-every, same-iff}
 use Rattle.fold.specs.Sizes.{tSize, garbageSize}
 use Rattle.fold.specs.Statement.{Relation, Meets, part}
 use Rattle.fold.specs.Messages as Messages
-use Rattle.fold.specs.Messages.{times, outer₁, outer₂, half, five}
+use Rattle.fold.specs.Messages.{times, outer₁, outer₂, half}
+use Rattle.fold.specs.Sizes.{five}
 use Rattle.fold.specs.Laws.MessageLaws.{el-elements, length-zDigits, length-tDigits, length-gDigits, length-hDigits}
 use Rattle.fold.specs.Laws.MessageLaws.{zOf-digits, tOf-digits, garbageOf-digits}
 use Rattle.fold.specs.Laws.ReadingLaws.{zOf-cong, tOf-cong, garbageOf-cong, times-cong, outer₁-cong, outer₂-cong}

@@ -16,7 +16,8 @@ use Rattle.residues.specs.Laws.DigitLaws.{length-split}
 use Rattle.ring.specs.Laws.DigitElements.{joined-cong, joined-split}
 use Rattle.fold.specs.Sizes.{pairs, tSize, garbageSize}
 use Rattle.fold.specs.Laws.Layout.{length-triangle, getD-triangle}
-use Rattle.fold.specs.Messages.{elements, garbageDigits, tDigits, gDigits, hDigits, zDigits, five}
+use Rattle.fold.specs.Messages.{elements, garbageDigits, tDigits, gDigits, hDigits, zDigits}
+use Rattle.fold.specs.Sizes.{five}
 use Rattle.fold.specs.Messages as Messages
 use Rattle.fold.specs.Opening.{zOf, tOf, garbageOf}
 
@@ -139,7 +140,7 @@ unfolding Messages.p
 length-p d n r w projections s = length-tab w _
 
 pub length-b″ : (d n r L w : ℕ) (term projections ψ ω s : List ℤ) → length (Messages.b″ d n r L w term projections ψ ω s) ≡ 5 * d
-unfolding Messages.b″ five
+unfolding Messages.b″
 length-b″ d n r L w term projections ψ ω s = length-elements d 5 _
 
 pub length-u₂ : (d r κ₂ t₁ : ℕ) (D x : List ℤ) → length (Messages.u₂ d r κ₂ t₁ D x) ≡ κ₂ * d

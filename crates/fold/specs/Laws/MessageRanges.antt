@@ -18,7 +18,8 @@ use Rattle.residues.specs.Laws.DigitLaws.{digit-small}
 use Rattle.residues.specs.Range.{allWithin, coefficients}
 use Rattle.residues.specs.Laws.RangeLaws.{coefficients-at, coefficients-of, coefficients-join}
 use Rattle.fold.specs.Messages as Messages
-use Rattle.fold.specs.Messages.{elements, garbageDigits, tDigits, gDigits, hDigits, zDigits, p, five}
+use Rattle.fold.specs.Messages.{elements, garbageDigits, tDigits, gDigits, hDigits, zDigits, p}
+use Rattle.fold.specs.Sizes.{five}
 
 -- lists laid out one after the other
 coefficients-flat : (n : ℕ) (F : ℕ → List ℤ) → ((i : ℕ) → i < n → coefficients (F i) ≡ true) → coefficients (flat n F) ≡ true

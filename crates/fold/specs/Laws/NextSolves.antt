@@ -20,7 +20,7 @@ use Rattle.ring.specs.Element.{R}
 use Rattle.ring.specs.Laws.ElementEquality.{every-true}
 use Rattle.fold.specs.Sizes.{tSize, garbageSize, restSize, openingSize, nextRank, nextParts, nextCount}
 use Rattle.fold.specs.Statement.{Relation, Solves, part, function, wholeAt, wholeConstant}
-use Rattle.fold.specs.Messages.{five}
+use Rattle.fold.specs.Sizes.{five}
 use Rattle.fold.specs.Statement.{Statement, Draws, Transcript}
 use Rattle.fold.specs.Verdict.{check₁, check₂}
 use Rattle.fold.specs.Opening.{tPlace, gPlace, hPlace, zLength, tgLength, hLength}

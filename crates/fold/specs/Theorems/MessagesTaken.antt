@@ -13,7 +13,7 @@ use lib.IntN.{ℤ, pos}
 use borrow.Author.Tests.{le-leb}
 use Rattle.residues.specs.Range.{coefficients}
 use Rattle.fold.specs.Answers.{firstRefusal}
-use Rattle.fold.specs.Sizes.{tSize, garbageSize, openingSize, nextParts, nextCount}
+use Rattle.fold.specs.Sizes.{five, tSize, garbageSize, openingSize, nextParts, nextCount}
 use Rattle.fold.specs.Statement.{Relation}
 use Rattle.fold.specs.Statement.{Statement, Draws, Transcript}
 use Rattle.fold.specs.Refusals.{allOf, rank, parts, constraintCount, projectionCount, commitmentRank, base, digitCount, chunks}
@@ -95,7 +95,7 @@ module _ (𝓢 : Statement) (𝓓 : Draws) (s : List ℤ) (taken : firstRefusal 
       & tt)
 
   -- message 3
-  pub aggregate-taken : (b″ : List ℤ) → length b″ ≡ 5 * d → firstRefusal (aggregateTests d n r L w term rows ψ ω s b″) ≡ 0
+  pub aggregate-taken : (b″ : List ℤ) → length b″ ≡ five * d → firstRefusal (aggregateTests d n r L w term rows ψ ω s b″) ≡ 0
   unfolding proverTests aggregateTests
   aggregate-taken b″ b″-size =
       let (n-in, (r-in, (_, L-w-in))) = counts in

@@ -23,13 +23,13 @@ use Rattle.ring.specs.Laws.ElementLaws.{getD-array}
 use Rattle.ring.specs.Laws.ElementSteps.{bits32, bits32-small, bits32-centred}
 use Rattle.fold.specs.Sizes.{functionSize}
 use Rattle.fold.specs.Statement.{termAt, termConstant}
-use Rattle.fold.specs.Messages.{five}
+use Rattle.fold.specs.Sizes.{five}
 use Rattle.fold.specs.Verdict.{check₂}
 use Rattle.fold.specs.Refusals.{termLength}
 use Rattle.verifier.specs.ConstantTerms.{weighted, termHolds}
 
 pub check-two : (d n r L w : ℕ) (term ψ ω p b″ : List ℤ) → every 5 (termHolds d n r L w term ψ ω p b″) ≡ check₂ d n r L w term ψ ω p b″
-unfolding check₂ termHolds five
+unfolding check₂ termHolds
 check-two d n r L w term ψ ω p b″ = refl
 
 -- ---- the loop of a weighted sum
