@@ -70,7 +70,7 @@ garbageRefusal m whole term rows ψ ω α δ D s hs u₂ =
 abbrev pub amortizeRefusal : Shape → (b : ℕ) (c s zs : List ℤ) → ℕ
 amortizeRefusal m b c s zs = firstRefusal (amortizeTests (m .d) (m .n) (m .r) 2 b c s zs)
 
-abbrev pub verifyRefusal : Statement → Draws → Transcript → List ℤ → ℕ
+abbrev pub verifyRefusal : Statement → Draws → Transcript → (o : List ℤ) → ℕ
 verifyRefusal 𝓢 𝓓 𝓣 o = firstRefusal (verifyTests 𝓢 𝓓 𝓣 o)
 
 abbrev pub productRefusal : ℕ → (x y : List ℤ) → ℕ

@@ -20,21 +20,21 @@ unfoldable pub width : (tz n ν m μ : ℕ) → ℕ → ℕ
 width tz n ν m μ s = cond (ltb s (tz * ν)) (chunk n ν (s % ν)) (chunk m μ (s - tz * ν))
 
 -- chunk s of a list that is cut into chunks of w 0, w 1, .. elements: "that stretch of the caller's own slice"
-unfoldable pub cut : (d : ℕ) → (ℕ → ℕ) → List ℤ → ℕ → List ℤ
+unfoldable pub cut : (d : ℕ) → (ℕ → ℕ) → (o : List ℤ) → ℕ → List ℤ
 cut d w o s = take (w s * d) (drop (start w s * d) o)
 
 -- "every stretch is padded with zeros at its end to n'"
-unfoldable pub cutPadded : (d n′ : ℕ) → (ℕ → ℕ) → List ℤ → ℕ → List ℤ
+unfoldable pub cutPadded : (d n′ : ℕ) → (ℕ → ℕ) → (o : List ℤ) → ℕ → List ℤ
 cutPadded d n′ w o s = cut d w o s ++ replicate ((n′ - w s) * d) (pos 0)
 
-unfoldable pub padded : (d tz n ν m μ : ℕ) → List ℤ → List ℤ
+unfoldable pub padded : (d tz n ν m μ : ℕ) (o : List ℤ) → List ℤ
 padded d tz n ν m μ o = flat (nextParts tz ν μ) (cutPadded d (nextRank n ν m μ) (width tz n ν m μ) o)
 
 -- "with the padding cut off": part i of a next witness, and the opening that the parts hold
-unfoldable pub trimmed : (d n′ : ℕ) → (ℕ → ℕ) → List ℤ → ℕ → List ℤ
+unfoldable pub trimmed : (d n′ : ℕ) → (ℕ → ℕ) → (s : List ℤ) → ℕ → List ℤ
 trimmed d n′ w s i = take (w i * d) (drop (i * n′ * d) s)
 
-unfoldable pub unpadded : (d tz n ν m μ : ℕ) → List ℤ → List ℤ
+unfoldable pub unpadded : (d tz n ν m μ : ℕ) (s : List ℤ) → List ℤ
 unpadded d tz n ν m μ s = flat (nextParts tz ν μ) (trimmed d (nextRank n ν m μ) (width tz n ν m μ) s)
 
 -- "A solution of the next instance whose padding is zero": number x of element k of part i is zero past the end of chunk i

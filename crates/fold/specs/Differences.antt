@@ -10,7 +10,7 @@ use Rattle.fold.specs.Statement.{Relation}
 use Rattle.fold.specs.Statement.{Statement}
 use Rattle.fold.specs.Opening.{tPlace}
 
-unfoldable pub difference : List ℤ → List ℤ → List ℤ
+unfoldable pub difference : (xs ys : List ℤ) → List ℤ
 difference xs ys = tab (length xs) (λ i. centred (getD xs i (pos 0) -ℤ getD ys i (pos 0)))
 
 module _ (𝓢 : Statement) (o : List ℤ) where

@@ -158,7 +158,7 @@ module _ (𝓢 : Statement) (𝓓 : Draws) (𝓣 : Transcript) (ν μ : ℕ) whe
   r′ = nextParts tz ν μ
 
   -- the next witness is the padded opening
-  abbrev pub nextWitness : List ℤ → List ℤ
+  abbrev pub nextWitness : (o : List ℤ) → List ℤ
   nextWitness o = padded d tz n ν m μ o
 
   unfoldable pub nextWhole : List ℤ

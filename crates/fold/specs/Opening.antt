@@ -12,7 +12,7 @@ use Rattle.fold.specs.Sizes.{tSize, garbageSize}
 
 -- ---- the opening: "Order: z low, z high; t by part, then digit, then row; g and h by i, then j, then digit."
 
-unfoldable pub block : (d : ℕ) → List ℤ → ℕ → ℕ → R d .Carrier
+unfoldable pub block : (d : ℕ) (o : List ℤ) → ℕ → ℕ → R d .Carrier
 block d o a y = el d o (a + y)
 
 -- the places where t, g and h start
@@ -38,11 +38,11 @@ garbageOf d r b t x i j = joined d b t (λ e. x (pair r i j * t + e))
 -- ---- the checks
 
 -- the squared lengths of the z digits, of the t and g digits, and of the h digits
-unfoldable pub zLength : (d n tz : ℕ) → List ℤ → ℕ
+unfoldable pub zLength : (d n tz : ℕ) (o : List ℤ) → ℕ
 zLength d n tz o = normSq (take (tz * n * d) o)
 
-unfoldable pub tgLength : (d n r tz κ t₁ t₂ : ℕ) → List ℤ → ℕ
+unfoldable pub tgLength : (d n r tz κ t₁ t₂ : ℕ) (o : List ℤ) → ℕ
 tgLength d n r tz κ t₁ t₂ o = normSq (take ((tSize r κ t₁ + garbageSize r t₂) * d) (drop (tPlace tz n * d) o))
 
-unfoldable pub hLength : (d n r tz κ t₁ t₂ : ℕ) → List ℤ → ℕ
+unfoldable pub hLength : (d n r tz κ t₁ t₂ : ℕ) (o : List ℤ) → ℕ
 hLength d n r tz κ t₁ t₂ o = normSq (take (garbageSize r t₁ * d) (drop (hPlace tz n r κ t₁ t₂ * d) o))

@@ -67,14 +67,15 @@ unfoldable pub lengthBound : ℤ → Bool
 lengthBound β² = between 0 999999999999999 β²
 
 -- row 7: "a slice's length is not what the sizes give"
-unfoldable pub sized : List ℤ → ℕ → Bool
+unfoldable pub sized : (xs : List ℤ) → ℕ → Bool
 sized xs k = eqb (length xs) k
 
 -- row 10: "challenge outside the rule", for each of the r elements of c
-unfoldable pub challenges : (d r : ℕ) → List ℤ → Bool
+unfoldable pub challenges : (d r : ℕ) (c : List ℤ) → Bool
 challenges d r c = every r (λ i. challenge (take d (drop (i * d) c)))
 
 -- ---- the lengths that the sizes give, in numbers
+
 unfoldable pub wholeLength : (d n r K : ℕ) → ℕ
 wholeLength d n r K = K * ((functionSize n r + 1) * d)
 
@@ -242,7 +243,7 @@ module _ (𝓢 : Statement) (𝓓 : Draws) where
   drawTests = (9, projections projectionRows) ∷ (10, challenges d r c) ∷ []
 
   -- the statement, the draws and a witness: what the five messages are made from
-  unfoldable pub proverTests : List ℤ → List (ℕ × Bool)
+  unfoldable pub proverTests : (s : List ℤ) → List (ℕ × Bool)
   proverTests s =
       sizeTests
       ++ (boundTests
@@ -263,7 +264,7 @@ module _ (𝓢 : Statement) (𝓓 : Draws) (𝓣 : Transcript) where
   ranges = coefficients u₁ ∷ coefficients p ∷ coefficients b″ ∷ coefficients u₂ ∷ givenRanges 𝓢 𝓓
 
   -- the verifier, with the opening o
-  unfoldable pub verifyTests : List ℤ → List (ℕ × Bool)
+  unfoldable pub verifyTests : (o : List ℤ) → List (ℕ × Bool)
   verifyTests o =
       sizeTests 𝓢 𝓓
       ++ (boundTests 𝓢 𝓓
@@ -272,7 +273,7 @@ module _ (𝓢 : Statement) (𝓓 : Draws) (𝓣 : Transcript) where
       ∷ drawTests 𝓢 𝓓))
 
   -- the next instance, cut into ν and μ chunks and written to out; "11: n' above 256"
-  unfoldable pub nextTests : (ν μ : ℕ) → List ℤ → List (ℕ × Bool)
+  unfoldable pub nextTests : (ν μ : ℕ) (out : List ℤ) → List (ℕ × Bool)
   nextTests ν μ out =
       sizeTests 𝓢 𝓓
       ++ ((5, chunks tz (pos ν) (pos μ))
@@ -285,7 +286,7 @@ module _ (𝓢 : Statement) (𝓓 : Draws) (𝓣 : Transcript) where
       n′ = nextRank n ν (restSize r κ t₁ t₂) μ
 
 -- the question for part i (from 1) of the next witness; the opening o is looked at only for its length
-unfoldable pub partTests : (d n r κ t₁ t₂ tz ν μ i : ℕ) → List ℤ → List (ℕ × Bool)
+unfoldable pub partTests : (d n r κ t₁ t₂ tz ν μ i : ℕ) (o : List ℤ) → List (ℕ × Bool)
 partTests d n r κ t₁ t₂ tz ν μ i o =
     (1, degree (pos d))
     ∷ (2, allOf (rank (pos n) ∷ parts (pos r) ∷ between 1 (nextParts tz ν μ) (pos i) ∷ []))
@@ -296,7 +297,7 @@ partTests d n r κ t₁ t₂ tz ν μ i o =
     ∷ []
 
 -- row 8 for "sixty-four numbers; those past d are zero": "coefficient .. out of range; a ring element with a nonzero number past d"
-unfoldable pub isElement : ℕ → List ℤ → Bool
+unfoldable pub isElement : ℕ → (xs : List ℤ) → Bool
 isElement d xs = allOf (coefficients xs ∷ allWithin 0 (drop d xs) ∷ [])
 
 -- the ring product, of elements by value

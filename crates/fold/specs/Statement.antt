@@ -16,26 +16,26 @@ use Rattle.ring.specs.Element.{R, el}
 use Rattle.fold.specs.Sizes.{pairs, functionSize}
 
 -- element k of part i of a witness of rank n
-unfoldable pub part : (d n : ℕ) → List ℤ → ℕ → ℕ → R d .Carrier
+unfoldable pub part : (d n : ℕ) (s : List ℤ) → ℕ → ℕ → R d .Carrier
 part d n s i k = el d s (i * n + k)
 
 module _ (d n r : ℕ) where
   -- the function of a constraint that starts where the list does
-  abbrev pub function : List ℤ → Function (R d)
+  abbrev pub function : (xs : List ℤ) → Function (R d)
   function xs = record { a = λ i j. el d xs (pair r i j); φ = λ i k. el d xs (pairs r + (i * n + k)) }
 
   -- the whole kind: a constraint is its function and one element b
-  unfoldable pub wholeAt : List ℤ → ℕ → List ℤ
+  unfoldable pub wholeAt : (xs : List ℤ) → ℕ → List ℤ
   wholeAt xs k = drop (k * ((functionSize n r + 1) * d)) xs
 
-  unfoldable pub wholeConstant : List ℤ → ℕ → R d .Carrier
+  unfoldable pub wholeConstant : (xs : List ℤ) → ℕ → R d .Carrier
   wholeConstant xs k = el d (wholeAt xs k) (functionSize n r)
 
   -- the constant-term kind: a constraint is its function and one number b
-  unfoldable pub termAt : List ℤ → ℕ → List ℤ
+  unfoldable pub termAt : (xs : List ℤ) → ℕ → List ℤ
   termAt xs l = drop (l * (functionSize n r * d + 1)) xs
 
-  unfoldable pub termConstant : List ℤ → ℕ → ℤ
+  unfoldable pub termConstant : (xs : List ℤ) → ℕ → ℤ
   termConstant xs l = getD (termAt xs l) (functionSize n r * d) (pos 0)
 
 -- what a witness is asked to solve

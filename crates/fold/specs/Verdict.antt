@@ -25,11 +25,11 @@ use Rattle.fold.specs.Statement.{Statement, Draws, Transcript}
 -- ---- the checks
 
 -- "2·|p|² ≤ w·β²"
-unfoldable pub check₁ : (w β² : ℕ) → List ℤ → Bool
+unfoldable pub check₁ : (w β² : ℕ) (p : List ℤ) → Bool
 check₁ w β² p = leb (2 * normSq p) (w * β²)
 
 -- "Each b''_k has constant term Σψ b' + Σω p."
-unfoldable pub check₂ : (d n r L w : ℕ) → List ℤ → List ℤ → List ℤ → List ℤ → List ℤ → Bool
+unfoldable pub check₂ : (d n r L w : ℕ) (term ψ ω p b″ : List ℤ) → Bool
 check₂ d n r L w term ψ ω p b″ =
     every five (λ k. eqb (ct Zq (el d b″ k) .val) (Zq .add (terms k) (projected k) .val))
   where
@@ -40,23 +40,23 @@ check₂ d n r L w term ψ ω p b″ =
     projected k = sum Zq w (λ j. Zq .mul (red (getD ω (k * w + j) (pos 0))) (red (getD p j (pos 0))))
 
 -- "u1 equation", for t digits x and g digits y
-unfoldable pub check₃ : (d r κ κ₁ t₁ t₂ : ℕ) → List ℤ → List ℤ → List ℤ → (ℕ → R d .Carrier) → (ℕ → R d .Carrier) → Bool
+unfoldable pub check₃ : (d r κ κ₁ t₁ t₂ : ℕ) (B C u₁ : List ℤ) → (ℕ → R d .Carrier) → (ℕ → R d .Carrier) → Bool
 check₃ d r κ κ₁ t₁ t₂ B C u₁ x y = every κ₁ (λ k. same d (el d u₁ k) (outer₁ d r κ t₁ t₂ B C k x y))
 
 -- "u2 equation", for h digits x
-unfoldable pub check₄ : (d r κ₂ t₁ : ℕ) → List ℤ → List ℤ → (ℕ → R d .Carrier) → Bool
+unfoldable pub check₄ : (d r κ₂ t₁ : ℕ) (D u₂ : List ℤ) → (ℕ → R d .Carrier) → Bool
 check₄ d r κ₂ t₁ D u₂ x = every κ₂ (λ k. same d (el d u₂ k) (outer₂ d r t₁ D k x))
 
 -- "A z = Σ c_i t_i"
-unfoldable pub check₅ : (d n r κ : ℕ) → List ℤ → List ℤ → (ℕ → R d .Carrier) → (ℕ → ℕ → R d .Carrier) → Bool
+unfoldable pub check₅ : (d n r κ : ℕ) (A c : List ℤ) → (ℕ → R d .Carrier) → (ℕ → ℕ → R d .Carrier) → Bool
 check₅ d n r κ A c z t = every κ (λ k. same d (times d n A k z) (sum (R d) r (λ i. R d .mul (el d c i) (t i k))))
 
 -- "<z,z> = Σ g_ii c_i² + 2Σ_{i<j} g_ij c_i c_j"
-unfoldable pub check₆ : (d n r : ℕ) → List ℤ → (ℕ → R d .Carrier) → (ℕ → ℕ → R d .Carrier) → Bool
+unfoldable pub check₆ : (d n r : ℕ) (c : List ℤ) → (ℕ → R d .Carrier) → (ℕ → ℕ → R d .Carrier) → Bool
 check₆ d n r c z g = same d (inner (R d) n z z) (mixed (R d) r g (el d c))
 
 -- "Σ<φ_i,z>c_i = Σ h_ii c_i² + 2Σ_{i<j} h_ij c_i c_j"
-unfoldable pub check₇ : (d n r : ℕ) → List ℤ → (ℕ → ℕ → R d .Carrier) → (ℕ → R d .Carrier) → (ℕ → ℕ → R d .Carrier) → Bool
+unfoldable pub check₇ : (d n r : ℕ) (c : List ℤ) → (ℕ → ℕ → R d .Carrier) → (ℕ → R d .Carrier) → (ℕ → ℕ → R d .Carrier) → Bool
 check₇ d n r c φ z h = same d (sum (R d) r (λ i. R d .mul (inner (R d) n (φ i) z) (el d c i))) (mixed (R d) r h (el d c))
 
 -- "Σ a_ij g_ij + Σ h_ii = b"
@@ -64,7 +64,7 @@ unfoldable pub check₈ : (d r : ℕ) → (ℕ → ℕ → R d .Carrier) → R d
 check₈ d r a b g h = same d (R d .add (rows (R d) r (λ i j. R d .mul (a i j) (g i j))) (sum (R d) r (λ i. h i i))) b
 
 -- "All digits' squared length ≤ β'² (lent)."
-unfoldable pub check₉ : (d n r tz κ t₁ t₂ target : ℕ) → List ℤ → Bool
+unfoldable pub check₉ : (d n r tz κ t₁ t₂ target : ℕ) (o : List ℤ) → Bool
 check₉ d n r tz κ t₁ t₂ target o = leb (zLength d n tz o + tgLength d n r tz κ t₁ t₂ o + hLength d n r tz κ t₁ t₂ o) target
 
 -- ---- the verdict

@@ -8,5 +8,5 @@ use Rattle.fold.specs.Statement.{Statement, Draws, Transcript}
 use Rattle.fold.specs.Verdict.{verdict}
 use Rattle.fold.specs.Refusals.{verifyTests}
 
-abbrev pub verification : Statement → Draws → Transcript → List ℤ → Answer
+abbrev pub verification : Statement → Draws → Transcript → (o : List ℤ) → Answer
 verification 𝓢 𝓓 𝓣 o = answered (firstRefusal (verifyTests 𝓢 𝓓 𝓣 o)) (Judged (verdict 𝓢 𝓓 𝓣 o))
