@@ -3,19 +3,13 @@ use Rattle.lizkarg.specs.Laws.CallLaws.{aggregate-refused, aggregate-fac
 use Rattle.lizkarg.proofs.aggregate.Statement.{statement}
 use Rattle.lizkarg.proofs.aggregate.Tie as tie
 
--- src/lib.rt:61:9
--- src/lib.rt:63:9
--- src/lib.rt:63:9
 returns : tie.Need-returns
 returns c = aggregate-refused _ _ _ _ _ _ _ _ _ (c .before .aggregate-refusal .ensures) (c .if1 .taken)
 
--- src/lib.rt:65:5
 write-b2-requires : tie.Need-write-b2-requires
 write-b2-requires c κs =
     (aggregate-facts _ _ _ _ _ _ _ _ _ (c .before .before .aggregate-refusal .ensures) (c .before .if1 .left), aggregate-room _ _ _ _ _ _ _ _ _ (c .before .before .aggregate-refusal .ensures) (c .before .if1 .left))
 
--- src/lib.rt:46:1
--- src/lib.rt:46:1
 returns-2 : tie.Need-returns-2
 returns-2 c = aggregate-written _ _ _ _ _ _ _ _ _ (c .before .before .before .before .aggregate-refusal .ensures) (c .before .before .before .if1 .left) (c .before .write-b2 .ensures)
 

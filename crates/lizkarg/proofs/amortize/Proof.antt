@@ -3,18 +3,12 @@ use Rattle.lizkarg.specs.Laws.CallLaws.{amortize-refused, amortize-facts
 use Rattle.lizkarg.proofs.amortize.Statement.{statement}
 use Rattle.lizkarg.proofs.amortize.Tie as tie
 
--- src/lib.rt:48:9
--- src/lib.rt:50:9
--- src/lib.rt:50:9
 returns : tie.Need-returns
 returns c = amortize-refused (c .before .amortize-refusal .ensures) (c .if1 .taken)
 
--- src/lib.rt:52:5
 write-z-requires : tie.Need-write-z-requires
 write-z-requires c κs = amortize-facts (c .before .before .amortize-refusal .ensures) (c .before .if1 .left)
 
--- src/lib.rt:45:1
--- src/lib.rt:45:1
 returns-2 : tie.Need-returns-2
 returns-2 c = amortize-written (c .before .before .before .before .amortize-refusal .ensures) (c .before .before .before .if1 .left) (c .before .write-z .ensures)
 

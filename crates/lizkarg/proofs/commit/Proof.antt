@@ -3,31 +3,19 @@ use Rattle.lizkarg.specs.Laws.CallLaws.{commit-refused, commit-t, commit
 use Rattle.lizkarg.proofs.commit.Statement.{statement}
 use Rattle.lizkarg.proofs.commit.Tie as tie
 
--- src/lib.rt:22:9
--- src/lib.rt:24:9
--- src/lib.rt:24:9
--- src/lib.rt:24:9
--- src/lib.rt:24:9
 returns : tie.Need-returns
 returns c = commit-refused _ _ _ _ _ _ _ _ (c .before .commit-refusal .ensures) (c .if1 .taken)
 
--- src/lib.rt:26:5
 write-t-requires : tie.Need-write-t-requires
 write-t-requires c κs = commit-t _ _ _ _ _ _ _ _ (c .before .before .commit-refusal .ensures) (c .before .if1 .left)
 
--- src/lib.rt:27:5
 write-g-requires : tie.Need-write-g-requires
 write-g-requires c κs = commit-g _ _ _ _ _ _ _ _ (c .before .before .before .before .before .commit-refusal .ensures) (c .before .before .before .before .if1 .left)
 
--- src/lib.rt:28:5
 write-u1-requires : tie.Need-write-u1-requires
 write-u1-requires c κs =
     commit-u _ _ _ _ _ _ _ _ (c .before .before .before .before .before .before .before .before .before .before .commit-refusal .ensures) (c .before .before .before .before .before .before .before .before .before .if1 .left) (c .before .before .before .before .before .before .before .write-t .kept .1 .1 .1 .0) (c .before .before .before .before .write-g .kept .1 .1 .0)
 
--- src/lib.rt:8:1
--- src/lib.rt:8:1
--- src/lib.rt:8:1
--- src/lib.rt:8:1
 returns-2 : tie.Need-returns-2
 returns-2 c =
     commit-written _ _ _ _ _ _ _ _ (c .before .before .before .before .before .before .before .before .before .before .before .before .commit-refusal .ensures) (c .before .before .before .before .before .before .before .before .before .before .before .if1 .left) (c .before .before .before .before .before .before .before .before .before .write-t .ensures) (c .before .before .before .before .before .before .write-g .ensures)

@@ -3,25 +3,16 @@ use Rattle.lizkarg.specs.Laws.CallLaws.{garbage-refused, garbage-h, garb
 use Rattle.lizkarg.proofs.commit_garbage.Statement.{statement}
 use Rattle.lizkarg.proofs.commit_garbage.Tie as tie
 
--- src/lib.rt:89:9
--- src/lib.rt:104:9
--- src/lib.rt:104:9
--- src/lib.rt:104:9
 returns : tie.Need-returns
 returns c = garbage-refused _ _ _ _ _ _ _ _ _ _ _ _ (c .before .garbage-refusal .ensures) (c .if1 .taken)
 
--- src/lib.rt:106:5
 write-h-requires : tie.Need-write-h-requires
 write-h-requires c κs = garbage-h _ _ _ _ _ _ _ _ _ _ _ _ (c .before .before .garbage-refusal .ensures) (c .before .if1 .left)
 
--- src/lib.rt:118:5
 write-u2-requires : tie.Need-write-u2-requires
 write-u2-requires c κs =
     garbage-u _ _ _ _ _ _ _ _ _ _ _ _ (c .before .before .before .before .before .before .garbage-refusal .ensures) (c .before .before .before .before .before .if1 .left) (c .before .before .before .write-h .kept .1 .1 .1 .1 .1 .1 .1 .1 .1 .0)
 
--- src/lib.rt:70:1
--- src/lib.rt:70:1
--- src/lib.rt:70:1
 returns-2 : tie.Need-returns-2
 returns-2 c =
     garbage-written _ _ _ _ _ _ _ _ _ _ _ _ (c .before .before .before .before .before .before .before .before .garbage-refusal .ensures) (c .before .before .before .before .before .before .before .if1 .left) (c .before .before .before .before .before .write-h .ensures) (c .before .write-u2 .ensures)

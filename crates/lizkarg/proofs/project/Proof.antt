@@ -3,18 +3,12 @@ use Rattle.lizkarg.specs.Laws.CallLaws.{project-refused, project-facts, 
 use Rattle.lizkarg.proofs.project.Statement.{statement}
 use Rattle.lizkarg.proofs.project.Tie as tie
 
--- src/lib.rt:36:9
--- src/lib.rt:38:9
--- src/lib.rt:38:9
 returns : tie.Need-returns
 returns c = project-refused (c .before .project-refusal .ensures) (c .if1 .taken)
 
--- src/lib.rt:40:5
 write-p-requires : tie.Need-write-p-requires
 write-p-requires c κs = project-facts (c .before .before .project-refusal .ensures) (c .before .if1 .left)
 
--- src/lib.rt:33:1
--- src/lib.rt:33:1
 returns-2 : tie.Need-returns-2
 returns-2 c = project-written (c .before .before .before .before .project-refusal .ensures) (c .before .before .before .if1 .left) (c .before .write-p .ensures)
 
