@@ -1,5 +1,5 @@
-// The numbers of a sheet, cut into the lists that the verifier takes, in four stages. Each stage is handed the lists cut so far and the
-// numbers that are left.
+// The numbers of a sheet, cut into the lists that the verifier takes, in four stages: the check of a function grows with the parts that it
+// cuts, and seventeen in one are too many. Each stage is handed the lists cut so far and the numbers that are left.
 ghost use mathlib.Core.Path.{_≡_};
 ghost use Rattle.sheet.specs.Sections.{Bounded};
 ghost use Rattle.judge.specs.Judging.{foldSizes, judgedNumbers};

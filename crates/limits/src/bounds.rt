@@ -1,4 +1,5 @@
-// Rows 1 to 6 of document 01's table for each call: its sizes. 0 where none of these refuses.
+// Rows 1 to 6 of document 01's table for each call: its sizes. 0 where none of these refuses. Tests are joined by `&`, not `&&`: each is safe on
+// any number, and without a branch the proof of a call is one line.
 ghost use mathlib.Core.Path.{_≡_};
 ghost use Rattle.fold.specs.Answers.{firstRefusal};
 ghost use Rattle.limits.specs.Stages as spec;

@@ -52,7 +52,7 @@ pub fn raise(d: usize, v: &[i32], p: usize, e: &mut [u64; 129])
     }
 }
 
-// What the raise of one operand adds to each column, taken away modulo q.
+// What the raise of one operand adds to each column, taken away modulo q. 274877900608 is 64·q: the sum of 64 residues is below it.
 pub fn raised_weight(d: usize, a: &[u64; 64]) -> u64
     requires { ⌜ (d ≤ 64) × ((i : ℕ) → i < d → getD (now a) i 0 < 4294967197) ⌝ }
     ensures { λ r. ⌜ r ≡ weight d (now (a .entry)) ⌝ }
