@@ -47,8 +47,7 @@ use Prim.Native.Nat.{ℕ}
 use lib.ListN.{set}
 use lib.IntN.{ℤ}
 use Rattle.integers.specs.Literals.{+_, -_, _zeros∷_}
-use Rattle.fold.specs.Statement.{Relation}
-use Rattle.fold.specs.Verdict.{Statement, Draws}
+use Rattle.fold.specs.Statement.{Statement, Draws}
 """
 
 RECORDS = """\
