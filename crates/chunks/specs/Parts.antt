@@ -1,4 +1,4 @@
--- One part of the next witness for the sizes of a struct: its refusal, and the stretch handed back. `part-handed-back` is the law of the call.
+-- One part of the next witness for the sizes of a struct: its refusal, and the stretch handed back.
 use mathlib.Core.Bool.{Bool}
 use mathlib.Core.List.{List, [], _∷_}
 use Prim.Native.Nat.{ℕ, _+_, _*_, _≤_}

@@ -10,8 +10,6 @@ use Rattle.ring.specs.Element.{R, el}
 use Rattle.ring.specs.Joined.{joined}
 use Rattle.fold.specs.Sizes.{tSize, garbageSize}
 
--- ---- the opening: "Order: z low, z high; t by part, then digit, then row; g and h by i, then j, then digit."
-
 unfoldable pub block : (d : ℕ) (o : List ℤ) → ℕ → ℕ → R d .Carrier
 block d o a y = el d o (a + y)
 
@@ -34,8 +32,6 @@ tOf d κ b₁ t₁ x i k = joined d b₁ t₁ (λ e. x ((i * t₁ + e) * κ + k)
 
 unfoldable pub garbageOf : (d r b t : ℕ) → (ℕ → R d .Carrier) → ℕ → ℕ → R d .Carrier
 garbageOf d r b t x i j = joined d b t (λ e. x (pair r i j * t + e))
-
--- ---- the checks
 
 -- the squared lengths of the z digits, of the t and g digits, and of the h digits
 unfoldable pub zLength : (d n tz : ℕ) (o : List ℤ) → ℕ

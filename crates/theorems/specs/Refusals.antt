@@ -3,9 +3,10 @@
 -- sheet. All else is answered; every call ends and does nothing undefined."
 -- For each call's answer, by its promise: it is refused by k exactly when the test of row k is the first of the call's tests that fails, and
 -- then nothing lent has changed. That a call ends and does nothing undefined is part of its proof.
-use mathlib.Core.Path.{_≡_, refl}
-use mathlib.Core.List.{List}
-use Prim.Native.Nat.{ℕ}
+use mathlib.Core.Path.{_≡_, refl, sym, _∙_}
+use mathlib.Core.Logic.{_↔_}
+use mathlib.Core.List.{List, []}
+use Prim.Native.Nat.{ℕ, suc}
 use lib.ListN.{length}
 use lib.IntN.{ℤ}
 use Rattle.fold.specs.declared.Answer.{Answer}
@@ -15,16 +16,18 @@ use Rattle.fold.specs.declared.GarbageSizes.{GarbageSizes}
 use Rattle.fold.specs.declared.Shape.{Shape}
 use Rattle.fold.specs.Statement.{Statement, Draws, Transcript}
 use Rattle.fold.specs.Answers.{firstRefusal, written}
-use Rattle.fold.specs.Refusals.{productTests, commitTests, projectTests, aggregateTests, garbageTests, amortizeTests, verifyTests, nextTests}
+use Rattle.fold.specs.Refusals.{productTests, commitTests, projectTests, aggregateTests, garbageTests, amortizeTests, verifyTests, nextTests, partTests}
 use Rattle.fold.specs.Verdict.{verdict}
 use Rattle.fold.specs.Verification.{verification}
-use Rattle.fold.specs.NextCall.{orWritten, firstChecks, nextAnswer, nextOut}
+use Rattle.fold.specs.NextCall.{orWritten, firstChecks, nextAnswer, nextOut, partRefusal, nextPart}
+use Rattle.chunks.specs.declared.part.PartSizes.{PartSizes}
+use Rattle.chunks.specs.Parts.{partRefusalOf, nextPartOf}
 use Rattle.sheet.specs.declared.reader.SheetAnswer.{SheetAnswer}
 use Rattle.sheet.specs.Reading.{headerTests, numberTests, bodyTests, readingTests, answerOf, SheetRead}
 use Rattle.lizkarg.specs.Calls.{productOf, Committed, Projected, Aggregated, GarbageCommitted, Amortized}
 use Rattle.next_instance.specs.Calls.{NextCalled}
-use Rattle.theorems.specs.Refused.{Refuses}
-use Rattle.theorems.specs.Laws.RefusedLaws.{refused-exactly, same-as-before, one-list, no-list, written-no-refusal, judged-no-refusal, next-no-refusal}
+use Rattle.theorems.specs.Refused.{FirstFails, Refuses}
+use Rattle.theorems.specs.Laws.RefusedLaws.{fails-first, first-fails, refused-exactly, same-as-before, one-list, no-list, written-no-refusal, judged-no-refusal, next-no-refusal}
 
 -- ---- the calls
 
@@ -100,3 +103,16 @@ pub read-refuses : (text : List ℕ) (numbers : List ℤ) (read : SheetAnswer) (
 unfolding readingTests headerTests bodyTests numberTests
 read-refuses text numbers read numbers′ call =
     one-list (readingTests (length numbers) text) refl Written written-no-refusal (call .answer-is) _ _ (call .numbers-are)
+
+-- a part of the next witness: "the stretch is empty, and a question beside it answers that number, else 0". Here the answer is a number, and k + 1
+-- stands for a row.
+pub part-refuses : (m : PartSizes) (i : ℕ) (o : List ℤ) (number : ℕ) (part : List ℤ) → number ≡ partRefusalOf m i o → part ≡ nextPartOf m i o
+    → (k : ℕ)
+    → ((number ≡ suc k) ↔ FirstFails (suc k) (partTests (m .d) (m .n) (m .r) (m .kappa) (m .t1) (m .t2) 2 (m .nu) (m .mu) i o))
+    × (number ≡ suc k → part ≡ [])
+unfolding partRefusal nextPart written
+part-refuses m i o number part is handed k =
+    let tests = partTests (m .d) (m .n) (m .r) (m .kappa) (m .t1) (m .t2) 2 (m .nu) (m .mu) i o in (
+      (λ e. first-fails tests k (sym is ∙ e), λ f. is ∙ fails-first tests (suc k) f),
+      λ e. handed ∙ rw (sym is ∙ e) refl,
+    )

@@ -6,16 +6,16 @@
 use mathlib.Core.Path.{_≡_, refl, sym, ap, ap₂, _∙_}
 use mathlib.Core.List.{List, _++_}
 use Prim.Native.Nat.{ℕ, zero, suc, _+_, _-_, _*_, _≤_, _<_}
-use native.Mathlib.Nat.{add-mul, mul-le-mul-right, zero-mul}
+use native.Mathlib.Nat.{add-mul, mul-le-mul-right, zero-mul, mul-assoc}
 use native.Mathlib.Omega.{arith}
 use lib.ListN.{length, getD, take, drop, replicate}
 use lib.ListN.{length-append, length-take, length-drop, length-replicate, getD-replicate, List·getD-append}
-use lib.Seq.{take-add, take-all, getD-take, getD-drop, getD-append-add}
+use lib.Seq.{take-add, take-all, getD-take, getD-drop, getD-append-add, take-at, take-take}
 use lib.IntN.{ℤ, pos}
 use Rattle.integers.specs.Laws.SumLaws.{total-cong, normSq-append}
 use Rattle.integers.specs.Sums.{sq, normSq}
 use Rattle.integers.specs.Flat.{flat}
-use Rattle.integers.specs.Laws.FlatLaws.{block-flat, getD-flat, normSq-flat, block-fits}
+use Rattle.integers.specs.Laws.FlatLaws.{block-flat, getD-flat, normSq-flat, block-fits, flat-cong, length-flat}
 use Rattle.algebra.specs.Triangle.{start}
 use Rattle.algebra.specs.Laws.TriangleLaws.{start-mono}
 use Rattle.algebra.specs.Laws.PolynomialLaws.{coeff-zero}
@@ -24,7 +24,7 @@ use Rattle.residues.specs.Laws.ModulusLaws.{red-zero}
 use Rattle.ring.specs.Element.{R, el}
 use Rattle.ring.specs.Laws.ElementLaws.{element-ext}
 use Rattle.ring.specs.Laws.ElementPlaces.{coeff-el, el-cong}
-use Rattle.fold.specs.Chunks.{cut, cutPadded}
+use Rattle.fold.specs.Chunks.{cut, cutPadded, trimmed}
 
 normSq-zeros : (k : ℕ) → normSq (replicate k (pos 0)) ≡ 0
 unfolding normSq sq
@@ -105,6 +105,9 @@ module _ (d r n′ : ℕ) (w : ℕ → ℕ) (fits : (s : ℕ) → w s ≤ n′) 
   pub part-past : (s k : ℕ) → s < r → w s ≤ k → k < n′ → el d (flat r (cutPadded d n′ w o)) (s * n′ + k) ≡ R d .zero
   part-past s k h g l = el-zeros d _ (s * n′ + k) (λ x b. number-past s k x h g l b)
 
+  pub length-padded-cuts : length (flat r (cutPadded d n′ w o)) ≡ r * (n′ * d)
+  length-padded-cuts = length-flat r (n′ * d) (cutPadded d n′ w o) length-cutPadded
+
   pub normSq-padded-cuts : normSq (flat r (cutPadded d n′ w o)) ≡ normSq o
   unfolding cutPadded
   normSq-padded-cuts =
@@ -119,3 +122,14 @@ module _ (d r n′ : ℕ) (w : ℕ → ℕ) (fits : (s : ℕ) → w s ≤ n′) 
   -- one part, and the chunk in it
   pub block-cuts : (s : ℕ) → s < r → take (n′ * d) (drop (s * (n′ * d)) (flat r (cutPadded d n′ w o))) ≡ cutPadded d n′ w o s
   block-cuts = block-flat r (n′ * d) (cutPadded d n′ w o) length-cutPadded
+
+  pub trimmed-cuts : flat r (trimmed d n′ w (flat r (cutPadded d n′ w o))) ≡ o
+  unfolding cutPadded trimmed
+  trimmed-cuts = flat-cong r _ (cut d w o) one ∙ flat-cuts d r w o ∙ take-all (start w r * d) o (omega arith)
+    where
+      one : (s : ℕ) → s < r → trimmed d n′ w (flat r (cutPadded d n′ w o)) s ≡ cut d w o s
+      one s h =
+          ap (λ p. take (w s * d) (drop p (flat r (cutPadded d n′ w o)))) (mul-assoc s n′ d)
+          ∙ sym (take-take (w s * d) (n′ * d) _ (mul-le-mul-right d (fits s)))
+          ∙ ap (take (w s * d)) (block-cuts s h)
+          ∙ take-at (cut d w o s) (replicate ((n′ - w s) * d) (pos 0)) (w s * d) (length-cut s h)

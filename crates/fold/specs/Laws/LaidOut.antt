@@ -121,6 +121,9 @@ module _ (d n r : ℕ) (w : ℕ → ℕ) (count : ℕ) (F : ℕ → Constraint d
   all : List ℤ
   all = flat count (λ x. laidOut d n r w (F x))
 
+  pub length-written : length (flat count (λ x. laidOut d n r w (F x))) ≡ count * ((functionSize n r + 1) * d)
+  length-written = length-flat count ((functionSize n r + 1) * d) _ (λ x _. length-laidOut d n r w (F x))
+
   module _ (x : ℕ) (h : x < count) where
     rest : List ℤ
     rest = flat (count - suc x) (λ y. laidOut d n r w (F (suc x + y)))

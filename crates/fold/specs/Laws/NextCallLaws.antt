@@ -11,19 +11,20 @@ use Rattle.fold.specs.declared.Verdict.{Verdict}
 use Rattle.fold.specs.declared.Verdict.the-variants.{Accepted, Failed}
 use Rattle.fold.specs.declared.Answer.the-variants.{Judged, Written}
 use Rattle.fold.specs.Answers.{firstFailed, firstRefusal, answered, written}
-use Rattle.fold.specs.Sizes.{restSize, openingSize, nextRank, nextParts}
+use Rattle.fold.specs.Sizes.{restSize, openingSize, nextRank, nextParts, nextCount}
 use Rattle.fold.specs.Statement.{Statement, Draws, Transcript}
 use Rattle.fold.specs.Verification.{verification}
 use Rattle.fold.specs.Statement.{Solves}
 use Rattle.fold.specs.Laws.Accepted.{accepted-step, step-accepted}
-use Rattle.fold.specs.Refusals.{nextTests, partTests}
+use Rattle.fold.specs.Refusals.{nextTests, partTests, wholeLength}
 use Rattle.fold.specs.Laws.RefusalLaws.{refusal-passes, allOf-all, between-iff, chunks-iff, sized-iff}
 use Rattle.fold.specs.Chunks.{width, padded}
 use Rattle.fold.specs.Laws.PaddingLaws.{chunk-padded}
-use Rattle.fold.specs.NextInstance.{nextWhole, nextWitness, nextRelation}
+use Rattle.fold.specs.NextInstance.{nextWhole, nextWitness, nextRelation, n′, r′, constraint}
 use Rattle.fold.specs.Laws.NextSolves.{FirstChecks}
 use Rattle.fold.specs.Theorems.NextInstanceTheorem.{next-instance-judged}
 use Rattle.fold.specs.NextCall.{orWritten, unlessFailed, firstChecks, nextAnswer, nextOut, partRefusal, nextPart}
+use Rattle.fold.specs.Laws.LaidOut.{length-written}
 
 both-accepted : (k : ℕ) (v : Verdict) → answered k (orWritten v) ≡ Written → (k ≡ 0) × (v ≡ Accepted)
 unfolding answered orWritten
@@ -59,6 +60,12 @@ module _ (𝓢 : Statement) (𝓓 : Draws) (𝓣 : Transcript) (ν μ : ℕ) (ou
   written-out e =
       let (none, checks) = both-accepted (firstRefusal (nextTests 𝓢 𝓓 𝓣 ν μ out)) (firstChecks 𝓢 𝓓 𝓣 ν μ out) e in
       rw (none, checks)
+
+  -- the list written is as long as the one lent must be
+  pub length-nextWhole : length (nextWhole 𝓢 𝓓 𝓣 ν μ)
+      ≡ wholeLength (𝓢 .relation .d) (n′ 𝓢 𝓓 𝓣 ν μ) (r′ 𝓢 𝓓 𝓣 ν μ) (nextCount (𝓢 .κ) (𝓢 .κ₁) (𝓢 .κ₂))
+  unfolding nextWhole wholeLength
+  length-nextWhole = length-written _ _ _ _ _ (constraint 𝓢 𝓓 𝓣 ν μ)
 
   -- demand 2 over the answer of the call
   pub next-instance-written : nextAnswer 𝓢 𝓓 𝓣 ν μ out ≡ Written → (o : List ℤ)

@@ -18,7 +18,7 @@ use Rattle.fold.specs.Sizes.{nextRank, nextParts}
 use Rattle.fold.specs.Statement.{part}
 use Rattle.fold.specs.Chunks.{width, cut, cutPadded, padded, unpadded, ZeroPadding}
 use Rattle.fold.specs.Laws.ChunkLaws.{width-bound, widths-cover}
-use Rattle.fold.specs.Laws.CutLaws.{part-within, part-past, number-past, normSq-padded-cuts, block-cuts}
+use Rattle.fold.specs.Laws.CutLaws.{part-within, part-past, number-past, normSq-padded-cuts, block-cuts, length-padded-cuts, trimmed-cuts}
 use Rattle.fold.specs.Laws.TrimLaws.{coefficients-trimmed, length-all-trimmed, trimmed-padded}
 
 pub coefficients-unpadded : (d tz n ν m μ : ℕ) (s : List ℤ) → coefficients s ≡ true → coefficients (unpadded d tz n ν m μ s) ≡ true
@@ -35,6 +35,10 @@ module _ (d tz n ν m μ : ℕ) (some-ν : 0 < ν) (some-μ : 0 < μ) where
   module _ (o : List ℤ) (sized : length o ≡ (tz * n + m) * d) where
     covered : length o ≡ start (width tz n ν m μ) (nextParts tz ν μ) * d
     covered = sized ∙ ap (λ x. x * d) (sym all)
+
+    pub length-padded : length (padded d tz n ν m μ o) ≡ nextParts tz ν μ * (nextRank n ν m μ * d)
+    unfolding padded
+    length-padded = length-padded-cuts d (nextParts tz ν μ) (nextRank n ν m μ) (width tz n ν m μ) fitting o covered
 
     pub part-padded : (s k : ℕ) → s < nextParts tz ν μ → k < width tz n ν m μ s
         → part d (nextRank n ν m μ) (padded d tz n ν m μ o) s k ≡ el d o (start (width tz n ν m μ) s + k)
@@ -61,6 +65,10 @@ module _ (d tz n ν m μ : ℕ) (some-ν : 0 < ν) (some-μ : 0 < μ) where
     pub normSq-padded : normSq (padded d tz n ν m μ o) ≡ normSq o
     unfolding padded
     normSq-padded = normSq-padded-cuts d (nextParts tz ν μ) (nextRank n ν m μ) (width tz n ν m μ) fitting o covered
+
+    pub unpadded-padded : unpadded d tz n ν m μ (padded d tz n ν m μ o) ≡ o
+    unfolding padded unpadded
+    unpadded-padded = trimmed-cuts d (nextParts tz ν μ) (nextRank n ν m μ) (width tz n ν m μ) fitting o covered
 
   module _ (s : List ℤ) (sized : length s ≡ nextParts tz ν μ * (nextRank n ν m μ * d)) (zeros : ZeroPadding d tz n ν m μ s) where
     pub length-unpadded : length (unpadded d tz n ν m μ s) ≡ (tz * n + m) * d

@@ -10,14 +10,16 @@ use mathlib.Core.List.{List, [], _∷_, _++_}
 use Prim.Native.Nat.{ℕ, zero, suc, _+_, _*_, _<_, _≤_}
 use native.Mathlib.Omega.{arith}
 use lib.Dec.{T, leb, ltb, eqb, ltb→lt}
-use lib.ListN.{length, drop}
+use lib.ListN.{length, drop, take}
 use lib.IntN.{ℤ, pos}
 use borrow.Author.Tests.{le-leb, leb-true, eq-eqb, eqb-true}
 use Rattle.ring.specs.Element.{Degree}
 use Rattle.residues.specs.Digits.{Base}
 use Rattle.fold.specs.Answers.{firstRefusal}
-use Rattle.fold.specs.Refusals.{allOf, anyOf, between, degree, rank, parts, constraintCount, projectionCount, commitmentRank, base}
+use Rattle.fold.specs.Refusals.{allOf, anyOf, between, degree, rank, parts, constraintCount, projectionCount, commitmentRank, base, challenges}
 use Rattle.fold.specs.Refusals.{digitCount, chunks, lengthBound, sized}
+use Rattle.ring.specs.Laws.ElementEquality.{every-true, true-every}
+use Rattle.residues.specs.Range.{challenge}
 
 false-true : {A : Type 0} → false ≡ true → A
 false-true e = absurd (subst T (sym e) tt)
@@ -209,3 +211,8 @@ chunks-iff tz ν μ = (
   λ e. let a = allOf-all _ e in (leb-true 1 ν (a .0), (leb-true 1 μ (a .1 .0), leb-true (tz * ν + μ) 16 (a .1 .1 .0))),
   λ h. all-allOf _ (le-leb 1 ν (h .0), (le-leb 1 μ (h .1 .0), (le-leb (tz * ν + μ) 16 (h .1 .1), tt))),
 )
+
+pub challenges-iff : (d r : ℕ) (c : List ℤ)
+    → (challenges d r c ≡ true) ↔ ((i : ℕ) → i < r → challenge (take d (drop (i * d) c)) ≡ true)
+unfolding challenges
+challenges-iff d r c = (every-true r _, true-every r _)

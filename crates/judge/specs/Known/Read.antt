@@ -12,6 +12,7 @@ use Rattle.sheet.specs.Sections.{Bounded}
 use Rattle.sheet.specs.Reading.{headerNumbers, sizesOf, bodyNumbers, reading, readingRefusal}
 use Rattle.judge.specs.Judging.{judgedBy}
 
+-- the sizes that were read passed the header's tests
 abbrev pub ReadBounded : SheetAnswer → Type 0
 ReadBounded (Refused n) = Unit {0}
 ReadBounded (Sheet s) = Bounded s

@@ -1,6 +1,4 @@
 -- What the judge makes of the reader's answer and the numbers that it wrote.
---     ReadBounded      the sizes that were read passed the header's tests
---     Into             the judge's promise on the slice that it is handed
 --     text-judged      with a slice of `lentCount` numbers it is the answer to the text
 use mathlib.Core.Path.{_≡_, refl, ap₂, _∙_}
 use mathlib.Core.List.{List}

@@ -2,7 +2,6 @@
 -- columns. Where the header asks for more, the other lines are broken, which is 12, before 7. So a slice of 4096 numbers at most, else as many as
 -- the header gives, is answered as one of the length that the sizes give.
 --     few-numbers      at most 4096 numbers
---     lentCount        the length of that slice
 --     same-reading     the reader's answer with it
 use mathlib.Core.Path.{_≡_, refl, sym, ap, _∙_}
 use mathlib.Core.Bool.{Bool, true, false, cond}

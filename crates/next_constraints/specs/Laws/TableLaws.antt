@@ -1,7 +1,5 @@
 -- The lists of Tables.antt as the functions of tables.rt and folded.rt write them, each at the beginning of a list.
---     foldedTerm, foldedSum     φ_i c_i and Σ φ_i c_i at element k
 --     product-end, folded-end   what a function returns, from what its calls return
---     room-of, room-kept        lists of 16384 and of 8704 numbers have room, and what is as long as a list with room has room
 --     tables-of                 the four contracts give the record Tables
 use mathlib.Core.Path.{_≡_, refl, sym, ap, ap₂, _∙_}
 use mathlib.Core.Bool.{Bool, true, false, cond}

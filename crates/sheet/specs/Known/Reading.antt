@@ -7,14 +7,15 @@ use lib.ListN.{length}
 use Rattle.sheet.specs.declared.sizes.SheetSizes.{SheetSizes}
 use Rattle.sheet.specs.declared.walk.End.{End}
 use Rattle.sheet.specs.declared.walk.End.the-variants.{At, Broken}
-use Rattle.sheet.specs.Sections.{Bounded, sectionsOf}
-use Rattle.sheet.specs.Sections.{total, endsLine}
+use Rattle.sheet.specs.Sections.{Bounded, sectionsOf, total, endsLine}
 use Rattle.sheet.specs.Place.{place}
 
+-- fields end at a place
 abbrev pub endsAt : End → ℕ → Bool
 endsAt (At at) n = eqb at n
 endsAt Broken n = false
 
+-- sizes whose lines lie within the text
 pub record Inside (s : SheetSizes) (text : List ℕ) : Type 0 where
   pub bounded : Bounded s
   pub inside : place (endsLine (sectionsOf s)) 289 (total s) ≤ length text

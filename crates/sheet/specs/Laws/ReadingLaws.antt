@@ -1,6 +1,4 @@
 -- Laws of the tests of the lines after the header and of their numbers, as the reader's functions form them.
---     endsAt       fields end at a place
---     Inside       sizes whose lines lie within the text
 --     front-span, later-span, body-part    some of the numbers after the header
 use mathlib.Core.Path.{_≡_, refl, sym, ap, _∙_}
 use mathlib.Core.Bool.{Bool, true, false, cond, not}

@@ -17,12 +17,12 @@ use Rattle.fold.specs.Laws.RefusalLaws.{both-left, both-right, numbered}
 use Rattle.fold.specs.NextCall.{orWritten}
 use Rattle.theorems.specs.Refused.{FirstFails, Refuses}
 
-fails-first : (tests : List (ℕ × Bool)) (k : ℕ) → FirstFails k tests → firstRefusal tests ≡ k
+pub fails-first : (tests : List (ℕ × Bool)) (k : ℕ) → FirstFails k tests → firstRefusal tests ≡ k
 unfolding firstRefusal
 fails-first (test ∷ tests) k (inl (f, n)) = rw f n
 fails-first (test ∷ tests) k (inr (t, later)) = rw t (fails-first tests k later)
 
-first-fails : (tests : List (ℕ × Bool)) (k : ℕ) → firstRefusal tests ≡ suc k → FirstFails (suc k) tests
+pub first-fails : (tests : List (ℕ × Bool)) (k : ℕ) → firstRefusal tests ≡ suc k → FirstFails (suc k) tests
 unfolding firstRefusal
 first-fails [] k e = absurd (omega arith)
 first-fails (test ∷ tests) k e = step (first-fails tests k) (test .1) refl e
