@@ -18,7 +18,7 @@ use Rattle.residues.specs.Range.{coefficients}
 use Rattle.residues.specs.Laws.RangeLaws.{coefficients-of}
 use Rattle.fold.specs.declared.Verdict.the-variants.{Accepted}
 use Rattle.fold.specs.declared.Answer.the-variants.{Judged}
-use Rattle.fold.specs.Answers.{firstRefusal, answered}
+use Rattle.fold.specs.Answers.{firstFailing, answered}
 use Rattle.fold.specs.Sizes.{openingSize}
 use Rattle.fold.specs.Statement.{Relation, Solves}
 use Rattle.fold.specs.Statement.{Statement, Draws, Transcript}
@@ -48,7 +48,7 @@ short-coefficients xs h = coefficients-of xs (λ i l. small (natAbs (getD xs i (
             absurd (omega (arith, mul-le-mul above above))
 
 -- the next instance is not refused, so that n' is at most 256, and checks 1 and 2 pass
-module _ (𝓢 : Statement) (𝓓 : Draws) (𝓣 : Transcript) (ν μ : ℕ) (out : List ℤ) (unrefused : firstRefusal (nextTests 𝓢 𝓓 𝓣 ν μ out) ≡ 0)
+module _ (𝓢 : Statement) (𝓓 : Draws) (𝓣 : Transcript) (ν μ : ℕ) (out : List ℤ) (unrefused : firstFailing (nextTests 𝓢 𝓓 𝓣 ν μ out) ≡ 0)
     (pass : FirstChecks 𝓢 𝓓 𝓣) where
   open Statement 𝓢 using (relation, tz, κ, t₁, t₂, target)
   open Relation relation using (d, n, r)
@@ -70,7 +70,7 @@ module _ (𝓢 : Statement) (𝓓 : Draws) (𝓣 : Transcript) (ν μ : ℕ) (ou
   small-target = lengthBound-iff target .0 (allOf-all _ (tests .1 .1 .1 .1 .1 .0) .1 .0) .1
 
   -- an opening whose length and range are right is not refused
-  unrefused-opening : (o : List ℤ) → length o ≡ openingSize tz n r κ t₁ t₂ * d → coefficients o ≡ true → firstRefusal (verifyTests 𝓢 𝓓 𝓣 o) ≡ 0
+  unrefused-opening : (o : List ℤ) → length o ≡ openingSize tz n r κ t₁ t₂ * d → coefficients o ≡ true → firstFailing (verifyTests 𝓢 𝓓 𝓣 o) ≡ 0
   unfolding nextTests verifyTests
   unrefused-opening o size range =
       let from₅ = tests .1 .1 .1 .1 in
@@ -97,7 +97,7 @@ module _ (𝓢 : Statement) (𝓓 : Draws) (𝓣 : Transcript) (ν μ : ℕ) (ou
     pub next-instance-judged : (verification 𝓢 𝓓 𝓣 o ≡ Judged Accepted) ↔ Solves (nextRelation 𝓢 𝓓 𝓣 ν μ) (nextWitness 𝓢 𝓓 𝓣 ν μ o)
     unfolding answered
     next-instance-judged = (
-      λ e. next-instance .0 (judged-accepted (firstRefusal (verifyTests 𝓢 𝓓 𝓣 o)) (verdict 𝓢 𝓓 𝓣 o) e .1),
+      λ e. next-instance .0 (judged-accepted (firstFailing (verifyTests 𝓢 𝓓 𝓣 o)) (verdict 𝓢 𝓓 𝓣 o) e .1),
       λ h. rw (unrefused-opening o size (solving-range h)) (ap Judged (next-instance .1 h)),
     )
 
