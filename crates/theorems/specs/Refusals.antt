@@ -15,11 +15,11 @@ use Rattle.fold.specs.declared.CommitSizes.{CommitSizes}
 use Rattle.fold.specs.declared.GarbageSizes.{GarbageSizes}
 use Rattle.fold.specs.declared.Shape.{Shape}
 use Rattle.fold.specs.Statement.{Statement, Draws, Transcript}
-use Rattle.fold.specs.Answers.{firstFailing, written}
+use Rattle.fold.specs.Answers.{firstFailing, checked, written}
 use Rattle.fold.specs.Refusals.{productTests, commitTests, projectTests, aggregateTests, garbageTests, amortizeTests, verifyTests, nextTests, partTests}
 use Rattle.fold.specs.Verdict.{verdict}
 use Rattle.fold.specs.Verification.{verification}
-use Rattle.fold.specs.NextCall.{orWritten, firstChecks, nextAnswer, nextOut, partRefusal, nextPart}
+use Rattle.fold.specs.NextCall.{firstChecks, nextAnswer, nextOut, partRefusal, nextPart}
 use Rattle.chunks.specs.declared.part.PartSizes.{PartSizes}
 use Rattle.chunks.specs.Parts.{partRefusalOf, nextPartOf}
 use Rattle.sheet.specs.declared.reader.SheetAnswer.{SheetAnswer}
@@ -27,7 +27,7 @@ use Rattle.sheet.specs.Reading.{headerTests, numberTests, bodyTests, readingTes
 use Rattle.lizkarg.specs.Calls.{productOf, Committed, Projected, Aggregated, GarbageCommitted, Amortized}
 use Rattle.next_instance.specs.Calls.{NextCalled}
 use Rattle.theorems.specs.Refused.{FirstFails, Refuses}
-use Rattle.theorems.specs.Laws.RefusedLaws.{fails-first, first-fails, refused-exactly, same-as-before, one-list, no-list, written-no-refusal, judged-no-refusal, next-no-refusal}
+use Rattle.theorems.specs.Laws.RefusedLaws.{fails-first, first-fails, refused-exactly, same-as-before, one-list, no-list, written-no-refusal, judged-no-refusal, checked-no-refusal}
 
 -- ---- the calls
 
@@ -94,8 +94,8 @@ pub next-refuses : (𝓢 : Statement) (𝓓 : Draws) (𝓣 : Transcript) (ν μ 
     → NextCalled 𝓢 𝓓 𝓣 ν μ out answer out′ → Refuses (nextTests 𝓢 𝓓 𝓣 ν μ out) answer (out′ ≡ out)
 unfolding nextTests nextAnswer nextOut
 next-refuses 𝓢 𝓓 𝓣 ν μ out answer out′ call =
-    let first = firstChecks 𝓢 𝓓 𝓣 ν μ out in
-    one-list (nextTests 𝓢 𝓓 𝓣 ν μ out) refl (orWritten first) (next-no-refusal first) (call .answer-is) _ _ (call .out-is)
+    let first = firstChecks 𝓢 𝓓 𝓣 in
+    one-list (nextTests 𝓢 𝓓 𝓣 ν μ out) refl (checked first Written) (checked-no-refusal first) (call .answer-is) _ _ (call .out-is)
 
 -- the reader of a sheet
 pub read-refuses : (text : List ℕ) (numbers : List ℤ) (read : SheetAnswer) (numbers′ : List ℤ) → SheetRead text numbers read numbers′

@@ -12,9 +12,8 @@ use Rattle.fold.specs.declared.Answer.{Answer}
 use Rattle.fold.specs.declared.Answer.the-variants.{Refused, Judged, Written}
 use Rattle.fold.specs.declared.Verdict.{Verdict}
 use Rattle.fold.specs.declared.Verdict.the-variants.{Accepted, Failed}
-use Rattle.fold.specs.Answers.{kindOf, numberOf, firstFailing, answered, written}
+use Rattle.fold.specs.Answers.{kindOf, numberOf, firstFailing, answered, checked, written}
 use Rattle.fold.specs.Laws.RefusalLaws.{both-left, both-right, numbered}
-use Rattle.fold.specs.NextCall.{orWritten}
 use Rattle.theorems.specs.Refused.{FirstFails, Refuses}
 
 pub fails-first : (tests : List (ℕ × Bool)) (k : ℕ) → FirstFails k tests → firstFailing tests ≡ k
@@ -78,7 +77,7 @@ pub judged-no-refusal : (v : Verdict) → kindOf (Judged v) ≡ 2 → ⊥
 judged-no-refusal Accepted e = omega arith
 judged-no-refusal (Failed k) e = omega arith
 
-pub next-no-refusal : (v : Verdict) → kindOf (orWritten v) ≡ 2 → ⊥
-unfolding orWritten
-next-no-refusal Accepted e = omega arith
-next-no-refusal (Failed k) e = omega arith
+pub checked-no-refusal : (k : ℕ) → kindOf (checked k Written) ≡ 2 → ⊥
+unfolding checked
+checked-no-refusal zero e = omega arith
+checked-no-refusal (suc k) e = omega arith
