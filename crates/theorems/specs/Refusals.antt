@@ -15,11 +15,11 @@ use Rattle.fold.specs.declared.CommitSizes.{CommitSizes}
 use Rattle.fold.specs.declared.GarbageSizes.{GarbageSizes}
 use Rattle.fold.specs.declared.Shape.{Shape}
 use Rattle.fold.specs.Statement.{Statement, Draws, Transcript}
-use Rattle.fold.specs.Answers.{firstRefusal, written}
+use Rattle.fold.specs.Answers.{firstFailing, checked, written}
 use Rattle.fold.specs.Refusals.{productTests, commitTests, projectTests, aggregateTests, garbageTests, amortizeTests, verifyTests, nextTests, partTests}
 use Rattle.fold.specs.Verdict.{verdict}
 use Rattle.fold.specs.Verification.{verification}
-use Rattle.fold.specs.NextCall.{orWritten, firstChecks, nextAnswer, nextOut, partRefusal, nextPart}
+use Rattle.fold.specs.NextCall.{firstChecks, nextAnswer, nextOut, partRefusal, nextPart}
 use Rattle.chunks.specs.declared.part.PartSizes.{PartSizes}
 use Rattle.chunks.specs.Parts.{partRefusalOf, nextPartOf}
 use Rattle.sheet.specs.declared.reader.SheetAnswer.{SheetAnswer}
@@ -27,7 +27,7 @@ use Rattle.sheet.specs.Reading.{headerTests, numberTests, bodyTests, readingTes
 use Rattle.lizkarg.specs.Calls.{productOf, Committed, Projected, Aggregated, GarbageCommitted, Amortized}
 use Rattle.next_instance.specs.Calls.{NextCalled}
 use Rattle.theorems.specs.Refused.{FirstFails, Refuses}
-use Rattle.theorems.specs.Laws.RefusedLaws.{fails-first, first-fails, refused-exactly, same-as-before, one-list, no-list, written-no-refusal, judged-no-refusal, next-no-refusal}
+use Rattle.theorems.specs.Laws.RefusedLaws.{fails-first, first-fails, refused-exactly, same-as-before, one-list, no-list, written-no-refusal, judged-no-refusal, checked-no-refusal}
 
 -- ---- the calls
 
@@ -43,7 +43,7 @@ pub commit-refuses : (m : CommitSizes) (A B C s t g u : List ℤ) (answer : Answ
 unfolding commitTests
 commit-refuses m A B C s t g u answer t′ g′ u′ call =
     let tests = commitTests (m .d) (m .n) (m .r) (m .kappa) (m .kappa1) (m .b1) (m .b2) (m .t1) (m .t2) A B C s t g u in
-    let same : (k : ℕ) → answer ≡ Refused k → (after new old : List ℤ) → after ≡ written (firstRefusal tests) new old → after ≡ old =
+    let same : (k : ℕ) → answer ≡ Refused k → (after new old : List ℤ) → after ≡ written (firstFailing tests) new old → after ≡ old =
     λ k e after new old. same-as-before tests refl Written written-no-refusal (call .answer-is) k e new old in
     record {
       exactly = refused-exactly tests refl Written written-no-refusal (call .answer-is);
@@ -70,7 +70,7 @@ pub garbage-refuses : (m : GarbageSizes) (whole term rows ψ ω α δ D s h u : 
 unfolding garbageTests
 garbage-refuses m whole term rows ψ ω α δ D s h u answer h′ u′ call =
     let tests = garbageTests (m .d) (m .n) (m .r) (m .k) (m .l) (m .w) (m .kappa2) (m .b1) (m .t1) whole term rows ψ ω α δ D s h u in
-    let same : (k : ℕ) → answer ≡ Refused k → (after new old : List ℤ) → after ≡ written (firstRefusal tests) new old → after ≡ old =
+    let same : (k : ℕ) → answer ≡ Refused k → (after new old : List ℤ) → after ≡ written (firstFailing tests) new old → after ≡ old =
     λ k e after new old. same-as-before tests refl Written written-no-refusal (call .answer-is) k e new old in
     record {
       exactly = refused-exactly tests refl Written written-no-refusal (call .answer-is);
@@ -94,8 +94,8 @@ pub next-refuses : (𝓢 : Statement) (𝓓 : Draws) (𝓣 : Transcript) (ν μ 
     → NextCalled 𝓢 𝓓 𝓣 ν μ out answer out′ → Refuses (nextTests 𝓢 𝓓 𝓣 ν μ out) answer (out′ ≡ out)
 unfolding nextTests nextAnswer nextOut
 next-refuses 𝓢 𝓓 𝓣 ν μ out answer out′ call =
-    let first = firstChecks 𝓢 𝓓 𝓣 ν μ out in
-    one-list (nextTests 𝓢 𝓓 𝓣 ν μ out) refl (orWritten first) (next-no-refusal first) (call .answer-is) _ _ (call .out-is)
+    let first = firstChecks 𝓢 𝓓 𝓣 in
+    one-list (nextTests 𝓢 𝓓 𝓣 ν μ out) refl (checked first Written) (checked-no-refusal first) (call .answer-is) _ _ (call .out-is)
 
 -- the reader of a sheet
 pub read-refuses : (text : List ℕ) (numbers : List ℤ) (read : SheetAnswer) (numbers′ : List ℤ) → SheetRead text numbers read numbers′
