@@ -1,7 +1,7 @@
 // Rows 1 to 6 of document 01's table for each call: its sizes. 0 where none of these refuses. Tests are joined by `&`, not `&&`: each is safe on
 // any number, and without a branch the proof of a call is one line.
 ghost use mathlib.Core.Path.{_≡_};
-ghost use Rattle.fold.specs.Answers.{firstRefusal};
+ghost use Rattle.fold.specs.Answers.{firstFailing};
 ghost use Rattle.limits.specs.Stages as spec;
 use crate::rows::base;
 use crate::rows::commitment_rank;
@@ -19,7 +19,7 @@ use fold::Shape;
 use fold::Sizes;
 
 pub fn commit_bounds(sizes: CommitSizes) -> u8
-    ensures { λ x. ⌜ x ≡ firstRefusal (spec.commitBounds sizes) ⌝ }
+    ensures { λ x. ⌜ x ≡ firstFailing (spec.commitBounds sizes) ⌝ }
 {
     let listed = degree(sizes.d);
     let shape = rank(sizes.n) & parts(sizes.r);
@@ -33,7 +33,7 @@ pub fn commit_bounds(sizes: CommitSizes) -> u8
 }
 
 pub fn project_bounds(shape: Shape, w: usize) -> u8
-    ensures { λ x. ⌜ x ≡ firstRefusal (spec.projectBounds (shape .d) (shape .n) (shape .r) w) ⌝ }
+    ensures { λ x. ⌜ x ≡ firstFailing (spec.projectBounds (shape .d) (shape .n) (shape .r) w) ⌝ }
 {
     let listed = degree(shape.d);
     let counts = rank(shape.n) & parts(shape.r) & projection_count(w);
@@ -41,7 +41,7 @@ pub fn project_bounds(shape: Shape, w: usize) -> u8
 }
 
 pub fn aggregate_bounds(shape: Shape, l: usize, w: usize) -> u8
-    ensures { λ x. ⌜ x ≡ firstRefusal (spec.aggregateBounds (shape .d) (shape .n) (shape .r) l w) ⌝ }
+    ensures { λ x. ⌜ x ≡ firstFailing (spec.aggregateBounds (shape .d) (shape .n) (shape .r) l w) ⌝ }
 {
     let listed = degree(shape.d);
     let counts = rank(shape.n) & parts(shape.r) & constraint_count(l) & projection_count(w);
@@ -49,7 +49,7 @@ pub fn aggregate_bounds(shape: Shape, l: usize, w: usize) -> u8
 }
 
 pub fn garbage_bounds(sizes: GarbageSizes) -> u8
-    ensures { λ x. ⌜ x ≡ firstRefusal (spec.garbageBounds sizes) ⌝ }
+    ensures { λ x. ⌜ x ≡ firstFailing (spec.garbageBounds sizes) ⌝ }
 {
     let listed = degree(sizes.d);
     let counts = rank(sizes.n)
@@ -67,7 +67,7 @@ pub fn garbage_bounds(sizes: GarbageSizes) -> u8
 }
 
 pub fn amortize_bounds(shape: Shape, b: usize) -> u8
-    ensures { λ x. ⌜ x ≡ firstRefusal (spec.amortizeBounds (shape .d) (shape .n) (shape .r) b) ⌝ }
+    ensures { λ x. ⌜ x ≡ firstFailing (spec.amortizeBounds (shape .d) (shape .n) (shape .r) b) ⌝ }
 {
     let listed = degree(shape.d);
     let counts = rank(shape.n) & parts(shape.r);
@@ -76,7 +76,7 @@ pub fn amortize_bounds(shape: Shape, b: usize) -> u8
 }
 
 pub fn verify_bounds(sizes: Sizes) -> u8
-    ensures { λ x. ⌜ x ≡ firstRefusal (spec.verifyBounds sizes) ⌝ }
+    ensures { λ x. ⌜ x ≡ firstFailing (spec.verifyBounds sizes) ⌝ }
 {
     let listed = degree(sizes.d);
     let counts = rank(sizes.n)
