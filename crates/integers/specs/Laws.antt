@@ -5,6 +5,7 @@ pub mod MachineDivision
 pub mod RemainderLaws
 pub mod SumLaws
 pub mod ListLaws
+pub mod AllLaws
 pub mod OverLaws
 pub mod FlatLaws
 pub mod Squares

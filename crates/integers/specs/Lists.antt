@@ -1,7 +1,8 @@
 -- Lists described by index, over any type.
 --     tab n f          the list f 0, .., f (n - 1)
 --     upto k f z i     f i for i < k, z from there on: `tab n (upto k f z)` is an array of which a loop has filled k places
-use mathlib.Core.Bool.{cond}
+--     all test xs      a test holds at every element
+use mathlib.Core.Bool.{Bool, true, false, cond}
 use mathlib.Core.List.{List, [], _∷_}
 use Prim.Native.Nat.{ℕ, zero, suc}
 use lib.Dec.{ltb}
@@ -13,3 +14,7 @@ module _ {ℓ} {A : Type ℓ} where
 
   unfoldable pub upto : ℕ → (ℕ → A) → A → ℕ → A
   upto k f z i = cond (ltb i k) (f i) z
+
+  unfoldable pub all : (A → Bool) → List A → Bool
+  all test [] = true
+  all test (x ∷ xs) = cond (test x) (all test xs) false

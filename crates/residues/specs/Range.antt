@@ -1,10 +1,11 @@
 -- The conditions of document 01's rows 8, 9 and 10 on the numbers of a slice.
-use mathlib.Core.Bool.{Bool, true, false, cond, not, _&&_}
-use mathlib.Core.List.{List, [], _∷_}
+use mathlib.Core.Bool.{Bool, false, cond, not, _&&_}
+use mathlib.Core.List.{List}
 use Prim.Native.Nat.{ℕ}
 use lib.Dec.{leb}
 use lib.IntN.{ℤ, natAbs}
 use lib.Signed.{ltZ}
+use Rattle.integers.specs.Lists.{all}
 use Rattle.integers.specs.Sums.{normSq}
 
 -- low ≤ x ≤ high
@@ -12,13 +13,11 @@ unfoldable pub between : ℤ → ℤ → ℤ → Bool
 between low high x = not (ltZ x low) && not (ltZ high x)
 
 unfoldable pub allBetween : ℤ → ℤ → List ℤ → Bool
-allBetween low high [] = true
-allBetween low high (x ∷ xs) = cond (between low high x) (allBetween low high xs) false
+allBetween low high xs = all (between low high) xs
 
 -- every number has an absolute value of at most b
 unfoldable pub allWithin : ℕ → List ℤ → Bool
-allWithin b [] = true
-allWithin b (x ∷ xs) = cond (leb (natAbs x) b) (allWithin b xs) false
+allWithin b xs = all (λ x. leb (natAbs x) b) xs
 
 -- row 8: "coefficient, or other number modulo q, out of range"
 unfoldable pub coefficients : List ℤ → Bool

@@ -6,13 +6,13 @@
 --     coeffs u      the d centred coefficients of an element
 --     array u       sixty-four numbers: the centred coefficients, then zeros
 --     same u v      the test that two elements are equal
-use mathlib.Core.Bool.{Bool, true, false, cond}
+use mathlib.Core.Bool.{Bool}
 use mathlib.Core.List.{List}
-use Prim.Native.Nat.{ℕ, zero, suc, _*_, _<_, _≤_}
+use Prim.Native.Nat.{ℕ, _*_, _<_, _≤_}
 use lib.Dec.{eqb}
 use lib.ListN.{getD, drop}
 use lib.IntN.{ℤ, pos}
-use Rattle.integers.specs.Lists.{tab}
+use Rattle.integers.specs.Lists.{tab, all}
 use Rattle.algebra.specs.CommRing.{CommRing}
 use Rattle.algebra.specs.Vec.{build}
 use Rattle.algebra.specs.Negacyclic.{Negacyclic}
@@ -21,8 +21,7 @@ use Rattle.residues.specs.Modulus.{Zq, red, cent}
 
 -- a test holds at every k below n
 unfoldable pub every : ℕ → (ℕ → Bool) → Bool
-every zero p = true
-every (suc n) p = cond (every n p) (p n) false
+every n p = all (λ t. t) (tab n p)
 
 -- the degrees that elements by value have room for
 pub record Degree (d : ℕ) : Type 0 where

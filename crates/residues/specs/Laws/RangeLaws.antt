@@ -2,7 +2,7 @@
 --     allWithin-at, allWithin-of        the test by index: true is a bound for each number
 --     allWithin-false                   one number above the bound
 --     allWithin-mono                    a larger bound
---     allWithin-append, -take, -drop, -part    joined slices, a part of a slice
+--     allWithin-join, -part             joined slices, a part of a slice
 --     Tested                            the invariant of the loop of `all_within`, with its start, its step and its two ends
 --     coefficients-.., projections-..   the same at the bounds of rows 8 and 9
 --     challenge-tests                   row 10: the rule as two tests
@@ -18,80 +18,45 @@ use lib.ListN.{length, getD, take, drop, take-append-drop}
 use lib.Seq.{take-suc, take-all}
 use lib.IntN.{ℤ, pos, negsuc, natAbs}
 use borrow.Author.Tests.{le-leb, lt-leb, leb-true, ltb-true, ltb-false, le-ltb}
+use Rattle.integers.specs.Lists.{all}
 use Rattle.integers.specs.Sums.{normSq}
+use Rattle.integers.specs.Laws.AllLaws.{both-and, all-at, all-of, all-join, all-part, all-last}
 use Rattle.residues.specs.declared.length.Margin.{Margin}
 use Rattle.residues.specs.Length.{remaining, holds}
 use Rattle.residues.specs.Laws.LengthLaws.{holds-remaining}
 use Rattle.residues.specs.Range.{between, allBetween, allWithin, coefficients, projections, challenge}
-
--- ---- both tests of a conjunction
-
-both-left : (s t : Bool) → cond s t false ≡ true → s ≡ true
-both-left true t e = refl
-both-left false t e = e
-
-both-right : (s t : Bool) → cond s t false ≡ true → t ≡ true
-both-right true t e = e
-both-right false t e = absurd (subst T (sym e) tt)
-
-both-and : (s t : Bool) → s && t ≡ cond s t false
-both-and true t = refl
-both-and false t = refl
-
-both-false : (s : Bool) → cond s false false ≡ false
-both-false true = refl
-both-false false = refl
 
 -- ---- the test by index
 
 -- the default, 0, is within every bound, so the index need not be below the length
 pub allWithin-at : (b : ℕ) (xs : List ℤ) → allWithin b xs ≡ true → (i : ℕ) → natAbs (getD xs i (pos 0)) ≤ b
 unfolding allWithin
-allWithin-at b [] e i = omega arith
-allWithin-at b (x ∷ xs) e zero = leb-true (natAbs x) b (both-left (leb (natAbs x) b) (allWithin b xs) e)
-allWithin-at b (x ∷ xs) e (suc i) = allWithin-at b xs (both-right (leb (natAbs x) b) (allWithin b xs) e) i
+allWithin-at b xs e i = leb-true _ b (all-at (λ x. leb (natAbs x) b) xs (pos 0) (le-leb 0 b (omega arith)) e i)
 
 pub allWithin-of : (b : ℕ) (xs : List ℤ) → ((i : ℕ) → i < length xs → natAbs (getD xs i (pos 0)) ≤ b) → allWithin b xs ≡ true
 unfolding allWithin
-allWithin-of b [] h = refl
-allWithin-of b (x ∷ xs) h =
-    rw (le-leb (natAbs x) b (h 0 (omega arith)), allWithin-of b xs (λ i k. h (suc i) (omega arith))) refl
+allWithin-of b xs h = all-of (λ x. leb (natAbs x) b) xs (pos 0) (λ i l. le-leb _ b (h i l))
 
 pub allWithin-false : (b : ℕ) (xs : List ℤ) (i : ℕ) → b < natAbs (getD xs i (pos 0)) → allWithin b xs ≡ false
-unfolding allWithin
-allWithin-false b [] i h = let f : ⊥ = omega arith in absurd f
-allWithin-false b (x ∷ xs) zero h = rw (lt-leb (natAbs x) b h) refl
-allWithin-false b (x ∷ xs) (suc i) h = rw (allWithin-false b xs i h) (both-false (leb (natAbs x) b))
+allWithin-false b xs i h = pick (allWithin b xs) refl
+  where
+    pick : (t : Bool) → allWithin b xs ≡ t → t ≡ false
+    pick true e = let f : ⊥ = omega (arith, allWithin-at b xs e i) in absurd f
+    pick false e = refl
 
 pub allWithin-mono : (b c : ℕ) (xs : List ℤ) → b ≤ c → allWithin b xs ≡ true → allWithin c xs ≡ true
 allWithin-mono b c xs h e = allWithin-of c xs (λ i k. le-trans (allWithin-at b xs e i) h)
 
 -- ---- joined slices, and a part of one
 
-pub allWithin-append : (b : ℕ) (xs ys : List ℤ) → allWithin b (xs ++ ys) ≡ cond (allWithin b xs) (allWithin b ys) false
-unfolding allWithin
-allWithin-append b [] ys = refl
-allWithin-append b (x ∷ xs) ys = rw (allWithin-append b xs ys) (cond-assoc (leb (natAbs x) b))
-  where
-    cond-assoc : (s : Bool)
-        → cond s (cond (allWithin b xs) (allWithin b ys) false) false ≡ cond (cond s (allWithin b xs) false) (allWithin b ys) false
-    cond-assoc true = refl
-    cond-assoc false = refl
-
 pub allWithin-join : (b : ℕ) (xs ys : List ℤ) → allWithin b xs ≡ true → allWithin b ys ≡ true → allWithin b (xs ++ ys) ≡ true
-allWithin-join b xs ys e f = rw (allWithin-append b xs ys, e) f
-
-pub allWithin-take : (b n : ℕ) (xs : List ℤ) → allWithin b xs ≡ true → allWithin b (take n xs) ≡ true
-allWithin-take b n xs e =
-    both-left (allWithin b (take n xs)) (allWithin b (drop n xs)) (sym (allWithin-append b (take n xs) (drop n xs)) ∙ rw take-append-drop e)
-
-pub allWithin-drop : (b n : ℕ) (xs : List ℤ) → allWithin b xs ≡ true → allWithin b (drop n xs) ≡ true
-allWithin-drop b n xs e =
-    both-right (allWithin b (take n xs)) (allWithin b (drop n xs)) (sym (allWithin-append b (take n xs) (drop n xs)) ∙ rw take-append-drop e)
+unfolding allWithin
+allWithin-join b xs ys e f = all-join (λ x. leb (natAbs x) b) xs ys e f
 
 -- a part `&xs[m..m + n]`
 pub allWithin-part : (b m n : ℕ) (xs : List ℤ) → allWithin b xs ≡ true → allWithin b (take n (drop m xs)) ≡ true
-allWithin-part b m n xs e = allWithin-take b n (drop m xs) (allWithin-drop b m xs e)
+unfolding allWithin
+allWithin-part b m n xs e = all-part (λ x. leb (natAbs x) b) m n xs e
 
 -- ---- the loop of `all_within`: `all` says whether the first i numbers are within the bound
 
@@ -120,13 +85,13 @@ between-within b (negsuc n) = and-true (not (ltb b n)) ∙ not-ltb b n ∙ leb-s
 
 -- from -b to b is within b
 pub between-bound : (b : ℕ) (xs : List ℤ) → allBetween (negsuc b) (pos (suc b)) xs ≡ allWithin (suc b) xs
-unfolding allBetween allWithin
+unfolding allBetween allWithin all
 between-bound b [] = refl
 between-bound b (x ∷ xs) = rw (between-within b x, between-bound b xs) refl
 
 -- from 0 to 0 is zero
 pub between-zero : (xs : List ℤ) → allBetween (pos 0) (pos 0) xs ≡ allWithin 0 xs
-unfolding allBetween allWithin between
+unfolding allBetween allWithin all between
 between-zero [] = refl
 between-zero (x ∷ xs) = rw (zero-only x, between-zero xs) refl
   where
@@ -134,42 +99,26 @@ between-zero (x ∷ xs) = rw (zero-only x, between-zero xs) refl
     zero-only (pos n) = ap (λ t. not t && not (ltb 0 n)) (le-ltb n 0 (omega arith)) ∙ not-ltb 0 n
     zero-only (negsuc n) = sym (lt-leb (suc n) 0 (omega arith))
 
-between-append : (low high : ℤ) (xs ys : List ℤ) → allBetween low high (xs ++ ys) ≡ cond (allBetween low high xs) (allBetween low high ys) false
-unfolding allBetween
-between-append low high [] ys = refl
-between-append low high (x ∷ xs) ys = rw (between-append low high xs ys) (cond-assoc (between low high x))
-  where
-    cond-assoc : (s : Bool)
-        → cond s (cond (allBetween low high xs) (allBetween low high ys) false) false
-        ≡ cond (cond s (allBetween low high xs) false) (allBetween low high ys) false
-    cond-assoc true = refl
-    cond-assoc false = refl
-
 pub record Tested (low high : ℤ) (xs : List ℤ) (i : ℕ) (all : Bool) : Type 0 where
   pub below : i ≤ length xs
   pub is : all ≡ allBetween low high (take i xs)
 
 pub tested-start : (low high : ℤ) (xs : List ℤ) → Tested low high xs 0 true
-unfolding allBetween
+unfolding allBetween all
 tested-start low high xs = record { below = omega arith; is = refl }
 
 pub tested-step : (low high : ℤ) (xs : List ℤ) (i : ℕ) {all inside : Bool} → Tested low high xs i all → i < length xs
     → inside ≡ between low high (getD xs i (pos 0)) → Tested low high xs (i + 1) (all && inside)
 unfolding allBetween
 tested-step low high xs i {all} {inside} r h e =
-    let x = getD xs i (pos 0) in
     record {
       below = omega arith;
       is =
           both-and all inside
-          ∙ ap₂ (λ s t. cond s t false) (r .is) (e ∙ sym (cond-true (between low high x)))
-          ∙ sym (between-append low high (take i xs) (x ∷ []))
+          ∙ ap₂ (λ s t. cond s t false) (r .is) e
+          ∙ sym (all-last (between low high) (take i xs) (getD xs i (pos 0)))
           ∙ ap (allBetween low high) (sym (take-suc xs i (pos 0) h) ∙ ap (λ (k : ℕ). take k xs) (sym (add-one i)));
     }
-  where
-    cond-true : (t : Bool) → cond t true false ≡ t
-    cond-true true = refl
-    cond-true false = refl
 
 pub tested-end : (low high : ℤ) (xs : List ℤ) (i : ℕ) {all : Bool} → Tested low high xs i all → length xs ≤ i → all ≡ allBetween low high xs
 tested-end low high xs i r h = r .is ∙ ap (allBetween low high) (take-all i xs h)

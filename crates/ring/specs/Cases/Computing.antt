@@ -1,7 +1,7 @@
 -- Closed cases hold by computation, and computing opens every definition on the way. A name for a proof's `unfolding` line that opens all
 -- definitions of the ring and of what lies below it: to unfold a definition is to unfold what its own line names.
 use Rattle.integers.specs.Sums.{total, sq, normSq}
-use Rattle.integers.specs.Lists.{tab}
+use Rattle.integers.specs.Lists.{tab, all}
 use Rattle.integers.specs.Flat.{flat}
 use Rattle.integers.specs.Remainder.{emod, centre}
 use Rattle.algebra.specs.Sum.{sum}
@@ -19,7 +19,7 @@ use Rattle.ring.specs.Joined.{joined}
 use Rattle.residues.specs.Range.{allWithin, coefficients, projections, challenge}
 
 unfoldable pub integers-compute : Unit {0}
-unfolding total sq normSq tab flat emod centre
+unfolding total sq normSq tab all flat emod centre
 integers-compute = tt
 
 unfoldable pub residues-compute : Unit {0}

@@ -1,10 +1,9 @@
 -- The test that two elements are equal: `same d u v` is true exactly when u ≡ v. Below it, the laws of `every`.
-use mathlib.Core.Path.{_≡_, refl, ap, ap₂, _∙_}
-use mathlib.Core.Logic.{_↔_, _⊎_, inl, inr}
+use mathlib.Core.Path.{_≡_, refl, sym, ap, ap₂, _∙_}
+use mathlib.Core.Logic.{_↔_}
 use mathlib.Core.Bool.{Bool, true, false, cond, _&&_}
 use mathlib.Core.List.{List}
-use Prim.Native.Nat.{ℕ, zero, suc, _+_, _<_}
-use native.Mathlib.Nat.{le-step, lt-suc-self, eq-or-lt-of-le}
+use Prim.Native.Nat.{ℕ, suc, _+_, _<_}
 use native.Mathlib.Numerals.{add-one}
 use native.Mathlib.Omega.{arith}
 use lib.Dec.{eqb}
@@ -12,6 +11,9 @@ use lib.IntN.{ℤ, pos}
 use lib.ListN.{getD}
 use borrow.Author.Tests.{eq-eqb, eqb-true}
 use Rattle.integers.specs.Remainder.{emod}
+use Rattle.integers.specs.Lists.{tab, all}
+use Rattle.integers.specs.Laws.ListLaws.{length-tab, getD-tab, tab-cong, tab-suc}
+use Rattle.integers.specs.Laws.AllLaws.{all-at, all-of, all-last}
 use Rattle.algebra.specs.Laws.ResidueLaws.{residue-eq}
 use Rattle.algebra.specs.Polynomial.{coeff}
 use Rattle.residues.specs.Modulus.{q, Zq}
@@ -23,31 +25,23 @@ use Rattle.ring.specs.Laws.ElementLaws.{element-ext, coeff-lift}
 
 pub every-true : (n : ℕ) (p : ℕ → Bool) → every n p ≡ true → (k : ℕ) → k < n → p k ≡ true
 unfolding every
-every-true zero p e k h = let no : ⊥ = omega arith in absurd no
-every-true (suc n) p e k h =
-    let both : (every n p ≡ true) × (p n ≡ true) = parts (every n p) (p n) e in
-    last (every-true n p (both .0) k) (both .1) (eq-or-lt-of-le h)
-  where
-    parts : (s t : Bool) → cond s t false ≡ true → (s ≡ true) × (t ≡ true)
-    parts true t e = (refl, e)
-    parts false t e = let z : _≡_ {A = ℕ} 0 1 = cc in absurd (omega arith)
-
-    last : (k < n → p k ≡ true) → p n ≡ true → (suc k ≡ suc n) ⊎ (suc k < suc n) → p k ≡ true
-    last before final (inl j) = let same : k ≡ n = omega arith in rw same final
-    last before final (inr l) = before (omega arith)
+every-true n p e k h = sym (getD-tab n p k true h) ∙ all-at (λ t. t) (tab n p) true refl e k
 
 pub true-every : (n : ℕ) (p : ℕ → Bool) → ((k : ℕ) → k < n → p k ≡ true) → every n p ≡ true
 unfolding every
-true-every zero p h = refl
-true-every (suc n) p h = rw (true-every n p (λ k l. h k (le-step l))) (h n (lt-suc-self n))
+true-every n p h =
+    all-of (λ t. t) (tab n p) true (λ k l. let below : k < n = omega (arith, l, length-tab n p) in getD-tab n p k true below ∙ h k below)
 
 pub every-zero : (p : ℕ → Bool) → every 0 p ≡ true
-unfolding every
+unfolding every tab all
 every-zero p = refl
 
-pub every-add-one : (n : ℕ) (p : ℕ → Bool) → every (n + 1) p ≡ cond (every n p) (p n) false
+pub every-suc : (n : ℕ) (p : ℕ → Bool) → every (suc n) p ≡ cond (every n p) (p n) false
 unfolding every
-every-add-one n p = rw add-one
+every-suc n p = ap (all (λ t. t)) (tab-suc n p) ∙ all-last (λ t. t) (tab n p) (p n)
+
+pub every-add-one : (n : ℕ) (p : ℕ → Bool) → every (n + 1) p ≡ cond (every n p) (p n) false
+every-add-one n p = rw add-one (every-suc n p)
 
 -- one more test, as a loop that counts up adds it
 pub every-next : (n : ℕ) (p : ℕ → Bool) (all t : Bool) → all ≡ every n p → t ≡ p n → (all && t) ≡ every (n + 1) p
@@ -56,8 +50,7 @@ every-next n p false t e q = rw (every-add-one n p, ← e) refl
 
 pub every-cong : (n : ℕ) (p r : ℕ → Bool) → ((k : ℕ) → k < n → p k ≡ r k) → every n p ≡ every n r
 unfolding every
-every-cong zero p r h = refl
-every-cong (suc n) p r h = rw (every-cong n p r (λ k l. h k (le-step l)), h n (lt-suc-self n))
+every-cong n p r h = ap (all (λ t. t)) (tab-cong n p r h)
 
 -- ---- equal elements
 
