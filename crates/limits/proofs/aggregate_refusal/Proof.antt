@@ -1,7 +1,6 @@
 -- `limits::aggregate_refusal` meets its contract: the sizes, then row 7, then the rows after it. Assumes nothing.
 use mathlib.Core.Path.{refl}
-use Rattle.fold.specs.Refusals.{aggregateTests}
-use Rattle.limits.specs.Stages.{aggregateBounds}
+use Rattle.fold.specs.Refusals.{aggregateBounds, aggregateTests}
 use Rattle.limits.specs.Laws.RowLaws.{end, _&_}
 use Rattle.limits.specs.Laws.StageLaws.{stopped, unfit, fit, single, row, none}
 use Rattle.limits.specs.Known.StageLimits.{aggregate-sized}

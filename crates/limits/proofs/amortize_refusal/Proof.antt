@@ -1,8 +1,7 @@
 -- `limits::amortize_refusal` meets its contract: the sizes, then row 7, then the rows after it. Assumes nothing.
 use mathlib.Core.Path.{refl}
-use Rattle.fold.specs.Refusals.{amortizeTests}
+use Rattle.fold.specs.Refusals.{amortizeBounds, amortizeTests}
 use Rattle.fold.specs.Laws.RefusalLaws.{sized-iff}
-use Rattle.limits.specs.Stages.{amortizeBounds}
 use Rattle.limits.specs.Laws.RowLaws.{end, _&_}
 use Rattle.limits.specs.Laws.StageLaws.{stopped, unfit, fit, fitting, single, row, none}
 use Rattle.limits.specs.Known.StageLimits.{amortize-sized}

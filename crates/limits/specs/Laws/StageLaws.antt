@@ -1,6 +1,7 @@
 -- The number of a refusal, stage by stage.
 --     single, row, none        one row of a nest of `first`, and its end
 --     stopped                  one of the first rows fails
+--     after-rows               the first rows, then the later ones
 --     unfit, fit               none of those fails, and row m does or does not
 --     fitting                  what row m then says
 --     joined-tests, append-rows     the tests of a row, and a row in two parts
@@ -8,7 +9,8 @@ use mathlib.Core.Path.{_≡_, refl, sym, _∙_}
 use mathlib.Core.Bool.{Bool, true, false, cond, not, _&&_}
 use mathlib.Core.List.{List, [], _∷_, _++_}
 use Prim.Native.Nat.{ℕ}
-use borrow.Author.Tests.{not-true, not-false}
+use lib.Dec.{eqb}
+use borrow.Author.Tests.{not-true, not-false, eqb-true, eqb-false}
 use Rattle.fold.specs.Answers.{firstRefusal}
 use Rattle.fold.specs.Refusals.{allOf}
 use Rattle.fold.specs.Laws.RefusalLaws.{numbered, refusal-passes, Passes, All, allOf-all}
@@ -47,6 +49,15 @@ passed : (early later : List (ℕ × Bool)) → Passes early → firstRefusal (e
 unfolding firstRefusal
 passed [] later p = refl
 passed (test ∷ tests) later p = rw (p .0) (passed tests later (p .1))
+
+-- first(x == 0, x, y), where x is the number of the first rows and y that of the later ones
+pub after-rows : (early later : List (ℕ × Bool)) {x y z : ℕ} → numbered early ≡ true → x ≡ firstRefusal early → y ≡ firstRefusal later
+    → z ≡ cond (eqb x 0) y x → z ≡ firstRefusal (early ++ later)
+after-rows early later {x} {y} {z} l e f g = by (eqb x 0) refl
+  where
+    by : (t : Bool) → eqb x 0 ≡ t → z ≡ firstRefusal (early ++ later)
+    by true h = (rw h at g) ∙ f ∙ sym (passed early later (refusal-passes early l (sym e ∙ eqb-true x 0 h)))
+    by false h = (rw h at g) ∙ stopped early later e (eqb-false x 0 h)
 
 module _ (early : List (ℕ × Bool)) (m : ℕ) (t : Bool) (later : List (ℕ × Bool)) {x : ℕ} {s : Bool}
     (l : numbered early ≡ true) (e : x ≡ firstRefusal early) (z : x ≡ 0) (q : s ≡ t) where
