@@ -1,7 +1,7 @@
 // One part of the next witness: the stretch of the caller's own opening, and the number with which the question is refused.
 ghost use mathlib.Core.Path.{_≡_};
 ghost use lib.IntN.{pos};
-ghost use Rattle.fold.specs.Answers.{firstRefusal};
+ghost use Rattle.fold.specs.Answers.{firstFailing};
 ghost use Rattle.fold.specs.Sizes.{nextParts};
 ghost use Rattle.fold.specs.Refusals as table;
 ghost use Rattle.chunks.specs.Parts as spec;
@@ -50,7 +50,7 @@ pub fn part_number(nu: usize, mu: usize, part: usize) -> bool
 
 // Rows 1 to 5.
 pub fn part_bounds(sizes: PartSizes, part: usize) -> u8
-    ensures { λ x. ⌜ x ≡ firstRefusal (spec.partBounds sizes part) ⌝ }
+    ensures { λ x. ⌜ x ≡ firstFailing (spec.partBounds sizes part) ⌝ }
 {
     let listed = degree(sizes.d);
     let counts = rank(sizes.n) & parts(sizes.r) & part_number(sizes.nu, sizes.mu, part);

@@ -2,7 +2,7 @@
 ghost use mathlib.Core.Path.{_≡_};
 ghost use Prim.Native.Nat.{_≤_};
 ghost use lib.IntN.{pos};
-ghost use Rattle.fold.specs.Answers.{firstRefusal};
+ghost use Rattle.fold.specs.Answers.{firstFailing};
 ghost use Rattle.fold.specs.Refusals.{allOf, nextTests};
 ghost use Rattle.fold.specs.Refusals as table;
 ghost use Rattle.fold.specs.Arguments.{VerifySized, statementOf, drawsOf, transcriptOf};
@@ -47,7 +47,7 @@ pub fn chunk_counts(nu: usize, mu: usize) -> bool
 
 // Rows 1 to 6: the sizes.
 pub fn next_bounds(sizes: Sizes, nu: usize, mu: usize) -> u8
-    ensures { λ x. ⌜ x ≡ firstRefusal (spec.nextBounds sizes nu mu) ⌝ }
+    ensures { λ x. ⌜ x ≡ firstFailing (spec.nextBounds sizes nu mu) ⌝ }
 {
     let listed = degree(sizes.d);
     let counts = rank(sizes.n)
@@ -177,7 +177,7 @@ pub fn next_refusal(
     out: &[i32],
 ) -> u8
     ensures { λ x.
-        ⌜ x ≡ firstRefusal (nextTests (statementOf sizes (now (a .entry)) (now (b .entry)) (now («c_matrix» .entry))
+        ⌜ x ≡ firstFailing (nextTests (statementOf sizes (now (a .entry)) (now (b .entry)) (now («c_matrix» .entry))
         (now («d_matrix» .entry)) (now (whole .entry)) (now (term .entry))) (drawsOf (now (rows .entry))
         (now (psi .entry)) (now (omega .entry)) (now (alpha .entry)) (now (delta .entry)) (now (c .entry)))
         (transcriptOf (now (u1 .entry)) (now (p .entry)) (now (b2 .entry)) (now (u2 .entry))) nu mu (now (out .entry))) ⌝ }

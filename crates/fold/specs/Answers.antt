@@ -3,6 +3,7 @@
 use mathlib.Core.Bool.{Bool, true, false, cond}
 use mathlib.Core.List.{List, [], _∷_}
 use Prim.Native.Nat.{ℕ, zero, suc}
+use lib.Dec.{eqb}
 use lib.IntN.{ℤ}
 use Rattle.fold.specs.declared.Verdict.{Verdict}
 use Rattle.fold.specs.declared.Verdict.the-variants.{Accepted, Failed}
@@ -21,23 +22,38 @@ numberOf (Judged Accepted) = 0
 numberOf (Judged (Failed n)) = n
 numberOf Written = 0
 
+-- "The first check that fails is named"; "Lowest number first; a call tests only what it takes." Each test with its number; 0 where none fails.
+unfoldable pub firstFailing : List (ℕ × Bool) → ℕ
+firstFailing [] = 0
+firstFailing (test ∷ tests) = cond (test .1) (firstFailing tests) (test .0)
+
 -- "The first check that fails is named; none means accepted." The tests are numbered from k on.
 unfoldable pub firstFailed : ℕ → List Bool → Verdict
 firstFailed k [] = Accepted
 firstFailed k (true ∷ tests) = firstFailed (suc k) tests
 firstFailed k (false ∷ tests) = Failed k
 
--- "Lowest number first; a call tests only what it takes." Each test with the number of its row; 0 where none fails.
-unfoldable pub firstRefusal : List (ℕ × Bool) → ℕ
-firstRefusal [] = 0
-firstRefusal (test ∷ tests) = cond (test .1) (firstRefusal tests) (test .0)
+-- the test with number k, the first of them; true where the list has none
+abbrev pub testOf : ℕ → List (ℕ × Bool) → Bool
+testOf k [] = true
+testOf k (test ∷ tests) = cond (eqb (test .0) k) (test .1) (testOf k tests)
+
+-- "none means accepted"
+unfoldable pub judged : ℕ → Verdict
+judged zero = Accepted
+judged (suc k) = Failed (suc k)
 
 -- a refusal, or where there is none what the call answers
 unfoldable pub answered : ℕ → Answer → Answer
 answered zero answer = answer
 answered (suc n) answer = Refused (suc n)
 
--- "Nothing lent is written": the new numbers, or on a refusal those that were there
+-- a failed check, or where there is none what the call answers
+unfoldable pub checked : ℕ → Answer → Answer
+checked zero answer = answer
+checked (suc k) answer = Judged (Failed (suc k))
+
+-- "Nothing lent is written", "nothing is written": the new numbers, or on a refusal or a failed check those that were there
 unfoldable pub written : ℕ → List ℤ → List ℤ → List ℤ
 written zero new old = new
 written (suc n) new old = old

@@ -7,7 +7,7 @@ use Rattle.fold.specs.declared.Shape.{Shape}
 use Rattle.fold.specs.declared.CommitSizes.{CommitSizes}
 use Rattle.fold.specs.declared.GarbageSizes.{GarbageSizes}
 use Rattle.fold.specs.declared.Sizes.{Sizes}
-use Rattle.fold.specs.Answers.{firstRefusal}
+use Rattle.fold.specs.Answers.{firstFailing}
 use Rattle.fold.specs.Statement.{Statement, Draws, Transcript}
 use Rattle.fold.specs.Known.CallLimits.{CommitLimits, GarbageLimits, VerifyLimits}
 use Rattle.fold.specs.Refusals.{commitTests, projectTests, aggregateTests, garbageTests, amortizeTests, verifyTests, productTests}
@@ -53,28 +53,28 @@ transcriptOf u₁ p b″ u₂ = record { u₁ = u₁; p = p; b″ = b″; u₂ =
 
 abbrev pub commitRefusal : CommitSizes → (A B C s ts gs u₁ : List ℤ) → ℕ
 commitRefusal m A B C s ts gs u₁ =
-    firstRefusal
+    firstFailing
     (commitTests (m .d) (m .n) (m .r) (m .kappa) (m .kappa1) (m .b1) (m .b2) (m .t1) (m .t2) A B C s ts gs u₁)
 
 abbrev pub projectRefusal : Shape → (w : ℕ) (rows s p : List ℤ) → ℕ
-projectRefusal m w rows s p = firstRefusal (projectTests (m .d) (m .n) (m .r) w rows s p)
+projectRefusal m w rows s p = firstFailing (projectTests (m .d) (m .n) (m .r) w rows s p)
 
 abbrev pub aggregateRefusal : Shape → (L w : ℕ) (term rows ψ ω s b″ : List ℤ) → ℕ
-aggregateRefusal m L w term rows ψ ω s b″ = firstRefusal (aggregateTests (m .d) (m .n) (m .r) L w term rows ψ ω s b″)
+aggregateRefusal m L w term rows ψ ω s b″ = firstFailing (aggregateTests (m .d) (m .n) (m .r) L w term rows ψ ω s b″)
 
 abbrev pub garbageRefusal : GarbageSizes → (whole term rows ψ ω α δ D s hs u₂ : List ℤ) → ℕ
 garbageRefusal m whole term rows ψ ω α δ D s hs u₂ =
-    firstRefusal
+    firstFailing
     (garbageTests (m .d) (m .n) (m .r) (m .k) (m .l) (m .w) (m .kappa2) (m .b1) (m .t1) whole term rows ψ ω α δ D s hs u₂)
 
 abbrev pub amortizeRefusal : Shape → (b : ℕ) (c s zs : List ℤ) → ℕ
-amortizeRefusal m b c s zs = firstRefusal (amortizeTests (m .d) (m .n) (m .r) 2 b c s zs)
+amortizeRefusal m b c s zs = firstFailing (amortizeTests (m .d) (m .n) (m .r) 2 b c s zs)
 
 abbrev pub verifyRefusal : Statement → Draws → Transcript → (o : List ℤ) → ℕ
-verifyRefusal 𝓢 𝓓 𝓣 o = firstRefusal (verifyTests 𝓢 𝓓 𝓣 o)
+verifyRefusal 𝓢 𝓓 𝓣 o = firstFailing (verifyTests 𝓢 𝓓 𝓣 o)
 
 abbrev pub productRefusal : ℕ → (x y : List ℤ) → ℕ
-productRefusal d x y = firstRefusal (productTests d x y)
+productRefusal d x y = firstFailing (productTests d x y)
 
 -- ---- the limits of sizes that stand in a struct
 

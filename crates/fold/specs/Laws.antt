@@ -22,6 +22,7 @@ pub mod RefusalLaws
 pub mod SelfProduct
 pub mod SizeBounds
 pub mod PlaceBounds
+pub mod TestLaws
 pub mod TableLaws
 pub mod TableSums
 pub mod TrimLaws

@@ -8,7 +8,7 @@ use Rattle.fold.specs.declared.Verdict.{Verdict}
 use Rattle.fold.specs.declared.Verdict.the-variants.{Accepted, Failed}
 use Rattle.fold.specs.declared.Answer.{Answer}
 use Rattle.fold.specs.declared.Answer.the-variants.{Judged, Written}
-use Rattle.fold.specs.Answers.{firstFailed, firstRefusal, answered, written}
+use Rattle.fold.specs.Answers.{firstFailed, firstFailing, answered, written}
 use Rattle.fold.specs.Sizes.{restSize}
 use Rattle.fold.specs.Statement.{Relation}
 use Rattle.fold.specs.Statement.{Statement, Draws, Transcript}
@@ -39,16 +39,16 @@ module _ (𝓢 : Statement) (𝓓 : Draws) (𝓣 : Transcript) (ν μ : ℕ) (ou
 
   -- the answer, and the numbers of `out` afterwards
   unfoldable pub nextAnswer : Answer
-  nextAnswer = answered (firstRefusal (nextTests 𝓢 𝓓 𝓣 ν μ out)) (orWritten firstChecks)
+  nextAnswer = answered (firstFailing (nextTests 𝓢 𝓓 𝓣 ν μ out)) (orWritten firstChecks)
 
   unfoldable pub nextOut : List ℤ
-  nextOut = written (firstRefusal (nextTests 𝓢 𝓓 𝓣 ν μ out)) (unlessFailed firstChecks (nextWhole 𝓢 𝓓 𝓣 ν μ) out) out
+  nextOut = written (firstFailing (nextTests 𝓢 𝓓 𝓣 ν μ out)) (unlessFailed firstChecks (nextWhole 𝓢 𝓓 𝓣 ν μ) out) out
 
 -- "Asked for one part of the next witness, the library hands back that stretch of the caller's own slice; where one of 1 to 7 applies
 -- (2 for a part outside 1..r') the stretch is empty, and a question beside it answers that number, else 0."
 module _ (d n r κ t₁ t₂ tz ν μ i : ℕ) (o : List ℤ) where
   unfoldable pub partRefusal : ℕ
-  partRefusal = firstRefusal (partTests d n r κ t₁ t₂ tz ν μ i o)
+  partRefusal = firstFailing (partTests d n r κ t₁ t₂ tz ν μ i o)
 
   unfoldable pub nextPart : List ℤ
   nextPart = written partRefusal (cut d (width tz n ν (restSize r κ t₁ t₂) μ) o (i - 1)) []

@@ -1,6 +1,6 @@
 // Rows 1 to 6 of document 01's table for each call: its sizes. 0 where none of these refuses.
 ghost use mathlib.Core.Path.{_≡_};
-ghost use Rattle.fold.specs.Answers.{firstRefusal};
+ghost use Rattle.fold.specs.Answers.{firstFailing};
 ghost use Rattle.fold.specs.Refusals.{projectBounds, aggregateBounds, amortizeBounds};
 ghost use Rattle.limits.specs.Stages as spec;
 use crate::groups;
@@ -17,7 +17,7 @@ use fold::Shape;
 use fold::Sizes;
 
 pub fn commit_bounds(sizes: CommitSizes) -> u8
-    ensures { λ x. ⌜ x ≡ firstRefusal (spec.commitBoundsOf sizes) ⌝ }
+    ensures { λ x. ⌜ x ≡ firstFailing (spec.commitBoundsOf sizes) ⌝ }
 {
     let two = groups::shape(sizes.n, sizes.r);
     let three = groups::ranks(sizes.kappa, sizes.kappa1);
@@ -30,14 +30,14 @@ pub fn commit_bounds(sizes: CommitSizes) -> u8
 }
 
 pub fn project_bounds(shape: Shape, w: usize) -> u8
-    ensures { λ x. ⌜ x ≡ firstRefusal (projectBounds (shape .d) (shape .n) (shape .r) w) ⌝ }
+    ensures { λ x. ⌜ x ≡ firstFailing (projectBounds (shape .d) (shape .n) (shape .r) w) ⌝ }
 {
     let two = groups::shape(shape.n, shape.r) & projection_count(w);
     first(degree(shape.d), 1, first(two, 2, 0))
 }
 
 pub fn aggregate_bounds(shape: Shape, l: usize, w: usize) -> u8
-    ensures { λ x. ⌜ x ≡ firstRefusal (aggregateBounds (shape .d) (shape .n) (shape .r) l w) ⌝ }
+    ensures { λ x. ⌜ x ≡ firstFailing (aggregateBounds (shape .d) (shape .n) (shape .r) l w) ⌝ }
 {
     let others = constraint_count(l) & projection_count(w);
     let two = groups::shape(shape.n, shape.r) & others;
@@ -45,7 +45,7 @@ pub fn aggregate_bounds(shape: Shape, l: usize, w: usize) -> u8
 }
 
 pub fn garbage_bounds(sizes: GarbageSizes) -> u8
-    ensures { λ x. ⌜ x ≡ firstRefusal (spec.garbageBoundsOf sizes) ⌝ }
+    ensures { λ x. ⌜ x ≡ firstFailing (spec.garbageBoundsOf sizes) ⌝ }
 {
     let two = groups::shape(sizes.n, sizes.r) & groups::counts(sizes.k, sizes.l, sizes.w);
     let three = commitment_rank(sizes.kappa2);
@@ -58,7 +58,7 @@ pub fn garbage_bounds(sizes: GarbageSizes) -> u8
 }
 
 pub fn amortize_bounds(shape: Shape, b: usize) -> u8
-    ensures { λ x. ⌜ x ≡ firstRefusal (amortizeBounds (shape .d) (shape .n) (shape .r) b) ⌝ }
+    ensures { λ x. ⌜ x ≡ firstFailing (amortizeBounds (shape .d) (shape .n) (shape .r) b) ⌝ }
 {
     let two = groups::shape(shape.n, shape.r);
     first(degree(shape.d), 1, first(two, 2, first(base(b), 4, 0)))
@@ -66,7 +66,7 @@ pub fn amortize_bounds(shape: Shape, b: usize) -> u8
 
 // Rows 1 to 4 of a statement.
 pub fn size_rows(sizes: Sizes) -> u8
-    ensures { λ x. ⌜ x ≡ firstRefusal (spec.sizeRowsOf sizes) ⌝ }
+    ensures { λ x. ⌜ x ≡ firstFailing (spec.sizeRowsOf sizes) ⌝ }
 {
     let two = groups::shape(sizes.n, sizes.r) & groups::counts(sizes.k, sizes.l, sizes.w);
     let three = groups::ranks(sizes.kappa, sizes.kappa1) & commitment_rank(sizes.kappa2);
@@ -79,7 +79,7 @@ pub fn size_rows(sizes: Sizes) -> u8
 }
 
 pub fn verify_bounds(sizes: Sizes) -> u8
-    ensures { λ x. ⌜ x ≡ firstRefusal (spec.verifyBoundsOf sizes) ⌝ }
+    ensures { λ x. ⌜ x ≡ firstFailing (spec.verifyBoundsOf sizes) ⌝ }
 {
     let size = size_rows(sizes);
     let six = groups::length_bounds(sizes.bound, sizes.target);

@@ -9,7 +9,7 @@ use Prim.Native.Nat.{ℕ, zero, suc, _+_, _*_, _<_}
 use lib.ListN.{length, getD, take, drop}
 use lib.IntN.{ℤ, pos}
 use Rattle.integers.specs.Flat.{flat}
-use Rattle.fold.specs.Answers.{firstRefusal}
+use Rattle.fold.specs.Answers.{firstFailing}
 use Rattle.fold.specs.Sizes.{pairs, tSize, garbageSize, openingSize}
 use Rattle.sheet.specs.declared.sizes.SheetSizes.{SheetSizes}
 use Rattle.sheet.specs.Field.{fieldText, Fits16}
@@ -89,6 +89,6 @@ AllFit xs = (i : ℕ) → i < length xs → Fits16 (getD xs i (pos 0))
 pub record SheetNumbers (h xs : List ℤ) : Type 0 where
   pub header : length h ≡ 18
   pub fit : AllFit h
-  pub sizes : firstRefusal (headerTests h) ≡ 0
+  pub sizes : firstFailing (headerTests h) ≡ 0
   pub count : length xs ≡ fields (bodyLines (sizesOf h))
-  pub numbers : firstRefusal (numberTests (sizesOf h) xs) ≡ 0
+  pub numbers : firstFailing (numberTests (sizesOf h) xs) ≡ 0

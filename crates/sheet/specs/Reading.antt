@@ -18,7 +18,7 @@ use Rattle.integers.specs.Lists.{tab}
 use Rattle.residues.specs.Range.{coefficients, projections}
 use Rattle.fold.specs.declared.Answer.{Answer}
 use Rattle.fold.specs.declared.Answer.the-variants as answer
-use Rattle.fold.specs.Answers.{firstRefusal, answered, written}
+use Rattle.fold.specs.Answers.{firstFailing, answered, written}
 use Rattle.fold.specs.Refusals.{allOf, degree, rank, parts, constraintCount, projectionCount, commitmentRank, base, digitCount, chunks}
 use Rattle.fold.specs.Refusals.{lengthBound, challenges, projectionLength}
 use Rattle.sheet.specs.declared.sizes.SheetSizes.{SheetSizes}
@@ -84,7 +84,7 @@ frontTests text = (12, headerLaid text) ∷ headerTests (headerNumbers text)
 
 -- how many numbers the header's sizes give; 0 where the header is refused
 unfoldable pub numberCount : List ℕ → ℕ
-numberCount text = cond (eqb (firstRefusal (frontTests text)) 0) (total (sizesOf (headerNumbers text))) 0
+numberCount text = cond (eqb (firstFailing (frontTests text)) 0) (total (sizesOf (headerNumbers text))) 0
 
 -- ---- the other lines
 
@@ -123,7 +123,7 @@ sheetIf zero s = Sheet s
 sheetIf (suc n) s = Refused (suc n)
 
 unfoldable pub reading : ℕ → List ℕ → SheetAnswer
-reading room text = sheetIf (firstRefusal (readingTests room text)) (sizesOf (headerNumbers text))
+reading room text = sheetIf (firstFailing (readingTests room text)) (sizesOf (headerNumbers text))
 
 -- ---- what the answer says
 
@@ -148,7 +148,7 @@ headerIf (suc n) s = emptyHeader
 
 -- the refusal of a reader whose slice holds `before`; 0 where there is none
 abbrev pub readingRefusal : List ℕ → List ℤ → ℕ
-readingRefusal text before = firstRefusal (readingTests (length before) text)
+readingRefusal text before = firstFailing (readingTests (length before) text)
 
 -- The reader's promise: its answer's number, the header, and the numbers of the lent slice afterwards. They fix the answer: `read-is` of
 -- AnswerLaws.

@@ -2,7 +2,7 @@
 ghost use mathlib.Core.Path.{_≡_};
 ghost use mathlib.Core.Bool.{cond, false};
 ghost use mathlib.Core.List.{[], _∷_};
-ghost use Rattle.fold.specs.Answers.{firstRefusal};
+ghost use Rattle.fold.specs.Answers.{firstFailing};
 ghost use Rattle.fold.specs.Refusals.{allOf, between, degree, rank, parts, constraintCount, projectionCount, commitmentRank, base};
 ghost use Rattle.fold.specs.Refusals.{digitCount, chunks, lengthBound};
 ghost use Rattle.sheet.specs.Place.{numberAt};
@@ -128,7 +128,7 @@ fn header_laid(text: &[u8]) -> bool
 
 // 12, then 1 to 6; 0 where the header passes.
 pub fn header_refusal(text: &[u8]) -> u8
-    ensures { λ r. ⌜ r ≡ firstRefusal ((12, headerLaid (now (text .entry))) ∷ headerTests (headerNumbers (now (text .entry)))) ⌝ }
+    ensures { λ r. ⌜ r ≡ firstFailing ((12, headerLaid (now (text .entry))) ∷ headerTests (headerNumbers (now (text .entry)))) ⌝ }
 {
     let bounds = bounds_ok(text);
     let chunks = are_chunks(number_at(text, 224), number_at(text, 240));

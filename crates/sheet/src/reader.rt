@@ -3,7 +3,7 @@ ghost use mathlib.Core.Path.{_≡_};
 ghost use mathlib.Core.Bool.{true};
 ghost use lib.ListN.{length};
 ghost use Rattle.residues.specs.Range.{coefficients, projections};
-ghost use Rattle.fold.specs.Answers.{firstRefusal};
+ghost use Rattle.fold.specs.Answers.{firstFailing};
 ghost use Rattle.fold.specs.Refusals.{challenges, projectionLength};
 ghost use Rattle.sheet.specs.Sections.{Bounded, sectionsOf, total, endsLine};
 ghost use Rattle.sheet.specs.Place.{place};
@@ -77,7 +77,7 @@ fn numbers_ok(s: SheetSizes, text: &[u8]) -> bool
 // Rows 8 to 10; 0 where the numbers pass.
 fn number_refusal(s: SheetSizes, text: &[u8]) -> u8
     requires { ⌜ Inside s (now text) ⌝ }
-    ensures { λ r. ⌜ r ≡ firstRefusal (numberTests s (bodyNumbers s (now (text .entry)))) ⌝ }
+    ensures { λ r. ⌜ r ≡ firstFailing (numberTests s (bodyNumbers s (now (text .entry)))) ⌝ }
 {
     if !numbers_ok(s, text) {
         return 8;
@@ -100,7 +100,7 @@ fn ends_at(end: End, n: usize) -> bool
 // The other lines, and the numbers on them; 0 where they pass.
 fn body_refusal(s: SheetSizes, text: &[u8], room: usize) -> u8
     requires { ⌜ Bounded s ⌝ }
-    ensures { λ r. ⌜ r ≡ firstRefusal (bodyTests room s (now (text .entry))) ⌝ }
+    ensures { λ r. ⌜ r ≡ firstFailing (bodyTests room s (now (text .entry))) ⌝ }
 {
     let q = sections_of(s);
     let count = total_numbers(s);
@@ -117,7 +117,7 @@ fn body_refusal(s: SheetSizes, text: &[u8], room: usize) -> u8
 
 // Every test, for a slice of `room` numbers; 0 where the text is a sheet.
 pub fn sheet_refusal(text: &[u8], room: usize) -> u8
-    ensures { λ r. ⌜ r ≡ firstRefusal (readingTests room (now (text .entry))) ⌝ }
+    ensures { λ r. ⌜ r ≡ firstFailing (readingTests room (now (text .entry))) ⌝ }
 {
     let header = header_refusal(text);
     if 0 < header {

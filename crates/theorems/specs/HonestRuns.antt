@@ -20,7 +20,7 @@ use Rattle.fold.specs.declared.CommitSizes.{CommitSizes}
 use Rattle.fold.specs.declared.GarbageSizes.{GarbageSizes}
 use Rattle.fold.specs.declared.Shape.{Shape}
 use Rattle.fold.specs.declared.Sizes.{Sizes}
-use Rattle.fold.specs.Answers.{answered, written, firstRefusal}
+use Rattle.fold.specs.Answers.{answered, written, firstFailing}
 use Rattle.fold.specs.Arguments.{statementOf, drawsOf, transcriptOf}
 use Rattle.fold.specs.Statement.{Meets}
 use Rattle.fold.specs.Messages.{opening}
@@ -124,13 +124,13 @@ module _ (sizes : Sizes) (A B C D whole term rows ψ ω α δ c s : List ℤ) wh
         (left _ _ _ (one .answer-is) (one .g-is) i) (left _ _ _ (four .answer-is) (four .h-is) i)
 
     -- the calls tested all of the statement, the draws and the witness but the two bounds, which none of them takes
-    pub all-tested : firstRefusal (boundTests 𝓢 𝓓) ≡ 0 → firstRefusal (proverTests 𝓢 𝓓 s) ≡ 0
+    pub all-tested : firstFailing (boundTests 𝓢 𝓓) ≡ 0 → firstFailing (proverTests 𝓢 𝓓 s) ≡ 0
     all-tested bounds =
         messages-test-all 𝓢 𝓓 s _ _ _ _ _ _ (written-zero _ (sent .message-1 .answer-is)) (written-zero _ (sent .message-4 .answer-is))
         (written-zero _ (sent .message-5 .answer-is)) bounds
 
     -- what `verify` answered on what the calls wrote, where β² and β'² keep row 6, which no message tests
-    pub honest-calls : firstRefusal (boundTests 𝓢 𝓓) ≡ 0 → Meets (𝓢 .relation) s
+    pub honest-calls : firstFailing (boundTests 𝓢 𝓓) ≡ 0 → Meets (𝓢 .relation) s
         → (answer : Answer) → answer ≡ verification 𝓢 𝓓 (transcriptOf u₁ p b″ u₂) (opening z t g h)
         → HonestAnswer p (opening z t g h) answer
     honest-calls bounds meets answer e =

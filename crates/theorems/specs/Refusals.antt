@@ -15,7 +15,7 @@ use Rattle.fold.specs.declared.CommitSizes.{CommitSizes}
 use Rattle.fold.specs.declared.GarbageSizes.{GarbageSizes}
 use Rattle.fold.specs.declared.Shape.{Shape}
 use Rattle.fold.specs.Statement.{Statement, Draws, Transcript}
-use Rattle.fold.specs.Answers.{firstRefusal, written}
+use Rattle.fold.specs.Answers.{firstFailing, written}
 use Rattle.fold.specs.Refusals.{productTests, commitTests, projectTests, aggregateTests, garbageTests, amortizeTests, verifyTests, nextTests, partTests}
 use Rattle.fold.specs.Verdict.{verdict}
 use Rattle.fold.specs.Verification.{verification}
@@ -43,7 +43,7 @@ pub commit-refuses : (m : CommitSizes) (A B C s t g u : List ℤ) (answer : Answ
 unfolding commitTests
 commit-refuses m A B C s t g u answer t′ g′ u′ call =
     let tests = commitTests (m .d) (m .n) (m .r) (m .kappa) (m .kappa1) (m .b1) (m .b2) (m .t1) (m .t2) A B C s t g u in
-    let same : (k : ℕ) → answer ≡ Refused k → (after new old : List ℤ) → after ≡ written (firstRefusal tests) new old → after ≡ old =
+    let same : (k : ℕ) → answer ≡ Refused k → (after new old : List ℤ) → after ≡ written (firstFailing tests) new old → after ≡ old =
     λ k e after new old. same-as-before tests refl Written written-no-refusal (call .answer-is) k e new old in
     record {
       exactly = refused-exactly tests refl Written written-no-refusal (call .answer-is);
@@ -70,7 +70,7 @@ pub garbage-refuses : (m : GarbageSizes) (whole term rows ψ ω α δ D s h u : 
 unfolding garbageTests
 garbage-refuses m whole term rows ψ ω α δ D s h u answer h′ u′ call =
     let tests = garbageTests (m .d) (m .n) (m .r) (m .k) (m .l) (m .w) (m .kappa2) (m .b1) (m .t1) whole term rows ψ ω α δ D s h u in
-    let same : (k : ℕ) → answer ≡ Refused k → (after new old : List ℤ) → after ≡ written (firstRefusal tests) new old → after ≡ old =
+    let same : (k : ℕ) → answer ≡ Refused k → (after new old : List ℤ) → after ≡ written (firstFailing tests) new old → after ≡ old =
     λ k e after new old. same-as-before tests refl Written written-no-refusal (call .answer-is) k e new old in
     record {
       exactly = refused-exactly tests refl Written written-no-refusal (call .answer-is);

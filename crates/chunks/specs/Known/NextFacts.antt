@@ -10,7 +10,7 @@ use Rattle.residues.specs.Range.{projections}
 use Rattle.fold.specs.Sizes.{restSize, nextRank, nextParts, nextCount}
 use Rattle.fold.specs.Statement.{Relation}
 use Rattle.fold.specs.Statement.{Statement, Draws, Transcript}
-use Rattle.fold.specs.Answers.{firstRefusal}
+use Rattle.fold.specs.Answers.{firstFailing}
 use Rattle.fold.specs.Refusals.{chunks, wholeLength, nextTests}
 use Rattle.fold.specs.Laws.RefusalLaws.{refusal-passes, allOf-all, allOf-drop, sized-iff, chunks-iff}
 use Rattle.fold.specs.Known.CallLimits.{VerifyLimits, verify-limits}
@@ -39,7 +39,7 @@ module _ (𝓢 : Statement) (𝓓 : Draws) (𝓣 : Transcript) (ν μ : ℕ) (ou
     pub out-length : length out ≡ wholeLength d (nextRank n ν (restSize r κ t₁ t₂) μ) (nextParts tz ν μ) (nextCount κ κ₁ κ₂)
     pub rows-entries : projections rows ≡ true
 
-  pub next-facts : firstRefusal (nextTests 𝓢 𝓓 𝓣 ν μ out) ≡ 0 → NextFacts
+  pub next-facts : firstFailing (nextTests 𝓢 𝓓 𝓣 ν μ out) ≡ 0 → NextFacts
   unfolding nextTests
   next-facts e =
       let passed = refusal-passes (nextTests 𝓢 𝓓 𝓣 ν μ out) refl e in

@@ -9,7 +9,7 @@ use lib.ListN.{length, take, drop, replicate}
 use lib.IntN.{ℤ, pos}
 use Rattle.algebra.specs.Triangle.{start}
 use Rattle.algebra.specs.Laws.TriangleLaws.{start-mono}
-use Rattle.fold.specs.Answers.{firstRefusal, written}
+use Rattle.fold.specs.Answers.{firstFailing, written}
 use Rattle.fold.specs.Sizes.{openingSize, nextParts}
 use Rattle.fold.specs.Refusals.{partTests}
 use Rattle.fold.specs.Laws.RefusalLaws.{refusal-passes, passes-refusal, allOf-all, between-iff, degree-fits, rank-iff, parts-iff, commitmentRank-iff}
@@ -25,7 +25,7 @@ use Rattle.chunks.specs.Laws.StageLaws.{cut-sizes}
 use Rattle.chunks.specs.declared.part.PartSizes.{PartSizes}
 use Rattle.chunks.specs.Parts.{partRefusalOf, nextPartOf, partBounds, restOf, rankOf, PartFacts}
 
-pub sizes-facts : (m : PartSizes) (i : ℕ) {x : ℕ} → x ≡ firstRefusal (partBounds m i) → x ≡ 0 → PartFacts m i
+pub sizes-facts : (m : PartSizes) (i : ℕ) {x : ℕ} → x ≡ firstFailing (partBounds m i) → x ≡ 0 → PartFacts m i
 unfolding nextParts
 sizes-facts m i e z =
     let p = refusal-passes (partBounds m i) refl (sym e ∙ z) in
@@ -45,12 +45,12 @@ sizes-facts m i e z =
     }
 
 -- none of the first rows fails, so the later ones decide
-pub later-rows : (early later : List (ℕ × Bool)) {x y : ℕ} → numbered early ≡ true → x ≡ firstRefusal early → x ≡ 0
-    → y ≡ firstRefusal later → y ≡ firstRefusal (early ++ later)
-unfolding firstRefusal
+pub later-rows : (early later : List (ℕ × Bool)) {x y : ℕ} → numbered early ≡ true → x ≡ firstFailing early → x ≡ 0
+    → y ≡ firstFailing later → y ≡ firstFailing (early ++ later)
+unfolding firstFailing
 later-rows early later l e z f = f ∙ sym (skip early (refusal-passes early l (sym e ∙ z)))
   where
-    skip : (tests : List (ℕ × Bool)) → Passes tests → firstRefusal (tests ++ later) ≡ firstRefusal later
+    skip : (tests : List (ℕ × Bool)) → Passes tests → firstFailing (tests ++ later) ≡ firstFailing later
     skip [] p = refl
     skip (test ∷ tests) p = rw (p .0) (skip tests (p .1))
 

@@ -3,7 +3,7 @@ use mathlib.Core.Path.{_≡_, refl, sym, _∙_}
 use Prim.Native.Nat.{ℕ, _≤_}
 use native.Mathlib.Omega.{arith}
 use Rattle.fold.specs.declared.Sizes.{Sizes}
-use Rattle.fold.specs.Answers.{firstRefusal}
+use Rattle.fold.specs.Answers.{firstFailing}
 use Rattle.fold.specs.Sizes.{restSize}
 use Rattle.fold.specs.Laws.RefusalLaws.{refusal-passes}
 use Rattle.fold.specs.Known.CallLimits.{verify-limits}
@@ -12,7 +12,7 @@ use Rattle.chunks.specs.Known.CutSizes.{CutSizes, restSize-bound}
 use Rattle.chunks.specs.Known.NextFacts.{ChunkLimits, chunk-limits}
 use Rattle.chunks.specs.Stages.{nextBounds}
 
-module _ (m : Sizes) (ν μ : ℕ) {x : ℕ} (e : x ≡ firstRefusal (nextBounds m ν μ)) (z : x ≡ 0) where
+module _ (m : Sizes) (ν μ : ℕ) {x : ℕ} (e : x ≡ firstFailing (nextBounds m ν μ)) (z : x ≡ 0) where
   pub next-sized : VerifySized m
   next-sized =
       let p = refusal-passes (nextBounds m ν μ) refl (sym e ∙ z) in

@@ -1,6 +1,6 @@
 -- A name for the `unfolding` line of a closed case that opens all definitions of the fold and of the ring: see the ring's Computing.
 use Rattle.ring.specs.Cases.Computing.{ring-computes}
-use Rattle.fold.specs.Answers.{firstFailed, firstRefusal}
+use Rattle.fold.specs.Answers.{firstFailed, firstFailing}
 use Rattle.fold.specs.Sizes.{pairs, functionSize, tSize, garbageSize, restSize, openingSize, ceiling, nextRank, nextParts, nextCount}
 use Rattle.fold.specs.Statement.{part, wholeAt, wholeConstant, termAt, termConstant}
 use Rattle.fold.specs.Messages.{elements, times, garbageDigits, t, g, tDigits, gDigits, outer₁, u₁, p, b″}
@@ -41,7 +41,7 @@ unfolding allOf anyOf between degree rank parts constraintCount projectionCount 
 ranges-compute = tt
 
 unfoldable pub lengths-compute : Unit {0}
-unfolding ranges-compute sized challenges wholeLength termLength projectionLength firstRefusal
+unfolding ranges-compute sized challenges wholeLength termLength projectionLength firstFailing
 lengths-compute = tt
 
 unfoldable pub refusals-compute : Unit {0}

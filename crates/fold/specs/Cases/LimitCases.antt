@@ -7,7 +7,7 @@ use Prim.Native.Nat.{ℕ, _+_, _-_}
 use lib.Dec.{leb}
 use lib.ListN.{replicate}
 use Rattle.integers.specs.Literals.{+_, -_}
-use Rattle.fold.specs.Answers.{firstRefusal}
+use Rattle.fold.specs.Answers.{firstFailing}
 use Rattle.fold.specs.Statement.{Statement, Draws, Transcript}
 use Rattle.fold.specs.Refusals.{degree, rank, parts, constraintCount, projectionCount, commitmentRank, base, digitCount, chunks, lengthBound}
 use Rattle.fold.specs.Refusals.{commitTests, projectTests, aggregateTests, garbageTests, amortizeTests, verifyTests, nextTests, partTests}
@@ -39,19 +39,19 @@ Listed refusal =
 -- ---- the calls on empty lists
 
 abbrev pub commit : (d n r κ κ₁ b₁ b₂ t₁ t₂ : ℕ) → ℕ
-commit d n r κ κ₁ b₁ b₂ t₁ t₂ = firstRefusal (commitTests d n r κ κ₁ b₁ b₂ t₁ t₂ [] [] [] [] [] [] [])
+commit d n r κ κ₁ b₁ b₂ t₁ t₂ = firstFailing (commitTests d n r κ κ₁ b₁ b₂ t₁ t₂ [] [] [] [] [] [] [])
 
 abbrev pub project : (d n r w : ℕ) → ℕ
-project d n r w = firstRefusal (projectTests d n r w [] [] [])
+project d n r w = firstFailing (projectTests d n r w [] [] [])
 
 abbrev pub aggregate : (d n r L w : ℕ) → ℕ
-aggregate d n r L w = firstRefusal (aggregateTests d n r L w [] [] [] [] [] [])
+aggregate d n r L w = firstFailing (aggregateTests d n r L w [] [] [] [] [] [])
 
 abbrev pub garbage : (d n r K L w κ₂ b₁ t₁ : ℕ) → ℕ
-garbage d n r K L w κ₂ b₁ t₁ = firstRefusal (garbageTests d n r K L w κ₂ b₁ t₁ [] [] [] [] [] [] [] [] [] [] [])
+garbage d n r K L w κ₂ b₁ t₁ = firstFailing (garbageTests d n r K L w κ₂ b₁ t₁ [] [] [] [] [] [] [] [] [] [] [])
 
 abbrev pub amortize : (d n r b : ℕ) → ℕ
-amortize d n r b = firstRefusal (amortizeTests d n r 2 b [] [] [])
+amortize d n r b = firstFailing (amortizeTests d n r 2 b [] [] [])
 
 abbrev pub draws : Draws
 draws = record { projections = []; ψ = []; ω = []; α = []; δ = []; c = [] }
@@ -82,14 +82,14 @@ module _ (d n r K L w κ κ₁ κ₂ b b₁ b₂ t₁ t₂ : ℕ) where
       }
 
   abbrev pub verify : (bound target : ℕ) → ℕ
-  verify bound target = firstRefusal (verifyTests (statement bound target) draws transcript [])
+  verify bound target = firstFailing (verifyTests (statement bound target) draws transcript [])
 
   abbrev pub next : (ν μ bound target : ℕ) → ℕ
-  next ν μ bound target = firstRefusal (nextTests (statement bound target) draws transcript ν μ [])
+  next ν μ bound target = firstFailing (nextTests (statement bound target) draws transcript ν μ [])
 
 -- part i
 abbrev pub part : (d n r κ t₁ t₂ ν μ i : ℕ) → ℕ
-part d n r κ t₁ t₂ ν μ i = firstRefusal (partTests d n r κ t₁ t₂ 2 ν μ i [])
+part d n r κ t₁ t₂ ν μ i = firstFailing (partTests d n r κ t₁ t₂ 2 ν μ i [])
 
 -- ---- the cases
 

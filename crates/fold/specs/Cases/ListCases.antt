@@ -10,7 +10,7 @@ use lib.ListN.{length, getD, replicate}
 use lib.IntN.{ℤ}
 use Rattle.integers.specs.Literals.{+_, -_, _zeros∷_}
 use Rattle.integers.specs.Lists.{tab}
-use Rattle.fold.specs.Answers.{firstRefusal}
+use Rattle.fold.specs.Answers.{firstFailing}
 use Rattle.fold.specs.Statement.{Statement, Draws, Transcript}
 use Rattle.fold.specs.Refusals.{commitTests, projectTests, aggregateTests, garbageTests, amortizeTests}
 use Rattle.fold.specs.Refusals.{proverTests, verifyTests, nextTests, partTests}
@@ -69,21 +69,21 @@ abbrev pub lengths₁ : List ℕ
 lengths₁ = 4 ∷ 16 ∷ 36 ∷ 8 ∷ 8 ∷ 18 ∷ 4 ∷ []
 
 abbrev pub message₁ : (ℕ → List ℤ) → ℕ
-message₁ x = firstRefusal (commitTests 2 2 2 1 2 8 4 2 3 (x 0) (x 1) (x 2) (x 3) (x 4) (x 5) (x 6))
+message₁ x = firstFailing (commitTests 2 2 2 1 2 8 4 2 3 (x 0) (x 1) (x 2) (x 3) (x 4) (x 5) (x 6))
 
 -- projection rows, the witness; p
 abbrev pub lengths₂ : List ℕ
 lengths₂ = 24 ∷ 8 ∷ 3 ∷ []
 
 abbrev pub message₂ : (ℕ → List ℤ) → ℕ
-message₂ x = firstRefusal (projectTests 2 2 2 3 (x 0) (x 1) (x 2))
+message₂ x = firstFailing (projectTests 2 2 2 3 (x 0) (x 1) (x 2))
 
 -- constant-term constraints, projection rows, ψ, ω, the witness; b''
 abbrev pub lengths₃ : List ℕ
 lengths₃ = 30 ∷ 24 ∷ 10 ∷ 15 ∷ 8 ∷ 10 ∷ []
 
 abbrev pub message₃ : (ℕ → List ℤ) → ℕ
-message₃ x = firstRefusal (aggregateTests 2 2 2 2 3 (x 0) (x 1) (x 2) (x 3) (x 4) (x 5))
+message₃ x = firstFailing (aggregateTests 2 2 2 2 3 (x 0) (x 1) (x 2) (x 3) (x 4) (x 5))
 
 -- both kinds of constraints, projection rows, ψ, ω, α, δ, D, the witness; h digits, u2
 abbrev pub lengths₄ : List ℕ
@@ -91,14 +91,14 @@ lengths₄ = 48 ∷ 30 ∷ 24 ∷ 10 ∷ 15 ∷ 6 ∷ 10 ∷ 36 ∷ 8 ∷ 12 ∷
 
 abbrev pub message₄ : (ℕ → List ℤ) → ℕ
 message₄ x =
-    firstRefusal (garbageTests 2 2 2 3 2 3 3 8 2 (x 0) (x 1) (x 2) (x 3) (x 4) (x 5) (x 6) (x 7) (x 8) (x 9) (x 10))
+    firstFailing (garbageTests 2 2 2 3 2 3 3 8 2 (x 0) (x 1) (x 2) (x 3) (x 4) (x 5) (x 6) (x 7) (x 8) (x 9) (x 10))
 
 -- c, the witness; z digits
 abbrev pub lengths₅ : List ℕ
 lengths₅ = 4 ∷ 8 ∷ 8 ∷ []
 
 abbrev pub message₅ : (ℕ → List ℤ) → ℕ
-message₅ x = firstRefusal (amortizeTests 2 2 2 2 4 (x 0) (x 1) (x 2))
+message₅ x = firstFailing (amortizeTests 2 2 2 2 4 (x 0) (x 1) (x 2))
 
 -- A, B, C, D, both kinds of constraints; projection rows, ψ, ω, α, δ, c; u1, p, b'', u2
 abbrev pub given : List ℕ
@@ -136,25 +136,25 @@ transcript x = record { u₁ = x 12; p = x 13; b″ = x 14; u₂ = x 15 }
 
 -- the tests before the five messages: these and the witness
 abbrev pub material : (ℕ → List ℤ) → ℕ
-material x = firstRefusal (proverTests (statement x) (draws x) (x 12))
+material x = firstFailing (proverTests (statement x) (draws x) (x 12))
 
 -- the verifier: these, the messages and the opening
 abbrev pub verified : List ℕ
 verified = given ++ messages ++ (46 ∷ [])
 
 abbrev pub verifier : (ℕ → List ℤ) → ℕ
-verifier x = firstRefusal (verifyTests (statement x) (draws x) (transcript x) (x 16))
+verifier x = firstFailing (verifyTests (statement x) (draws x) (transcript x) (x 16))
 
 -- the next instance: these, the messages and what is written, 9 constraints on 4 parts of rank 10
 abbrev pub written : List ℕ
 written = given ++ messages ++ (918 ∷ [])
 
 abbrev pub nextInstance : (ℕ → List ℤ) → ℕ
-nextInstance x = firstRefusal (nextTests (statement x) (draws x) (transcript x) 1 2 (x 16))
+nextInstance x = firstFailing (nextTests (statement x) (draws x) (transcript x) 1 2 (x 16))
 
 -- the question for part 4: the opening
 abbrev pub part : (ℕ → List ℤ) → ℕ
-part x = firstRefusal (partTests 2 2 2 1 2 3 2 1 2 4 (x 0))
+part x = firstFailing (partTests 2 2 2 1 2 3 2 1 2 4 (x 0))
 
 -- faults in the last list, in p, in the projection rows and in c
 abbrev pub faults : List ℕ → List Fault

@@ -8,7 +8,7 @@ use Prim.Native.Nat.{ℕ, _*_}
 use lib.ListN.{replicate}
 use lib.IntN.{ℤ}
 use Rattle.integers.specs.Literals.{+_, -_, _zeros∷_}
-use Rattle.fold.specs.Answers.{firstRefusal}
+use Rattle.fold.specs.Answers.{firstFailing}
 use Rattle.fold.specs.Sizes.{tSize, garbageSize, restSize, openingSize, nextRank, nextParts, nextCount}
 use Rattle.fold.specs.Statement.{Statement, Draws, Transcript}
 use Rattle.fold.specs.Refusals.{lengthBound, wholeLength, projectTests, amortizeTests, verifyTests, nextTests, partTests}
@@ -48,25 +48,25 @@ module _ (d r κ b t₁ t₂ bound : ℕ) where
 
   -- the refusals of the verifier and of the next instance, 0 for none
   abbrev pub verifierRefusal : ℕ
-  verifierRefusal = firstRefusal (verifyTests statement draws transcript (zeros (openingSize 2 1 r κ t₁ t₂ * d)))
+  verifierRefusal = firstFailing (verifyTests statement draws transcript (zeros (openingSize 2 1 r κ t₁ t₂ * d)))
 
   abbrev pub nextRefusal : (ν μ : ℕ) → ℕ
-  nextRefusal ν μ = firstRefusal (nextTests statement draws transcript ν μ (zeros (wholeLength d n′ (nextParts 2 ν μ) (nextCount κ 1 1))))
+  nextRefusal ν μ = firstFailing (nextTests statement draws transcript ν μ (zeros (wholeLength d n′ (nextParts 2 ν μ) (nextCount κ 1 1))))
     where
       n′ : ℕ
       n′ = nextRank 1 ν (restSize r κ t₁ t₂) μ
 
 -- the refusal of message 5 for one part of rank 1: the challenge c, the witness s
 abbrev pub message₅Refusal : ℕ → List ℤ → List ℤ → ℕ
-message₅Refusal d c s = firstRefusal (amortizeTests d 1 1 2 4 c s (zeros (2 * d)))
+message₅Refusal d c s = firstFailing (amortizeTests d 1 1 2 4 c s (zeros (2 * d)))
 
 -- the refusal of message 2 for one part of rank 1 and degree 2 and one projection row
 abbrev pub message₂Refusal : List ℤ → ℕ
-message₂Refusal row = firstRefusal (projectTests 2 1 1 1 row (zeros 2) (zeros 1))
+message₂Refusal row = firstFailing (projectTests 2 1 1 1 row (zeros 2) (zeros 1))
 
 -- the refusal of the question for part i of the next witness, ν = μ = 1
 abbrev pub partRefusal : ℕ → ℕ
-partRefusal i = firstRefusal (partTests 2 1 1 1 2 2 2 1 1 i (zeros (openingSize 2 1 1 1 2 2 * 2)))
+partRefusal i = firstFailing (partTests 2 1 1 1 2 2 2 1 1 i (zeros (openingSize 2 1 1 1 2 2 * 2)))
 
 pub record RefusalCases : Type 0 where
   pub none : verifierRefusal 2 1 1 4 2 2 5 ≡ 0
@@ -106,7 +106,7 @@ pub record RefusalCases : Type 0 where
   -- row 11: "m = 3200, μ = 1", "n' 256/257"
   pub rest-3200 : restSize 16 8 8 8 ≡ 3200
   pub rank-3200 : nextRefusal 2 16 8 4 8 8 5 1 1 ≡ 11
-  pub length-before-rank : firstRefusal (nextTests (statement 2 16 8 4 8 8 5) (draws 2 16 8 4 8 8 5) (transcript 2 16 8 4 8 8 5) 1 1 []) ≡ 7
+  pub length-before-rank : firstFailing (nextTests (statement 2 16 8 4 8 8 5) (draws 2 16 8 4 8 8 5) (transcript 2 16 8 4 8 8 5) 1 1 []) ≡ 7
   pub next-rank-256 : nextRank 1 1 (restSize 8 7 4 4) 2 ≡ 256
   pub next-rank-257 : nextRank 1 1 (restSize 9 6 2 7) 2 ≡ 257
   pub rank-256 : nextRefusal 2 8 7 4 4 4 5 1 2 ≡ 0

@@ -13,7 +13,7 @@ use Rattle.residues.specs.Modulus.{Zq, red}
 use Rattle.ring.specs.Element.{R}
 use Rattle.fold.specs.declared.Verdict.{Verdict}
 use Rattle.fold.specs.declared.Verdict.the-variants.{Accepted, Failed}
-use Rattle.fold.specs.Answers.{firstRefusal}
+use Rattle.fold.specs.Answers.{firstFailing}
 use Rattle.fold.specs.Statement.{Meets, part, function, wholeAt, wholeConstant, termAt, termConstant}
 use Rattle.fold.specs.Statement.{Statement, Transcript}
 use Rattle.fold.specs.Verdict.{verdict}
@@ -74,8 +74,8 @@ pub record SecondCase : Type 0 where
   pub transcript-honest : honestTranscript 𝓢 draws witness ≡ 𝓣
   pub opening-honest : honestOpening 𝓢 draws witness ≡ opening
   pub length-of-opening : normSq opening ≡ squared-length
-  pub prover-not-refused : firstRefusal (proverTests 𝓢 draws witness) ≡ 0
-  pub verifier-not-refused : firstRefusal (verifyTests 𝓢 draws 𝓣 opening) ≡ 0
+  pub prover-not-refused : firstFailing (proverTests 𝓢 draws witness) ≡ 0
+  pub verifier-not-refused : firstFailing (verifyTests 𝓢 draws 𝓣 opening) ≡ 0
   -- accepted with the least bounds; each check fails where a bound is less or a number is another
   pub accepted : verdict 𝓢 draws 𝓣 opening ≡ Accepted
   pub failed-1 : verdict (statement (least-bound - 1) squared-length) draws 𝓣 opening ≡ Failed 1
@@ -92,7 +92,7 @@ pub record SecondCase : Type 0 where
   pub next : nextWhole 𝓢 draws 𝓣 4 3 ≡ next-numbers
   pub next-padded : padded 2 2 5 4 42 3 opening ≡ next-witness
   pub next-unpadded : unpadded 2 2 5 4 42 3 next-witness ≡ opening
-  pub next-not-refused : firstRefusal (nextTests 𝓢 draws 𝓣 4 3 next-numbers) ≡ 0
+  pub next-not-refused : firstFailing (nextTests 𝓢 draws 𝓣 4 3 next-numbers) ≡ 0
 
 pub second-case : SecondCase
 unfolding fold-computes

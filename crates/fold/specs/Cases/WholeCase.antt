@@ -10,7 +10,7 @@ use Rattle.integers.specs.Sums.{normSq}
 use Rattle.algebra.specs.DotProduct.{value}
 use Rattle.ring.specs.Element.{R}
 use Rattle.fold.specs.declared.Verdict.the-variants.{Accepted}
-use Rattle.fold.specs.Answers.{firstRefusal}
+use Rattle.fold.specs.Answers.{firstFailing}
 use Rattle.fold.specs.Statement.{Solves, part, function, wholeAt, wholeConstant}
 use Rattle.fold.specs.Statement.{Statement, Draws, Transcript}
 use Rattle.fold.specs.Verdict.{verdict}
@@ -86,8 +86,8 @@ pub record WholeCase : Type 0 where
   -- "The program of verdicts prints 0 0 in its two fields."
   pub accepted : verdict (case 13) draws transcript digits ≡ Accepted
   -- neither the verifier nor the prover is refused
-  pub verifier-not-refused : firstRefusal (verifyTests (case 13) draws transcript digits) ≡ 0
-  pub prover-not-refused : firstRefusal (proverTests (case 13) draws witness) ≡ 0
+  pub verifier-not-refused : firstFailing (verifyTests (case 13) draws transcript digits) ≡ 0
+  pub prover-not-refused : firstFailing (proverTests (case 13) draws witness) ≡ 0
 
 pub whole-case : WholeCase
 unfolding fold-computes

@@ -12,7 +12,7 @@ use Rattle.residues.specs.Range.{projections}
 use Rattle.fold.specs.Sizes.{five, tSize, garbageSize, openingSize}
 use Rattle.fold.specs.Statement.{Relation}
 use Rattle.fold.specs.Statement.{Statement, Draws, Transcript}
-use Rattle.fold.specs.Answers.{firstRefusal}
+use Rattle.fold.specs.Answers.{firstFailing}
 use Rattle.fold.specs.Refusals.{allOf, lengths, wholeLength, termLength, projectionLength, sizeTests}
 use Rattle.fold.specs.Refusals.{commitBounds, projectBounds, aggregateBounds, garbageBounds, amortizeBounds}
 use Rattle.fold.specs.Refusals.{commitTests, projectTests, aggregateTests, garbageTests, amortizeTests, verifyTests}
@@ -33,7 +33,7 @@ pub record CommitFacts (d n r κ κ₁ b₁ b₂ t₁ t₂ : ℕ) (A B C s ts gs
   pub u₁-length : length u₁ ≡ κ₁ * d
 
 pub commit-facts : {d n r κ κ₁ b₁ b₂ t₁ t₂ : ℕ} {A B C s ts gs u₁ : List ℤ}
-    → firstRefusal (commitTests d n r κ κ₁ b₁ b₂ t₁ t₂ A B C s ts gs u₁) ≡ 0
+    → firstFailing (commitTests d n r κ κ₁ b₁ b₂ t₁ t₂ A B C s ts gs u₁) ≡ 0
     → CommitFacts d n r κ κ₁ b₁ b₂ t₁ t₂ A B C s ts gs u₁
 unfolding commitTests
 commit-facts {d} {n} {r} {κ} {κ₁} {b₁} {b₂} {t₁} {t₂} {A} {B} {C} {s} {ts} {gs} {u₁} e =
@@ -60,7 +60,7 @@ pub record ProjectFacts (d n r w : ℕ) (rows s p : List ℤ) : Type 0 where
   pub rows-entries : projections rows ≡ true
 
 pub project-facts : {d n r w : ℕ} {rows s p : List ℤ}
-    → firstRefusal (projectTests d n r w rows s p) ≡ 0
+    → firstFailing (projectTests d n r w rows s p) ≡ 0
     → ProjectFacts d n r w rows s p
 unfolding projectTests
 project-facts {d} {n} {r} {w} {rows} {s} {p} e =
@@ -87,7 +87,7 @@ pub record AggregateFacts (d n r L w : ℕ) (term rows ψ ω s b″ : List ℤ) 
   pub rows-entries : projections rows ≡ true
 
 pub aggregate-facts : {d n r L w : ℕ} {term rows ψ ω s b″ : List ℤ}
-    → firstRefusal (aggregateTests d n r L w term rows ψ ω s b″) ≡ 0
+    → firstFailing (aggregateTests d n r L w term rows ψ ω s b″) ≡ 0
     → AggregateFacts d n r L w term rows ψ ω s b″
 unfolding aggregateTests
 aggregate-facts {d} {n} {r} {L} {w} {term} {rows} {ψ} {ω} {s} {b″} e =
@@ -122,7 +122,7 @@ pub record GarbageFacts (d n r K L w κ₂ b₁ t₁ : ℕ) (whole term rows ψ 
   pub rows-entries : projections rows ≡ true
 
 pub garbage-facts : {d n r K L w κ₂ b₁ t₁ : ℕ} {whole term rows ψ ω α δ D s hs u₂ : List ℤ}
-    → firstRefusal (garbageTests d n r K L w κ₂ b₁ t₁ whole term rows ψ ω α δ D s hs u₂) ≡ 0
+    → firstFailing (garbageTests d n r K L w κ₂ b₁ t₁ whole term rows ψ ω α δ D s hs u₂) ≡ 0
     → GarbageFacts d n r K L w κ₂ b₁ t₁ whole term rows ψ ω α δ D s hs u₂
 unfolding garbageTests
 garbage-facts {d} {n} {r} {K} {L} {w} {κ₂} {b₁} {t₁} {whole} {term} {rows} {ψ} {ω} {α} {δ} {D} {s} {hs} {u₂} e =
@@ -153,7 +153,7 @@ pub record AmortizeFacts (d n r b : ℕ) (c s zs : List ℤ) : Type 0 where
   pub zs-length : length zs ≡ 2 * n * d
 
 pub amortize-facts : {d n r b : ℕ} {c s zs : List ℤ}
-    → firstRefusal (amortizeTests d n r 2 b c s zs) ≡ 0
+    → firstFailing (amortizeTests d n r 2 b c s zs) ≡ 0
     → AmortizeFacts d n r b c s zs
 unfolding amortizeTests
 amortize-facts {d} {n} {r} {b} {c} {s} {zs} e =
@@ -221,7 +221,7 @@ module _ (𝓢 : Statement) (𝓓 : Draws) (𝓣 : Transcript) where
     pub o-length : length o ≡ openingSize tz n r κ t₁ t₂ * d
     pub rows-entries : projections rows ≡ true
 
-  pub verify-facts : (o : List ℤ) → firstRefusal (verifyTests 𝓢 𝓓 𝓣 o) ≡ 0 → VerifyFacts o
+  pub verify-facts : (o : List ℤ) → firstFailing (verifyTests 𝓢 𝓓 𝓣 o) ≡ 0 → VerifyFacts o
   unfolding verifyTests
   verify-facts o e =
       let passed = refusal-passes (verifyTests 𝓢 𝓓 𝓣 o) refl e in

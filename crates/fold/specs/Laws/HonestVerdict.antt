@@ -14,7 +14,7 @@ use borrow.Author.Tests.{leb-true, leb-false, le-leb, lt-leb}
 use Rattle.integers.specs.Sums.{normSq}
 use Rattle.fold.specs.declared.Verdict.{Verdict}
 use Rattle.fold.specs.declared.Verdict.the-variants.{Accepted, Failed}
-use Rattle.fold.specs.Answers.{firstFailed, firstRefusal}
+use Rattle.fold.specs.Answers.{firstFailed, firstFailing}
 use Rattle.fold.specs.Statement.{Relation, Meets}
 use Rattle.fold.specs.Statement.{Statement, Draws}
 use Rattle.fold.specs.Verdict.{verdict, check₁}
@@ -82,7 +82,7 @@ module _ (𝓢 : Statement) (𝓓 : Draws) (s : List ℤ) where
       ∙ ap (outcome _) (states₉ 𝓢 𝓓 s)
 
   -- a statement that is not refused has the sizes that the checks rely on
-  pub shaped : firstRefusal (proverTests 𝓢 𝓓 s) ≡ 0 → 0 < tz → Shaped 𝓢
+  pub shaped : firstFailing (proverTests 𝓢 𝓓 s) ≡ 0 → 0 < tz → Shaped 𝓢
   unfolding proverTests
   shaped accepted some =
       let passed = refusal-passes (proverTests 𝓢 𝓓 s) refl accepted in

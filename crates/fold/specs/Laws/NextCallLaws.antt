@@ -10,7 +10,7 @@ use lib.IntN.{ℤ, pos}
 use Rattle.fold.specs.declared.Verdict.{Verdict}
 use Rattle.fold.specs.declared.Verdict.the-variants.{Accepted, Failed}
 use Rattle.fold.specs.declared.Answer.the-variants.{Judged, Written}
-use Rattle.fold.specs.Answers.{firstFailed, firstRefusal, answered, written}
+use Rattle.fold.specs.Answers.{firstFailed, firstFailing, answered, written}
 use Rattle.fold.specs.Sizes.{restSize, openingSize, nextRank, nextParts, nextCount}
 use Rattle.fold.specs.Statement.{Statement, Draws, Transcript}
 use Rattle.fold.specs.Verification.{verification}
@@ -45,11 +45,11 @@ two-pass s t = (
 
 module _ (𝓢 : Statement) (𝓓 : Draws) (𝓣 : Transcript) (ν μ : ℕ) (out : List ℤ) where
   -- "Otherwise all K' are written": no refusal applies and checks 1 and 2 pass
-  pub written-iff : (nextAnswer 𝓢 𝓓 𝓣 ν μ out ≡ Written) ↔ ((firstRefusal (nextTests 𝓢 𝓓 𝓣 ν μ out) ≡ 0) × FirstChecks 𝓢 𝓓 𝓣)
+  pub written-iff : (nextAnswer 𝓢 𝓓 𝓣 ν μ out ≡ Written) ↔ ((firstFailing (nextTests 𝓢 𝓓 𝓣 ν μ out) ≡ 0) × FirstChecks 𝓢 𝓓 𝓣)
   unfolding nextAnswer firstChecks
   written-iff = (
     λ e.
-        let (none, accepted) = both-accepted (firstRefusal (nextTests 𝓢 𝓓 𝓣 ν μ out)) (firstChecks 𝓢 𝓓 𝓣 ν μ out) e in
+        let (none, accepted) = both-accepted (firstFailing (nextTests 𝓢 𝓓 𝓣 ν μ out)) (firstChecks 𝓢 𝓓 𝓣 ν μ out) e in
         let (one, two) = two-pass _ _ .0 accepted in
         (none, record { projection = one; constant-terms = two }),
     λ h. accepted-both (h .0) (two-pass _ _ .1 (h .1 .projection, h .1 .constant-terms)),
@@ -58,7 +58,7 @@ module _ (𝓢 : Statement) (𝓓 : Draws) (𝓣 : Transcript) (ν μ : ℕ) (ou
   pub written-out : nextAnswer 𝓢 𝓓 𝓣 ν μ out ≡ Written → nextOut 𝓢 𝓓 𝓣 ν μ out ≡ nextWhole 𝓢 𝓓 𝓣 ν μ
   unfolding nextAnswer nextOut written unlessFailed
   written-out e =
-      let (none, checks) = both-accepted (firstRefusal (nextTests 𝓢 𝓓 𝓣 ν μ out)) (firstChecks 𝓢 𝓓 𝓣 ν μ out) e in
+      let (none, checks) = both-accepted (firstFailing (nextTests 𝓢 𝓓 𝓣 ν μ out)) (firstChecks 𝓢 𝓓 𝓣 ν μ out) e in
       rw (none, checks)
 
   -- the list written is as long as the one lent must be

@@ -15,7 +15,7 @@ use lib.IntN.{ℤ, pos}
 use borrow.Author.Tests.{le-leb, leb-true, eq-eqb, eqb-true}
 use Rattle.ring.specs.Element.{Degree}
 use Rattle.residues.specs.Digits.{Base}
-use Rattle.fold.specs.Answers.{firstRefusal}
+use Rattle.fold.specs.Answers.{firstFailing}
 use Rattle.fold.specs.Refusals.{allOf, anyOf, between, degree, rank, parts, constraintCount, projectionCount, commitmentRank, base, challenges}
 use Rattle.fold.specs.Refusals.{digitCount, chunks, lengthBound, sized}
 use Rattle.ring.specs.Laws.ElementEquality.{every-true, true-every}
@@ -49,13 +49,13 @@ abbrev pub numbered : List (ℕ × Bool) → Bool
 numbered [] = true
 numbered (test ∷ tests) = cond (ltb 0 (test .0)) (numbered tests) false
 
-pub passes-refusal : (tests : List (ℕ × Bool)) → Passes tests → firstRefusal tests ≡ 0
-unfolding firstRefusal
+pub passes-refusal : (tests : List (ℕ × Bool)) → Passes tests → firstFailing tests ≡ 0
+unfolding firstFailing
 passes-refusal [] p = refl
 passes-refusal (test ∷ tests) p = rw (p .0) (passes-refusal tests (p .1))
 
-pub refusal-passes : (tests : List (ℕ × Bool)) → numbered tests ≡ true → firstRefusal tests ≡ 0 → Passes tests
-unfolding firstRefusal
+pub refusal-passes : (tests : List (ℕ × Bool)) → numbered tests ≡ true → firstFailing tests ≡ 0 → Passes tests
+unfolding firstFailing
 refusal-passes [] l e = tt
 refusal-passes (test ∷ tests) l e =
     step (test .1) refl e (refusal-passes tests (both-right (ltb 0 (test .0)) (numbered tests) l))
@@ -63,12 +63,12 @@ refusal-passes (test ∷ tests) l e =
     positive : 0 < test .0
     positive = ltb→lt 0 (test .0) (subst T (sym (both-left (ltb 0 (test .0)) (numbered tests) l)) tt)
 
-    step : (t : Bool) → test .1 ≡ t → cond t (firstRefusal tests) (test .0) ≡ 0
-        → (firstRefusal tests ≡ 0 → Passes tests) → (test .1 ≡ true) × Passes tests
+    step : (t : Bool) → test .1 ≡ t → cond t (firstFailing tests) (test .0) ≡ 0
+        → (firstFailing tests ≡ 0 → Passes tests) → (test .1 ≡ true) × Passes tests
     step true q e next = (q, next e)
     step false q e next = let none : test .0 ≡ 0 = e in absurd (omega (arith, positive))
 
-pub refusal-iff : (tests : List (ℕ × Bool)) → numbered tests ≡ true → (firstRefusal tests ≡ 0) ↔ Passes tests
+pub refusal-iff : (tests : List (ℕ × Bool)) → numbered tests ≡ true → (firstFailing tests ≡ 0) ↔ Passes tests
 refusal-iff tests l = (refusal-passes tests l, passes-refusal tests)
 
 -- the tests of two lists, one after the other
@@ -85,7 +85,7 @@ passes-back [] ys p = p
 passes-back (x ∷ xs) ys p = passes-back xs ys (p .1)
 
 -- the first tests of a call that is not refused
-pub early-passes : (xs ys : List (ℕ × Bool)) → numbered (xs ++ ys) ≡ true → firstRefusal (xs ++ ys) ≡ 0 → Passes xs
+pub early-passes : (xs ys : List (ℕ × Bool)) → numbered (xs ++ ys) ≡ true → firstFailing (xs ++ ys) ≡ 0 → Passes xs
 early-passes xs ys l e = passes-front xs ys (refusal-passes (xs ++ ys) l e)
 
 -- ---- the tests of one row

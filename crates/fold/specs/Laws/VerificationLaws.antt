@@ -10,13 +10,14 @@ use Rattle.residues.specs.Range.{coefficients}
 use Rattle.fold.specs.declared.Verdict.{Verdict}
 use Rattle.fold.specs.declared.Verdict.the-variants.{Accepted}
 use Rattle.fold.specs.declared.Answer.the-variants.{Judged}
-use Rattle.fold.specs.Answers.{firstRefusal, answered}
+use Rattle.fold.specs.Answers.{firstFailing, answered}
 use Rattle.fold.specs.Sizes.{openingSize}
 use Rattle.fold.specs.Statement.{Relation}
 use Rattle.fold.specs.Statement.{Statement, Draws, Transcript}
 use Rattle.fold.specs.Verdict.{verdict}
 use Rattle.fold.specs.Refusals.{verifyTests}
-use Rattle.fold.specs.Laws.RefusalLaws.{refusal-passes, allOf-head, sized-iff}
+use Rattle.fold.specs.Laws.RefusalLaws.{allOf-head, sized-iff}
+use Rattle.fold.specs.Laws.TestLaws.{holds}
 use Rattle.fold.specs.Verification.{verification}
 use Rattle.fold.specs.Laws.Accepted.{Accepts, accepts}
 
@@ -29,12 +30,11 @@ module _ (𝓢 : Statement) (𝓓 : Draws) (𝓣 : Transcript) (o : List ℤ) wh
   open Statement 𝓢 using (relation, tz, κ, t₁, t₂)
   open Relation relation using (d, n, r)
 
-  -- tests 1, 2, 3, 4 and 6 pass, then 7 and 8, which look at the opening first
-  pub opening-unrefused : firstRefusal (verifyTests 𝓢 𝓓 𝓣 o) ≡ 0 → (length o ≡ openingSize tz n r κ t₁ t₂ * d) × (coefficients o ≡ true)
+  -- rows 7 and 8 look at the opening first
+  pub opening-unrefused : firstFailing (verifyTests 𝓢 𝓓 𝓣 o) ≡ 0 → (length o ≡ openingSize tz n r κ t₁ t₂ * d) × (coefficients o ≡ true)
   unfolding verifyTests
   opening-unrefused e =
-      let rows = refusal-passes (verifyTests 𝓢 𝓓 𝓣 o) refl e .1 .1 .1 .1 .1 in
-      (sized-iff o _ .0 (allOf-head _ _ (rows .0)), allOf-head _ _ (rows .1 .0))
+      let row = holds (verifyTests 𝓢 𝓓 𝓣 o) refl e in (sized-iff o _ .0 (allOf-head _ _ (row 7)), allOf-head _ _ (row 8))
 
   pub record AcceptedOpening : Type 0 where
     pub facts : Accepts 𝓢 𝓓 𝓣 o
@@ -43,6 +43,6 @@ module _ (𝓢 : Statement) (𝓓 : Draws) (𝓣 : Transcript) (o : List ℤ) wh
 
   pub accepted-opening : verification 𝓢 𝓓 𝓣 o ≡ Judged Accepted → AcceptedOpening
   accepted-opening e =
-      let (unrefused, passed) = judged-accepted (firstRefusal (verifyTests 𝓢 𝓓 𝓣 o)) (verdict 𝓢 𝓓 𝓣 o) e in
+      let (unrefused, passed) = judged-accepted (firstFailing (verifyTests 𝓢 𝓓 𝓣 o)) (verdict 𝓢 𝓓 𝓣 o) e in
       let (size, range) = opening-unrefused unrefused in
       record { facts = accepts 𝓢 𝓓 𝓣 o passed; sized = size; small = range }

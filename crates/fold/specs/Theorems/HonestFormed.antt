@@ -9,7 +9,7 @@ use lib.IntN.{ℤ, pos}
 use Rattle.residues.specs.Digits.{Base}
 use Rattle.residues.specs.Range.{coefficients}
 use Rattle.residues.specs.Laws.RangeLaws.{coefficients-join}
-use Rattle.fold.specs.Answers.{firstRefusal}
+use Rattle.fold.specs.Answers.{firstFailing}
 use Rattle.fold.specs.Sizes.{openingSize}
 use Rattle.fold.specs.Statement.{Relation}
 use Rattle.fold.specs.Messages.{opening}
@@ -53,8 +53,8 @@ module _ (𝓢 : Statement) (𝓓 : Draws) where
       (f sizes (passes-back (boundTests 𝓢 𝓓) xs others)))
 
   -- whatever messages the verifier does not refuse, it has tested all material but the witness
-  pub verified-material : (𝓣 : Transcript) (o s : List ℤ) → firstRefusal (verifyTests 𝓢 𝓓 𝓣 o) ≡ 0
-      → length s ≡ r * n * d → coefficients s ≡ true → firstRefusal (proverTests 𝓢 𝓓 s) ≡ 0
+  pub verified-material : (𝓣 : Transcript) (o s : List ℤ) → firstFailing (verifyTests 𝓢 𝓓 𝓣 o) ≡ 0
+      → length s ≡ r * n * d → coefficients s ≡ true → firstFailing (proverTests 𝓢 𝓓 s) ≡ 0
   unfolding proverTests verifyTests
   verified-material 𝓣 o s accepted long small =
       passes-refusal (proverTests 𝓢 𝓓 s)
@@ -113,7 +113,7 @@ module _ (𝓢 : Statement) (𝓓 : Draws) (s : List ℤ) where
           (allOf-cons _ _ (coefficients-u₂ d r κ₂ t₁ D _) (allOf-tail _ _ (material .1 .0))))))
 
   -- the statement, the draws and the witness are not refused: nor are they, with the honest messages, by the verifier
-  pub honest-formed : firstRefusal (proverTests 𝓢 𝓓 s) ≡ 0 → firstRefusal (verifyTests 𝓢 𝓓 𝓣 o) ≡ 0
+  pub honest-formed : firstFailing (proverTests 𝓢 𝓓 s) ≡ 0 → firstFailing (verifyTests 𝓢 𝓓 𝓣 o) ≡ 0
   unfolding proverTests verifyTests
   honest-formed accepted =
       passes-refusal (verifyTests 𝓢 𝓓 𝓣 o)

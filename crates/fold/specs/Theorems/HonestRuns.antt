@@ -11,7 +11,7 @@ use lib.IntN.{ℤ}
 use Rattle.integers.specs.Sums.{normSq}
 use Rattle.fold.specs.declared.Verdict.{Verdict}
 use Rattle.fold.specs.declared.Verdict.the-variants.{Accepted, Failed}
-use Rattle.fold.specs.Answers.{firstRefusal}
+use Rattle.fold.specs.Answers.{firstFailing}
 use Rattle.fold.specs.Statement.{Relation, Meets}
 use Rattle.fold.specs.Statement.{Statement, Draws}
 use Rattle.fold.specs.Verdict.{verdict}
@@ -47,5 +47,5 @@ module _ (𝓢 : Statement) (𝓓 : Draws) (s : List ℤ) where
         accepted = rw (honest-verdict 𝓢 𝓓 s sizes meets) (outcome-accepted projected (w * bound) opened target);
       }
 
-  pub honest-runs : tz ≡ 2 → firstRefusal (proverTests 𝓢 𝓓 s) ≡ 0 → Meets relation s → HonestRun
+  pub honest-runs : tz ≡ 2 → firstFailing (proverTests 𝓢 𝓓 s) ≡ 0 → Meets relation s → HonestRun
   honest-runs two accepted meets = honest-runs-shaped (shaped 𝓢 𝓓 s accepted (omega arith)) meets

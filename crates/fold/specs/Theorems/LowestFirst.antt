@@ -3,54 +3,39 @@
 --     lowest-first         the refusal is the number of a test that fails, and none that fails has a lower one
 --     commit-rising, ..    the calls
 use mathlib.Core.Path.{_≡_, refl, sym, subst, _∙_}
-use mathlib.Core.Bool.{Bool, true, false, cond}
+use mathlib.Core.Bool.{Bool, true, false}
 use mathlib.Core.Logic.{_⊎_, inl, inr}
 use mathlib.Core.List.{List, [], _∷_}
 use Prim.Native.Nat.{ℕ, _≤_, _<_}
 use native.Mathlib.Omega.{arith}
-use lib.Dec.{T, ltb}
+use lib.Dec.{T}
 use lib.IntN.{ℤ}
-use borrow.Author.Tests.{ltb-true}
-use Rattle.fold.specs.Answers.{firstRefusal}
+use Rattle.fold.specs.Answers.{firstFailing}
 use Rattle.fold.specs.Statement.{Statement, Draws, Transcript}
 use Rattle.fold.specs.Refusals.{commitTests, projectTests, aggregateTests, garbageTests, amortizeTests}
 use Rattle.fold.specs.Refusals.{proverTests, verifyTests, nextTests, partTests, productTests}
-use Rattle.fold.specs.Laws.RefusalLaws.{both-left, both-right}
+use Rattle.fold.specs.Laws.TestLaws.{rising, rising-head, rising-tail, passed, failed}
 
 -- a test with number j fails
 abbrev pub Fails : ℕ → List (ℕ × Bool) → Type 0
 Fails j [] = ⊥
 Fails j (test ∷ tests) = ((test .0 ≡ j) × (test .1 ≡ false)) ⊎ Fails j tests
 
--- the numbers rise, from above k; computes on the calls' lists
-abbrev pub rising : ℕ → List (ℕ × Bool) → Bool
-rising k [] = true
-rising k (test ∷ tests) = cond (ltb k (test .0)) (rising (test .0) tests) false
-
 above : (k j : ℕ) (tests : List (ℕ × Bool)) → rising k tests ≡ true → Fails j tests → k < j
 above k j [] e f = absurd f
-above k j (test ∷ tests) e (inl f) = omega (arith, ltb-true k (test .0) (both-left _ (rising (test .0) tests) e), f .0)
+above k j (test ∷ tests) e (inl f) = omega (arith, rising-head k test tests e, f .0)
 above k j (test ∷ tests) e (inr f) =
-    let first : k < test .0 = ltb-true k (test .0) (both-left _ (rising (test .0) tests) e) in
-    omega (arith, first, above (test .0) j tests (both-right (ltb k (test .0)) _ e) f)
+    omega (arith, rising-head k test tests e, above (test .0) j tests (rising-tail k test tests e) f)
 
 -- the refusal, where a test with number j fails
 pub record Lowest (tests : List (ℕ × Bool)) (j : ℕ) : Type 0 where
-  pub fails : Fails (firstRefusal tests) tests
-  pub not-above : firstRefusal tests ≤ j
-
-passed : (test : ℕ × Bool) (tests : List (ℕ × Bool)) → test .1 ≡ true → firstRefusal (test ∷ tests) ≡ firstRefusal tests
-unfolding firstRefusal
-passed test tests e = rw e
-
-failed : (test : ℕ × Bool) (tests : List (ℕ × Bool)) → test .1 ≡ false → firstRefusal (test ∷ tests) ≡ test .0
-unfolding firstRefusal
-failed test tests e = rw e
+  pub fails : Fails (firstFailing tests) tests
+  pub not-above : firstFailing tests ≤ j
 
 pub lowest-first : (k : ℕ) (tests : List (ℕ × Bool)) → rising k tests ≡ true → (j : ℕ) → Fails j tests → Lowest tests j
 lowest-first k [] e j f = absurd f
 lowest-first k (test ∷ tests) e j f =
-    step (test .1) refl f (lowest-first (test .0) tests (both-right (ltb k (test .0)) _ e) j)
+    step (test .1) refl f (lowest-first (test .0) tests (rising-tail k test tests e) j)
   where
     step : (t : Bool) → test .1 ≡ t → Fails j (test ∷ tests) → (Fails j tests → Lowest tests j) → Lowest (test ∷ tests) j
     step true q (inl f) next = absurd (subst T (sym q ∙ f .1) tt)
@@ -69,7 +54,7 @@ lowest-first k (test ∷ tests) e j f =
       where
         least : Fails j (test ∷ tests) → test .0 ≤ j
         least (inl f) = omega (arith, f .0)
-        least (inr f) = omega (arith, above (test .0) j tests (both-right (ltb k (test .0)) _ e) f)
+        least (inr f) = omega (arith, above (test .0) j tests (rising-tail k test tests e) f)
 
 -- ---- the calls
 

@@ -12,7 +12,7 @@ use lib.ListN.{length, take}
 use lib.IntN.{ℤ, pos}
 use borrow.Author.Tests.{le-leb}
 use Rattle.residues.specs.Range.{coefficients}
-use Rattle.fold.specs.Answers.{firstRefusal}
+use Rattle.fold.specs.Answers.{firstFailing}
 use Rattle.fold.specs.Sizes.{five, tSize, garbageSize, openingSize, nextParts, nextCount}
 use Rattle.fold.specs.Statement.{Relation}
 use Rattle.fold.specs.Statement.{Statement, Draws, Transcript}
@@ -31,7 +31,7 @@ a & b = (a, b)
 
 -- ---- the messages
 
-module _ (𝓢 : Statement) (𝓓 : Draws) (s : List ℤ) (taken : firstRefusal (proverTests 𝓢 𝓓 s) ≡ 0) where
+module _ (𝓢 : Statement) (𝓓 : Draws) (s : List ℤ) (taken : firstFailing (proverTests 𝓢 𝓓 s) ≡ 0) where
   open Statement 𝓢 using (relation, w, tz, κ, κ₁, κ₂, b, b₁, b₂, t₁, t₂, target, A, B, C, D)
   open Relation relation using (d, n, r, K, L, bound, whole, term)
   open Draws 𝓓 using (projections as rows, ψ, ω, α, δ, c)
@@ -62,7 +62,7 @@ module _ (𝓢 : Statement) (𝓓 : Draws) (s : List ℤ) (taken : firstRefusal 
 
   -- message 1
   pub commit-taken : (ts gs u₁ : List ℤ) → length ts ≡ tSize r κ t₁ * d → length gs ≡ garbageSize r t₂ * d → length u₁ ≡ κ₁ * d
-      → firstRefusal (commitTests d n r κ κ₁ b₁ b₂ t₁ t₂ A B C s ts gs u₁) ≡ 0
+      → firstFailing (commitTests d n r κ κ₁ b₁ b₂ t₁ t₂ A B C s ts gs u₁) ≡ 0
   unfolding proverTests commitTests
   commit-taken ts gs u₁ t-size g-size u₁-size =
       let (n-in, (r-in, _)) = counts in
@@ -80,7 +80,7 @@ module _ (𝓢 : Statement) (𝓓 : Draws) (s : List ℤ) (taken : firstRefusal 
       & tt)
 
   -- message 2
-  pub project-taken : (p : List ℤ) → length p ≡ w → firstRefusal (projectTests d n r w rows s p) ≡ 0
+  pub project-taken : (p : List ℤ) → length p ≡ w → firstFailing (projectTests d n r w rows s p) ≡ 0
   unfolding proverTests projectTests
   project-taken p p-size =
       let (n-in, (r-in, (_, (_, w-in)))) = counts in
@@ -95,7 +95,7 @@ module _ (𝓢 : Statement) (𝓓 : Draws) (s : List ℤ) (taken : firstRefusal 
       & tt)
 
   -- message 3
-  pub aggregate-taken : (b″ : List ℤ) → length b″ ≡ five * d → firstRefusal (aggregateTests d n r L w term rows ψ ω s b″) ≡ 0
+  pub aggregate-taken : (b″ : List ℤ) → length b″ ≡ five * d → firstFailing (aggregateTests d n r L w term rows ψ ω s b″) ≡ 0
   unfolding proverTests aggregateTests
   aggregate-taken b″ b″-size =
       let (n-in, (r-in, (_, L-w-in))) = counts in
@@ -111,7 +111,7 @@ module _ (𝓢 : Statement) (𝓓 : Draws) (s : List ℤ) (taken : firstRefusal 
 
   -- message 4
   pub garbage-taken : (hs u₂ : List ℤ) → length hs ≡ garbageSize r t₁ * d → length u₂ ≡ κ₂ * d
-      → firstRefusal (garbageTests d n r K L w κ₂ b₁ t₁ whole term rows ψ ω α δ D s hs u₂) ≡ 0
+      → firstFailing (garbageTests d n r K L w κ₂ b₁ t₁ whole term rows ψ ω α δ D s hs u₂) ≡ 0
   unfolding proverTests garbageTests
   garbage-taken hs u₂ h-size u₂-size =
       let (_, (_, (κ₂-in, _))) = ranks in
@@ -131,7 +131,7 @@ module _ (𝓢 : Statement) (𝓓 : Draws) (s : List ℤ) (taken : firstRefusal 
       & tt)
 
   -- message 5
-  pub amortize-taken : (zs : List ℤ) → length zs ≡ tz * n * d → firstRefusal (amortizeTests d n r tz b c s zs) ≡ 0
+  pub amortize-taken : (zs : List ℤ) → length zs ≡ tz * n * d → firstFailing (amortizeTests d n r tz b c s zs) ≡ 0
   unfolding proverTests amortizeTests
   amortize-taken zs z-size =
       let (n-in, (r-in, _)) = counts in
@@ -167,11 +167,11 @@ module _ (𝓢 : Statement) (𝓓 : Draws) (s : List ℤ) where
 
   -- ts, gs, u₁, hs, u₂ and zs are what messages 1, 4 and 5 were lent to write to
   pub messages-test-all : (ts gs u₁ hs u₂ zs : List ℤ)
-      → firstRefusal (commitTests d n r κ κ₁ b₁ b₂ t₁ t₂ A B C s ts gs u₁) ≡ 0
-      → firstRefusal (garbageTests d n r K L w κ₂ b₁ t₁ whole term rows ψ ω α δ D s hs u₂) ≡ 0
-      → firstRefusal (amortizeTests d n r tz b c s zs) ≡ 0
-      → firstRefusal (boundTests 𝓢 𝓓) ≡ 0
-      → firstRefusal (proverTests 𝓢 𝓓 s) ≡ 0
+      → firstFailing (commitTests d n r κ κ₁ b₁ b₂ t₁ t₂ A B C s ts gs u₁) ≡ 0
+      → firstFailing (garbageTests d n r K L w κ₂ b₁ t₁ whole term rows ψ ω α δ D s hs u₂) ≡ 0
+      → firstFailing (amortizeTests d n r tz b c s zs) ≡ 0
+      → firstFailing (boundTests 𝓢 𝓓) ≡ 0
+      → firstFailing (proverTests 𝓢 𝓓 s) ≡ 0
   unfolding commitTests garbageTests amortizeTests proverTests
   messages-test-all ts gs u₁ hs u₂ zs one four five bounds =
       let (_, (_, (ranks₁, (digits₁, (lengths₁, (ranges₁, _)))))) =
@@ -197,9 +197,9 @@ module _ (𝓢 : Statement) (𝓓 : Draws) (ν μ : ℕ) (chunked : chunks (𝓢
   open Relation relation using (d, n, r)
 
   -- part i of the opening o
-  pub part-taken : firstRefusal (sizeTests 𝓢 𝓓) ≡ 0
+  pub part-taken : firstFailing (sizeTests 𝓢 𝓓) ≡ 0
       → (i : ℕ) (o : List ℤ) → 1 ≤ i → i ≤ nextParts tz ν μ → length o ≡ openingSize tz n r κ t₁ t₂ * d
-      → firstRefusal (partTests d n r κ t₁ t₂ tz ν μ i o) ≡ 0
+      → firstFailing (partTests d n r κ t₁ t₂ tz ν μ i o) ≡ 0
   unfolding partTests
   part-taken taken i o least most size =
       let tests = refusal-passes (sizeTests 𝓢 𝓓) refl taken in
@@ -215,9 +215,9 @@ module _ (𝓢 : Statement) (𝓓 : Draws) (ν μ : ℕ) (chunked : chunks (𝓢
       & tt)
 
   -- what the verifier takes beside an opening, written to a list of the length that the sizes give
-  pub next-taken : (𝓣 : Transcript) (o out : List ℤ) → firstRefusal (verifyTests 𝓢 𝓓 𝓣 o) ≡ 0 → n′ 𝓢 𝓓 𝓣 ν μ ≤ 256
+  pub next-taken : (𝓣 : Transcript) (o out : List ℤ) → firstFailing (verifyTests 𝓢 𝓓 𝓣 o) ≡ 0 → n′ 𝓢 𝓓 𝓣 ν μ ≤ 256
       → length out ≡ wholeLength d (n′ 𝓢 𝓓 𝓣 ν μ) (r′ 𝓢 𝓓 𝓣 ν μ) (nextCount κ κ₁ κ₂)
-      → firstRefusal (nextTests 𝓢 𝓓 𝓣 ν μ out) ≡ 0
+      → firstFailing (nextTests 𝓢 𝓓 𝓣 ν μ out) ≡ 0
   unfolding verifyTests nextTests
   next-taken 𝓣 o out taken small size =
       let tests = refusal-passes (verifyTests 𝓢 𝓓 𝓣 o) refl taken in

@@ -18,14 +18,15 @@ use Rattle.residues.specs.Range.{coefficients}
 use Rattle.residues.specs.Laws.RangeLaws.{coefficients-of}
 use Rattle.fold.specs.declared.Verdict.the-variants.{Accepted}
 use Rattle.fold.specs.declared.Answer.the-variants.{Judged}
-use Rattle.fold.specs.Answers.{firstRefusal, answered}
+use Rattle.fold.specs.Answers.{firstFailing, testOf, answered}
 use Rattle.fold.specs.Sizes.{openingSize}
 use Rattle.fold.specs.Statement.{Relation, Solves}
 use Rattle.fold.specs.Statement.{Statement, Draws, Transcript}
 use Rattle.fold.specs.Verdict.{verdict}
 use Rattle.fold.specs.Laws.Accepted.{accepts, accepted}
 use Rattle.fold.specs.Refusals.{verifyTests, nextTests}
-use Rattle.fold.specs.Laws.RefusalLaws.{Passes, refusal-passes, passes-refusal, allOf-all, allOf-cons, allOf-tail, sized-iff, chunks-iff, lengthBound-iff}
+use Rattle.fold.specs.Laws.RefusalLaws.{passes-refusal, allOf-all, allOf-cons, allOf-tail, sized-iff, chunks-iff, lengthBound-iff}
+use Rattle.fold.specs.Laws.TestLaws.{holds}
 use Rattle.fold.specs.Verification.{verification}
 use Rattle.fold.specs.Laws.VerificationLaws.{judged-accepted}
 use Rattle.fold.specs.Chunks.{unpadded, ZeroPadding}
@@ -48,37 +49,34 @@ short-coefficients xs h = coefficients-of xs (λ i l. small (natAbs (getD xs i (
             absurd (omega (arith, mul-le-mul above above))
 
 -- the next instance is not refused, so that n' is at most 256, and checks 1 and 2 pass
-module _ (𝓢 : Statement) (𝓓 : Draws) (𝓣 : Transcript) (ν μ : ℕ) (out : List ℤ) (unrefused : firstRefusal (nextTests 𝓢 𝓓 𝓣 ν μ out) ≡ 0)
+module _ (𝓢 : Statement) (𝓓 : Draws) (𝓣 : Transcript) (ν μ : ℕ) (out : List ℤ) (unrefused : firstFailing (nextTests 𝓢 𝓓 𝓣 ν μ out) ≡ 0)
     (pass : FirstChecks 𝓢 𝓓 𝓣) where
   open Statement 𝓢 using (relation, tz, κ, t₁, t₂, target)
   open Relation relation using (d, n, r)
 
-  tests : Passes (nextTests 𝓢 𝓓 𝓣 ν μ out)
+  row : (k : ℕ) → testOf k (nextTests 𝓢 𝓓 𝓣 ν μ out) ≡ true
   unfolding nextTests
-  tests = refusal-passes (nextTests 𝓢 𝓓 𝓣 ν μ out) refl unrefused
+  row = holds (nextTests 𝓢 𝓓 𝓣 ν μ out) refl unrefused
 
   some-ν : 0 < ν
   unfolding nextTests
-  some-ν = chunks-iff tz ν μ .0 (tests .1 .1 .1 .1 .0) .0
+  some-ν = chunks-iff tz ν μ .0 (row 5) .0
 
   some-μ : 0 < μ
   unfolding nextTests
-  some-μ = chunks-iff tz ν μ .0 (tests .1 .1 .1 .1 .0) .1 .0
+  some-μ = chunks-iff tz ν μ .0 (row 5) .1 .0
 
   small-target : target ≤ 999999999999999
   unfolding nextTests
-  small-target = lengthBound-iff target .0 (allOf-all _ (tests .1 .1 .1 .1 .1 .0) .1 .0) .1
+  small-target = lengthBound-iff target .0 (allOf-all _ (row 6) .1 .0) .1
 
   -- an opening whose length and range are right is not refused
-  unrefused-opening : (o : List ℤ) → length o ≡ openingSize tz n r κ t₁ t₂ * d → coefficients o ≡ true → firstRefusal (verifyTests 𝓢 𝓓 𝓣 o) ≡ 0
+  unrefused-opening : (o : List ℤ) → length o ≡ openingSize tz n r κ t₁ t₂ * d → coefficients o ≡ true → firstFailing (verifyTests 𝓢 𝓓 𝓣 o) ≡ 0
   unfolding nextTests verifyTests
   unrefused-opening o size range =
-      let from₅ = tests .1 .1 .1 .1 in
-      let from₈ = from₅ .1 .1 .1 in
-      let row₇ = allOf-cons _ _ (sized-iff o _ .1 size) (allOf-tail _ _ (from₅ .1 .1 .0)) in
-      let row₈ = allOf-cons _ _ range (from₈ .0) in
-      passes-refusal (verifyTests 𝓢 𝓓 𝓣 o)
-      (tests .0, (tests .1 .0, (tests .1 .1 .0, (tests .1 .1 .1 .0, (from₅ .1 .0, (row₇, (row₈, (from₈ .1 .0, (from₈ .1 .1 .0, tt)))))))))
+      let row₇ = allOf-cons _ _ (sized-iff o _ .1 size) (allOf-tail _ _ (row 7)) in
+      let row₈ = allOf-cons _ _ range (row 8) in
+      passes-refusal (verifyTests 𝓢 𝓓 𝓣 o) (row 1, (row 2, (row 3, (row 4, (row 6, (row₇, (row₈, (row 9, (row 10, tt)))))))))
 
   -- "an opening is accepted exactly if, padded, it solves the next instance": its verdict, and the verifier's answer. An opening has its length;
   -- numbers out of range are refused, and are longer than any bound.
@@ -97,7 +95,7 @@ module _ (𝓢 : Statement) (𝓓 : Draws) (𝓣 : Transcript) (ν μ : ℕ) (ou
     pub next-instance-judged : (verification 𝓢 𝓓 𝓣 o ≡ Judged Accepted) ↔ Solves (nextRelation 𝓢 𝓓 𝓣 ν μ) (nextWitness 𝓢 𝓓 𝓣 ν μ o)
     unfolding answered
     next-instance-judged = (
-      λ e. next-instance .0 (judged-accepted (firstRefusal (verifyTests 𝓢 𝓓 𝓣 o)) (verdict 𝓢 𝓓 𝓣 o) e .1),
+      λ e. next-instance .0 (judged-accepted (firstFailing (verifyTests 𝓢 𝓓 𝓣 o)) (verdict 𝓢 𝓓 𝓣 o) e .1),
       λ h. rw (unrefused-opening o size (solving-range h)) (ap Judged (next-instance .1 h)),
     )
 

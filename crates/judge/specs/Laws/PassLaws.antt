@@ -9,7 +9,7 @@ use native.Mathlib.Omega.{arith}
 use lib.ListN.{length, getD}
 use lib.IntN.{ℤ, pos, negsuc, natAbs}
 use Rattle.residues.specs.Range.{coefficients, projections}
-use Rattle.fold.specs.Answers.{firstRefusal}
+use Rattle.fold.specs.Answers.{firstFailing}
 use Rattle.fold.specs.Refusals.{between, degree, rank, parts, constraintCount, projectionCount, commitmentRank, base, digitCount, lengthBound}
 use Rattle.fold.specs.Refusals.{sized, challenges, verifyTests}
 use Rattle.fold.specs.Laws.RefusalLaws.{Passes, passes-refusal, allOf-all, all-allOf, sized-iff}
@@ -56,7 +56,7 @@ module _ (h xs : List ℤ) (header : Passes (headerTests h)) (numbers : Passes (
   unfolding numberTests
   within k = coefficients-list (listLengths (sizesOf h)) xs k (numbers .0)
 
-  pub unrefused : firstRefusal (verifyTests (sheetStatement (sizesOf h) xs) (sheetDraws (sizesOf h) xs) (sheetTranscript (sizesOf h) xs)
+  pub unrefused : firstFailing (verifyTests (sheetStatement (sizesOf h) xs) (sheetDraws (sizesOf h) xs) (sheetTranscript (sizesOf h) xs)
       (sheetOpening (sizesOf h) xs)) ≡ 0
   unfolding verifyTests headerTests sizesOf numberTests foldSizes listLengths
       rank parts constraintCount projectionCount commitmentRank base digitCount lengthBound at

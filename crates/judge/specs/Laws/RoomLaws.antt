@@ -11,7 +11,7 @@ use native.Mathlib.Omega.{arith}
 use lib.Dec.{eqb}
 use lib.ListN.{length}
 use borrow.Author.Tests.{eq-eqb}
-use Rattle.fold.specs.Answers.{firstRefusal}
+use Rattle.fold.specs.Answers.{firstFailing}
 use Rattle.sheet.specs.declared.sizes.SheetSizes.{SheetSizes}
 use Rattle.sheet.specs.Sections.{sectionsOf, total, endsLine}
 use Rattle.sheet.specs.Place.{place}
@@ -32,8 +32,8 @@ pub few-numbers : (s : SheetSizes) (text : List ℕ) → length text ≤ 65536 �
 few-numbers s text h e = omega (arith, body-within s text e, place-least (endsLine (sectionsOf s)) 289 (total s))
 
 -- tests after others count by their own refusal
-later-same : (xs ys zs : List (ℕ × Bool)) → firstRefusal ys ≡ firstRefusal zs → firstRefusal (xs ++ ys) ≡ firstRefusal (xs ++ zs)
-unfolding firstRefusal
+later-same : (xs ys zs : List (ℕ × Bool)) → firstFailing ys ≡ firstFailing zs → firstFailing (xs ++ ys) ≡ firstFailing (xs ++ zs)
+unfolding firstFailing
 later-same [] ys zs e = e
 later-same (x ∷ xs) ys zs e = ap (λ (n : ℕ). cond (x .1) n (x .0)) (later-same xs ys zs e)
 
@@ -42,34 +42,34 @@ module _ (text : List ℕ) (h : length text ≤ 65536) where
   sizes = sizesOf (headerNumbers text)
 
   body-same : numberCount text ≡ total sizes
-      → firstRefusal (bodyTests (lentCount text) sizes text) ≡ firstRefusal (bodyTests (total sizes) sizes text)
-  unfolding firstRefusal bodyTests
+      → firstFailing (bodyTests (lentCount text) sizes text) ≡ firstFailing (bodyTests (total sizes) sizes text)
+  unfolding firstFailing bodyTests
   body-same c = step (bodyLaid sizes text) refl
     where
       step : (t : Bool) → bodyLaid sizes text ≡ t
-          → cond t (cond (eqb (lentCount text) (total sizes)) (firstRefusal (numberTests sizes (bodyNumbers sizes text))) 7) 12
-          ≡ cond t (cond (eqb (total sizes) (total sizes)) (firstRefusal (numberTests sizes (bodyNumbers sizes text))) 7) 12
+          → cond t (cond (eqb (lentCount text) (total sizes)) (firstFailing (numberTests sizes (bodyNumbers sizes text))) 7) 12
+          ≡ cond t (cond (eqb (total sizes) (total sizes)) (firstFailing (numberTests sizes (bodyNumbers sizes text))) 7) 12
       step true e =
           let few = few-numbers sizes text h e in
           let same : lentCount text ≡ total sizes = omega (arith, few, c) in
           rw (same, eq-eqb (total sizes) (total sizes) refl) refl
       step false e = refl
 
-  good-count : firstRefusal (frontTests text) ≡ 0 → numberCount text ≡ total sizes
+  good-count : firstFailing (frontTests text) ≡ 0 → numberCount text ≡ total sizes
   unfolding numberCount sizes
-  good-count e = rw (eq-eqb (firstRefusal (frontTests text)) 0 e) refl
+  good-count e = rw (eq-eqb (firstFailing (frontTests text)) 0 e) refl
 
-  pub same-refusal : firstRefusal (readingTests (lentCount text) text)
-      ≡ firstRefusal (readingTests (total (sizesOf (headerNumbers text))) text)
+  pub same-refusal : firstFailing (readingTests (lentCount text) text)
+      ≡ firstFailing (readingTests (total (sizesOf (headerNumbers text))) text)
   unfolding readingTests sizes
-  same-refusal = step (firstRefusal (frontTests text)) refl
+  same-refusal = step (firstFailing (frontTests text)) refl
     where
-      step : (n : ℕ) → firstRefusal (frontTests text) ≡ n
-          → firstRefusal (frontTests text ++ bodyTests (lentCount text) sizes text)
-          ≡ firstRefusal (frontTests text ++ bodyTests (total sizes) sizes text)
+      step : (n : ℕ) → firstFailing (frontTests text) ≡ n
+          → firstFailing (frontTests text ++ bodyTests (lentCount text) sizes text)
+          ≡ firstFailing (frontTests text ++ bodyTests (total sizes) sizes text)
       step zero e = later-same (frontTests text) (bodyTests (lentCount text) sizes text) (bodyTests (total sizes) sizes text) (body-same (good-count e))
       step (suc n) e =
-          let some : 0 < firstRefusal (frontTests text) = omega (arith, e) in
+          let some : 0 < firstFailing (frontTests text) = omega (arith, e) in
           sym (refusal-first (frontTests text) (bodyTests (lentCount text) sizes text) some)
           ∙ refusal-first (frontTests text) (bodyTests (total sizes) sizes text) some
 

@@ -19,7 +19,7 @@ use Rattle.fold.specs.declared.Verdict.the-variants.{Accepted, Failed}
 use Rattle.fold.specs.declared.Answer.{Answer}
 use Rattle.fold.specs.declared.Answer.the-variants.{Refused, Judged, Written}
 use Rattle.fold.specs.Verdict.{verdict}
-use Rattle.fold.specs.Answers.{kindOf, numberOf, firstRefusal, answered}
+use Rattle.fold.specs.Answers.{kindOf, numberOf, firstFailing, answered}
 use Rattle.sheet.specs.declared.sizes.SheetSizes.{SheetSizes}
 use Rattle.sheet.specs.declared.reader.SheetAnswer as reader
 use Rattle.sheet.specs.Sections.{total}
@@ -48,7 +48,7 @@ short text h = rw (le-leb (length text) 65536 h) refl
 
 -- ---- every text
 
-taken : (text : List ℕ) → firstRefusal (readingTests (roomOf text) text) ≡ 0
+taken : (text : List ℕ) → firstFailing (readingTests (roomOf text) text) ≡ 0
     → judgedNumbers (sizesOf (headerNumbers text)) (bodyNumbers (sizesOf (headerNumbers text)) text)
     ≡ Judged (sheetVerdict (sizesOf (headerNumbers text)) (bodyNumbers (sizesOf (headerNumbers text)) text))
 unfolding judgedNumbers answered
@@ -59,7 +59,7 @@ taken text e =
     let positive = header-bounded h (passed .sizes) .degree-positive in
     rw (unrefused h (bodyNumbers s text) (passed .sizes) (passed .numbers) (length-body s positive text ∙ body-total s)) refl
 
-by-refusal : (text : List ℕ) (n : ℕ) → firstRefusal (readingTests (roomOf text) text) ≡ n
+by-refusal : (text : List ℕ) (n : ℕ) → firstFailing (readingTests (roomOf text) text) ≡ n
     → judgedBy (sheetIf n (sizesOf (headerNumbers text))) (bodyNumbers (sizesOf (headerNumbers text)) text)
     ≡ answered n (Judged (sheetVerdict (sizesOf (headerNumbers text)) (bodyNumbers (sizesOf (headerNumbers text)) text)))
 unfolding answered
@@ -68,10 +68,10 @@ by-refusal text (suc n) e = refl
 
 pub text-answer : (text : List ℕ) → length text ≤ 65536
     → judgedText text
-    ≡ answered (firstRefusal (readingTests (roomOf text) text))
+    ≡ answered (firstFailing (readingTests (roomOf text) text))
     (Judged (sheetVerdict (sizesOf (headerNumbers text)) (bodyNumbers (sizesOf (headerNumbers text)) text)))
 unfolding judged reading
-text-answer text h = short text h ∙ by-refusal text (firstRefusal (readingTests (roomOf text) text)) refl
+text-answer text h = short text h ∙ by-refusal text (firstFailing (readingTests (roomOf text) text)) refl
 
 -- "longer: 12, before all else"
 pub refused-longer : (text : List ℕ) → 65536 < length text → judgedText text ≡ Refused 12
@@ -90,9 +90,9 @@ none-if zero s t e = refl
 none-if (suc k) s t e = let f : _≡_ {A = ℕ} 0 1 = cc in absurd (omega arith)
 
 no-refusal : (room : ℕ) (text : List ℕ) (s : SheetSizes) → reading room text ≡ reader.the-variants.Sheet s
-    → firstRefusal (readingTests room text) ≡ 0
+    → firstFailing (readingTests room text) ≡ 0
 unfolding reading
-no-refusal room text s e = none-if (firstRefusal (readingTests room text)) (sizesOf (headerNumbers text)) s e
+no-refusal room text s e = none-if (firstFailing (readingTests room text)) (sizesOf (headerNumbers text)) s e
 
 pub sheet-judged : (h xs : List ℤ) → SheetNumbers h xs → length (sheetText h xs) ≤ 65536
     → judgedText (sheetText h xs) ≡ Judged (sheetVerdict (sizesOf h) xs)
@@ -102,7 +102,7 @@ sheet-judged h xs n fits =
     let first = sheet-exactly (length xs) text h xs .1 (refl, n, refl) in
     let room : roomOf text ≡ length xs =
     ap (λ (l : List ℤ). total (sizesOf l)) (first .header) ∙ sym (body-total (sizesOf h)) ∙ sym (n .count) in
-    let none : firstRefusal (readingTests (roomOf text) text) ≡ 0 = rw room (no-refusal (length xs) text (sizesOf h) (first .answer)) in
+    let none : firstFailing (readingTests (roomOf text) text) ≡ 0 = rw room (no-refusal (length xs) text (sizesOf h) (first .answer)) in
     text-answer text fits ∙ rw (none, first .header, first .numbers) refl
 
 -- ---- what no text is answered
@@ -115,7 +115,7 @@ judgement-kind (suc n) v = omega arith
 
 -- a text is longer than the program reads, or not
 by-length : (P : Answer → Type 0) (text : List ℕ) → P (Refused 12)
-    → (length text ≤ 65536 → P (answered (firstRefusal (readingTests (roomOf text) text))
+    → (length text ≤ 65536 → P (answered (firstFailing (readingTests (roomOf text) text))
     (Judged (sheetVerdict (sizesOf (headerNumbers text)) (bodyNumbers (sizesOf (headerNumbers text)) text)))))
     → P (judgedText text)
 by-length P text longer other = step (leb (length text) 65536) refl
@@ -143,11 +143,11 @@ judged-sheet text v = by-length (λ (a : Answer). a ≡ Judged v → Sheet text 
     longer e = let f : _≡_ {A = ℕ} 0 1 = cc in absurd (omega arith)
 
     within : length text ≤ 65536
-        → answered (firstRefusal (readingTests (roomOf text) text))
+        → answered (firstFailing (readingTests (roomOf text) text))
         (Judged (sheetVerdict (sizesOf (headerNumbers text)) (bodyNumbers (sizesOf (headerNumbers text)) text))) ≡ Judged v
         → Sheet text v
     within h e =
-        let (none, same) = judgement-of (firstRefusal (readingTests (roomOf text) text)) v _ e in
+        let (none, same) = judgement-of (firstFailing (readingTests (roomOf text) text)) v _ e in
         let answer : reading (roomOf text) text ≡ reader.the-variants.Sheet (sizesOf (headerNumbers text)) = rw none refl in
         let exactly = sheet-exactly (roomOf text) text (headerNumbers text) (bodyNumbers (sizesOf (headerNumbers text)) text) .0
         (record { answer = answer; header = refl; numbers = refl }) in
@@ -164,14 +164,14 @@ abbrev sevenHolds : List (ℕ × Bool) → Bool
 sevenHolds [] = true
 sevenHolds (test ∷ tests) = cond (eqb (test .0) 7) (cond (test .1) (sevenHolds tests) false) (sevenHolds tests)
 
-no-seven : (tests : List (ℕ × Bool)) → sevenHolds tests ≡ true → firstRefusal tests ≡ 7 → ⊥
-unfolding firstRefusal
+no-seven : (tests : List (ℕ × Bool)) → sevenHolds tests ≡ true → firstFailing tests ≡ 7 → ⊥
+unfolding firstFailing
 no-seven [] holds e = omega arith
 no-seven (test ∷ tests) holds e = step (no-seven tests) (test .1) (eqb (test .0) 7) refl holds e
   where
-    step : (sevenHolds tests ≡ true → firstRefusal tests ≡ 7 → ⊥) → (t u : Bool) → eqb (test .0) 7 ≡ u
+    step : (sevenHolds tests ≡ true → firstFailing tests ≡ 7 → ⊥) → (t u : Bool) → eqb (test .0) 7 ≡ u
         → cond u (cond t (sevenHolds tests) false) (sevenHolds tests) ≡ true
-        → cond t (firstRefusal tests) (test .0) ≡ 7 → ⊥
+        → cond t (firstFailing tests) (test .0) ≡ 7 → ⊥
     step later true true q holds e = later holds e
     step later true false q holds e = later holds e
     step later false true q holds e = contradiction refl (sym holds)

@@ -1,9 +1,10 @@
 -- `limits::commit_refusal` meets its contract: the sizes, then row 7, then the rows after it. Assumes nothing.
 use mathlib.Core.Path.{refl}
 use Rattle.fold.specs.Refusals.{commitTests}
+use Rattle.fold.specs.Laws.TestLaws.{stops}
 use Rattle.limits.specs.Stages.{commitBoundsOf}
 use Rattle.limits.specs.Laws.RowLaws.{end, _&_}
-use Rattle.limits.specs.Laws.StageLaws.{stopped, unfit, fit, row, none}
+use Rattle.limits.specs.Laws.StageLaws.{unfit, fit, row, none}
 use Rattle.limits.specs.Known.StageLimits.{commit-sized}
 use Rattle.limits.proofs.commit_refusal.Statement.{statement}
 use Rattle.limits.proofs.commit_refusal.Tie as tie
@@ -13,7 +14,7 @@ unfolding commitTests
 returns c =
     let a = c .before .before .args in
     let m = a .sizes in
-    stopped (commitBoundsOf m) _ (c .before .commit-bounds .ensures) (c .if1 .taken)
+    stops (commitBoundsOf m) _ (c .before .commit-bounds .ensures) (c .if1 .taken)
 
 commit-lengths-requires : tie.Need-commit-lengths-requires
 commit-lengths-requires c κs =

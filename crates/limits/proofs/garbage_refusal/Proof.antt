@@ -1,9 +1,10 @@
 -- `limits::garbage_refusal` meets its contract: the sizes, then row 7, then the rows after it. Assumes nothing.
 use mathlib.Core.Path.{refl}
 use Rattle.fold.specs.Refusals.{garbageTests}
+use Rattle.fold.specs.Laws.TestLaws.{stops}
 use Rattle.limits.specs.Stages.{garbageBoundsOf}
 use Rattle.limits.specs.Laws.RowLaws.{end, _&_, joined-row}
-use Rattle.limits.specs.Laws.StageLaws.{stopped, unfit, fit, single, none, append-rows}
+use Rattle.limits.specs.Laws.StageLaws.{unfit, fit, single, none, append-rows}
 use Rattle.limits.specs.Known.StageLimits.{garbage-constraints, garbage-sized}
 use Rattle.limits.proofs.garbage_refusal.Statement.{statement}
 use Rattle.limits.proofs.garbage_refusal.Tie as tie
@@ -13,7 +14,7 @@ unfolding garbageTests
 returns c =
     let a = c .before .before .args in
     let m = a .sizes in
-    stopped (garbageBoundsOf m) _ (c .before .garbage-bounds .ensures) (c .if1 .taken)
+    stops (garbageBoundsOf m) _ (c .before .garbage-bounds .ensures) (c .if1 .taken)
 
 constraint-lengths-requires : tie.Need-constraint-lengths-requires
 constraint-lengths-requires c κs =

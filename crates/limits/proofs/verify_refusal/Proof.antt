@@ -2,9 +2,10 @@
 use mathlib.Core.Path.{refl}
 use Rattle.fold.specs.Refusals.{verifyTests}
 use Rattle.fold.specs.Laws.RefusalLaws.{sized-iff}
+use Rattle.fold.specs.Laws.TestLaws.{stops}
 use Rattle.limits.specs.Stages.{verifyBoundsOf}
 use Rattle.limits.specs.Laws.RowLaws.{end, _&_, joined-row}
-use Rattle.limits.specs.Laws.StageLaws.{stopped, unfit, fit, fitting, single, none, append-rows}
+use Rattle.limits.specs.Laws.StageLaws.{unfit, fit, fitting, single, none, append-rows}
 use Rattle.limits.specs.Known.StageLimits.{verify-sized}
 use Rattle.limits.proofs.verify_refusal.Statement.{statement}
 use Rattle.limits.proofs.verify_refusal.Tie as tie
@@ -14,7 +15,7 @@ unfolding verifyTests
 returns c =
     let a = c .before .before .args in
     let m = a .sizes in
-    stopped (verifyBoundsOf m) _ (c .before .verify-bounds .ensures) (c .if1 .taken)
+    stops (verifyBoundsOf m) _ (c .before .verify-bounds .ensures) (c .if1 .taken)
 
 opening-fits-requires : tie.Need-opening-fits-requires
 opening-fits-requires c κs =

@@ -4,7 +4,7 @@ use Prim.Native.Nat.{ℕ}
 use Rattle.fold.specs.declared.CommitSizes.{CommitSizes}
 use Rattle.fold.specs.declared.GarbageSizes.{GarbageSizes}
 use Rattle.fold.specs.declared.Sizes.{Sizes}
-use Rattle.fold.specs.Answers.{firstRefusal}
+use Rattle.fold.specs.Answers.{firstFailing}
 use Rattle.fold.specs.Laws.RefusalLaws.{refusal-passes, passes-front, passes-back}
 use Rattle.fold.specs.Known.CallLimits.{ProjectLimits, AggregateLimits, AmortizeLimits}
 use Rattle.fold.specs.Known.CallLimits.{commit-limits, project-limits, aggregate-limits, garbage-limits, amortize-limits, verify-limits}
@@ -12,22 +12,22 @@ use Rattle.fold.specs.Arguments.{CommitSized, GarbageSized, VerifySized}
 use Rattle.fold.specs.Refusals.{projectBounds, aggregateBounds, amortizeBounds}
 use Rattle.limits.specs.Stages.{commitBoundsOf, garbageBoundsOf, verifyBoundsOf, sizeRowsOf, boundRowsOf, ConstraintLimits}
 
-pub commit-sized : (m : CommitSizes) {x : ℕ} → x ≡ firstRefusal (commitBoundsOf m) → x ≡ 0 → CommitSized m
+pub commit-sized : (m : CommitSizes) {x : ℕ} → x ≡ firstFailing (commitBoundsOf m) → x ≡ 0 → CommitSized m
 commit-sized m e z = commit-limits _ _ _ _ _ _ _ _ _ (refusal-passes (commitBoundsOf m) refl (sym e ∙ z))
 
-pub project-sized : (d n r w : ℕ) {x : ℕ} → x ≡ firstRefusal (projectBounds d n r w) → x ≡ 0 → ProjectLimits d n r w
+pub project-sized : (d n r w : ℕ) {x : ℕ} → x ≡ firstFailing (projectBounds d n r w) → x ≡ 0 → ProjectLimits d n r w
 project-sized d n r w e z = project-limits d n r w (refusal-passes (projectBounds d n r w) refl (sym e ∙ z))
 
-pub aggregate-sized : (d n r L w : ℕ) {x : ℕ} → x ≡ firstRefusal (aggregateBounds d n r L w) → x ≡ 0 → AggregateLimits d n r L w
+pub aggregate-sized : (d n r L w : ℕ) {x : ℕ} → x ≡ firstFailing (aggregateBounds d n r L w) → x ≡ 0 → AggregateLimits d n r L w
 aggregate-sized d n r L w e z = aggregate-limits d n r L w (refusal-passes (aggregateBounds d n r L w) refl (sym e ∙ z))
 
-pub garbage-sized : (m : GarbageSizes) {x : ℕ} → x ≡ firstRefusal (garbageBoundsOf m) → x ≡ 0 → GarbageSized m
+pub garbage-sized : (m : GarbageSizes) {x : ℕ} → x ≡ firstFailing (garbageBoundsOf m) → x ≡ 0 → GarbageSized m
 garbage-sized m e z = garbage-limits _ _ _ _ _ _ _ _ _ (refusal-passes (garbageBoundsOf m) refl (sym e ∙ z))
 
-pub amortize-sized : (d n r b : ℕ) {x : ℕ} → x ≡ firstRefusal (amortizeBounds d n r b) → x ≡ 0 → AmortizeLimits d n r b
+pub amortize-sized : (d n r b : ℕ) {x : ℕ} → x ≡ firstFailing (amortizeBounds d n r b) → x ≡ 0 → AmortizeLimits d n r b
 amortize-sized d n r b e z = amortize-limits d n r b (refusal-passes (amortizeBounds d n r b) refl (sym e ∙ z))
 
-pub verify-sized : (m : Sizes) {x : ℕ} → x ≡ firstRefusal (verifyBoundsOf m) → x ≡ 0 → VerifySized m
+pub verify-sized : (m : Sizes) {x : ℕ} → x ≡ firstFailing (verifyBoundsOf m) → x ≡ 0 → VerifySized m
 verify-sized m e z =
     let p = refusal-passes (verifyBoundsOf m) refl (sym e ∙ z) in
     verify-limits _ _ _ _ _ _ _ _ _ _ _ _ _ _ _ _ (passes-front (sizeRowsOf m) (boundRowsOf m) p) (passes-back (sizeRowsOf m) (boundRowsOf m) p)

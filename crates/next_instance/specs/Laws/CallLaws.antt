@@ -10,7 +10,7 @@ use Rattle.fold.specs.declared.Answer.the-variants.{Refused, Judged, Written}
 use Rattle.fold.specs.declared.Verdict.{Verdict}
 use Rattle.fold.specs.declared.Verdict.the-variants.{Accepted, Failed}
 use Rattle.fold.specs.declared.Sizes.{Sizes}
-use Rattle.fold.specs.Answers.{firstRefusal, answered, written}
+use Rattle.fold.specs.Answers.{firstFailing, answered, written}
 use Rattle.fold.specs.Statement.{Statement, Draws, Transcript}
 use Rattle.fold.specs.Arguments.{statementOf, drawsOf, transcriptOf}
 use Rattle.fold.specs.Refusals.{nextTests}
@@ -22,18 +22,18 @@ use Rattle.chunks.specs.Known.NextFacts.{NextFacts, next-facts}
 use Rattle.next_instance.specs.Calls.{NextCalled, firstChecksOf, accepts}
 
 module _ (𝓢 : Statement) (𝓓 : Draws) (𝓣 : Transcript) (ν μ : ℕ) (out : List ℤ) where
-  refused-at : (k : ℕ) → firstRefusal (nextTests 𝓢 𝓓 𝓣 ν μ out) ≡ k → (k ≡ 0 → ⊥) → NextCalled 𝓢 𝓓 𝓣 ν μ out (Refused k) out
+  refused-at : (k : ℕ) → firstFailing (nextTests 𝓢 𝓓 𝓣 ν μ out) ≡ k → (k ≡ 0 → ⊥) → NextCalled 𝓢 𝓓 𝓣 ν μ out (Refused k) out
   unfolding nextAnswer nextOut answered written
   refused-at zero e some = absurd (some refl)
   refused-at (suc k) e some = record { answer-is = rw e refl; out-is = rw e refl }
 
-  judged-at : (v : Verdict) → firstRefusal (nextTests 𝓢 𝓓 𝓣 ν μ out) ≡ 0 → firstChecks 𝓢 𝓓 𝓣 ν μ out ≡ v → accepts v ≡ false
+  judged-at : (v : Verdict) → firstFailing (nextTests 𝓢 𝓓 𝓣 ν μ out) ≡ 0 → firstChecks 𝓢 𝓓 𝓣 ν μ out ≡ v → accepts v ≡ false
       → NextCalled 𝓢 𝓓 𝓣 ν μ out (Judged v) out
   unfolding nextAnswer nextOut answered written orWritten unlessFailed
   judged-at Accepted e f h = absurd (subst T h tt)
   judged-at (Failed k) e f h = record { answer-is = rw (e, f) refl; out-is = rw (e, f) refl }
 
-  written-at : (v : Verdict) {out′ : List ℤ} → firstRefusal (nextTests 𝓢 𝓓 𝓣 ν μ out) ≡ 0 → firstChecks 𝓢 𝓓 𝓣 ν μ out ≡ v
+  written-at : (v : Verdict) {out′ : List ℤ} → firstFailing (nextTests 𝓢 𝓓 𝓣 ν μ out) ≡ 0 → firstChecks 𝓢 𝓓 𝓣 ν μ out ≡ v
       → accepts v ≡ true → out′ ≡ nextWhole 𝓢 𝓓 𝓣 ν μ → NextCalled 𝓢 𝓓 𝓣 ν μ out Written out′
   unfolding nextAnswer nextOut answered written orWritten unlessFailed
   written-at Accepted e f h new = record { answer-is = rw (e, f) refl; out-is = rw (e, f) new }
@@ -50,7 +50,7 @@ module _ (sizes : Sizes) (A B C D whole term rows ψ ω α δ c u₁ p b″ u₂
   abbrev 𝓣 : Transcript
   𝓣 = transcriptOf u₁ p b″ u₂
 
-  module _ {x : ℕ} (number : x ≡ firstRefusal (nextTests 𝓢 𝓓 𝓣 ν μ out)) where
+  module _ {x : ℕ} (number : x ≡ firstFailing (nextTests 𝓢 𝓓 𝓣 ν μ out)) where
     pub next-refused : (x ≡ 0 → ⊥) → NextCalled 𝓢 𝓓 𝓣 ν μ out (Refused x) out
     next-refused some = refused-at 𝓢 𝓓 𝓣 ν μ out x (sym number) some
 

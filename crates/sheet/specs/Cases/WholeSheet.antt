@@ -7,7 +7,7 @@ use Rattle.algebra.specs.Triangle.{start, pairs-count}
 use Rattle.ring.specs.Element.{every}
 use Rattle.residues.specs.Range.{allWithin, coefficients, projections, challenge}
 use Rattle.integers.specs.Sums.{normSq, sq}
-use Rattle.fold.specs.Answers.{firstRefusal}
+use Rattle.fold.specs.Answers.{firstFailing}
 use Rattle.fold.specs.Sizes.{pairs, functionSize, tSize, garbageSize, restSize, openingSize}
 use Rattle.fold.specs.Refusals.{allOf, anyOf, between, degree, rank, parts, constraintCount, projectionCount, commitmentRank, base, digitCount}
 use Rattle.fold.specs.Refusals.{chunks, lengthBound, challenges, projectionLength}
@@ -58,7 +58,7 @@ unfolding bodyLines matrixLines wholeLines termLines rowLines numberLines lastLi
 whole-lines = refl
 
 pub whole-numbers : SheetNumbers header numbers
-unfolding headerTests numberTests firstRefusal sizesOf allOf anyOf between degree rank parts constraintCount projectionCount commitmentRank base
+unfolding headerTests numberTests firstFailing sizesOf allOf anyOf between degree rank parts constraintCount projectionCount commitmentRank base
     digitCount chunks lengthBound coefficients projections allWithin challenges challenge every normSq sq rowsIn challengesIn projectionLength
     rowsFrom challengesFrom matrixCount wholeCount rowCount termSize onesCount functionSize fields copies pairs pairs-count start tSize garbageSize
 whole-numbers = record {

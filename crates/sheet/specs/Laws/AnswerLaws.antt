@@ -18,7 +18,7 @@ use Rattle.integers.specs.Over.{over}
 use Rattle.integers.specs.Laws.OverLaws.{over-all}
 use Rattle.residues.specs.Range.{coefficients, projections}
 use Rattle.fold.specs.declared.Answer.the-variants as answer
-use Rattle.fold.specs.Answers.{kindOf, numberOf, firstRefusal, answered, written}
+use Rattle.fold.specs.Answers.{kindOf, numberOf, firstFailing, answered, written}
 use Rattle.fold.specs.Refusals.{degree, rank, parts, constraintCount, projectionCount, commitmentRank, digitCount}
 use Rattle.fold.specs.Laws.RefusalLaws.{Passes, refusal-passes, passes-refusal, passes-front, passes-back, passes-join, allOf-all, degree-fits}
 use Rattle.sheet.specs.declared.sizes.SheetSizes.{SheetSizes}
@@ -39,18 +39,18 @@ use Rattle.sheet.specs.Laws.SheetLaws.{length-body}
 
 -- ---- two lists of tests, one after the other
 
-pub refusal-first : (xs ys : List (ℕ × Bool)) → 0 < firstRefusal xs → firstRefusal xs ≡ firstRefusal (xs ++ ys)
-unfolding firstRefusal
+pub refusal-first : (xs ys : List (ℕ × Bool)) → 0 < firstFailing xs → firstFailing xs ≡ firstFailing (xs ++ ys)
+unfolding firstFailing
 refusal-first [] ys h = let never : ⊥ = omega arith in absurd never
 refusal-first (test ∷ tests) ys h = step (test .1) (refusal-first tests ys) h
   where
-    step : (t : Bool) → (0 < firstRefusal tests → firstRefusal tests ≡ firstRefusal (tests ++ ys)) → 0 < cond t (firstRefusal tests) (test .0)
-        → cond t (firstRefusal tests) (test .0) ≡ cond t (firstRefusal (tests ++ ys)) (test .0)
+    step : (t : Bool) → (0 < firstFailing tests → firstFailing tests ≡ firstFailing (tests ++ ys)) → 0 < cond t (firstFailing tests) (test .0)
+        → cond t (firstFailing tests) (test .0) ≡ cond t (firstFailing (tests ++ ys)) (test .0)
     step true rest h = rest h
     step false rest h = refl
 
-pub refusal-rest : (xs ys : List (ℕ × Bool)) → Passes xs → firstRefusal (xs ++ ys) ≡ firstRefusal ys
-unfolding firstRefusal
+pub refusal-rest : (xs ys : List (ℕ × Bool)) → Passes xs → firstFailing (xs ++ ys) ≡ firstFailing ys
+unfolding firstFailing
 refusal-rest [] ys p = refl
 refusal-rest (test ∷ tests) ys p = rw (p .0) (refusal-rest tests ys (p .1))
 
@@ -85,26 +85,26 @@ header-bounded h p =
 
 -- ---- the whole text
 
-pub front-passes : (text : List ℕ) → firstRefusal (frontTests text) ≡ 0 → Passes (frontTests text)
+pub front-passes : (text : List ℕ) → firstFailing (frontTests text) ≡ 0 → Passes (frontTests text)
 unfolding headerTests
 front-passes text e = refusal-passes (frontTests text) refl e
 
-module _ (room : ℕ) (text : List ℕ) {header : ℕ} (e : header ≡ firstRefusal (frontTests text)) where
-  pub refused-header : 0 < header → header ≡ firstRefusal (readingTests room text)
+module _ (room : ℕ) (text : List ℕ) {header : ℕ} (e : header ≡ firstFailing (frontTests text)) where
+  pub refused-header : 0 < header → header ≡ firstFailing (readingTests room text)
   unfolding readingTests
   refused-header h = e ∙ refusal-first (frontTests text) (bodyTests room (sizesOf (headerNumbers text)) text) (rw e at h)
 
   pub good-header : header ≤ 0 → {s : SheetSizes} → s ≡ sizesOf (headerNumbers text) → Bounded s
   good-header h q =
-      let none : firstRefusal (frontTests text) ≡ 0 = omega (arith, e) in
+      let none : firstFailing (frontTests text) ≡ 0 = omega (arith, e) in
       rw q (header-bounded (headerNumbers text) (front-passes text none .1))
 
-  pub rest-refusal : header ≤ 0 → {s : SheetSizes} → s ≡ sizesOf (headerNumbers text) → {r : ℕ} → r ≡ firstRefusal (bodyTests room s text)
-      → r ≡ firstRefusal (readingTests room text)
+  pub rest-refusal : header ≤ 0 → {s : SheetSizes} → s ≡ sizesOf (headerNumbers text) → {r : ℕ} → r ≡ firstFailing (bodyTests room s text)
+      → r ≡ firstFailing (readingTests room text)
   unfolding readingTests
   rest-refusal h q f =
-      let none : firstRefusal (frontTests text) ≡ 0 = omega (arith, e) in
-      f ∙ ap (λ (s : SheetSizes). firstRefusal (bodyTests room s text)) q
+      let none : firstFailing (frontTests text) ≡ 0 = omega (arith, e) in
+      f ∙ ap (λ (s : SheetSizes). firstFailing (bodyTests room s text)) q
       ∙ sym (refusal-rest (frontTests text) (bodyTests room (sizesOf (headerNumbers text)) text) (front-passes text none))
 
 -- what a text that is not refused is known to be
@@ -115,7 +115,7 @@ pub record Passed (room : ℕ) (text : List ℕ) : Type 0 where
   pub fits : room ≡ total (sizesOf (headerNumbers text))
   pub numbers : Passes (numberTests (sizesOf (headerNumbers text)) (bodyNumbers (sizesOf (headerNumbers text)) text))
 
-pub reading-passed : (room : ℕ) (text : List ℕ) → firstRefusal (readingTests room text) ≡ 0 → Passed room text
+pub reading-passed : (room : ℕ) (text : List ℕ) → firstFailing (readingTests room text) ≡ 0 → Passed room text
 unfolding readingTests headerTests bodyTests numberTests
 reading-passed room text e =
     let p = refusal-passes (frontTests text ++ bodyTests room (sizesOf (headerNumbers text)) text) refl e in
@@ -129,7 +129,7 @@ reading-passed room text e =
       numbers = back .1 .1;
     }
 
-pub passed-reading : (room : ℕ) (text : List ℕ) → Passed room text → firstRefusal (readingTests room text) ≡ 0
+pub passed-reading : (room : ℕ) (text : List ℕ) → Passed room text → firstFailing (readingTests room text) ≡ 0
 unfolding readingTests bodyTests
 passed-reading room text p =
     passes-refusal (readingTests room text)
@@ -138,7 +138,7 @@ passed-reading room text p =
 
 -- ---- how many numbers
 
-module _ (text : List ℕ) {header : ℕ} (e : header ≡ firstRefusal (frontTests text)) where
+module _ (text : List ℕ) {header : ℕ} (e : header ≡ firstFailing (frontTests text)) where
   pub count-refused : 0 < header → 0 ≡ numberCount text
   unfolding numberCount
   count-refused h = rw (← e, ne-eqb header 0 (λ f. omega arith)) refl

@@ -9,7 +9,7 @@ use lib.IntN.{ℤ, pos, negsuc, natAbs}
 use lib.Signed.{nonNeg, ltZ}
 use borrow.Author.Tests.{le-leb, ltb-true}
 use Rattle.integers.specs.Lists.{tab}
-use Rattle.fold.specs.Answers.{firstRefusal}
+use Rattle.fold.specs.Answers.{firstFailing}
 use Rattle.fold.specs.Refusals.{allOf, anyOf, between, degree, chunks}
 use Rattle.fold.specs.Laws.RefusalLaws.{between-iff, chunks-iff, both-left, both-right}
 use Rattle.sheet.specs.Place.{numberAt, endIf}
@@ -147,7 +147,7 @@ pub header-nest : (text : List ℕ) {r₁₂ r₁ r₂ r₃ r₄ r₅ r₆ : ℕ
     → r₄ ≡ cond t₄ r₅ 4 → t₄ ≡ basesTest text
     → r₅ ≡ cond t₅ r₆ 5 → t₅ ≡ chunks 2 (numberAt text 224) (numberAt text 240)
     → r₆ ≡ cond t₆ 0 6 → t₆ ≡ boundsTest text
-    → r₁₂ ≡ firstRefusal ((12, headerLaid text) ∷ headerTests (headerNumbers text))
-unfolding firstRefusal headerTests headerNumbers tab countsTest ranksTest basesTest boundsTest
+    → r₁₂ ≡ firstFailing ((12, headerLaid text) ∷ headerTests (headerNumbers text))
+unfolding firstFailing headerTests headerNumbers tab countsTest ranksTest basesTest boundsTest
 header-nest text e₁₂ f₁₂ e₁ f₁ e₂ f₂ e₃ f₃ e₄ f₄ e₅ f₅ e₆ f₆ =
     rw (e₁₂, f₁₂, e₁, f₁, e₂, f₂, e₃, f₃, e₄, f₄, e₅, f₅, e₆, f₆) refl

@@ -12,7 +12,7 @@ use lib.IntN.{ℤ}
 use borrow.Author.Tests.{eqb-true, eq-eqb, ne-eqb, not-true, not-false}
 use Rattle.residues.specs.Laws.RangeLaws.{coefficients-part}
 use Rattle.residues.specs.Range.{coefficients, projections}
-use Rattle.fold.specs.Answers.{firstRefusal}
+use Rattle.fold.specs.Answers.{firstFailing}
 use Rattle.fold.specs.Refusals.{challenges, projectionLength}
 use Rattle.sheet.specs.declared.sizes.SheetSizes.{SheetSizes}
 use Rattle.sheet.specs.declared.sizes.Sections.{Sections}
@@ -69,15 +69,15 @@ unfolding challengesFrom total lastCount
 challenges-end s = omega arith
 
 module _ (s : SheetSizes) (xs : List ℤ) where
-  pub eight : {good : Bool} → good ≡ coefficients xs → not good ≡ true → 8 ≡ firstRefusal (numberTests s xs)
-  unfolding firstRefusal numberTests
+  pub eight : {good : Bool} → good ≡ coefficients xs → not good ≡ true → 8 ≡ firstFailing (numberTests s xs)
+  unfolding firstFailing numberTests
   eight {good} e t = rw (← e, not-true good t) refl
 
   pub nine-ten : {good rows ok : Bool} {r₉ r₁₀ : ℕ} → good ≡ coefficients xs → not good ≡ false
       → r₉ ≡ cond rows r₁₀ 9 → rows ≡ projections (rowsIn s xs)
       → r₁₀ ≡ cond ok 0 10 → ok ≡ challenges (s .d) (s .r) (challengesIn s xs)
-      → r₉ ≡ firstRefusal (numberTests s xs)
-  unfolding firstRefusal numberTests
+      → r₉ ≡ firstFailing (numberTests s xs)
+  unfolding firstFailing numberTests
   nine-ten {good} e t e₉ f₉ e₁₀ f₁₀ = rw (← e, not-false good t, e₉, f₉, e₁₀, f₁₀) refl
 
 pub body-within : (s : SheetSizes) (text : List ℕ) → bodyLaid s text ≡ true → place (endsLine (sectionsOf s)) 289 (total s) ≤ length text
@@ -100,17 +100,17 @@ module _ (s : SheetSizes) (text : List ℕ) (q : Sections) (e : Sectioned s q) {
   unfolding bodyLaid
   laid-is = g ∙ rw (l, ends-is (laid (endsLine q) 289 text count) (place (endsLine q) 289 count) (length text), e .is, c) refl
 
-  pub twelve : (room : ℕ) → not good ≡ true → 12 ≡ firstRefusal (bodyTests room s text)
-  unfolding firstRefusal bodyTests
+  pub twelve : (room : ℕ) → not good ≡ true → 12 ≡ firstFailing (bodyTests room s text)
+  unfolding firstFailing bodyTests
   twelve room t = rw (← laid-is, not-true good t) refl
 
-  pub seven : (room : ℕ) → not good ≡ false → (room ≡ count → ⊥) → 7 ≡ firstRefusal (bodyTests room s text)
-  unfolding firstRefusal bodyTests
+  pub seven : (room : ℕ) → not good ≡ false → (room ≡ count → ⊥) → 7 ≡ firstFailing (bodyTests room s text)
+  unfolding firstFailing bodyTests
   seven room t h = rw (← laid-is, not-false good t, ne-eqb room (total s) (λ e. h (e ∙ sym c))) refl
 
-  pub later : (room : ℕ) → not good ≡ false → room ≡ count → {r : ℕ} → r ≡ firstRefusal (numberTests s (bodyNumbers s text))
-      → r ≡ firstRefusal (bodyTests room s text)
-  unfolding firstRefusal bodyTests
+  pub later : (room : ℕ) → not good ≡ false → room ≡ count → {r : ℕ} → r ≡ firstFailing (numberTests s (bodyNumbers s text))
+      → r ≡ firstFailing (bodyTests room s text)
+  unfolding firstFailing bodyTests
   later room t h n = rw (← laid-is, not-false good t, eq-eqb room (total s) (h ∙ c)) n
 
   pub laid-inside : Bounded s → not good ≡ false → Inside s text

@@ -14,7 +14,7 @@ use native.Mathlib.Omega.{arith}
 use lib.ListN.{length, drop}
 use lib.IntN.{ℤ}
 use borrow.Author.Tests.{eq-eqb, ne-eqb}
-use Rattle.fold.specs.Answers.{firstRefusal}
+use Rattle.fold.specs.Answers.{firstFailing}
 use Rattle.fold.specs.Laws.RefusalLaws.{refusal-passes, passes-refusal}
 use Rattle.sheet.specs.declared.sizes.SheetSizes.{SheetSizes}
 use Rattle.sheet.specs.declared.reader.SheetAnswer.the-variants.{Sheet, Refused}
@@ -66,7 +66,7 @@ pub record Read (room : ℕ) (text : List ℕ) (h xs : List ℤ) : Type 0 where
   pub header : headerNumbers text ≡ h
   pub numbers : bodyNumbers (sizesOf h) text ≡ xs
 
-positive : (h : List ℤ) → firstRefusal (headerTests h) ≡ 0 → 0 < sizesOf h .d
+positive : (h : List ℤ) → firstFailing (headerTests h) ≡ 0 → 0 < sizesOf h .d
 unfolding headerTests
 positive h e = header-bounded h (refusal-passes (headerTests h) refl e) .degree-positive
 
@@ -122,24 +122,24 @@ pub sheet-exactly : (room : ℕ) (text : List ℕ) (h xs : List ℤ)
     → Read room text h xs ↔ ((text ≡ sheetText h xs) × SheetNumbers h xs × (length xs ≡ room))
 unfolding reading
 sheet-exactly room text h xs = (
-  λ r. let none = no-refusal (firstRefusal (readingTests room text)) _ _ (r .answer) in
+  λ r. let none = no-refusal (firstFailing (readingTests room text)) _ _ (r .answer) in
       carried room text h xs (r .header) (r .numbers) (sound room text (reading-passed room text none)),
   λ e. complete room text h xs (e .0) (e .1) (e .2),
 )
 
 -- ---- the other answers
 
-refused-by : (room : ℕ) (text : List ℕ) (n : ℕ) → firstRefusal (readingTests room text) ≡ suc n → reading room text ≡ Refused (suc n)
+refused-by : (room : ℕ) (text : List ℕ) (n : ℕ) → firstFailing (readingTests room text) ≡ suc n → reading room text ≡ Refused (suc n)
 unfolding reading
 refused-by room text n e = rw e refl
 
-by-header : (room : ℕ) (text : List ℕ) (n : ℕ) → firstRefusal (frontTests text) ≡ suc n → reading room text ≡ Refused (suc n)
+by-header : (room : ℕ) (text : List ℕ) (n : ℕ) → firstFailing (frontTests text) ≡ suc n → reading room text ≡ Refused (suc n)
 unfolding readingTests
 by-header room text n e =
     refused-by room text n (sym (refusal-first (frontTests text) (bodyTests room (sizesOf (headerNumbers text)) text) (omega (arith, e))) ∙ e)
 
-by-body : (room : ℕ) (text : List ℕ) (n : ℕ) → firstRefusal (frontTests text) ≡ 0
-    → firstRefusal (bodyTests room (sizesOf (headerNumbers text)) text) ≡ suc n → reading room text ≡ Refused (suc n)
+by-body : (room : ℕ) (text : List ℕ) (n : ℕ) → firstFailing (frontTests text) ≡ 0
+    → firstFailing (bodyTests room (sizesOf (headerNumbers text)) text) ≡ suc n → reading room text ≡ Refused (suc n)
 unfolding readingTests
 by-body room text n e f =
     refused-by room text n (refusal-rest (frontTests text) (bodyTests room (sizesOf (headerNumbers text)) text) (front-passes text e) ∙ f)
@@ -150,7 +150,7 @@ not-true false never = refl
 
 -- 12: the text does not start with a line of 18 numbers
 pub broken-header : (room : ℕ) (text : List ℕ) → (HeaderLine text → ⊥) → reading room text ≡ Refused 12
-unfolding firstRefusal
+unfolding firstFailing
 broken-header room text never =
     by-header room text 11 (rw (not-true (headerLaid text) (λ e. never (header-line text .0 e))) refl)
 
@@ -159,21 +159,21 @@ module _ (room : ℕ) (text : List ℕ) (h : List ℤ) (rest : List ℕ) (size :
   head : HeaderRead text h rest
   head = header-read text h rest size fit is
 
-  front : firstRefusal (frontTests text) ≡ firstRefusal (headerTests h)
-  unfolding firstRefusal
-  front = rw (head .is-laid) (ap (λ (l : List ℤ). firstRefusal (headerTests l)) (head .numbers))
+  front : firstFailing (frontTests text) ≡ firstFailing (headerTests h)
+  unfolding firstFailing
+  front = rw (head .is-laid) (ap (λ (l : List ℤ). firstFailing (headerTests l)) (head .numbers))
 
   -- 1 to 6: the header's numbers are refused, whatever follows
-  pub refused-header : (n : ℕ) → firstRefusal (headerTests h) ≡ suc n → reading room text ≡ Refused (suc n)
+  pub refused-header : (n : ℕ) → firstFailing (headerTests h) ≡ suc n → reading room text ≡ Refused (suc n)
   refused-header n e = by-header room text n (front ∙ e)
 
-  module _ (good : firstRefusal (headerTests h) ≡ 0) where
-    body : (n : ℕ) → firstRefusal (bodyTests room (sizesOf h) text) ≡ suc n → reading room text ≡ Refused (suc n)
-    body n e = by-body room text n (front ∙ good) (ap (λ (l : List ℤ). firstRefusal (bodyTests room (sizesOf l) text)) (head .numbers) ∙ e)
+  module _ (good : firstFailing (headerTests h) ≡ 0) where
+    body : (n : ℕ) → firstFailing (bodyTests room (sizesOf h) text) ≡ suc n → reading room text ≡ Refused (suc n)
+    body n e = by-body room text n (front ∙ good) (ap (λ (l : List ℤ). firstFailing (bodyTests room (sizesOf l) text)) (head .numbers) ∙ e)
 
     -- 12: the rest is not the text of as many numbers as the sizes give
     pub broken-lines : (OtherLines (sizesOf h) rest → ⊥) → reading room text ≡ Refused 12
-    unfolding firstRefusal bodyTests
+    unfolding firstFailing bodyTests
     broken-lines never =
         body 11 (rw
         (not-true (bodyLaid (sizesOf h) text)
@@ -189,20 +189,20 @@ module _ (room : ℕ) (text : List ℕ) (h : List ℤ) (rest : List ℕ) (size :
 
       -- 7: the slice has another length than the numbers
       pub other-length : (length xs ≡ room → ⊥) → reading room text ≡ Refused 7
-      unfolding firstRefusal bodyTests
+      unfolding firstFailing bodyTests
       other-length never = body 6 (rw (lines .0, ne-eqb room (total (sizesOf h)) (λ e. never (length-total ∙ sym e))) refl)
 
       -- 8 to 10, "lowest number first": a number is refused
-      pub refused-numbers : length xs ≡ room → (n : ℕ) → firstRefusal (numberTests (sizesOf h) xs) ≡ suc n
+      pub refused-numbers : length xs ≡ room → (n : ℕ) → firstFailing (numberTests (sizesOf h) xs) ≡ suc n
           → reading room text ≡ Refused (suc n)
-      unfolding firstRefusal bodyTests
+      unfolding firstFailing bodyTests
       refused-numbers fits n e =
           body n (rw (lines .0, eq-eqb room (total (sizesOf h)) (sym fits ∙ length-total)) (rw (lines .1) e))
 
 -- ---- how many numbers
 
 -- a header that is refused, whatever follows, gives no numbers
-pub refused-count : (text : List ℕ) (n : ℕ) → firstRefusal (frontTests text) ≡ suc n → numberCount text ≡ 0
+pub refused-count : (text : List ℕ) (n : ℕ) → firstFailing (frontTests text) ≡ suc n → numberCount text ≡ 0
 refused-count text n e = sym (count-refused text (sym e) (omega arith))
 
 -- a sheet has the numbers that its header gives
