@@ -1,7 +1,7 @@
 -- Document 01, 'Where a call stops': "Lowest number first; a call tests only what it takes." Each row's test by name, and for each call
 -- the list of its tests with their numbers, in the order in which they are tried. Sizes are integers here, since a sheet may hold any.
 use mathlib.Core.Bool.{Bool, true, false, cond}
-use mathlib.Core.List.{List, [], _∷_, _++_}
+use mathlib.Core.List.{List, [], _∷_, _++_, map}
 use Prim.Native.Nat.{ℕ, _+_, _*_}
 use lib.Dec.{leb, eqb}
 use lib.ListN.{length, take, drop}
@@ -85,110 +85,184 @@ termLength d n r L = L * (functionSize n r * d + 1)
 unfoldable pub projectionLength : (d n r w : ℕ) → ℕ
 projectionLength d n r w = w * (r * n * d)
 
+-- ---- rows 1 to 6: the sizes. The tests that several calls take stand in groups
+
+-- n and r, of row 2
+abbrev pub shape : (n r : ℤ) → List Bool
+shape n r = rank n ∷ parts r ∷ []
+
+-- K, L and w, of row 2
+abbrev pub counts : (K L w : ℤ) → List Bool
+counts K L w = constraintCount K ∷ constraintCount L ∷ projectionCount w ∷ []
+
+-- κ and κ1, of row 3
+abbrev pub ranks : (κ κ₁ : ℤ) → List Bool
+ranks κ κ₁ = commitmentRank κ ∷ commitmentRank κ₁ ∷ []
+
+-- b1, b2, t1 and t2, of row 4
+abbrev pub digits : (b₁ b₂ t₁ t₂ : ℤ) → List Bool
+digits b₁ b₂ t₁ t₂ = base b₁ ∷ base b₂ ∷ digitCount t₁ ∷ digitCount t₂ ∷ []
+
+-- message 1
+abbrev pub commitBounds : (d n r κ κ₁ b₁ b₂ t₁ t₂ : ℕ) → List (ℕ × Bool)
+commitBounds d n r κ κ₁ b₁ b₂ t₁ t₂ =
+    (1, degree (pos d))
+    ∷ (2, allOf (shape (pos n) (pos r)))
+    ∷ (3, allOf (ranks (pos κ) (pos κ₁)))
+    ∷ (4, allOf (digits (pos b₁) (pos b₂) (pos t₁) (pos t₂)))
+    ∷ []
+
+-- message 2
+abbrev pub projectBounds : (d n r w : ℕ) → List (ℕ × Bool)
+projectBounds d n r w = (1, degree (pos d)) ∷ (2, allOf (shape (pos n) (pos r) ++ (projectionCount (pos w) ∷ []))) ∷ []
+
+-- message 3
+abbrev pub aggregateBounds : (d n r L w : ℕ) → List (ℕ × Bool)
+aggregateBounds d n r L w =
+    (1, degree (pos d)) ∷ (2, allOf (shape (pos n) (pos r) ++ (constraintCount (pos L) ∷ projectionCount (pos w) ∷ []))) ∷ []
+
+-- message 4
+abbrev pub garbageBounds : (d n r K L w κ₂ b₁ t₁ : ℕ) → List (ℕ × Bool)
+garbageBounds d n r K L w κ₂ b₁ t₁ =
+    (1, degree (pos d))
+    ∷ (2, allOf (shape (pos n) (pos r) ++ counts (pos K) (pos L) (pos w)))
+    ∷ (3, commitmentRank (pos κ₂))
+    ∷ (4, allOf (base (pos b₁) ∷ digitCount (pos t₁) ∷ []))
+    ∷ []
+
+-- message 5
+abbrev pub amortizeBounds : (d n r b : ℕ) → List (ℕ × Bool)
+amortizeBounds d n r b = (1, degree (pos d)) ∷ (2, allOf (shape (pos n) (pos r))) ∷ (4, base (pos b)) ∷ []
+
+-- rows 1 to 4, and row 6, of a statement; integers, since a sheet's header holds them
+abbrev pub sizeRows : (d n r K L w κ κ₁ κ₂ b b₁ b₂ t₁ t₂ : ℤ) → List (ℕ × Bool)
+sizeRows d n r K L w κ κ₁ κ₂ b b₁ b₂ t₁ t₂ =
+    (1, degree d)
+    ∷ (2, allOf (shape n r ++ counts K L w))
+    ∷ (3, allOf (ranks κ κ₁ ++ (commitmentRank κ₂ ∷ [])))
+    ∷ (4, allOf (base b ∷ digits b₁ b₂ t₁ t₂))
+    ∷ []
+
+abbrev pub boundRows : (bound target : ℤ) → List (ℕ × Bool)
+boundRows bound target = (6, allOf (lengthBound bound ∷ lengthBound target ∷ [])) ∷ []
+
+-- the question for part i (from 1) of the next witness
+abbrev pub partBounds : (d n r κ t₁ t₂ tz ν μ i : ℕ) → List (ℕ × Bool)
+partBounds d n r κ t₁ t₂ tz ν μ i =
+    (1, degree (pos d))
+    ∷ (2, allOf (shape (pos n) (pos r) ++ (between 1 (nextParts tz ν μ) (pos i) ∷ [])))
+    ∷ (3, commitmentRank (pos κ))
+    ∷ (4, allOf (digitCount (pos t₁) ∷ digitCount (pos t₂) ∷ []))
+    ∷ (5, chunks tz (pos ν) (pos μ))
+    ∷ []
+
+-- ---- row 7: the lengths
+
+-- message 1
+abbrev pub commitLengths : (d n r κ κ₁ t₁ t₂ : ℕ) (A B C s ts gs u₁ : List ℤ) → List Bool
+commitLengths d n r κ κ₁ t₁ t₂ A B C s ts gs u₁ =
+    sized A (κ * n * d)
+    ∷ sized B (κ₁ * tSize r κ t₁ * d)
+    ∷ sized C (κ₁ * garbageSize r t₂ * d)
+    ∷ sized s (r * n * d)
+    ∷ sized ts (tSize r κ t₁ * d)
+    ∷ sized gs (garbageSize r t₂ * d)
+    ∷ sized u₁ (κ₁ * d)
+    ∷ []
+
+-- message 2
+abbrev pub projectLengths : (d n r w : ℕ) (rows s p : List ℤ) → List Bool
+projectLengths d n r w rows s p = sized rows (projectionLength d n r w) ∷ sized s (r * n * d) ∷ sized p w ∷ []
+
+-- message 3
+abbrev pub aggregateLengths : (d n r L w : ℕ) (term rows ψ ω s b″ : List ℤ) → List Bool
+aggregateLengths d n r L w term rows ψ ω s b″ =
+    sized term (termLength d n r L)
+    ∷ sized rows (projectionLength d n r w)
+    ∷ sized ψ (five * L)
+    ∷ sized ω (five * w)
+    ∷ sized s (r * n * d)
+    ∷ sized b″ (five * d)
+    ∷ []
+
+-- both kinds of constraints and what is lent to aggregate them
+abbrev pub constraintLengths : (d n r K L w : ℕ) (whole term rows ψ ω α δ : List ℤ) → List Bool
+constraintLengths d n r K L w whole term rows ψ ω α δ =
+    sized whole (wholeLength d n r K)
+    ∷ sized term (termLength d n r L)
+    ∷ sized rows (projectionLength d n r w)
+    ∷ sized ψ (five * L)
+    ∷ sized ω (five * w)
+    ∷ sized α (K * d)
+    ∷ sized δ (five * d)
+    ∷ []
+
+-- the other lists of message 4
+abbrev pub garbageLengths : (d n r κ₂ t₁ : ℕ) (D s hs u₂ : List ℤ) → List Bool
+garbageLengths d n r κ₂ t₁ D s hs u₂ =
+    sized D (κ₂ * garbageSize r t₁ * d) ∷ sized s (r * n * d) ∷ sized hs (garbageSize r t₁ * d) ∷ sized u₂ (κ₂ * d) ∷ []
+
+-- message 5
+abbrev pub amortizeLengths : (d n r tz : ℕ) (c s zs : List ℤ) → List Bool
+amortizeLengths d n r tz c s zs = sized c (r * d) ∷ sized s (r * n * d) ∷ sized zs (tz * n * d) ∷ []
+
+-- all matrices
+abbrev pub matrixLengths : (d n r κ κ₁ κ₂ t₁ t₂ : ℕ) (A B C D : List ℤ) → List Bool
+matrixLengths d n r κ κ₁ κ₂ t₁ t₂ A B C D =
+    sized A (κ * n * d)
+    ∷ sized B (κ₁ * tSize r κ t₁ * d)
+    ∷ sized C (κ₁ * garbageSize r t₂ * d)
+    ∷ sized D (κ₂ * garbageSize r t₁ * d)
+    ∷ []
+
+-- the messages before the opening
+abbrev pub messageLengths : (d w κ₁ κ₂ : ℕ) (u₁ p b″ u₂ : List ℤ) → List Bool
+messageLengths d w κ₁ κ₂ u₁ p b″ u₂ = sized u₁ (κ₁ * d) ∷ sized p w ∷ sized b″ (five * d) ∷ sized u₂ (κ₂ * d) ∷ []
+
+-- ---- row 8: every number of these lists is in range
+
+abbrev pub inRange : List (List ℤ) → List Bool
+inRange lists = map coefficients lists
+
 -- ---- the tests of each call
 
 -- message 1: A, B, C, the witness s; out: t digits, g digits, u1
 unfoldable pub commitTests : (d n r κ κ₁ b₁ b₂ t₁ t₂ : ℕ) (A B C s ts gs u₁ : List ℤ) → List (ℕ × Bool)
 commitTests d n r κ κ₁ b₁ b₂ t₁ t₂ A B C s ts gs u₁ =
-    (1, degree (pos d))
-    ∷ (2, allOf (rank (pos n) ∷ parts (pos r) ∷ []))
-    ∷ (3, allOf (commitmentRank (pos κ) ∷ commitmentRank (pos κ₁) ∷ []))
-    ∷ (4, allOf (base (pos b₁) ∷ base (pos b₂) ∷ digitCount (pos t₁) ∷ digitCount (pos t₂) ∷ []))
-    ∷ (
-      7,
-      allOf (
-          sized A (κ * n * d)
-          ∷ sized B (κ₁ * tSize r κ t₁ * d)
-          ∷ sized C (κ₁ * garbageSize r t₂ * d)
-          ∷ sized s (r * n * d)
-          ∷ sized ts (tSize r κ t₁ * d)
-          ∷ sized gs (garbageSize r t₂ * d)
-          ∷ sized u₁ (κ₁ * d)
-          ∷ []),
-    )
-    ∷ (8, allOf (coefficients A ∷ coefficients B ∷ coefficients C ∷ coefficients s ∷ []))
-    ∷ []
+    commitBounds d n r κ κ₁ b₁ b₂ t₁ t₂
+    ++ ((7, allOf (commitLengths d n r κ κ₁ t₁ t₂ A B C s ts gs u₁))
+    ∷ (8, allOf (inRange (A ∷ B ∷ C ∷ s ∷ [])))
+    ∷ [])
 
 -- message 2: projection rows, the witness; out: p
 unfoldable pub projectTests : (d n r w : ℕ) (rows s p : List ℤ) → List (ℕ × Bool)
 projectTests d n r w rows s p =
-    (1, degree (pos d))
-    ∷ (2, allOf (rank (pos n) ∷ parts (pos r) ∷ projectionCount (pos w) ∷ []))
-    ∷ (7, allOf (sized rows (projectionLength d n r w) ∷ sized s (r * n * d) ∷ sized p w ∷ []))
-    ∷ (8, allOf (coefficients rows ∷ coefficients s ∷ []))
-    ∷ (9, projections rows)
-    ∷ []
+    projectBounds d n r w
+    ++ ((7, allOf (projectLengths d n r w rows s p)) ∷ (8, allOf (inRange (rows ∷ s ∷ []))) ∷ (9, projections rows) ∷ [])
 
 -- message 3: constant-term constraints, projection rows, ψ, ω, the witness; out: b''
 unfoldable pub aggregateTests : (d n r L w : ℕ) (term rows ψ ω s b″ : List ℤ) → List (ℕ × Bool)
 aggregateTests d n r L w term rows ψ ω s b″ =
-    (1, degree (pos d))
-    ∷ (2, allOf (rank (pos n) ∷ parts (pos r) ∷ constraintCount (pos L) ∷ projectionCount (pos w) ∷ []))
-    ∷ (
-      7,
-      allOf (
-          sized term (termLength d n r L)
-          ∷ sized rows (projectionLength d n r w)
-          ∷ sized ψ (five * L)
-          ∷ sized ω (five * w)
-          ∷ sized s (r * n * d)
-          ∷ sized b″ (five * d)
-          ∷ []),
-    )
-    ∷ (8, allOf (coefficients term ∷ coefficients rows ∷ coefficients ψ ∷ coefficients ω ∷ coefficients s ∷ []))
+    aggregateBounds d n r L w
+    ++ ((7, allOf (aggregateLengths d n r L w term rows ψ ω s b″))
+    ∷ (8, allOf (inRange (term ∷ rows ∷ ψ ∷ ω ∷ s ∷ [])))
     ∷ (9, projections rows)
-    ∷ []
+    ∷ [])
 
 -- message 4: both kinds of constraints, projection rows, ψ, ω, α, δ, D, the witness; out: h digits, u2
 unfoldable pub garbageTests : (d n r K L w κ₂ b₁ t₁ : ℕ) (whole term rows ψ ω α δ D s hs u₂ : List ℤ) → List (ℕ × Bool)
 garbageTests d n r K L w κ₂ b₁ t₁ whole term rows ψ ω α δ D s hs u₂ =
-    (1, degree (pos d))
-    ∷ (2, allOf (rank (pos n) ∷ parts (pos r) ∷ constraintCount (pos K) ∷ constraintCount (pos L) ∷ projectionCount (pos w) ∷ []))
-    ∷ (3, commitmentRank (pos κ₂))
-    ∷ (4, allOf (base (pos b₁) ∷ digitCount (pos t₁) ∷ []))
-    ∷ (
-      7,
-      allOf (
-          sized whole (wholeLength d n r K)
-          ∷ sized term (termLength d n r L)
-          ∷ sized rows (projectionLength d n r w)
-          ∷ sized ψ (five * L)
-          ∷ sized ω (five * w)
-          ∷ sized α (K * d)
-          ∷ sized δ (five * d)
-          ∷ sized D (κ₂ * garbageSize r t₁ * d)
-          ∷ sized s (r * n * d)
-          ∷ sized hs (garbageSize r t₁ * d)
-          ∷ sized u₂ (κ₂ * d)
-          ∷ []),
-    )
-    ∷ (
-      8,
-      allOf (
-          coefficients whole
-          ∷ coefficients term
-          ∷ coefficients rows
-          ∷ coefficients ψ
-          ∷ coefficients ω
-          ∷ coefficients α
-          ∷ coefficients δ
-          ∷ coefficients D
-          ∷ coefficients s
-          ∷ []),
-    )
+    garbageBounds d n r K L w κ₂ b₁ t₁
+    ++ ((7, allOf (constraintLengths d n r K L w whole term rows ψ ω α δ ++ garbageLengths d n r κ₂ t₁ D s hs u₂))
+    ∷ (8, allOf (inRange (whole ∷ term ∷ rows ∷ ψ ∷ ω ∷ α ∷ δ ∷ D ∷ s ∷ [])))
     ∷ (9, projections rows)
-    ∷ []
+    ∷ [])
 
 -- message 5: challenges, the witness; out: the tz digits of z
 unfoldable pub amortizeTests : (d n r tz b : ℕ) (c s zs : List ℤ) → List (ℕ × Bool)
 amortizeTests d n r tz b c s zs =
-    (1, degree (pos d))
-    ∷ (2, allOf (rank (pos n) ∷ parts (pos r) ∷ []))
-    ∷ (4, base (pos b))
-    ∷ (7, allOf (sized c (r * d) ∷ sized s (r * n * d) ∷ sized zs (tz * n * d) ∷ []))
-    ∷ (8, allOf (coefficients c ∷ coefficients s ∷ []))
-    ∷ (10, challenges d r c)
-    ∷ []
+    amortizeBounds d n r b
+    ++ ((7, allOf (amortizeLengths d n r tz c s zs)) ∷ (8, allOf (inRange (c ∷ s ∷ []))) ∷ (10, challenges d r c) ∷ [])
 
 -- what is lent beside the messages: the statement and the draws
 module _ (𝓢 : Statement) (𝓓 : Draws) where
@@ -198,46 +272,18 @@ module _ (𝓢 : Statement) (𝓓 : Draws) where
 
   abbrev pub sizeTests : List (ℕ × Bool)
   sizeTests =
-      (1, degree (pos d))
-      ∷ (2, allOf (rank (pos n) ∷ parts (pos r) ∷ constraintCount (pos K) ∷ constraintCount (pos L) ∷ projectionCount (pos w) ∷ []))
-      ∷ (3, allOf (commitmentRank (pos κ) ∷ commitmentRank (pos κ₁) ∷ commitmentRank (pos κ₂) ∷ []))
-      ∷ (4, allOf (base (pos b) ∷ base (pos b₁) ∷ base (pos b₂) ∷ digitCount (pos t₁) ∷ digitCount (pos t₂) ∷ []))
-      ∷ []
+      sizeRows (pos d) (pos n) (pos r) (pos K) (pos L) (pos w) (pos κ) (pos κ₁) (pos κ₂) (pos b) (pos b₁) (pos b₂) (pos t₁) (pos t₂)
 
   abbrev pub boundTests : List (ℕ × Bool)
-  boundTests = (6, allOf (lengthBound (pos bound) ∷ lengthBound (pos target) ∷ [])) ∷ []
+  boundTests = boundRows (pos bound) (pos target)
 
   abbrev pub givenLengths : List Bool
   givenLengths =
-      sized A (κ * n * d)
-      ∷ sized B (κ₁ * tSize r κ t₁ * d)
-      ∷ sized C (κ₁ * garbageSize r t₂ * d)
-      ∷ sized D (κ₂ * garbageSize r t₁ * d)
-      ∷ sized whole (wholeLength d n r K)
-      ∷ sized term (termLength d n r L)
-      ∷ sized projectionRows (projectionLength d n r w)
-      ∷ sized ψ (five * L)
-      ∷ sized ω (five * w)
-      ∷ sized α (K * d)
-      ∷ sized δ (five * d)
-      ∷ sized c (r * d)
-      ∷ []
+      matrixLengths d n r κ κ₁ κ₂ t₁ t₂ A B C D
+      ++ (constraintLengths d n r K L w whole term projectionRows ψ ω α δ ++ (sized c (r * d) ∷ []))
 
   abbrev pub givenRanges : List Bool
-  givenRanges =
-      coefficients A
-      ∷ coefficients B
-      ∷ coefficients C
-      ∷ coefficients D
-      ∷ coefficients whole
-      ∷ coefficients term
-      ∷ coefficients projectionRows
-      ∷ coefficients ψ
-      ∷ coefficients ω
-      ∷ coefficients α
-      ∷ coefficients δ
-      ∷ coefficients c
-      ∷ []
+  givenRanges = inRange (A ∷ B ∷ C ∷ D ∷ whole ∷ term ∷ projectionRows ∷ ψ ∷ ω ∷ α ∷ δ ∷ c ∷ [])
 
   abbrev pub drawTests : List (ℕ × Bool)
   drawTests = (9, projections projectionRows) ∷ (10, challenges d r c) ∷ []
@@ -258,10 +304,10 @@ module _ (𝓢 : Statement) (𝓓 : Draws) (𝓣 : Transcript) where
   open Transcript 𝓣 using (u₁, p, b″, u₂)
 
   abbrev pub lengths : List Bool
-  lengths = sized u₁ (κ₁ * d) ∷ sized p w ∷ sized b″ (five * d) ∷ sized u₂ (κ₂ * d) ∷ givenLengths 𝓢 𝓓
+  lengths = messageLengths d w κ₁ κ₂ u₁ p b″ u₂ ++ givenLengths 𝓢 𝓓
 
   abbrev pub ranges : List Bool
-  ranges = coefficients u₁ ∷ coefficients p ∷ coefficients b″ ∷ coefficients u₂ ∷ givenRanges 𝓢 𝓓
+  ranges = inRange (u₁ ∷ p ∷ b″ ∷ u₂ ∷ []) ++ givenRanges 𝓢 𝓓
 
   -- the verifier, with the opening o
   unfoldable pub verifyTests : (o : List ℤ) → List (ℕ × Bool)
@@ -285,16 +331,9 @@ module _ (𝓢 : Statement) (𝓓 : Draws) (𝓣 : Transcript) where
       n′ : ℕ
       n′ = nextRank n ν (restSize r κ t₁ t₂) μ
 
--- the question for part i (from 1) of the next witness; the opening o is looked at only for its length
+-- a part of the next witness; the opening o is looked at only for its length
 unfoldable pub partTests : (d n r κ t₁ t₂ tz ν μ i : ℕ) (o : List ℤ) → List (ℕ × Bool)
-partTests d n r κ t₁ t₂ tz ν μ i o =
-    (1, degree (pos d))
-    ∷ (2, allOf (rank (pos n) ∷ parts (pos r) ∷ between 1 (nextParts tz ν μ) (pos i) ∷ []))
-    ∷ (3, commitmentRank (pos κ))
-    ∷ (4, allOf (digitCount (pos t₁) ∷ digitCount (pos t₂) ∷ []))
-    ∷ (5, chunks tz (pos ν) (pos μ))
-    ∷ (7, sized o (openingSize tz n r κ t₁ t₂ * d))
-    ∷ []
+partTests d n r κ t₁ t₂ tz ν μ i o = partBounds d n r κ t₁ t₂ tz ν μ i ++ ((7, sized o (openingSize tz n r κ t₁ t₂ * d)) ∷ [])
 
 -- row 8 for "sixty-four numbers; those past d are zero": "coefficient .. out of range; a ring element with a nonzero number past d"
 unfoldable pub isElement : ℕ → (xs : List ℤ) → Bool

@@ -1,105 +1,87 @@
-// Rows 1 to 6 of document 01's table for each call: its sizes. 0 where none of these refuses. Tests are joined by `&`, not `&&`: each is safe on
-// any number, and without a branch the proof of a call is one line.
+// Rows 1 to 6 of document 01's table for each call: its sizes. 0 where none of these refuses.
 ghost use mathlib.Core.Path.{_≡_};
 ghost use Rattle.fold.specs.Answers.{firstFailing};
+ghost use Rattle.fold.specs.Refusals.{projectBounds, aggregateBounds, amortizeBounds};
 ghost use Rattle.limits.specs.Stages as spec;
+use crate::groups;
 use crate::rows::base;
 use crate::rows::commitment_rank;
 use crate::rows::constraint_count;
 use crate::rows::degree;
 use crate::rows::digit_count;
 use crate::rows::first;
-use crate::rows::length_bound;
-use crate::rows::parts;
 use crate::rows::projection_count;
-use crate::rows::rank;
 use fold::CommitSizes;
 use fold::GarbageSizes;
 use fold::Shape;
 use fold::Sizes;
 
 pub fn commit_bounds(sizes: CommitSizes) -> u8
-    ensures { λ x. ⌜ x ≡ firstFailing (spec.commitBounds sizes) ⌝ }
+    ensures { λ x. ⌜ x ≡ firstFailing (spec.commitBoundsOf sizes) ⌝ }
 {
-    let listed = degree(sizes.d);
-    let shape = rank(sizes.n) & parts(sizes.r);
-    let ranks = commitment_rank(sizes.kappa) & commitment_rank(sizes.kappa1);
-    let digits = base(sizes.b1) & base(sizes.b2) & digit_count(sizes.t1) & digit_count(sizes.t2);
+    let two = groups::shape(sizes.n, sizes.r);
+    let three = groups::ranks(sizes.kappa, sizes.kappa1);
+    let four = groups::digits(sizes.b1, sizes.b2, sizes.t1, sizes.t2);
     first(
-        listed,
+        degree(sizes.d),
         1,
-        first(shape, 2, first(ranks, 3, first(digits, 4, 0))),
+        first(two, 2, first(three, 3, first(four, 4, 0))),
     )
 }
 
 pub fn project_bounds(shape: Shape, w: usize) -> u8
-    ensures { λ x. ⌜ x ≡ firstFailing (spec.projectBounds (shape .d) (shape .n) (shape .r) w) ⌝ }
+    ensures { λ x. ⌜ x ≡ firstFailing (projectBounds (shape .d) (shape .n) (shape .r) w) ⌝ }
 {
-    let listed = degree(shape.d);
-    let counts = rank(shape.n) & parts(shape.r) & projection_count(w);
-    first(listed, 1, first(counts, 2, 0))
+    let two = groups::shape(shape.n, shape.r) & projection_count(w);
+    first(degree(shape.d), 1, first(two, 2, 0))
 }
 
 pub fn aggregate_bounds(shape: Shape, l: usize, w: usize) -> u8
-    ensures { λ x. ⌜ x ≡ firstFailing (spec.aggregateBounds (shape .d) (shape .n) (shape .r) l w) ⌝ }
+    ensures { λ x. ⌜ x ≡ firstFailing (aggregateBounds (shape .d) (shape .n) (shape .r) l w) ⌝ }
 {
-    let listed = degree(shape.d);
-    let counts = rank(shape.n) & parts(shape.r) & constraint_count(l) & projection_count(w);
-    first(listed, 1, first(counts, 2, 0))
+    let others = constraint_count(l) & projection_count(w);
+    let two = groups::shape(shape.n, shape.r) & others;
+    first(degree(shape.d), 1, first(two, 2, 0))
 }
 
 pub fn garbage_bounds(sizes: GarbageSizes) -> u8
-    ensures { λ x. ⌜ x ≡ firstFailing (spec.garbageBounds sizes) ⌝ }
+    ensures { λ x. ⌜ x ≡ firstFailing (spec.garbageBoundsOf sizes) ⌝ }
 {
-    let listed = degree(sizes.d);
-    let counts = rank(sizes.n)
-        & parts(sizes.r)
-        & constraint_count(sizes.k)
-        & constraint_count(sizes.l)
-        & projection_count(sizes.w);
-    let ranked = commitment_rank(sizes.kappa2);
-    let digits = base(sizes.b1) & digit_count(sizes.t1);
+    let two = groups::shape(sizes.n, sizes.r) & groups::counts(sizes.k, sizes.l, sizes.w);
+    let three = commitment_rank(sizes.kappa2);
+    let four = base(sizes.b1) & digit_count(sizes.t1);
     first(
-        listed,
+        degree(sizes.d),
         1,
-        first(counts, 2, first(ranked, 3, first(digits, 4, 0))),
+        first(two, 2, first(three, 3, first(four, 4, 0))),
     )
 }
 
 pub fn amortize_bounds(shape: Shape, b: usize) -> u8
-    ensures { λ x. ⌜ x ≡ firstFailing (spec.amortizeBounds (shape .d) (shape .n) (shape .r) b) ⌝ }
+    ensures { λ x. ⌜ x ≡ firstFailing (amortizeBounds (shape .d) (shape .n) (shape .r) b) ⌝ }
 {
-    let listed = degree(shape.d);
-    let counts = rank(shape.n) & parts(shape.r);
-    let based = base(b);
-    first(listed, 1, first(counts, 2, first(based, 4, 0)))
+    let two = groups::shape(shape.n, shape.r);
+    first(degree(shape.d), 1, first(two, 2, first(base(b), 4, 0)))
+}
+
+// Rows 1 to 4 of a statement.
+pub fn size_rows(sizes: Sizes) -> u8
+    ensures { λ x. ⌜ x ≡ firstFailing (spec.sizeRowsOf sizes) ⌝ }
+{
+    let two = groups::shape(sizes.n, sizes.r) & groups::counts(sizes.k, sizes.l, sizes.w);
+    let three = groups::ranks(sizes.kappa, sizes.kappa1) & commitment_rank(sizes.kappa2);
+    let four = base(sizes.b) & groups::digits(sizes.b1, sizes.b2, sizes.t1, sizes.t2);
+    first(
+        degree(sizes.d),
+        1,
+        first(two, 2, first(three, 3, first(four, 4, 0))),
+    )
 }
 
 pub fn verify_bounds(sizes: Sizes) -> u8
-    ensures { λ x. ⌜ x ≡ firstFailing (spec.verifyBounds sizes) ⌝ }
+    ensures { λ x. ⌜ x ≡ firstFailing (spec.verifyBoundsOf sizes) ⌝ }
 {
-    let listed = degree(sizes.d);
-    let counts = rank(sizes.n)
-        & parts(sizes.r)
-        & constraint_count(sizes.k)
-        & constraint_count(sizes.l)
-        & projection_count(sizes.w);
-    let ranks = commitment_rank(sizes.kappa)
-        & commitment_rank(sizes.kappa1)
-        & commitment_rank(sizes.kappa2);
-    let digits = base(sizes.b)
-        & base(sizes.b1)
-        & base(sizes.b2)
-        & digit_count(sizes.t1)
-        & digit_count(sizes.t2);
-    let lengths = length_bound(sizes.bound) & length_bound(sizes.target);
-    first(
-        listed,
-        1,
-        first(
-            counts,
-            2,
-            first(ranks, 3, first(digits, 4, first(lengths, 6, 0))),
-        ),
-    )
+    let size = size_rows(sizes);
+    let six = groups::length_bounds(sizes.bound, sizes.target);
+    first(size == 0, size, first(six, 6, 0))
 }

@@ -21,7 +21,7 @@ pub fn draw_lengths(
 ) -> bool
     requires { ⌜ VerifySized sizes ⌝ }
     ensures { λ x.
-        ⌜ x ≡ allOf (spec.drawLengths sizes (now (whole .entry)) (now (term .entry)) (now (rows .entry))
+        ⌜ x ≡ allOf (spec.drawLengthsOf sizes (now (whole .entry)) (now (term .entry)) (now (rows .entry))
         (now (psi .entry)) (now (omega .entry)) (now (alpha .entry)) (now (delta .entry)) (now (c .entry))) ⌝ }
 {
     let shape = Shape {

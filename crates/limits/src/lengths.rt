@@ -3,6 +3,7 @@ ghost use mathlib.Core.Path.{_≡_};
 ghost use Prim.Native.Nat.{_*_, _≤_};
 ghost use Rattle.fold.specs.Refusals.{allOf};
 ghost use Rattle.fold.specs.Refusals as table;
+ghost use Rattle.fold.specs.Sizes.{openingSize};
 ghost use Rattle.fold.specs.Known.CallLimits.{ProjectLimits, AggregateLimits, AmortizeLimits};
 ghost use Rattle.fold.specs.Arguments.{CommitSized, GarbageSized, VerifySized};
 ghost use Rattle.limits.specs.Stages.{ConstraintLimits};
@@ -72,6 +73,23 @@ pub fn rows_fit(d: usize, n: usize, r: usize, w: usize, rows: &[i32]) -> bool
     sized(rows, length)
 }
 
+// The digits of z, t, g and h.
+pub fn opening_fits(
+    d: usize,
+    n: usize,
+    r: usize,
+    kappa: usize,
+    t1: usize,
+    t2: usize,
+    opening: &[i32],
+) -> bool
+    requires { ⌜ (d ≤ 64) × (n ≤ 256) × (r ≤ 16) × (kappa ≤ 8) × (t1 ≤ 8) × (t2 ≤ 8) ⌝ }
+    ensures { λ x. ⌜ x ≡ table.sized (now (opening .entry)) (openingSize 2 n r kappa t1 t2 * d) ⌝ }
+{
+    let elements = opening_size(n, r, kappa, t1, t2);
+    list_fits(opening, elements, d)
+}
+
 pub fn commit_lengths(
     sizes: CommitSizes,
     a: &[i32],
@@ -84,7 +102,7 @@ pub fn commit_lengths(
 ) -> bool
     requires { ⌜ CommitSized sizes ⌝ }
     ensures { λ x.
-        ⌜ x ≡ allOf (spec.commitLengths sizes (now (a .entry)) (now (b .entry)) (now (c .entry)) (now (witness .entry))
+        ⌜ x ≡ allOf (spec.commitLengthsOf sizes (now (a .entry)) (now (b .entry)) (now (c .entry)) (now (witness .entry))
         (now (t .entry)) (now (g .entry)) (now (u1 .entry))) ⌝ }
 {
     let t_elements = t_size(sizes.r, sizes.kappa, sizes.t1);
@@ -101,7 +119,7 @@ pub fn commit_lengths(
 pub fn project_lengths(shape: Shape, w: usize, rows: &[i32], witness: &[i32], p: &[i32]) -> bool
     requires { ⌜ ProjectLimits (shape .d) (shape .n) (shape .r) w ⌝ }
     ensures { λ x.
-        ⌜ x ≡ allOf (spec.projectLengths (shape .d) (shape .n) (shape .r) w (now (rows .entry)) (now (witness .entry))
+        ⌜ x ≡ allOf (table.projectLengths (shape .d) (shape .n) (shape .r) w (now (rows .entry)) (now (witness .entry))
         (now (p .entry))) ⌝ }
 {
     rows_fit(shape.d, shape.n, shape.r, w, rows)
@@ -122,7 +140,7 @@ pub fn aggregate_lengths(
 ) -> bool
     requires { ⌜ AggregateLimits (shape .d) (shape .n) (shape .r) l w ⌝ }
     ensures { λ x.
-        ⌜ x ≡ allOf (spec.aggregateLengths (shape .d) (shape .n) (shape .r) l w (now (term .entry)) (now (rows .entry))
+        ⌜ x ≡ allOf (table.aggregateLengths (shape .d) (shape .n) (shape .r) l w (now (term .entry)) (now (rows .entry))
         (now (psi .entry)) (now (omega .entry)) (now (witness .entry)) (now (b2 .entry))) ⌝ }
 {
     term_fits(shape.d, shape.n, shape.r, l, term)
@@ -149,7 +167,7 @@ pub fn constraint_lengths(
 ) -> bool
     requires { ⌜ ConstraintLimits (shape .d) (shape .n) (shape .r) k l w ⌝ }
     ensures { λ x.
-        ⌜ x ≡ allOf (spec.constraintLengths (shape .d) (shape .n) (shape .r) k l w (now (whole .entry))
+        ⌜ x ≡ allOf (table.constraintLengths (shape .d) (shape .n) (shape .r) k l w (now (whole .entry))
         (now (term .entry)) (now (rows .entry)) (now (psi .entry)) (now (omega .entry)) (now (alpha .entry))
         (now (delta .entry))) ⌝ }
 {
@@ -172,7 +190,7 @@ pub fn garbage_lengths(
 ) -> bool
     requires { ⌜ GarbageSized sizes ⌝ }
     ensures { λ x.
-        ⌜ x ≡ allOf (spec.garbageLengths sizes (now («d_matrix» .entry)) (now (witness .entry)) (now (h .entry))
+        ⌜ x ≡ allOf (spec.garbageLengthsOf sizes (now («d_matrix» .entry)) (now (witness .entry)) (now (h .entry))
         (now (u2 .entry))) ⌝ }
 {
     let elements = garbage_size(sizes.r, sizes.t1);
@@ -185,7 +203,7 @@ pub fn garbage_lengths(
 pub fn amortize_lengths(shape: Shape, b: usize, c: &[i32], witness: &[i32], z: &[i32]) -> bool
     requires { ⌜ AmortizeLimits (shape .d) (shape .n) (shape .r) b ⌝ }
     ensures { λ x.
-        ⌜ x ≡ allOf (spec.amortizeLengths (shape .d) (shape .n) (shape .r) (now (c .entry)) (now (witness .entry))
+        ⌜ x ≡ allOf (table.amortizeLengths (shape .d) (shape .n) (shape .r) 2 (now (c .entry)) (now (witness .entry))
         (now (z .entry))) ⌝ }
 {
     list_fits(c, shape.r, shape.d)
@@ -193,23 +211,14 @@ pub fn amortize_lengths(shape: Shape, b: usize, c: &[i32], witness: &[i32], z: &
         & matrix_fits(z, 2, shape.n, shape.d)
 }
 
-// The opening and the messages before it.
-pub fn message_lengths(
-    sizes: Sizes,
-    opening: &[i32],
-    u1: &[i32],
-    p: &[i32],
-    b2: &[i32],
-    u2: &[i32],
-) -> bool
+// The messages before the opening.
+pub fn message_lengths(sizes: Sizes, u1: &[i32], p: &[i32], b2: &[i32], u2: &[i32]) -> bool
     requires { ⌜ VerifySized sizes ⌝ }
     ensures { λ x.
-        ⌜ x ≡ allOf (spec.messageLengths sizes (now (opening .entry)) (now (u1 .entry)) (now (p .entry))
-        (now (b2 .entry)) (now (u2 .entry))) ⌝ }
+        ⌜ x ≡ allOf (spec.messageLengthsOf sizes (now (u1 .entry)) (now (p .entry)) (now (b2 .entry))
+        (now (u2 .entry))) ⌝ }
 {
-    let elements = opening_size(sizes.n, sizes.r, sizes.kappa, sizes.t1, sizes.t2);
-    list_fits(opening, elements, sizes.d)
-        & list_fits(u1, sizes.kappa1, sizes.d)
+    list_fits(u1, sizes.kappa1, sizes.d)
         & sized(p, sizes.w)
         & five_fit(b2, sizes.d)
         & list_fits(u2, sizes.kappa2, sizes.d)
@@ -224,7 +233,7 @@ pub fn matrix_lengths(
 ) -> bool
     requires { ⌜ VerifySized sizes ⌝ }
     ensures { λ x.
-        ⌜ x ≡ allOf (spec.matrixLengths sizes (now (a .entry)) (now (b .entry)) (now («c_matrix» .entry))
+        ⌜ x ≡ allOf (spec.matrixLengthsOf sizes (now (a .entry)) (now (b .entry)) (now («c_matrix» .entry))
         (now («d_matrix» .entry))) ⌝ }
 {
     let t_elements = t_size(sizes.r, sizes.kappa, sizes.t1);

@@ -2,6 +2,7 @@
 // are products of them, and lengths before what the lists hold.
 pub mod bounds;
 pub mod draws;
+pub mod groups;
 pub mod lengths;
 pub mod ranges;
 pub mod rows;
@@ -28,6 +29,7 @@ use lengths::constraint_lengths;
 use lengths::garbage_lengths;
 use lengths::matrix_lengths;
 use lengths::message_lengths;
+use lengths::opening_fits;
 use lengths::project_lengths;
 use ranges::constraint_ranges;
 use ranges::is_element;
@@ -220,14 +222,25 @@ pub fn verify_refusal(
     if size != 0 {
         return size;
     }
-    let fits = message_lengths(sizes, opening, u1, p, b2, u2)
+    let opened = opening_fits(
+        sizes.d,
+        sizes.n,
+        sizes.r,
+        sizes.kappa,
+        sizes.t1,
+        sizes.t2,
+        opening,
+    );
+    let fits = opened
+        & message_lengths(sizes, u1, p, b2, u2)
         & matrix_lengths(sizes, a, b, c_matrix, d_matrix)
         & draw_lengths(sizes, whole, term, rows, psi, omega, alpha, delta, c);
     if !fits {
         return 7;
     }
     let entries = are_projection_entries(rows);
-    let ranges = message_ranges(opening, u1, p, b2, u2, a, b, c_matrix, d_matrix)
+    let ranges = are_coefficients(opening)
+        & message_ranges(u1, p, b2, u2, a, b, c_matrix, d_matrix)
         & constraint_ranges(whole, term, rows, entries, psi, omega, alpha, delta)
         & are_coefficients(c);
     let rule = challenges(sizes.d, sizes.r, c);

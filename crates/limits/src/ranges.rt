@@ -1,9 +1,9 @@
 // Row 8 of document 01's table for the projection rows, for the lists that two calls share and for elements by value.
 ghost use mathlib.Core.Path.{_≡_};
+ghost use mathlib.Core.List.{[], _∷_};
 ghost use lib.ListN.{drop};
 ghost use Rattle.residues.specs.Range.{allWithin, coefficients, projections};
-ghost use Rattle.fold.specs.Refusals.{allOf, isElement};
-ghost use Rattle.limits.specs.Stages as spec;
+ghost use Rattle.fold.specs.Refusals.{allOf, inRange, isElement};
 use residues::range::all_between;
 use residues::range::are_coefficients;
 
@@ -32,8 +32,8 @@ pub fn constraint_ranges(
 ) -> bool
     requires { ⌜ entries ≡ projections (now rows) ⌝ }
     ensures { λ x.
-        ⌜ x ≡ allOf (spec.constraintRanges (now (whole .entry)) (now (term .entry)) (now (rows .entry))
-        (now (psi .entry)) (now (omega .entry)) (now (alpha .entry)) (now (delta .entry))) ⌝ }
+        ⌜ x ≡ allOf (inRange (now (whole .entry) ∷ now (term .entry) ∷ now (rows .entry) ∷ now (psi .entry)
+        ∷ now (omega .entry) ∷ now (alpha .entry) ∷ now (delta .entry) ∷ [])) ⌝ }
 {
     are_coefficients(whole)
         & are_coefficients(term)
@@ -44,9 +44,8 @@ pub fn constraint_ranges(
         & are_coefficients(delta)
 }
 
-// The opening, the messages before it and the matrices.
+// The messages and the matrices.
 pub fn message_ranges(
-    opening: &[i32],
     u1: &[i32],
     p: &[i32],
     b2: &[i32],
@@ -57,11 +56,10 @@ pub fn message_ranges(
     d_matrix: &[i32],
 ) -> bool
     ensures { λ x.
-        ⌜ x ≡ allOf (spec.messageRanges (now (opening .entry)) (now (u1 .entry)) (now (p .entry)) (now (b2 .entry))
-        (now (u2 .entry)) (now (a .entry)) (now (b .entry)) (now («c_matrix» .entry)) (now («d_matrix» .entry))) ⌝ }
+        ⌜ x ≡ allOf (inRange (now (u1 .entry) ∷ now (p .entry) ∷ now (b2 .entry) ∷ now (u2 .entry)
+        ∷ now (a .entry) ∷ now (b .entry) ∷ now («c_matrix» .entry) ∷ now («d_matrix» .entry) ∷ [])) ⌝ }
 {
-    are_coefficients(opening)
-        & are_coefficients(u1)
+    are_coefficients(u1)
         & are_coefficients(p)
         & are_coefficients(b2)
         & are_coefficients(u2)

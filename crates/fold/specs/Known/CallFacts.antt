@@ -13,9 +13,10 @@ use Rattle.fold.specs.Sizes.{five, tSize, garbageSize, openingSize}
 use Rattle.fold.specs.Statement.{Relation}
 use Rattle.fold.specs.Statement.{Statement, Draws, Transcript}
 use Rattle.fold.specs.Answers.{firstFailing}
-use Rattle.fold.specs.Refusals.{allOf, lengths, wholeLength, termLength, projectionLength}
+use Rattle.fold.specs.Refusals.{allOf, lengths, wholeLength, termLength, projectionLength, sizeTests}
+use Rattle.fold.specs.Refusals.{commitBounds, projectBounds, aggregateBounds, garbageBounds, amortizeBounds}
 use Rattle.fold.specs.Refusals.{commitTests, projectTests, aggregateTests, garbageTests, amortizeTests, verifyTests}
-use Rattle.fold.specs.Laws.RefusalLaws.{refusal-passes, allOf-all, allOf-drop, sized-iff}
+use Rattle.fold.specs.Laws.RefusalLaws.{refusal-passes, early-passes, allOf-all, allOf-drop, sized-iff}
 use Rattle.fold.specs.Known.CallLimits.{CommitLimits, ProjectLimits, AggregateLimits, GarbageLimits, AmortizeLimits, VerifyLimits}
 use Rattle.fold.specs.Known.CallLimits.{commit-limits, project-limits, aggregate-limits, garbage-limits, amortize-limits, verify-limits}
 
@@ -39,7 +40,7 @@ commit-facts {d} {n} {r} {κ} {κ₁} {b₁} {b₂} {t₁} {t₂} {A} {B} {C} {s
     let passed = refusal-passes (commitTests d n r κ κ₁ b₁ b₂ t₁ t₂ A B C s ts gs u₁) refl e in
     let lengths = allOf-all _ (passed .1 .1 .1 .1 .0) in
     record {
-      limits = commit-limits d n r κ κ₁ b₁ b₂ t₁ t₂ (passed .0) (passed .1 .0) (passed .1 .1 .0) (passed .1 .1 .1 .0);
+      limits = commit-limits d n r κ κ₁ b₁ b₂ t₁ t₂ (early-passes (commitBounds d n r κ κ₁ b₁ b₂ t₁ t₂) _ refl e);
       A-length = sized-iff A _ .0 (lengths .0);
       B-length = sized-iff B _ .0 (lengths .1 .0);
       C-length = sized-iff C _ .0 (lengths .1 .1 .0);
@@ -66,7 +67,7 @@ project-facts {d} {n} {r} {w} {rows} {s} {p} e =
     let passed = refusal-passes (projectTests d n r w rows s p) refl e in
     let lengths = allOf-all _ (passed .1 .1 .0) in
     record {
-      limits = project-limits d n r w (passed .0) (passed .1 .0);
+      limits = project-limits d n r w (early-passes (projectBounds d n r w) _ refl e);
       rows-length = sized-iff rows _ .0 (lengths .0);
       s-length = sized-iff s _ .0 (lengths .1 .0);
       p-length = sized-iff p _ .0 (lengths .1 .1 .0);
@@ -93,7 +94,7 @@ aggregate-facts {d} {n} {r} {L} {w} {term} {rows} {ψ} {ω} {s} {b″} e =
     let passed = refusal-passes (aggregateTests d n r L w term rows ψ ω s b″) refl e in
     let lengths = allOf-all _ (passed .1 .1 .0) in
     record {
-      limits = aggregate-limits d n r L w (passed .0) (passed .1 .0);
+      limits = aggregate-limits d n r L w (early-passes (aggregateBounds d n r L w) _ refl e);
       term-length = sized-iff term _ .0 (lengths .0);
       rows-length = sized-iff rows _ .0 (lengths .1 .0);
       ψ-length = sized-iff ψ _ .0 (lengths .1 .1 .0);
@@ -128,7 +129,7 @@ garbage-facts {d} {n} {r} {K} {L} {w} {κ₂} {b₁} {t₁} {whole} {term} {rows
     let passed = refusal-passes (garbageTests d n r K L w κ₂ b₁ t₁ whole term rows ψ ω α δ D s hs u₂) refl e in
     let lengths = allOf-all _ (passed .1 .1 .1 .1 .0) in
     record {
-      limits = garbage-limits d n r K L w κ₂ b₁ t₁ (passed .0) (passed .1 .0) (passed .1 .1 .0) (passed .1 .1 .1 .0);
+      limits = garbage-limits d n r K L w κ₂ b₁ t₁ (early-passes (garbageBounds d n r K L w κ₂ b₁ t₁) _ refl e);
       whole-length = sized-iff whole _ .0 (lengths .0);
       term-length = sized-iff term _ .0 (lengths .1 .0);
       rows-length = sized-iff rows _ .0 (lengths .1 .1 .0);
@@ -159,7 +160,7 @@ amortize-facts {d} {n} {r} {b} {c} {s} {zs} e =
     let passed = refusal-passes (amortizeTests d n r 2 b c s zs) refl e in
     let lengths = allOf-all _ (passed .1 .1 .1 .0) in
     record {
-      limits = amortize-limits d n r b (passed .0) (passed .1 .0) (passed .1 .1 .0);
+      limits = amortize-limits d n r b (early-passes (amortizeBounds d n r b) _ refl e);
       c-length = sized-iff c _ .0 (lengths .0);
       s-length = sized-iff s _ .0 (lengths .1 .0);
       zs-length = sized-iff zs _ .0 (lengths .1 .1 .0);
@@ -228,7 +229,7 @@ module _ (𝓢 : Statement) (𝓓 : Draws) (𝓣 : Transcript) where
       record {
         limits =
             verify-limits d n r K L w κ κ₁ κ₂ b b₁ b₂ t₁ t₂ bound target
-            (passed .0) (passed .1 .0) (passed .1 .1 .0) (passed .1 .1 .1 .0) (passed .1 .1 .1 .1 .0);
+            (early-passes (sizeTests 𝓢 𝓓) _ refl e) (passed .1 .1 .1 .1 .0, tt);
         lists = lengths-known (allOf-drop 1 _ sizes);
         o-length = sized-iff o _ .0 (allOf-all _ sizes .0);
         rows-entries = passed .1 .1 .1 .1 .1 .1 .1 .0;

@@ -1,15 +1,14 @@
--- What rows 1 to 6 leave known of the sizes of each call, as plain bounds. The laws take the tests of those rows one by one.
+-- What rows 1 to 6 leave known of the sizes of each call, as plain bounds. Each law takes a call's tests of those rows.
 --     CommitLimits, ProjectLimits, AggregateLimits, GarbageLimits, AmortizeLimits, VerifyLimits
 use mathlib.Core.Path.{_≡_}
 use mathlib.Core.Bool.{true}
-use mathlib.Core.List.{[], _∷_}
 use Prim.Native.Nat.{ℕ, _≤_}
 use lib.IntN.{pos}
 use Rattle.residues.specs.Digits.{Base}
 use Rattle.fold.specs.Known.Facts.{Shaped}
-use Rattle.fold.specs.Refusals.{allOf, degree, rank, parts, constraintCount, projectionCount, commitmentRank, base, digitCount}
-use Rattle.fold.specs.Refusals.{lengthBound}
-use Rattle.fold.specs.Laws.RefusalLaws.{allOf-all, degree-fits, rank-iff, parts-iff, constraintCount-iff, projectionCount-iff}
+use Rattle.fold.specs.Refusals.{degree, rank, parts, commitBounds, projectBounds, aggregateBounds, garbageBounds, amortizeBounds}
+use Rattle.fold.specs.Refusals.{sizeRows, boundRows}
+use Rattle.fold.specs.Laws.RefusalLaws.{Passes, allOf-all, degree-fits, rank-iff, parts-iff, constraintCount-iff, projectionCount-iff}
 use Rattle.fold.specs.Laws.RefusalLaws.{commitmentRank-iff, base-fits, digitCount-iff, lengthBound-iff}
 
 pub record CommitLimits (d n r κ κ₁ b₁ b₂ t₁ t₂ : ℕ) : Type 0 where
@@ -82,11 +81,8 @@ shaped-of d n r e f g =
       parts-small = parts-iff r .0 g .1;
     }
 
-pub commit-limits : (d n r κ κ₁ b₁ b₂ t₁ t₂ : ℕ) → degree (pos d) ≡ true → allOf (rank (pos n) ∷ parts (pos r) ∷ []) ≡ true
-    → allOf (commitmentRank (pos κ) ∷ commitmentRank (pos κ₁) ∷ []) ≡ true
-    → allOf (base (pos b₁) ∷ base (pos b₂) ∷ digitCount (pos t₁) ∷ digitCount (pos t₂) ∷ []) ≡ true
-    → CommitLimits d n r κ κ₁ b₁ b₂ t₁ t₂
-commit-limits d n r κ κ₁ b₁ b₂ t₁ t₂ e₁ e₂ e₃ e₄ =
+pub commit-limits : (d n r κ κ₁ b₁ b₂ t₁ t₂ : ℕ) → Passes (commitBounds d n r κ κ₁ b₁ b₂ t₁ t₂) → CommitLimits d n r κ κ₁ b₁ b₂ t₁ t₂
+commit-limits d n r κ κ₁ b₁ b₂ t₁ t₂ (e₁, (e₂, (e₃, (e₄, _)))) =
     let h₂ = allOf-all _ e₂ in
     let h₃ = allOf-all _ e₃ in
     let h₄ = allOf-all _ e₄ in
@@ -108,18 +104,16 @@ commit-limits d n r κ κ₁ b₁ b₂ t₁ t₂ e₁ e₂ e₃ e₄ =
       t₂-most = c₂ .1;
     }
 
-pub project-limits : (d n r w : ℕ) → degree (pos d) ≡ true
-    → allOf (rank (pos n) ∷ parts (pos r) ∷ projectionCount (pos w) ∷ []) ≡ true → ProjectLimits d n r w
-project-limits d n r w e₁ e₂ =
+pub project-limits : (d n r w : ℕ) → Passes (projectBounds d n r w) → ProjectLimits d n r w
+project-limits d n r w (e₁, (e₂, _)) =
     let h₂ = allOf-all _ e₂ in
     record {
       shaped = shaped-of d n r e₁ (h₂ .0) (h₂ .1 .0);
       w-small = projectionCount-iff w .0 (h₂ .1 .1 .0) .1;
     }
 
-pub aggregate-limits : (d n r L w : ℕ) → degree (pos d) ≡ true
-    → allOf (rank (pos n) ∷ parts (pos r) ∷ constraintCount (pos L) ∷ projectionCount (pos w) ∷ []) ≡ true → AggregateLimits d n r L w
-aggregate-limits d n r L w e₁ e₂ =
+pub aggregate-limits : (d n r L w : ℕ) → Passes (aggregateBounds d n r L w) → AggregateLimits d n r L w
+aggregate-limits d n r L w (e₁, (e₂, _)) =
     let h₂ = allOf-all _ e₂ in
     record {
       shaped = shaped-of d n r e₁ (h₂ .0) (h₂ .1 .0);
@@ -127,11 +121,8 @@ aggregate-limits d n r L w e₁ e₂ =
       w-small = projectionCount-iff w .0 (h₂ .1 .1 .1 .0) .1;
     }
 
-pub garbage-limits : (d n r K L w κ₂ b₁ t₁ : ℕ) → degree (pos d) ≡ true
-    → allOf (rank (pos n) ∷ parts (pos r) ∷ constraintCount (pos K) ∷ constraintCount (pos L) ∷ projectionCount (pos w) ∷ []) ≡ true
-    → commitmentRank (pos κ₂) ≡ true → allOf (base (pos b₁) ∷ digitCount (pos t₁) ∷ []) ≡ true
-    → GarbageLimits d n r K L w κ₂ b₁ t₁
-garbage-limits d n r K L w κ₂ b₁ t₁ e₁ e₂ e₃ e₄ =
+pub garbage-limits : (d n r K L w κ₂ b₁ t₁ : ℕ) → Passes (garbageBounds d n r K L w κ₂ b₁ t₁) → GarbageLimits d n r K L w κ₂ b₁ t₁
+garbage-limits d n r K L w κ₂ b₁ t₁ (e₁, (e₂, (e₃, (e₄, _)))) =
     let h₂ = allOf-all _ e₂ in
     let h₄ = allOf-all _ e₄ in
     let k₂ = commitmentRank-iff κ₂ .0 e₃ in
@@ -148,19 +139,16 @@ garbage-limits d n r K L w κ₂ b₁ t₁ e₁ e₂ e₃ e₄ =
       t₁-most = c₁ .1;
     }
 
-pub amortize-limits : (d n r b : ℕ) → degree (pos d) ≡ true → allOf (rank (pos n) ∷ parts (pos r) ∷ []) ≡ true
-    → base (pos b) ≡ true → AmortizeLimits d n r b
-amortize-limits d n r b e₁ e₂ e₄ =
+pub amortize-limits : (d n r b : ℕ) → Passes (amortizeBounds d n r b) → AmortizeLimits d n r b
+amortize-limits d n r b (e₁, (e₂, (e₄, _))) =
     let h₂ = allOf-all _ e₂ in
     record { shaped = shaped-of d n r e₁ (h₂ .0) (h₂ .1 .0); base = base-fits b e₄ }
 
-pub verify-limits : (d n r K L w κ κ₁ κ₂ b b₁ b₂ t₁ t₂ bound target : ℕ) → degree (pos d) ≡ true
-    → allOf (rank (pos n) ∷ parts (pos r) ∷ constraintCount (pos K) ∷ constraintCount (pos L) ∷ projectionCount (pos w) ∷ []) ≡ true
-    → allOf (commitmentRank (pos κ) ∷ commitmentRank (pos κ₁) ∷ commitmentRank (pos κ₂) ∷ []) ≡ true
-    → allOf (base (pos b) ∷ base (pos b₁) ∷ base (pos b₂) ∷ digitCount (pos t₁) ∷ digitCount (pos t₂) ∷ []) ≡ true
-    → allOf (lengthBound (pos bound) ∷ lengthBound (pos target) ∷ []) ≡ true
-    → VerifyLimits d n r K L w κ κ₁ κ₂ b b₁ b₂ t₁ t₂ bound target
-verify-limits d n r K L w κ κ₁ κ₂ b b₁ b₂ t₁ t₂ bound target e₁ e₂ e₃ e₄ e₆ =
+-- the verifier, the next instance and the header test these rows
+pub verify-limits : (d n r K L w κ κ₁ κ₂ b b₁ b₂ t₁ t₂ bound target : ℕ)
+    → Passes (sizeRows (pos d) (pos n) (pos r) (pos K) (pos L) (pos w) (pos κ) (pos κ₁) (pos κ₂) (pos b) (pos b₁) (pos b₂) (pos t₁) (pos t₂))
+    → Passes (boundRows (pos bound) (pos target)) → VerifyLimits d n r K L w κ κ₁ κ₂ b b₁ b₂ t₁ t₂ bound target
+verify-limits d n r K L w κ κ₁ κ₂ b b₁ b₂ t₁ t₂ bound target (e₁, (e₂, (e₃, (e₄, _)))) (e₆, _) =
     let h₂ = allOf-all _ e₂ in
     let h₃ = allOf-all _ e₃ in
     let h₄ = allOf-all _ e₄ in

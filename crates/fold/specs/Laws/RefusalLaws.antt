@@ -1,6 +1,6 @@
 -- Laws of the refusals: a call is not refused exactly when each of its tests holds, and what each test says.
 --     Passes, numbered, refusal-iff     the list of tests of a call
---     passes-join, -front, -back        lists of tests joined
+--     passes-join, -front, -back, early-passes     lists of tests joined
 --     All, allOf-iff, Any, anyOf-iff    the tests of one row
 --     between-iff, degree-fits, ..      the tests by name
 use mathlib.Core.Path.{_≡_, refl, sym, subst}
@@ -83,6 +83,10 @@ passes-front (x ∷ xs) ys p = (p .0, passes-front xs ys (p .1))
 pub passes-back : (xs ys : List (ℕ × Bool)) → Passes (xs ++ ys) → Passes ys
 passes-back [] ys p = p
 passes-back (x ∷ xs) ys p = passes-back xs ys (p .1)
+
+-- the first tests of a call that is not refused
+pub early-passes : (xs ys : List (ℕ × Bool)) → numbered (xs ++ ys) ≡ true → firstFailing (xs ++ ys) ≡ 0 → Passes xs
+early-passes xs ys l e = passes-front xs ys (refusal-passes (xs ++ ys) l e)
 
 -- ---- the tests of one row
 

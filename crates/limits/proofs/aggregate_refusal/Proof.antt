@@ -1,9 +1,9 @@
 -- `limits::aggregate_refusal` meets its contract: the sizes, then row 7, then the rows after it. Assumes nothing.
 use mathlib.Core.Path.{refl}
-use Rattle.fold.specs.Refusals.{aggregateTests}
-use Rattle.limits.specs.Stages.{aggregateBounds}
+use Rattle.fold.specs.Refusals.{aggregateBounds, aggregateTests}
+use Rattle.fold.specs.Laws.TestLaws.{stops}
 use Rattle.limits.specs.Laws.RowLaws.{end, _&_}
-use Rattle.limits.specs.Laws.StageLaws.{stopped, unfit, fit, single, row, none}
+use Rattle.limits.specs.Laws.StageLaws.{unfit, fit, single, row, none}
 use Rattle.limits.specs.Known.StageLimits.{aggregate-sized}
 use Rattle.limits.proofs.aggregate_refusal.Statement.{statement}
 use Rattle.limits.proofs.aggregate_refusal.Tie as tie
@@ -13,7 +13,7 @@ unfolding aggregateTests
 returns c =
     let a = c .before .before .args in
     let m = a .shape in
-    stopped (aggregateBounds (m .d) (m .n) (m .r) (a .l) (a .w)) _ (c .before .aggregate-bounds .ensures) (c .if1 .taken)
+    stops (aggregateBounds (m .d) (m .n) (m .r) (a .l) (a .w)) _ (c .before .aggregate-bounds .ensures) (c .if1 .taken)
 
 aggregate-lengths-requires : tie.Need-aggregate-lengths-requires
 aggregate-lengths-requires c κs =

@@ -1,10 +1,10 @@
 -- `limits::amortize_refusal` meets its contract: the sizes, then row 7, then the rows after it. Assumes nothing.
 use mathlib.Core.Path.{refl}
-use Rattle.fold.specs.Refusals.{amortizeTests}
+use Rattle.fold.specs.Refusals.{amortizeBounds, amortizeTests}
 use Rattle.fold.specs.Laws.RefusalLaws.{sized-iff}
-use Rattle.limits.specs.Stages.{amortizeBounds}
+use Rattle.fold.specs.Laws.TestLaws.{stops}
 use Rattle.limits.specs.Laws.RowLaws.{end, _&_}
-use Rattle.limits.specs.Laws.StageLaws.{stopped, unfit, fit, fitting, single, row, none}
+use Rattle.limits.specs.Laws.StageLaws.{unfit, fit, fitting, single, row, none}
 use Rattle.limits.specs.Known.StageLimits.{amortize-sized}
 use Rattle.limits.proofs.amortize_refusal.Statement.{statement}
 use Rattle.limits.proofs.amortize_refusal.Tie as tie
@@ -14,7 +14,7 @@ unfolding amortizeTests
 returns c =
     let a = c .before .before .args in
     let m = a .shape in
-    stopped (amortizeBounds (m .d) (m .n) (m .r) (a .b)) _ (c .before .amortize-bounds .ensures) (c .if1 .taken)
+    stops (amortizeBounds (m .d) (m .n) (m .r) (a .b)) _ (c .before .amortize-bounds .ensures) (c .if1 .taken)
 
 amortize-lengths-requires : tie.Need-amortize-lengths-requires
 amortize-lengths-requires c κs =

@@ -1,9 +1,10 @@
 -- `limits::commit_refusal` meets its contract: the sizes, then row 7, then the rows after it. Assumes nothing.
 use mathlib.Core.Path.{refl}
 use Rattle.fold.specs.Refusals.{commitTests}
-use Rattle.limits.specs.Stages.{commitBounds}
+use Rattle.fold.specs.Laws.TestLaws.{stops}
+use Rattle.limits.specs.Stages.{commitBoundsOf}
 use Rattle.limits.specs.Laws.RowLaws.{end, _&_}
-use Rattle.limits.specs.Laws.StageLaws.{stopped, unfit, fit, row, none}
+use Rattle.limits.specs.Laws.StageLaws.{unfit, fit, row, none}
 use Rattle.limits.specs.Known.StageLimits.{commit-sized}
 use Rattle.limits.proofs.commit_refusal.Statement.{statement}
 use Rattle.limits.proofs.commit_refusal.Tie as tie
@@ -13,7 +14,7 @@ unfolding commitTests
 returns c =
     let a = c .before .before .args in
     let m = a .sizes in
-    stopped (commitBounds m) _ (c .before .commit-bounds .ensures) (c .if1 .taken)
+    stops (commitBoundsOf m) _ (c .before .commit-bounds .ensures) (c .if1 .taken)
 
 commit-lengths-requires : tie.Need-commit-lengths-requires
 commit-lengths-requires c κs =
@@ -31,7 +32,7 @@ returns-2 c =
     let a = c4 .args in
     let m = a .sizes in
     let fits = c1 .commit-lengths .ensures in
-    unfit (commitBounds m) 7 _ _ refl (c3 .commit-bounds .ensures) (c2 .if1 .left) fits (c .if2 .taken)
+    unfit (commitBoundsOf m) 7 _ _ refl (c3 .commit-bounds .ensures) (c2 .if1 .left) fits (c .if2 .taken)
 
 returns-3 : tie.Need-returns-3
 unfolding commitTests
@@ -48,7 +49,7 @@ returns-3 c =
     let a = c9 .args in
     let m = a .sizes in
     let fits = c6 .commit-lengths .ensures in
-    fit (commitBounds m) 7 _ _ refl (c8 .commit-bounds .ensures) (c7 .if1 .left) fits (c5 .if2 .left)
+    fit (commitBoundsOf m) 7 _ _ refl (c8 .commit-bounds .ensures) (c7 .if1 .left) fits (c5 .if2 .left)
     (row 8 _
     (c4 .are-coefficients .ensures & c3 .are-coefficients2 .ensures & c2 .are-coefficients3 .ensures
     & c1 .are-coefficients4 .ensures & end) (c .first .ensures) none)

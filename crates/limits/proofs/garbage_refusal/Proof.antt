@@ -1,9 +1,10 @@
 -- `limits::garbage_refusal` meets its contract: the sizes, then row 7, then the rows after it. Assumes nothing.
 use mathlib.Core.Path.{refl}
 use Rattle.fold.specs.Refusals.{garbageTests}
-use Rattle.limits.specs.Stages.{garbageBounds}
+use Rattle.fold.specs.Laws.TestLaws.{stops}
+use Rattle.limits.specs.Stages.{garbageBoundsOf}
 use Rattle.limits.specs.Laws.RowLaws.{end, _&_, joined-row}
-use Rattle.limits.specs.Laws.StageLaws.{stopped, unfit, fit, single, none, append-rows}
+use Rattle.limits.specs.Laws.StageLaws.{unfit, fit, single, none, append-rows}
 use Rattle.limits.specs.Known.StageLimits.{garbage-constraints, garbage-sized}
 use Rattle.limits.proofs.garbage_refusal.Statement.{statement}
 use Rattle.limits.proofs.garbage_refusal.Tie as tie
@@ -13,7 +14,7 @@ unfolding garbageTests
 returns c =
     let a = c .before .before .args in
     let m = a .sizes in
-    stopped (garbageBounds m) _ (c .before .garbage-bounds .ensures) (c .if1 .taken)
+    stops (garbageBoundsOf m) _ (c .before .garbage-bounds .ensures) (c .if1 .taken)
 
 constraint-lengths-requires : tie.Need-constraint-lengths-requires
 constraint-lengths-requires c κs =
@@ -38,7 +39,7 @@ returns-2 c =
     let a = c5 .args in
     let m = a .sizes in
     let fits = append-rows _ _ (c2 .constraint-lengths .ensures) (c1 .garbage-lengths .ensures) in
-    unfit (garbageBounds m) 7 _ _ refl (c4 .garbage-bounds .ensures) (c3 .if1 .left) fits (c .if2 .taken)
+    unfit (garbageBoundsOf m) 7 _ _ refl (c4 .garbage-bounds .ensures) (c3 .if1 .left) fits (c .if2 .taken)
 
 constraint-ranges-requires : tie.Need-constraint-ranges-requires
 constraint-ranges-requires c κs = c .before .before .are-projection-entries .ensures
@@ -60,7 +61,7 @@ returns-3 c =
     let a = c11 .args in
     let m = a .sizes in
     let fits = append-rows _ _ (c8 .constraint-lengths .ensures) (c7 .garbage-lengths .ensures) in
-    fit (garbageBounds m) 7 _ _ refl (c10 .garbage-bounds .ensures) (c9 .if1 .left) fits (c6 .if2 .left)
+    fit (garbageBoundsOf m) 7 _ _ refl (c10 .garbage-bounds .ensures) (c9 .if1 .left) fits (c6 .if2 .left)
     (single 8 _
     (append-rows _ _ (c2 .constraint-ranges .ensures) (joined-row (c4 .are-coefficients .ensures
     & c3 .are-coefficients2 .ensures & end))) (c .first2 .ensures)

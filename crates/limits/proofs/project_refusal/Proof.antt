@@ -1,9 +1,9 @@
 -- `limits::project_refusal` meets its contract: the sizes, then row 7, then the rows after it. Assumes nothing.
 use mathlib.Core.Path.{refl}
-use Rattle.fold.specs.Refusals.{projectTests}
-use Rattle.limits.specs.Stages.{projectBounds}
+use Rattle.fold.specs.Refusals.{projectBounds, projectTests}
+use Rattle.fold.specs.Laws.TestLaws.{stops}
 use Rattle.limits.specs.Laws.RowLaws.{end, _&_}
-use Rattle.limits.specs.Laws.StageLaws.{stopped, unfit, fit, single, row, none}
+use Rattle.limits.specs.Laws.StageLaws.{unfit, fit, single, row, none}
 use Rattle.limits.specs.Known.StageLimits.{project-sized}
 use Rattle.limits.proofs.project_refusal.Statement.{statement}
 use Rattle.limits.proofs.project_refusal.Tie as tie
@@ -13,7 +13,7 @@ unfolding projectTests
 returns c =
     let a = c .before .before .args in
     let m = a .shape in
-    stopped (projectBounds (m .d) (m .n) (m .r) (a .w)) _ (c .before .project-bounds .ensures) (c .if1 .taken)
+    stops (projectBounds (m .d) (m .n) (m .r) (a .w)) _ (c .before .project-bounds .ensures) (c .if1 .taken)
 
 project-lengths-requires : tie.Need-project-lengths-requires
 project-lengths-requires c κs =

@@ -2,9 +2,10 @@
 use mathlib.Core.Path.{refl}
 use Rattle.fold.specs.Refusals.{verifyTests}
 use Rattle.fold.specs.Laws.RefusalLaws.{sized-iff}
-use Rattle.limits.specs.Stages.{verifyBounds}
+use Rattle.fold.specs.Laws.TestLaws.{stops}
+use Rattle.limits.specs.Stages.{verifyBoundsOf}
 use Rattle.limits.specs.Laws.RowLaws.{end, _&_, joined-row}
-use Rattle.limits.specs.Laws.StageLaws.{stopped, unfit, fit, fitting, single, none, append-rows}
+use Rattle.limits.specs.Laws.StageLaws.{unfit, fit, fitting, single, none, append-rows}
 use Rattle.limits.specs.Known.StageLimits.{verify-sized}
 use Rattle.limits.proofs.verify_refusal.Statement.{statement}
 use Rattle.limits.proofs.verify_refusal.Tie as tie
@@ -14,19 +15,26 @@ unfolding verifyTests
 returns c =
     let a = c .before .before .args in
     let m = a .sizes in
-    stopped (verifyBounds m) _ (c .before .verify-bounds .ensures) (c .if1 .taken)
+    stops (verifyBoundsOf m) _ (c .before .verify-bounds .ensures) (c .if1 .taken)
+
+opening-fits-requires : tie.Need-opening-fits-requires
+opening-fits-requires c κs =
+    let m = c .before .before .args .sizes in
+    let l = verify-sized m (c .before .verify-bounds .ensures) (c .if1 .left) in
+    let x = l .shaped in
+    (x .degree .small, x .rank-small, x .parts-small, l .κ-small, l .t₁-most, l .t₂-most)
 
 message-lengths-requires : tie.Need-message-lengths-requires
 message-lengths-requires c κs =
-    let a = c .before .before .args in
-    let m = a .sizes in
-    verify-sized m (c .before .verify-bounds .ensures) (c .if1 .left)
+    let m = c .before .before .before .args .sizes in
+    verify-sized m (c .before .before .verify-bounds .ensures) (c .before .if1 .left)
 
 matrix-lengths-requires : tie.Need-matrix-lengths-requires
 matrix-lengths-requires c κs =
-    let a = c .before .before .before .args in
-    let m = a .sizes in
-    verify-sized m (c .before .before .verify-bounds .ensures) (c .before .if1 .left)
+    let c1 = c .before in
+    let c2 = c1 .before in
+    let c3 = c2 .before in
+    verify-sized (c3 .before .args .sizes) (c3 .verify-bounds .ensures) (c2 .if1 .left)
 
 draw-lengths-requires : tie.Need-draw-lengths-requires
 draw-lengths-requires c κs =
@@ -34,8 +42,7 @@ draw-lengths-requires c κs =
     let c2 = c1 .before in
     let c3 = c2 .before in
     let c4 = c3 .before in
-    let m = c4 .args .sizes in
-    verify-sized m (c3 .verify-bounds .ensures) (c2 .if1 .left)
+    verify-sized (c4 .before .args .sizes) (c4 .verify-bounds .ensures) (c3 .if1 .left)
 
 returns-2 : tie.Need-returns-2
 unfolding verifyTests
@@ -46,14 +53,14 @@ returns-2 c =
     let c4 = c3 .before in
     let c5 = c4 .before in
     let c6 = c5 .before in
-    let a = c6 .args in
-    let m = a .sizes in
-    let lists = append-rows _ _ (c3 .message-lengths .ensures) (c2 .matrix-lengths .ensures) in
+    let m = c6 .before .args .sizes in
+    let opened = append-rows _ _ (joined-row (c4 .opening-fits .ensures & end)) (c3 .message-lengths .ensures) in
+    let lists = append-rows _ _ opened (c2 .matrix-lengths .ensures) in
     let fits = append-rows _ _ lists (c1 .draw-lengths .ensures) in
-    unfit (verifyBounds m) 7 _ _ refl (c5 .verify-bounds .ensures) (c4 .if1 .left) fits (c .if2 .taken)
+    unfit (verifyBoundsOf m) 7 _ _ refl (c6 .verify-bounds .ensures) (c5 .if1 .left) fits (c .if2 .taken)
 
 constraint-ranges-requires : tie.Need-constraint-ranges-requires
-constraint-ranges-requires c κs = c .before .are-projection-entries .ensures
+constraint-ranges-requires c κs = c .before .before .are-projection-entries .ensures
 
 challenges-requires : tie.Need-challenges-requires
 challenges-requires c κs =
@@ -64,8 +71,11 @@ challenges-requires c κs =
     let c5 = c4 .before in
     let c6 = c5 .before in
     let c7 = c6 .before in
-    let lists = append-rows _ _ (c7 .message-lengths .ensures) (c6 .matrix-lengths .ensures) in
-    let fits = fitting _ (append-rows _ _ lists (c5 .draw-lengths .ensures)) (c4 .if2 .left) in
+    let c8 = c7 .before in
+    let c9 = c8 .before in
+    let opened = append-rows _ _ (joined-row (c9 .opening-fits .ensures & end)) (c8 .message-lengths .ensures) in
+    let lists = append-rows _ _ opened (c7 .matrix-lengths .ensures) in
+    let fits = fitting _ (append-rows _ _ lists (c6 .draw-lengths .ensures)) (c5 .if2 .left) in
     sized-iff _ _ .0 (fits .1 .1 .1 .1 .1 .1 .1 .1 .1 .1 .1 .1 .1 .1 .1 .1 .0)
 
 returns-3 : tie.Need-returns-3
@@ -85,15 +95,17 @@ returns-3 c =
     let c12 = c11 .before in
     let c13 = c12 .before in
     let c14 = c13 .before in
-    let a = c14 .args in
-    let m = a .sizes in
-    let lists = append-rows _ _ (c11 .message-lengths .ensures) (c10 .matrix-lengths .ensures) in
-    let fits = append-rows _ _ lists (c9 .draw-lengths .ensures) in
-    let read = append-rows _ _ (c6 .message-ranges .ensures) (c5 .constraint-ranges .ensures) in
-    let ranges = append-rows _ _ read (joined-row (c4 .are-coefficients .ensures & end)) in
-    fit (verifyBounds m) 7 _ _ refl (c13 .verify-bounds .ensures) (c12 .if1 .left) fits (c8 .if2 .left)
+    let c15 = c14 .before in
+    let m = c15 .before .args .sizes in
+    let opened = append-rows _ _ (joined-row (c13 .opening-fits .ensures & end)) (c12 .message-lengths .ensures) in
+    let lists = append-rows _ _ opened (c11 .matrix-lengths .ensures) in
+    let fits = append-rows _ _ lists (c10 .draw-lengths .ensures) in
+    let messages = append-rows _ _ (joined-row (c7 .are-coefficients .ensures & end)) (c6 .message-ranges .ensures) in
+    let read = append-rows _ _ messages (c5 .constraint-ranges .ensures) in
+    let ranges = append-rows _ _ read (joined-row (c4 .are-coefficients2 .ensures & end)) in
+    fit (verifyBoundsOf m) 7 _ _ refl (c15 .verify-bounds .ensures) (c14 .if1 .left) fits (c9 .if2 .left)
     (single 8 _ ranges (c .first3 .ensures)
-    (single 9 _ (c7 .are-projection-entries .ensures) (c1 .first2 .ensures)
+    (single 9 _ (c8 .are-projection-entries .ensures) (c1 .first2 .ensures)
     (single 10 _ (c3 .challenges .ensures) (c2 .first .ensures) none)))
 
 pub verify-refusal-spec : {M : Type 1} → statement M
@@ -102,10 +114,12 @@ verify-refusal-spec =
     (tie.spec
     (λ c κs. tt)
     returns
+    opening-fits-requires
     message-lengths-requires
     matrix-lengths-requires
     draw-lengths-requires
     returns-2
+    (λ c κs. tt)
     (λ c κs. tt)
     (λ c κs. tt)
     constraint-ranges-requires

@@ -1,6 +1,6 @@
 -- The number of a refusal, stage by stage.
 --     single, row, none        one row of a nest of `first`, and its end
---     stopped                  one of the first rows fails
+--     after-rows               the first rows, then the later ones
 --     unfit, fit               none of those fails, and row m does or does not
 --     fitting                  what row m then says
 --     joined-tests, append-rows     the tests of a row, and a row in two parts
@@ -8,10 +8,12 @@ use mathlib.Core.Path.{_≡_, refl, sym, _∙_}
 use mathlib.Core.Bool.{Bool, true, false, cond, not, _&&_}
 use mathlib.Core.List.{List, [], _∷_, _++_}
 use Prim.Native.Nat.{ℕ}
-use borrow.Author.Tests.{not-true, not-false}
+use lib.Dec.{eqb}
+use borrow.Author.Tests.{not-true, not-false, eqb-true, eqb-false}
 use Rattle.fold.specs.Answers.{firstFailing}
 use Rattle.fold.specs.Refusals.{allOf}
-use Rattle.fold.specs.Laws.RefusalLaws.{numbered, refusal-passes, Passes, All, allOf-all}
+use Rattle.fold.specs.Laws.RefusalLaws.{numbered, refusal-passes, All, allOf-all}
+use Rattle.fold.specs.Laws.TestLaws.{stops, goes-on}
 use Rattle.limits.specs.Laws.RowLaws.{joined, Alike, joined-row, allOf-append}
 
 -- a row of one test, then the later ones
@@ -32,26 +34,19 @@ none = refl
 
 -- ---- a call's list in stages
 
-pub stopped : {x : ℕ} (early later : List (ℕ × Bool)) → x ≡ firstFailing early → (x ≡ 0 → ⊥) → x ≡ firstFailing (early ++ later)
-unfolding firstFailing
-stopped [] later e h = absurd (h e)
-stopped {x} (test ∷ tests) later e h = step (test .1) e (λ f. stopped tests later f h)
+-- first(x == 0, x, y), where x is the number of the first rows and y that of the later ones
+pub after-rows : (early later : List (ℕ × Bool)) {x y z : ℕ} → numbered early ≡ true → x ≡ firstFailing early → y ≡ firstFailing later
+    → z ≡ cond (eqb x 0) y x → z ≡ firstFailing (early ++ later)
+after-rows early later {x} {y} {z} l e f g = by (eqb x 0) refl
   where
-    step : (t : Bool) → x ≡ cond t (firstFailing tests) (test .0)
-        → (x ≡ firstFailing tests → x ≡ firstFailing (tests ++ later))
-        → x ≡ cond t (firstFailing (tests ++ later)) (test .0)
-    step true f next = next f
-    step false f next = f
-
-passed : (early later : List (ℕ × Bool)) → Passes early → firstFailing (early ++ later) ≡ firstFailing later
-unfolding firstFailing
-passed [] later p = refl
-passed (test ∷ tests) later p = rw (p .0) (passed tests later (p .1))
+    by : (t : Bool) → eqb x 0 ≡ t → z ≡ firstFailing (early ++ later)
+    by true h = (rw h at g) ∙ f ∙ sym (goes-on early later (refusal-passes early l (sym e ∙ eqb-true x 0 h)))
+    by false h = (rw h at g) ∙ stops early later e (eqb-false x 0 h)
 
 module _ (early : List (ℕ × Bool)) (m : ℕ) (t : Bool) (later : List (ℕ × Bool)) {x : ℕ} {s : Bool}
     (l : numbered early ≡ true) (e : x ≡ firstFailing early) (z : x ≡ 0) (q : s ≡ t) where
   after : firstFailing (early ++ ((m, t) ∷ later)) ≡ firstFailing ((m, t) ∷ later)
-  after = passed early ((m, t) ∷ later) (refusal-passes early l (sym e ∙ z))
+  after = goes-on early ((m, t) ∷ later) (refusal-passes early l (sym e ∙ z))
 
   pub unfit : not s ≡ true → m ≡ firstFailing (early ++ ((m, t) ∷ later))
   unfolding firstFailing

@@ -1,7 +1,6 @@
 -- `limits::bounds::aggregate_bounds` meets its contract: rows 1 and 2 in order. Assumes nothing.
-use borrow.Author.Needs.{needs}
-use Rattle.limits.specs.Laws.RowLaws.{end, _&_}
-use Rattle.limits.specs.Laws.StageLaws.{single, row, none}
+use Rattle.limits.specs.Laws.RowLaws.{end, _&_, joined-row}
+use Rattle.limits.specs.Laws.StageLaws.{single, none, append-rows}
 use Rattle.limits.proofs.bounds.aggregate_bounds.Statement.{statement}
 use Rattle.limits.proofs.bounds.aggregate_bounds.Tie as tie
 
@@ -12,21 +11,19 @@ returns c =
     let c3 = c2 .before in
     let c4 = c3 .before in
     let c5 = c4 .before in
-    let c6 = c5 .before in
-    single 1 _ (c6 .degree .ensures) (c .first2 .ensures)
-    (row 2 _
-    (c5 .rank .ensures & c4 .parts .ensures & c3 .constraint-count .ensures & c2 .projection-count .ensures & end) (c1 .first .ensures)
-    none)
+    single 1 _ (c2 .degree .ensures) (c .first2 .ensures)
+    (single 2 _
+    (append-rows _ _ (c3 .shape .ensures) (joined-row (c5 .constraint-count .ensures & c4 .projection-count .ensures & end)))
+    (c1 .first .ensures) none)
 
 pub aggregate-bounds-spec : {M : Type 1} → statement M
 aggregate-bounds-spec =
     tie.close
     (tie.spec
-    (λ c κs. search needs)
-    (λ c κs. search needs)
-    (λ c κs. search needs)
-    (λ c κs. search needs)
-    (λ c κs. search needs)
-    (λ c κs. search needs)
-    (λ c κs. search needs)
+    (λ c κs. tt)
+    (λ c κs. tt)
+    (λ c κs. tt)
+    (λ c κs. tt)
+    (λ c κs. tt)
+    (λ c κs. tt)
     returns)

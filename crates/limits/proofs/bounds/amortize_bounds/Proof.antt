@@ -1,7 +1,5 @@
 -- `limits::bounds::amortize_bounds` meets its contract: rows 1, 2 and 4 in order. Assumes nothing.
-use borrow.Author.Needs.{needs}
-use Rattle.limits.specs.Laws.RowLaws.{end, _&_}
-use Rattle.limits.specs.Laws.StageLaws.{single, row, none}
+use Rattle.limits.specs.Laws.StageLaws.{single, none}
 use Rattle.limits.proofs.bounds.amortize_bounds.Statement.{statement}
 use Rattle.limits.proofs.bounds.amortize_bounds.Tie as tie
 
@@ -12,21 +10,18 @@ returns c =
     let c3 = c2 .before in
     let c4 = c3 .before in
     let c5 = c4 .before in
-    let c6 = c5 .before in
-    single 1 _ (c6 .degree .ensures) (c .first3 .ensures)
-    (row 2 _ (c5 .rank .ensures & c4 .parts .ensures & end) (c1 .first2 .ensures)
-    (single 4 _ (c3 .base .ensures) (c2 .first .ensures)
-    none))
+    single 1 _ (c4 .degree .ensures) (c .first3 .ensures)
+    (single 2 _ (c5 .shape .ensures) (c1 .first2 .ensures)
+    (single 4 _ (c3 .base .ensures) (c2 .first .ensures) none))
 
 pub amortize-bounds-spec : {M : Type 1} → statement M
 amortize-bounds-spec =
     tie.close
     (tie.spec
-    (λ c κs. search needs)
-    (λ c κs. search needs)
-    (λ c κs. search needs)
-    (λ c κs. search needs)
-    (λ c κs. search needs)
-    (λ c κs. search needs)
-    (λ c κs. search needs)
+    (λ c κs. tt)
+    (λ c κs. tt)
+    (λ c κs. tt)
+    (λ c κs. tt)
+    (λ c κs. tt)
+    (λ c κs. tt)
     returns)

@@ -1,7 +1,6 @@
 -- `limits::bounds::garbage_bounds` meets its contract: rows 1 to 4 in order. Assumes nothing.
-use borrow.Author.Needs.{needs}
 use Rattle.limits.specs.Laws.RowLaws.{end, _&_}
-use Rattle.limits.specs.Laws.StageLaws.{single, row, none}
+use Rattle.limits.specs.Laws.StageLaws.{single, row, none, append-rows}
 use Rattle.limits.proofs.bounds.garbage_bounds.Statement.{statement}
 use Rattle.limits.proofs.bounds.garbage_bounds.Tie as tie
 
@@ -16,32 +15,23 @@ returns c =
     let c7 = c6 .before in
     let c8 = c7 .before in
     let c9 = c8 .before in
-    let c10 = c9 .before in
-    let c11 = c10 .before in
-    let c12 = c11 .before in
-    single 1 _ (c12 .degree .ensures) (c .first4 .ensures)
-    (row 2 _
-    (c11 .rank .ensures & c10 .parts .ensures & c9 .constraint-count .ensures & c8 .constraint-count2 .ensures
-    & c7 .projection-count .ensures & end) (c1 .first3 .ensures)
-    (single 3 _ (c6 .commitment-rank .ensures) (c2 .first2 .ensures)
-    (row 4 _ (c5 .base .ensures & c4 .digit-count .ensures & end) (c3 .first .ensures)
-    none)))
+    single 1 _ (c4 .degree .ensures) (c .first4 .ensures)
+    (single 2 _ (append-rows _ _ (c9 .shape .ensures) (c8 .counts .ensures)) (c1 .first3 .ensures)
+    (single 3 _ (c7 .commitment-rank .ensures) (c2 .first2 .ensures)
+    (row 4 _ (c6 .base .ensures & c5 .digit-count .ensures & end) (c3 .first .ensures) none)))
 
 pub garbage-bounds-spec : {M : Type 1} → statement M
 garbage-bounds-spec =
     tie.close
     (tie.spec
-    (λ c κs. search needs)
-    (λ c κs. search needs)
-    (λ c κs. search needs)
-    (λ c κs. search needs)
-    (λ c κs. search needs)
-    (λ c κs. search needs)
-    (λ c κs. search needs)
-    (λ c κs. search needs)
-    (λ c κs. search needs)
-    (λ c κs. search needs)
-    (λ c κs. search needs)
-    (λ c κs. search needs)
-    (λ c κs. search needs)
+    (λ c κs. tt)
+    (λ c κs. tt)
+    (λ c κs. tt)
+    (λ c κs. tt)
+    (λ c κs. tt)
+    (λ c κs. tt)
+    (λ c κs. tt)
+    (λ c κs. tt)
+    (λ c κs. tt)
+    (λ c κs. tt)
     returns)

@@ -1,7 +1,6 @@
 -- `limits::bounds::project_bounds` meets its contract: rows 1 and 2 in order. Assumes nothing.
-use borrow.Author.Needs.{needs}
-use Rattle.limits.specs.Laws.RowLaws.{end, _&_}
-use Rattle.limits.specs.Laws.StageLaws.{single, row, none}
+use Rattle.limits.specs.Laws.RowLaws.{end, _&_, joined-row}
+use Rattle.limits.specs.Laws.StageLaws.{single, none, append-rows}
 use Rattle.limits.proofs.bounds.project_bounds.Statement.{statement}
 use Rattle.limits.proofs.bounds.project_bounds.Tie as tie
 
@@ -11,19 +10,16 @@ returns c =
     let c2 = c1 .before in
     let c3 = c2 .before in
     let c4 = c3 .before in
-    let c5 = c4 .before in
-    single 1 _ (c5 .degree .ensures) (c .first2 .ensures)
-    (row 2 _ (c4 .rank .ensures & c3 .parts .ensures & c2 .projection-count .ensures & end) (c1 .first .ensures)
-    none)
+    single 1 _ (c2 .degree .ensures) (c .first2 .ensures)
+    (single 2 _ (append-rows _ _ (c4 .shape .ensures) (joined-row (c3 .projection-count .ensures & end))) (c1 .first .ensures) none)
 
 pub project-bounds-spec : {M : Type 1} → statement M
 project-bounds-spec =
     tie.close
     (tie.spec
-    (λ c κs. search needs)
-    (λ c κs. search needs)
-    (λ c κs. search needs)
-    (λ c κs. search needs)
-    (λ c κs. search needs)
-    (λ c κs. search needs)
+    (λ c κs. tt)
+    (λ c κs. tt)
+    (λ c κs. tt)
+    (λ c κs. tt)
+    (λ c κs. tt)
     returns)

@@ -14,17 +14,15 @@ returns c =
     let c5 = c4 .before in
     let c6 = c5 .before in
     let c7 = c6 .before in
-    let c8 = c7 .before in
     joined-tests
-    (c8 .are-coefficients .ensures
-    & c7 .are-coefficients2 .ensures
-    & c6 .are-coefficients3 .ensures
-    & c5 .are-coefficients4 .ensures
-    & c4 .are-coefficients5 .ensures
-    & c3 .are-coefficients6 .ensures
-    & c2 .are-coefficients7 .ensures
-    & c1 .are-coefficients8 .ensures
-    & c .are-coefficients9 .ensures
+    (c7 .are-coefficients .ensures
+    & c6 .are-coefficients2 .ensures
+    & c5 .are-coefficients3 .ensures
+    & c4 .are-coefficients4 .ensures
+    & c3 .are-coefficients5 .ensures
+    & c2 .are-coefficients6 .ensures
+    & c1 .are-coefficients7 .ensures
+    & c .are-coefficients8 .ensures
     & end)
     refl
 
@@ -32,7 +30,6 @@ pub message-ranges-spec : {M : Type 1} → statement M
 message-ranges-spec =
     tie.close
     (tie.spec
-    (λ c κs. tt)
     (λ c κs. tt)
     (λ c κs. tt)
     (λ c κs. tt)
