@@ -53,7 +53,7 @@ pub fn add_products(
 }
 
 // Whether all entries of a row are zero.
-pub fn is_zero(d: usize, row: [[i32; 64]; 5]) -> bool
+fn is_zero(d: usize, row: [[i32; 64]; 5]) -> bool
     requires { ⌜ Degree d ⌝ }
     ensures { λ b. ⌜ b ≡ every 5 (λ k. same d (lift d (getD row k [])) (R d .zero)) ⌝ }
 {

@@ -4,7 +4,7 @@ ghost use Prim.Native.Nat.{min};
 ghost use lib.IntN.{natAbs};
 ghost use lib.ListN.{length};
 
-pub fn print_word(x: i32) -> u64
+fn print_word(x: i32) -> u64
     ensures { λ r. ⌜ r ≡ natAbs x ⌝ }
 {
     if x < 0 {

@@ -31,7 +31,7 @@ fn multiplied(d: usize, a: Element, b: Element) -> Element
 }
 
 // Σ_k α_k f_k at place e; place functionSize is the constants.
-pub fn whole_entry(shape: Shape, kc: usize, whole: &[i32], alpha: &[i32], e: usize) -> Element
+fn whole_entry(shape: Shape, kc: usize, whole: &[i32], alpha: &[i32], e: usize) -> Element
     requires { ⌜ WholeFacts (shape .d) (shape .n) (shape .r) kc (now whole) (now alpha) ⌝ }
     requires { ⌜ e ≤ functionSize (shape .n) (shape .r) ⌝ }
     ensures { λ r. ⌜ r .coefficients ≡ array (shape .d) (wholeEntry (shape .d) (shape .n) (shape .r) kc (now (whole .entry))

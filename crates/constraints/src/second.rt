@@ -18,7 +18,7 @@ use ring::element::Element;
 pub const COUNT: usize = 5;
 
 // Σ_l ψ_kl f'_l at place e.
-pub fn term_entry(shape: Shape, l: usize, term: &[i32], psi: &[i32], k: usize, e: usize) -> Element
+fn term_entry(shape: Shape, l: usize, term: &[i32], psi: &[i32], k: usize, e: usize) -> Element
     requires { ⌜ TermFacts (shape .d) (shape .n) (shape .r) l (now term) (now psi) ⌝ }
     requires { ⌜ (k < 5) × (e < functionSize (shape .n) (shape .r)) ⌝ }
     ensures { λ r. ⌜ r .coefficients ≡ array (shape .d) (termEntry (shape .d) (shape .n) (shape .r) l (now (term .entry))
@@ -43,16 +43,6 @@ pub fn term_entry(shape: Shape, l: usize, term: &[i32], psi: &[i32], k: usize, e
     sum
 }
 
-// The a of f''_k at pair place e.
-pub fn second_a(shape: Shape, l: usize, term: &[i32], psi: &[i32], k: usize, e: usize) -> Element
-    requires { ⌜ TermFacts (shape .d) (shape .n) (shape .r) l (now term) (now psi) ⌝ }
-    requires { ⌜ (k < 5) × (e < pairs (shape .r)) ⌝ }
-    ensures { λ r. ⌜ r .coefficients ≡ array (shape .d) (secondA (shape .d) (shape .n) (shape .r) l (now (term .entry))
-        (now (psi .entry)) k e) ⌝ }
-{
-    term_entry(shape, l, term, psi, k, e)
-}
-
 // The a of the five second functions at pair place e.
 pub fn second_row_a(shape: Shape, l: usize, term: &[i32], psi: &[i32], e: usize) -> [[i32; 64]; 5]
     requires { ⌜ TermFacts (shape .d) (shape .n) (shape .r) l (now term) (now psi) ⌝ }
@@ -63,7 +53,7 @@ pub fn second_row_a(shape: Shape, l: usize, term: &[i32], psi: &[i32], e: usize)
     let mut row = [[0i32; 64]; 5];
     let mut k = 0;
     while k < COUNT {
-        let entry = second_a(shape, l, term, psi, k, e);
+        let entry = term_entry(shape, l, term, psi, k, e);
         let coefficients = entry.coefficients;
         row[k] = coefficients;
         k += 1;

@@ -36,7 +36,7 @@ fn square_weight(nu: usize, b: usize, s: usize, s2: usize) -> i32
 }
 
 // The a of check 6 for parts s and s2: chunk i of one digit of z with chunk i of a digit.
-pub fn square(d: usize, nu: usize, b: usize, s: usize, s2: usize) -> Element
+fn square(d: usize, nu: usize, b: usize, s: usize, s2: usize) -> Element
     requires { ⌜ Degree d ⌝ }
     requires { ⌜ Base b ⌝ }
     requires { ⌜ (0 < nu) × (nu ≤ 16) ⌝ }

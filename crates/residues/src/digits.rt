@@ -9,7 +9,7 @@ ghost use Rattle.residues.specs.DigitBlocks.{Peeled};
 use crate::modulus::centre;
 
 // The low digit of x: congruent to x modulo the base, at least -base/2 and below base/2.
-pub fn low_digit(base: usize, x: i32) -> i32
+fn low_digit(base: usize, x: i32) -> i32
     requires { ⌜ Base base ⌝ }
     ensures { λ r. ⌜ r ≡ low base x ⌝ }
 {
@@ -22,7 +22,7 @@ pub fn low_digit(base: usize, x: i32) -> i32
 }
 
 // What is left of x after its low digit: their difference divided by the base.
-pub fn quotient(base: usize, x: i32) -> i32
+fn quotient(base: usize, x: i32) -> i32
     requires { ⌜ Base base ⌝ }
     ensures { λ r. ⌜ r ≡ rest base x ⌝ }
 {

@@ -116,7 +116,7 @@ fn body_refusal(s: SheetSizes, text: &[u8], room: usize) -> u8
 }
 
 // Every test, for a slice of `room` numbers; 0 where the text is a sheet.
-pub fn sheet_refusal(text: &[u8], room: usize) -> u8
+fn sheet_refusal(text: &[u8], room: usize) -> u8
     ensures { λ r. ⌜ r ≡ firstFailing (readingTests room (now (text .entry))) ⌝ }
 {
     let header = header_refusal(text);

@@ -5,6 +5,7 @@ ghost use Rattle.sheet.specs.Sections.{Bounded, Sectioned, matrixCount, 
 ghost use Rattle.sheet.specs.Sections.{total, rowsFrom, challengesFrom, endsElement, endsTerm, endsLine};
 use fold::counts::function_size;
 use fold::counts::garbage_size;
+use fold::counts::opening_size;
 use fold::counts::t_size;
 
 // The header's numbers, in its order; `bound` is β² and `target` is β'².
@@ -79,10 +80,7 @@ fn last_count(s: SheetSizes) -> usize
     requires { ⌜ Bounded s ⌝ }
     ensures { λ p. ⌜ (p ≡ lastCount s) × (p ≤ 3778) ⌝ }
 {
-    let ts = t_size(s.r, s.kappa, s.t1);
-    let gs = garbage_size(s.r, s.t2);
-    let hs = garbage_size(s.r, s.t1);
-    let opening = 2 * s.n + (ts + (gs + hs));
+    let opening = opening_size(s.n, s.r, s.kappa, s.t1, s.t2);
     5 + (s.k + (5 + (s.kappa2 + (s.r + opening))))
 }
 

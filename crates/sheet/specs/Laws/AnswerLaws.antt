@@ -154,7 +154,7 @@ pub stored : (s : SheetSizes) (text : List ℕ) (q : Sections) (i : Inside s tex
     (before : List ℤ) {after : List ℤ} → length before ≡ total s
     → after ≡ over before 0 (numbersFrom (endsLine q) 289 text 0 count) → after ≡ bodyNumbers s text
 stored s text q i e c before fits f =
-    let numbers = all-numbers s text q i e c in
+    let numbers = all-numbers i e c in
     let size : length (bodyNumbers s text) ≡ length before = length-body s (i .bounded .degree-positive) text ∙ body-total s ∙ sym fits in
     f ∙ rw numbers (over-all before (bodyNumbers s text) size)
 

@@ -61,27 +61,28 @@ module _ (ends : ℕ → Bool) (text : List ℕ) (from : ℕ) where
       → coefficients (numbersFrom ends 289 text (from + m) d) ≡ true
   part-coefficients count m d h e = rw (← numbers-part count m d h) (coefficients-part m d (numbersFrom ends 289 text from count) e)
 
-pub record Challenged (ends : ℕ → Bool) (text : List ℕ) (from d r here at e : ℕ) : Type 0 where
+pub record Challenged (ends : ℕ → Bool) (text : List ℕ) (from start d r here at e : ℕ) : Type 0 where
+  pub span : Span ends text from start (r * d)
   pub below : e ≤ r
   pub at-is : at ≡ from + e * d
   pub is : here ≡ place ends 289 at
   pub passed : every e (λ i. challenge (take d (drop (i * d) (numbersFrom ends 289 text from (r * d))))) ≡ true
 
-module _ (ends : ℕ → Bool) (text : List ℕ) (from start d r : ℕ) (span : Span ends text from start (r * d)) where
-  pub challenged-start : Challenged ends text from d r start from 0
-  challenged-start =
+module _ {ends : ℕ → Bool} {text : List ℕ} {from start d r : ℕ} where
+  pub challenged-start : Span ends text from start (r * d) → Challenged ends text from start d r start from 0
+  challenged-start span =
       record {
+        span = span;
         below = omega arith;
-        at-is = sym
-            (ap (λ (x : ℕ). from + x) (zero-mul d) ∙ add-zero from);
+        at-is = sym (ap (λ (x : ℕ). from + x) (zero-mul d) ∙ add-zero from);
         is = span .is;
         passed = every-zero _;
       }
 
-  module _ (here at e : ℕ) (inv : Challenged ends text from d r here at e) (more : e < r) where
+  module _ {here at e : ℕ} (inv : Challenged ends text from start d r here at e) (more : e < r) where
     pub challenged-span : Span ends text at here d
     challenged-span =
-        rw (inv .at-is) (part-span ends text from (e * d) d here span (block-end e r d more) (inv .is ∙ ap (place ends 289) (inv .at-is)))
+        rw (inv .at-is) (part-span ends text from (e * d) d here (inv .span) (block-end e r d more) (inv .is ∙ ap (place ends 289) (inv .at-is)))
 
     pub challenged-range : coefficients (numbersFrom ends 289 text from (r * d)) ≡ true → coefficients (numbersFrom ends 289 text at d) ≡ true
     challenged-range q = rw (inv .at-is) (part-coefficients ends text from (r * d) (e * d) d (block-end e r d more) q)
@@ -103,15 +104,16 @@ module _ (ends : ℕ → Bool) (text : List ℕ) (from start d r : ℕ) (span : 
           step false q = refl
 
       pub challenged-step : not good ≡ false → {next : ℕ} → next ≡ place ends 289 (at + d)
-          → Challenged ends text from d r next (at + d) (e + 1)
+          → Challenged ends text from start d r next (at + d) (e + 1)
       challenged-step t q = record {
+        span = inv .span;
         below = omega arith;
         at-is = rw (inv .at-is, add-one e, suc-mul e d) (add-assoc from (e * d) d);
         is = q;
         passed = every-add-one e _ ∙ rw (inv .passed) (sym tested-part ∙ not-false good t);
       }
 
-  pub challenged-end : (here at e : ℕ) → Challenged ends text from d r here at e → r ≤ e
+  pub challenged-end : {here at e : ℕ} → Challenged ends text from start d r here at e → r ≤ e
       → true ≡ challenges d r (numbersFrom ends 289 text from (r * d))
   unfolding challenges
-  challenged-end here at e inv h = let same : e ≡ r = omega (arith, inv .below) in sym (rw same at (inv .passed))
+  challenged-end {e} inv h = let same : e ≡ r = omega (arith, inv .below) in sym (rw same at (inv .passed))

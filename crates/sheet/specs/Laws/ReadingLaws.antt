@@ -26,11 +26,11 @@ use Rattle.sheet.specs.Reading.{bodyLaid, bodyNumbers, rowsIn, challenge
 use Rattle.sheet.specs.Reading.{numberTests, bodyTests}
 use Rattle.sheet.specs.Known.Reading.{endsAt, Inside}
 
-pub lines-positive : (s : SheetSizes) (q : Sections) → Bounded s → Sectioned s q → (0 < q .d) × (0 < q .period)
+pub lines-positive : {s : SheetSizes} {q : Sections} → Bounded s → Sectioned s q → (0 < q .d) × (0 < q .period)
 unfolding sectionsOf termSize
-lines-positive s q b e = (rw (e .is) (b .degree-positive), rw (e .is) (omega arith))
+lines-positive b e = (rw (e .is) (b .degree-positive), rw (e .is) (omega arith))
 
-module _ (s : SheetSizes) (text : List ℕ) (q : Sections) (i : Inside s text) (e : Sectioned s q) where
+module _ {s : SheetSizes} {text : List ℕ} {q : Sections} (i : Inside s text) (e : Sectioned s q) where
   -- the first m numbers
   pub front-span : (m : ℕ) → m ≤ total s → Span (endsLine q) text 0 289 m
   unfolding place
@@ -40,8 +40,8 @@ module _ (s : SheetSizes) (text : List ℕ) (q : Sections) (i : Inside s text) (
   }
 
   -- c numbers after them
-  pub later-span : (m c start : ℕ) → m + c ≤ total s → start ≡ place (endsLine q) 289 (0 + m) → Span (endsLine q) text m start c
-  later-span m c start h p = record {
+  pub later-span : (m c : ℕ) {start : ℕ} → m + c ≤ total s → start ≡ place (endsLine q) 289 (0 + m) → Span (endsLine q) text m start c
+  later-span m c h p = record {
     is = p ∙ ap (place (endsLine q) 289) (zero-add m);
     inside = rw (e .is) (omega (arith, i .inside, place-mono (endsLine (sectionsOf s)) 289 (m + c) (total s) h));
   }

@@ -5,8 +5,8 @@ use Prim.Native.Nat.{ℕ, _+_, _*_, _-_, _%_, _≤_, _<_}
 use native.Mathlib.Nat.{mul-le-mul}
 use native.Mathlib.Omega.{arith}
 use borrow.Author.Tests.{eq-eqb, ne-eqb, lt-ltb, le-ltb}
-use Rattle.fold.specs.Sizes.{functionSize, tSize, garbageSize}
-use Rattle.fold.specs.Laws.SizeBounds.{functionSize-bound, tSize-bound, garbageSize-bound}
+use Rattle.fold.specs.Sizes.{functionSize, tSize, garbageSize, openingSize}
+use Rattle.fold.specs.Laws.SizeBounds.{functionSize-bound, tSize-bound, garbageSize-bound, openingSize-bound}
 use Rattle.sheet.specs.declared.sizes.SheetSizes.{SheetSizes}
 use Rattle.sheet.specs.declared.sizes.Sections.{Sections}
 use Rattle.sheet.specs.Sections.{Bounded, lastCount, sectionsOf, total, rowsFrom, challengesFrom, endsElement, endsTerm, endsLine}
@@ -26,6 +26,9 @@ module _ {s : SheetSizes} (b : Bounded s) where
   pub function-few : {x : ℕ} → x ≡ functionSize (s .n) (s .r) → x ≤ 4232
   function-few e = rw e (functionSize-bound _ _ (b .rank) (b .parts))
 
+  pub opening-few : {x : ℕ} → x ≡ openingSize 2 (s .n) (s .r) (s .kappa) (s .t1) (s .t2) → x ≤ 3712
+  opening-few e = rw e (openingSize-bound _ _ _ _ _ (b .rank) (b .parts) (b .κ) (b .t₁) (b .t₂))
+
   module _ {t g h : ℕ} (e : t ≡ tSize (s .r) (s .kappa) (s .t1)) (f : g ≡ garbageSize (s .r) (s .t2)) (k : h ≡ garbageSize (s .r) (s .t1)) where
     t-few : t ≤ 1024
     t-few = rw e (tSize-bound _ _ _ (b .parts) (b .κ) (b .t₁))
@@ -39,9 +42,6 @@ module _ {s : SheetSizes} (b : Bounded s) where
     pub matrices-few : s .kappa * s .n + (s .kappa1 * t + (s .kappa1 * g + s .kappa2 * h)) ≤ 27648
     matrices-few =
         omega (arith, mul-le-mul (b .κ) (b .rank), mul-le-mul (b .κ₁) t-few, mul-le-mul (b .κ₁) g-few, mul-le-mul (b .κ₂) h-few)
-
-    pub opening-few : 2 * s .n + (t + (g + h)) ≤ 3712
-    opening-few = omega (arith, b .rank, t-few, g-few, h-few)
 
 -- ---- sums of the parts
 

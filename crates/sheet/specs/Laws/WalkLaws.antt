@@ -36,32 +36,33 @@ pub place-index : (ends : ℕ → Bool) (i : ℕ) → i + 289 ≤ place ends 289
 unfolding place
 place-index ends i = omega (arith, place-mono ends 289 0 i (omega arith))
 
-pub record Walked (ends : ℕ → Bool) (from count here j : ℕ) : Type 0 where
+pub record Walked (ends : ℕ → Bool) (text : List ℕ) (from start count here j : ℕ) : Type 0 where
+  pub span : Span ends text from start count
   pub below : j ≤ count
   pub is : here ≡ place ends 289 (from + j)
 
-module _ (ends : ℕ → Bool) (text : List ℕ) (from start count : ℕ) (span : Span ends text from start count) where
-  pub walked-start : Walked ends from count start 0
-  walked-start = record { below = omega arith; is = span .is ∙ ap (place ends 289) (sym (add-zero from)) }
+module _ {ends : ℕ → Bool} {text : List ℕ} {from start count : ℕ} where
+  pub walked-start : Span ends text from start count → Walked ends text from start count start 0
+  walked-start span = record { span = span; below = omega arith; is = span .is ∙ ap (place ends 289) (sym (add-zero from)) }
 
-  module _ (here j : ℕ) (inv : Walked ends from count here j) (more : j < count) where
+  module _ {here j : ℕ} (inv : Walked ends text from start count here j) where
     -- the place is no smaller than the number's index
-    pub walked-index : from + j < length text
-    walked-index =
-        omega (arith, span .inside, place-index ends (from + j), place-mono ends 289 (from + j) (from + count) (omega arith))
+    pub walked-index : j < count → from + j < length text
+    walked-index more =
+        omega (arith, inv .span .inside, place-index ends (from + j), place-mono ends 289 (from + j) (from + count) (omega arith))
 
-    module _ {last : Bool} {width : ℕ} (told : last ≡ ends (from + j)) (wide : width ≡ fieldWidth last) where
+    module _ (more : j < count) {last : Bool} {width : ℕ} (told : last ≡ ends (from + j)) (wide : width ≡ fieldWidth last) where
       walked-next : here + width ≡ place ends 289 (from + j + 1)
       walked-next = rw (inv .is, wide, told) (sym (place-next ends 289 (from + j)))
 
       pub walked-fits : here + width ≤ length text
-      walked-fits = omega (arith, walked-next, span .inside, place-mono ends 289 (from + j + 1) (from + count) (omega arith))
+      walked-fits = omega (arith, walked-next, inv .span .inside, place-mono ends 289 (from + j + 1) (from + count) (omega arith))
 
-      pub walked-step : Walked ends from count (here + width) (j + 1)
-      walked-step = record { below = omega arith; is = walked-next ∙ ap (place ends 289) (add-assoc from j 1) }
+      pub walked-step : Walked ends text from start count (here + width) (j + 1)
+      walked-step = record { span = inv .span; below = omega arith; is = walked-next ∙ ap (place ends 289) (add-assoc from j 1) }
 
-  pub walked-end : (here j : ℕ) → Walked ends from count here j → count ≤ j → here ≡ place ends 289 (from + count)
-  walked-end here j inv h = let e : j ≡ count = omega (arith, inv .below) in inv .is ∙ ap (λ (k : ℕ). place ends 289 (from + k)) e
+    pub walked-end : count ≤ j → here ≡ place ends 289 (from + count)
+    walked-end h = let e : j ≡ count = omega (arith, inv .below) in inv .is ∙ ap (λ (k : ℕ). place ends 289 (from + k)) e
 
 -- ---- the loop of `all_within`
 
@@ -69,16 +70,16 @@ single : (b : ℕ) (x : ℤ) → natAbs x ≤ b → allWithin b (x ∷ []) ≡ t
 unfolding allWithin
 single b x h = rw (le-leb (natAbs x) b h) refl
 
-pub record Ranged (ends : ℕ → Bool) (text : List ℕ) (from count bound here j : ℕ) : Type 0 where
-  pub walk : Walked ends from count here j
+pub record Ranged (ends : ℕ → Bool) (text : List ℕ) (from start count bound here j : ℕ) : Type 0 where
+  pub walk : Walked ends text from start count here j
   pub passed : allWithin bound (numbersFrom ends 289 text from j) ≡ true
 
-module _ (ends : ℕ → Bool) (text : List ℕ) (from start count bound : ℕ) (span : Span ends text from start count) where
-  pub ranged-start : Ranged ends text from count bound start 0
+module _ {ends : ℕ → Bool} {text : List ℕ} {from start count bound : ℕ} where
+  pub ranged-start : Span ends text from start count → Ranged ends text from start count bound start 0
   unfolding numbersFrom tab allWithin
-  ranged-start = record { walk = walked-start ends text from start count span; passed = refl }
+  ranged-start span = record { walk = walked-start span; passed = refl }
 
-  module _ (here j : ℕ) (inv : Ranged ends text from count bound here j) (more : j < count) {good : Bool}
+  module _ {here j : ℕ} (inv : Ranged ends text from start count bound here j) (more : j < count) {good : Bool}
       (tested : good ≡ leb (natAbs (numberAt text here)) bound) where
     here-number : natAbs (numberAt text here) ≡ natAbs (numberAt text (place ends 289 (from + j)))
     here-number = ap (λ (p : ℕ). natAbs (numberAt text p)) (inv .walk .is)
@@ -90,37 +91,37 @@ module _ (ends : ℕ → Bool) (text : List ℕ) (from start count bound : ℕ) 
         (rw (number-of ends text from count j more) (omega (arith, above, here-number))))
 
     pub ranged-step : not good ≡ false → {last : Bool} {width : ℕ} → last ≡ ends (from + j) → width ≡ fieldWidth last
-        → Ranged ends text from count bound (here + width) (j + 1)
+        → Ranged ends text from start count bound (here + width) (j + 1)
     unfolding numbersFrom
     ranged-step t told wide =
         let within = leb-true (natAbs (numberAt text here)) bound (sym tested ∙ not-false good t) in
         let f : ℕ → ℤ = λ k. numberAt text (place ends 289 (from + k)) in
         record {
-          walk = walked-step ends text from start count span here j (inv .walk) more told wide;
+          walk = walked-step (inv .walk) more told wide;
           passed =
               rw (add-one j, tab-suc j f)
               (allWithin-join bound (tab j f) (f j ∷ []) (inv .passed) (single bound (f j) (omega (arith, within, here-number))));
         }
 
-  pub ranged-end : (here j : ℕ) → Ranged ends text from count bound here j → count ≤ j
+  pub ranged-end : {here j : ℕ} → Ranged ends text from start count bound here j → count ≤ j
       → true ≡ allWithin bound (numbersFrom ends 289 text from count)
-  ranged-end here j inv h =
+  ranged-end {j} inv h =
       let e : j ≡ count = omega (arith, inv .walk .below) in
       sym (rw e at (inv .passed))
 
 -- ---- the loop of `fill`
 
-pub record Filled (ends : ℕ → Bool) (text : List ℕ) (from count : ℕ) (out₀ out : List ℤ) (here j : ℕ) : Type 0 where
-  pub walk : Walked ends from count here j
+pub record Filled (ends : ℕ → Bool) (text : List ℕ) (from start count : ℕ) (out₀ out : List ℤ) (here j : ℕ) : Type 0 where
+  pub walk : Walked ends text from start count here j
   pub written : out ≡ over out₀ 0 (numbersFrom ends 289 text from j)
   pub size : length out ≡ length out₀
 
-module _ (ends : ℕ → Bool) (text : List ℕ) (from start count : ℕ) (span : Span ends text from start count) where
-  pub filled-start : (out : List ℤ) → Filled ends text from count out out start 0
+module _ {ends : ℕ → Bool} {text : List ℕ} {from start count : ℕ} where
+  pub filled-start : {out : List ℤ} → Span ends text from start count → Filled ends text from start count out out start 0
   unfolding numbersFrom tab
-  filled-start out = record { walk = walked-start ends text from start count span; written = sym (over-nil out 0); size = refl }
+  filled-start {out} span = record { walk = walked-start span; written = sym (over-nil out 0); size = refl }
 
-  module _ (out₀ out : List ℤ) (here j : ℕ) (inv : Filled ends text from count out₀ out here j) (more : j < count) where
+  module _ {out₀ out : List ℤ} {here j : ℕ} (inv : Filled ends text from start count out₀ out here j) (more : j < count) where
     pub filled-small : coefficients (numbersFrom ends 289 text from count) ≡ true → natAbs (numberAt text here) ≤ 2147483598
     filled-small e =
         omega (
@@ -130,21 +131,21 @@ module _ (ends : ℕ → Bool) (text : List ℕ) (from start count : ℕ) (span 
         )
 
     pub filled-step : count ≤ length out₀ → {x : ℤ} {last : Bool} {width : ℕ} → x ≡ numberAt text here → last ≡ ends (from + j)
-        → width ≡ fieldWidth last → Filled ends text from count out₀ (set out j x) (here + width) (j + 1)
+        → width ≡ fieldWidth last → Filled ends text from start count out₀ (set out j x) (here + width) (j + 1)
     unfolding numbersFrom
     filled-step room {x} read told wide =
         let f : ℕ → ℤ = λ k. numberAt text (place ends 289 (from + k)) in
         let inside : 0 + j < length out₀ = omega arith in
         let place-j : 0 + j ≡ j = omega arith in
         record {
-          walk = walked-step ends text from start count span here j (inv .walk) more told wide;
+          walk = walked-step (inv .walk) more told wide;
           written = rw (inv .written) (subst (λ (k : ℕ). set (over out₀ 0 (tab j f)) k x ≡ over out₀ 0 (tab (j + 1) f)) place-j
               (over-tab out₀ 0 j f x inside (read ∙ ap (numberAt text) (inv .walk .is))));
           size = length-set out j x ∙ inv .size;
         }
 
-  pub filled-end : (out₀ out : List ℤ) (here j : ℕ) → Filled ends text from count out₀ out here j → count ≤ j
+  pub filled-end : {out₀ out : List ℤ} {here j : ℕ} → Filled ends text from start count out₀ out here j → count ≤ j
       → out ≡ over out₀ 0 (numbersFrom ends 289 text from count)
-  filled-end out₀ out here j inv h =
+  filled-end {j} inv h =
       let e : j ≡ count = omega (arith, inv .walk .below) in
       rw e at (inv .written)

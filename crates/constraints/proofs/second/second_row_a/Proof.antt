@@ -1,7 +1,8 @@
--- `constraints::second::second_row_a` meets its contract. The loop has written the first k entries.
+-- `constraints::second::second_row_a` meets its contract: the projection rows have no a. The loop has written the first k entries.
 use Prim.Native.Nat.{_-_}
 use native.Mathlib.Omega.{arith}
 use Rattle.fold.specs.Entries.{secondA}
+use Rattle.constraints.specs.Laws.SizeLaws.{function-parts}
 use Rattle.constraints.specs.Laws.Rows.{Filling, filling-start, filling-step, filling-end}
 use Rattle.constraints.proofs.second.second_row_a.Statement.{statement}
 use Rattle.constraints.proofs.second.second_row_a.Tie as tie
@@ -15,13 +16,14 @@ abbrev μ-loop : tie.MeasureT-loop
 loop-holds : tie.Need-loop-holds Inv-loop μ-loop
 loop-holds c = filling-start _ _
 
-second-a-requires : tie.Need-second-a-requires Inv-loop μ-loop
-second-a-requires c κs =
+term-entry-requires : tie.Need-term-entry-requires Inv-loop μ-loop
+term-entry-requires c κs =
     let s = c .before .before in
-    (s .pre .0, (omega arith, s .pre .1))
+    (s .pre .0, (omega arith, omega (arith, function-parts (s .args .shape .n) (s .args .shape .r), s .pre .1)))
 
 loop-again : tie.Need-loop-again Inv-loop μ-loop
-loop-again c = filling-step (c .before .before .before .loop .inv) (omega arith) (c .before .second-a .ensures)
+unfolding secondA
+loop-again c = filling-step (c .before .before .before .loop .inv) (omega arith) (c .before .term-entry .ensures)
 
 returns : tie.Need-returns Inv-loop μ-loop
 returns c = filling-end (c .before .loop .inv) (omega arith)
@@ -33,7 +35,7 @@ second-row-a-spec =
     Inv-loop
     μ-loop
     loop-holds
-    second-a-requires
+    term-entry-requires
     (λ c. omega arith)
     (λ c. omega arith)
     (λ c. omega arith)

@@ -24,45 +24,23 @@ abbrev μ-loop : tie.MeasureT-loop
 loop-holds : tie.Need-loop-holds Inv-loop μ-loop
 loop-holds c = (sum-start (c .args .base) (c .args .count) (digits-of (c .args .digits .now) (c .args .at) (c .args .width)), omega arith)
 
-mul-fold-digit : tie.Need-mul-fold-digit Inv-loop μ-loop
-mul-fold-digit c =
-    let start = c .before .before in
-    omega (arith, place-fits (start .args .count) (start .args .width) (c .before .loop .left - 1) (omega arith), start .pre .1)
-
-add-fold-digit : tie.Need-add-fold-digit Inv-loop μ-loop
-add-fold-digit c =
-    let start = c .before .before in
-    omega (arith, place-fits (start .args .count) (start .args .width) (c .before .loop .left - 1) (omega arith), start .pre .1)
-
-mul-fold-digit-2 : tie.Need-mul-fold-digit-2 Inv-loop μ-loop
-mul-fold-digit-2 c =
-    let start = c .before .before in
-    omega (arith, place-fits (start .args .count) (start .args .width) (c .before .loop .left - 1) (omega arith), start .pre .1)
-
-shared-slice-copy-out-fold-digit : tie.Need-shared-slice-copy-out-fold-digit Inv-loop μ-loop
-shared-slice-copy-out-fold-digit c =
-    let start = c .before .before in
-    omega (arith, place-fits (start .args .count) (start .args .width) (c .before .loop .left - 1) (omega arith), start .pre .1)
-
-fold-digit-requires : tie.Need-fold-digit-requires Inv-loop μ-loop
-fold-digit-requires c κs = c .before .before .before .pre .0
+fits : (c : tie.In-loop Inv-loop μ-loop)
+    → let a = c .before .before .args in (c .before .loop .left - 1) * a .width ≤ (a .count - 1) * a .width
+fits c = place-fits _ _ _ (omega arith)
 
 loop-again : tie.Need-loop-again Inv-loop μ-loop
 loop-again c =
     let start = c .before .before .before .before in
     let at = c .before .before .before .loop in (
-      sum-step (start .args .base) (start .args .count) (digits-of (start .args .digits .now) (start .args .at) (start .args .width)) (at .left)
-          (at .acc) (c .fold-digit .result) (omega arith) (at .inv .1) (at .inv .0) (record { sfits = c .before .fold-digit-arg .given })
-          (c .fold-digit .ensures),
+      sum-step _ _ (digits-of (start .args .digits .now) (start .args .at) (start .args .width)) (at .left) _ _ (omega arith) (at .inv .1)
+          (at .inv .0) (record { sfits = c .before .fold-digit-arg .given }) (c .fold-digit .ensures),
       omega arith,
     )
 
 returns : tie.Need-returns Inv-loop μ-loop
 returns c =
-    let start = c .before .before in
-    let at = c .before .loop in
-    sum-end (start .args .base) (start .args .count) (digits-of (start .args .digits .now) (start .args .at) (start .args .width)) (at .left)
-    (at .acc) (omega arith) (at .inv .0)
+    let a = c .before .before .args in
+    sum-end _ _ (digits-of (a .digits .now) (a .at) (a .width)) (c .before .loop .left) _ (omega arith) (c .before .loop .inv .0)
 
 pub recompose-number-spec : {M : Type 1} → statement M
 recompose-number-spec =
@@ -72,11 +50,11 @@ recompose-number-spec =
     μ-loop
     loop-holds
     (λ c. omega arith)
-    mul-fold-digit
-    add-fold-digit
-    mul-fold-digit-2
-    shared-slice-copy-out-fold-digit
-    fold-digit-requires
+    (λ c. omega (arith, fits c, c .before .before .pre .1))
+    (λ c. omega (arith, fits c, c .before .before .pre .1))
+    (λ c. omega (arith, fits c, c .before .before .pre .1))
+    (λ c. omega (arith, fits c, c .before .before .pre .1))
+    (λ c κs. c .before .before .before .pre .0)
     (λ c. omega arith)
     loop-again
     returns)

@@ -25,27 +25,15 @@ Inv-loop bound xs rest₀ i₀ rest i = Compared bound xs rest i
 abbrev μ-loop : tie.MeasureT-loop
 μ-loop bound xs rest₀ i₀ rest i = length xs - i
 
-loop-holds : tie.Need-loop-holds Inv-loop μ-loop
-loop-holds c = compared-start _ _
-
 returns : tie.Need-returns Inv-loop μ-loop
 returns c =
-    compared-above _ _ _ _ _
-    (c .before .before .before .before .loop .inv)
-    (c .before .before .before .loop-test .taken)
-    (squared _ (c .before .before .square-arg .given) (c .before .square .ensures))
-    (omega arith)
+    compared-above _ _ _ _ _ (c .before .before .before .before .loop .inv) (c .before .before .before .loop-test .taken)
+    (squared _ (c .before .before .square-arg .given) (c .before .square .ensures)) (omega arith)
 
 loop-again : tie.Need-loop-again Inv-loop μ-loop
 loop-again c =
-    compared-step _ _ _ _ _
-    (c .before .before .before .before .loop .inv)
-    (c .before .before .before .loop-test .taken)
-    (squared _ (c .before .before .square-arg .given) (c .before .square .ensures))
-    (omega arith)
-
-returns-2 : tie.Need-returns-2 Inv-loop μ-loop
-returns-2 c = compared-end _ _ _ _ (c .before .loop .inv) (c .loop-test .left)
+    compared-step _ _ _ _ _ (c .before .before .before .before .loop .inv) (c .before .before .before .loop-test .taken)
+    (squared _ (c .before .before .square-arg .given) (c .before .square .ensures)) (omega arith)
 
 pub compare-spec : {M : Type 1} → statement M
 compare-spec =
@@ -53,7 +41,7 @@ compare-spec =
     (tie.spec
     Inv-loop
     μ-loop
-    loop-holds
+    (λ c. compared-start _ _)
     (λ c. omega arith)
     (λ c. omega arith)
     (λ c κs. tt)
@@ -61,4 +49,4 @@ compare-spec =
     (λ c. omega arith)
     (λ c. omega arith)
     loop-again
-    returns-2)
+    (λ c. compared-end _ _ _ _ (c .before .loop .inv) (c .loop-test .left)))

@@ -10,39 +10,24 @@ Inv-loop text at minus m last left₀ rest₀ due₀ left rest due = Matching te
 abbrev μ-loop : tie.MeasureT-loop
 μ-loop text at minus m last left₀ rest₀ due₀ left rest due = left
 
-returns : tie.Need-returns Inv-loop μ-loop
-returns c =
-    let start = c .before .before .before in
-    matching-not (start .args .text .now) (start .args .at) (start .pre) _ _ (c .if1 .taken)
-
-loop-holds : tie.Need-loop-holds Inv-loop μ-loop
-loop-holds c =
-    let start = c .before .before .before in
-    matching-start (start .args .text .now) (start .args .at) (start .pre) _ _ (c .if1 .left)
-
 returns-2 : tie.Need-returns-2 Inv-loop μ-loop
 returns-2 c =
     let column = c .before .before in
     let at = column .before .before in
-    let start = at .before .before .before .before in
-    matching-other (start .args .text .now) (start .args .at) (start .pre) _ _ (at .loop .left) (at .loop .rest) (at .loop .due)
-    (at .loop .inv)
-    (column .before .loop-test .taken) (column .column-byte .ensures) (c .if2 .taken)
+    matching-other _ _ (at .before .before .before .before .pre) _ _ _ _ _ (at .loop .inv) (column .before .loop-test .taken)
+    (column .column-byte .ensures) (c .if2 .taken)
 
 loop-again : tie.Need-loop-again Inv-loop μ-loop
 loop-again c =
     let column = c .before .before .before in
     let at = column .before .before in
-    let start = at .before .before .before .before in
-    matching-step (start .args .text .now) (start .args .at) (start .pre) _ _ (at .loop .left) (at .loop .rest) (at .loop .due)
-    (at .loop .inv)
-    (column .before .loop-test .taken) (column .column-byte .ensures) (c .before .if2 .left) (c .minus-due .ensures)
+    matching-step _ _ (at .before .before .before .before .pre) _ _ _ _ _ (at .loop .inv) (column .before .loop-test .taken)
+    (column .column-byte .ensures) (c .before .if2 .left) (c .minus-due .ensures)
 
 returns-3 : tie.Need-returns-3 Inv-loop μ-loop
 returns-3 c =
     let at = c .before in
-    let start = at .before .before .before .before in
-    matching-end (start .args .text .now) (start .args .at) (start .pre) _ _ _ _ _ (at .loop .inv) (c .loop-test .left)
+    matching-end _ _ (at .before .before .before .before .pre) _ _ _ _ _ (at .loop .inv) (c .loop-test .left)
 
 pub is-field-of-spec : {M : Type 1} → statement M
 is-field-of-spec =
@@ -54,8 +39,8 @@ is-field-of-spec =
     (λ c. omega arith)
     (λ c. omega arith)
     (λ c. omega arith)
-    returns
-    loop-holds
+    (λ c. let s = c .before .before .before in matching-not (s .args .text .now) (s .args .at) (s .pre) _ _ (c .if1 .taken))
+    (λ c. let s = c .before .before .before in matching-start (s .args .text .now) (s .args .at) (s .pre) _ _ (c .if1 .left))
     (λ c κs. tt)
     (λ c. omega arith)
     (λ c. omega arith)

@@ -8,16 +8,8 @@ use borrow.Author.Needs.{needs}
 use Rattle.sheet.proofs.field.read_field.Statement.{statement}
 use Rattle.sheet.proofs.field.read_field.Tie as tie
 
-returns : tie.Need-returns
-returns c = field-short (c .before .before .args .text .now) (c .before .before .args .at) (omega arith)
-
-returns-2 : tie.Need-returns-2
-returns-2 c = field-short (c .before .before .before .args .text .now) (c .before .before .before .args .at) (omega arith)
-
 plain-requires : tie.Need-plain-requires
-plain-requires c κs =
-    let start = c .before .before .before .before in
-    value-fits (drop (start .args .at) (start .args .text .now)) (c .digits-value .ensures)
+plain-requires c κs = let a = c .before .before .before .before .args in value-fits (drop (a .at) (a .text .now)) (c .digits-value .ensures)
 
 returns-3 : tie.Need-returns-3
 returns-3 c =
@@ -29,8 +21,8 @@ returns-3 c =
 opposite-requires : tie.Need-opposite-requires
 opposite-requires c κs =
     let v = c .before .before .before in
-    let start = v .before .before .before .before in
-    value-fits (drop (start .args .at) (start .args .text .now)) (v .digits-value .ensures)
+    let a = v .before .before .before .before .args in
+    value-fits (drop (a .at) (a .text .now)) (v .digits-value .ensures)
 
 returns-4 : tie.Need-returns-4
 returns-4 c =
@@ -53,9 +45,9 @@ pub read-field-spec : {M : Type 1} → statement M
 read-field-spec =
     tie.close
     (tie.spec
-    returns
+    (λ c. let a = c .before .before .args in field-short (a .text .now) (a .at) (omega arith))
     (λ c. search needs)
-    returns-2
+    (λ c. let a = c .before .before .before .args in field-short (a .text .now) (a .at) (omega arith))
     (λ c κs. search needs)
     plain-requires
     (λ c κs. search needs)

@@ -12,7 +12,7 @@ total-numbers-requires : tie.Need-total-numbers-requires
 total-numbers-requires c κs = c .before .before .pre
 
 laid-end-requires : tie.Need-laid-end-requires
-laid-end-requires c κs = lines-positive _ _ (c .before .before .before .pre) (c .before .sections-of .ensures)
+laid-end-requires c κs = lines-positive (c .before .before .before .pre) (c .before .sections-of .ensures)
 
 returns : tie.Need-returns
 returns c =

@@ -14,20 +14,15 @@ total-numbers-requires c κs = c .before .before .pre .bounded
 
 all-within-requires : tie.Need-all-within-requires
 all-within-requires c κs =
-    let start = c .before .before .before in (
-      lines-positive _ _ (start .pre .bounded) (c .before .sections-of .ensures),
-      front-span (start .args .s) (start .args .text .now)
-          (c .before .sections-of .result) (start .pre) (c .before .sections-of .ensures) (c .total-numbers .result)
-          (omega (arith, c .total-numbers .ensures)),
-    )
+    let pre = c .before .before .before .pre in
+    let lines = c .before .sections-of .ensures in
+    (lines-positive (pre .bounded) lines, front-span pre lines _ (omega (arith, c .total-numbers .ensures)))
 
 returns : tie.Need-returns
 unfolding coefficients
 returns c =
-    let start = c .before .before .before .before in
     c .all-within .ensures ∙ ap (allWithin 2147483598)
-    (all-numbers (start .args .s) (start .args .text .now) (c .before .before .sections-of .result) (start .pre)
-    (c .before .before .sections-of .ensures) (c .before .total-numbers .ensures))
+    (all-numbers (c .before .before .before .before .pre) (c .before .before .sections-of .ensures) (c .before .total-numbers .ensures))
 
 pub numbers-ok-spec : {M : Type 1} → statement M
 numbers-ok-spec =

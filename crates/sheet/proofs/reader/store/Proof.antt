@@ -17,19 +17,12 @@ total-numbers-requires c κs = c .before .before .pre .0 .bounded
 fill-requires : tie.Need-fill-requires
 fill-requires c κs =
     let start = c .before .before .before .before in
+    let lines = c .before .before .sections-of .ensures in
     let count = c .before .total-numbers .ensures in (
-      lines-positive _ _ (start .pre .0 .bounded) (c .before .before .sections-of .ensures),
+      lines-positive (start .pre .0 .bounded) lines,
       (
-        front-span (c .before .before .before .before .args .s) (c .before .before .before .before .args .text .now)
-            (c .before .before .sections-of .result) (c .before .before .before .before .pre .0)
-            (c .before .before .sections-of .ensures) (c .before .total-numbers .result) (omega (arith, count)),
-        (
-          ap coefficients
-              (all-numbers (c .before .before .before .before .args .s) (c .before .before .before .before .args .text .now)
-              (c .before .before .sections-of .result) (c .before .before .before .before .pre .0)
-              (c .before .before .sections-of .ensures) count) ∙ start .pre .1 .0,
-          omega (arith, count, start .pre .1 .1),
-        ),
+        front-span (start .pre .0) lines _ (omega (arith, count)),
+        (ap coefficients (all-numbers (start .pre .0) lines count) ∙ start .pre .1 .0, omega (arith, count, start .pre .1 .1)),
       ),
     )
 
