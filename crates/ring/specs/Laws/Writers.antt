@@ -1,5 +1,5 @@
 -- The invariants of loops that write a list from a place on, each with its start, its step and its end; what stands elsewhere stays.
---     Blocks       lists F 0, F 1, .. of one width, each written by a callee that is lent its part
+--     Blocks       lists F 0, F 1, .. of one width
 --     Elements     elements x 0, x 1, .. by value, each stored as the d numbers of `coeffs`
 use mathlib.Core.Path.{_≡_, refl, sym, ap, _∙_}
 use mathlib.Core.List.{List, _++_}
@@ -16,48 +16,56 @@ use Rattle.ring.specs.Element.{R, Degree, coeffs, array}
 use Rattle.ring.specs.Laws.ElementLaws.{length-coeffs, take-array}
 use Rattle.ring.specs.Laws.ElementPlaces.{block-before, place-below, element-fits}
 
--- ---- blocks of one width, that fill a list
+-- ---- blocks of one width
 
--- k of n blocks are written, the next one stands at place `at`
-pub record Blocks {A : Type 0} (n w : ℕ) (F : ℕ → List A) (old : List A) (k at : ℕ) (new : List A) : Type 0 where
+-- k of n blocks are written from place a on, the next one stands at place `at`
+pub record Blocks {A : Type 0} (a n w : ℕ) (F : ℕ → List A) (old : List A) (k at : ℕ) (new : List A) : Type 0 where
   pub within : k ≤ n
-  pub place : at ≡ k * w
-  pub size : length old ≡ n * w
-  pub is : new ≡ over old 0 (flat k F)
+  pub place : at ≡ a + k * w
+  pub room : a + n * w ≤ length old
+  pub is : new ≡ over old a (flat k F)
   pub same : length new ≡ length old
 
-module _ {A : Type 0} {n w : ℕ} {F : ℕ → List A} {old : List A} where
-  pub blocks-start : length old ≡ n * w → Blocks n w F old 0 0 old
+module _ {A : Type 0} {a n w : ℕ} {F : ℕ → List A} {old : List A} where
+  pub blocks-start : a + n * w ≤ length old → Blocks a n w F old 0 a old
   unfolding flat
-  blocks-start e = record { within = omega arith; place = sym (zero-mul w); size = e; is = sym (over-nil old 0); same = refl }
+  blocks-start e = record { within = omega arith; place = omega arith; room = e; is = sym (over-nil old a); same = refl }
 
-  module _ {k at : ℕ} {new : List A} (sofar : Blocks n w F old k at new) where
-    pub blocks-fit : k < n → at + w ≤ length old
-    blocks-fit h = omega (arith, block-before w k n h, sofar .place, sofar .size)
+  module _ {k at : ℕ} {new : List A} (sofar : Blocks a n w F old k at new) where
+    pub blocks-fit : k < n → at + w ≤ length new
+    blocks-fit h = omega (arith, block-before w k n h, sofar .place, sofar .room, sofar .same)
 
-    -- block k as it is lent to a callee, and as it comes back
+    -- block k as it is lent to a callee
     pub blocks-part : k < n → length (take (at + w - at) (drop at new)) ≡ w
-    blocks-part h = simp (length-take, length-drop, add-sub-cancel-left) (omega (arith, blocks-fit h, sofar .same))
+    blocks-part h = simp (length-take, length-drop, add-sub-cancel-left) (omega (arith, blocks-fit h))
 
-    pub blocks-turn : {next block : List A} → ((i : ℕ) → length (F i) ≡ w) → k < n → block ≡ F k
-        → next ≡ take at new ++ (block ++ drop (at + w - at) (drop at new)) → Blocks n w F old (k + 1) (at + w) next
-    blocks-turn wide h e slice =
-        let written : _ ≡ over new at (F k) = slice ∙ rw (e, add-sub-cancel-left) (over-slice new at w (F k) (wide k)) in
-        let place : at ≡ 0 + k * w = omega (arith, sofar .place) in
+    -- block k is written at place p, and the next one stands at place q
+    pub blocks-over : {p q : ℕ} {next : List A} → ((i : ℕ) → length (F i) ≡ w) → k < n → p ≡ at → q ≡ at + w → next ≡ over new p (F k)
+        → Blocks a n w F old (k + 1) q next
+    blocks-over {p} wide h here there written =
+        let place : p ≡ a + k * w = here ∙ sofar .place in
         record {
           within = omega arith;
           place = omega (arith, sofar .place);
-          size = sofar .size;
-          is = written ∙ rw (sofar .is, place) (over-flat old 0 k w F (λ i _. wide i) (omega arith));
-          same =
-              ap length written
-              ∙ length-over new at (F k) (omega (arith, wide k, blocks-fit h, sofar .same)) ∙ sofar .same;
+          room = sofar .room;
+          is = written ∙ rw (sofar .is, place) (over-flat old a k w F (λ i _. wide i) (omega (arith, sofar .room)));
+          same = ap length written ∙ length-over new p (F k) (omega (arith, wide k, blocks-fit h)) ∙ sofar .same;
         }
 
-    pub blocks-end : ((i : ℕ) → length (F i) ≡ w) → n ≤ k → new ≡ flat n F
-    blocks-end wide h =
-        let all : k ≡ n = omega (arith, sofar .within) in
-        sofar .is ∙ rw all (over-all old (flat n F) (length-flat n w F (λ i _. wide i) ∙ sym (sofar .size)))
+    -- the same as it comes back from a callee
+    pub blocks-turn : {next block : List A} → ((i : ℕ) → length (F i) ≡ w) → k < n → block ≡ F k
+        → next ≡ take at new ++ (block ++ drop (at + w - at) (drop at new)) → Blocks a n w F old (k + 1) (at + w) next
+    blocks-turn wide h e slice =
+        blocks-over wide h refl refl (slice ∙ rw (e, add-sub-cancel-left) (over-slice new at w (F k) (wide k)))
+
+    pub blocks-end : n ≤ k → new ≡ over old a (flat n F)
+    blocks-end h = let all : k ≡ n = omega (arith, sofar .within) in rw all at (sofar .is)
+
+-- blocks that fill a list
+pub blocks-all : {A : Type 0} {n w : ℕ} {F : ℕ → List A} {old : List A} {k at : ℕ} {new : List A} → Blocks 0 n w F old k at new
+    → ((i : ℕ) → length (F i) ≡ w) → length old ≡ n * w → n ≤ k → new ≡ flat n F
+blocks-all {n = n} {w} {F} {old} sofar wide size h =
+    blocks-end sofar h ∙ over-all old (flat n F) (length-flat n w F (λ i _. wide i) ∙ sym size)
 
 -- ---- elements
 
