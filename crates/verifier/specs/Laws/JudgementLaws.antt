@@ -21,7 +21,7 @@ use Rattle.fold.specs.Known.CallFacts.{VerifyFacts}
 use Rattle.verifier.specs.Known.Facts.{Fits, tBlockOf, gBlockOf, hBlockOf, zValue}
 use Rattle.verifier.specs.ConstantTerms.{Terms}
 use Rattle.verifier.specs.Known.ListFacts.{terms-known, aggregate-known}
-use Rattle.verifier.specs.Laws.PlaceLaws.{el-written}
+use Rattle.fold.specs.Laws.WriterLaws.{el-written}
 use Rattle.verifier.specs.Judgement.{Recomposed, openingChecks, OpeningFacts}
 
 pub fails : (k : ℕ) (r test : Bool) (tests : List Bool) → r ≡ test → not r ≡ true → Failed k ≡ firstFailed k (test ∷ tests)
@@ -43,7 +43,7 @@ pub recomposed : (s : Sizes) → Fits s → (o old z : List ℤ) → length z �
     (zValue s o)) → Recomposed s o z
 recomposed s fits o old z room e = record {
   room = omega (arith, mul-le-mul (fits .shaped .rank-small) (fits .shaped .degree .small));
-  agree = λ i h. el-written (s .d) (s .n) (zValue s o) old z e i h;
+  agree = λ i h. el-written (s .d) (s .n) (zValue s o) old e i h;
 }
 
 module _ (s : Sizes) (A B C D whole term projections ψ ω α δ c u₁ p b″ u₂ o : List ℤ) where
