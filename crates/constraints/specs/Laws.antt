@@ -1,5 +1,4 @@
 pub mod SizeLaws
-pub mod Running
 pub mod Rows
 pub mod Terms
 pub mod RowGroupLaws

@@ -1,4 +1,3 @@
-pub mod TablePlaces
 pub mod TableLaws
 pub mod BlockPlaces
 pub mod Order

@@ -1,3 +1,2 @@
-pub mod Places
 pub mod ProjectedLaws
-pub mod Sums
+pub mod OutputLaws

@@ -3,6 +3,8 @@ pub mod ElementArrays
 pub mod ElementPlaces
 pub mod ElementEquality
 pub mod ElementSteps
+pub mod Loops
+pub mod Writers
 pub mod Numbers
 pub mod Recomposition
 pub mod DigitElements

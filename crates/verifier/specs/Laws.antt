@@ -1,6 +1,5 @@
 pub mod SizeLaws
 pub mod PlaceLaws
-pub mod Loops
 pub mod Rows
 pub mod NormLaws
 pub mod MixedLaws

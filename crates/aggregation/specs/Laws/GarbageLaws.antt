@@ -7,9 +7,8 @@ use native.Mathlib.Omega.{arith}
 use lib.ListN.{length, getD}
 use lib.IntN.{ℤ, pos}
 use Rattle.integers.specs.Over.{over}
-use Rattle.integers.specs.Laws.OverLaws.{over-nil, length-over}
 use Rattle.integers.specs.Flat.{flat}
-use Rattle.integers.specs.Laws.FlatLaws.{flat-cong, length-flat, getD-flat, over-flat, block-fits}
+use Rattle.integers.specs.Laws.FlatLaws.{flat-cong, length-flat, getD-flat, block-fits}
 use Rattle.algebra.specs.Sum.{sum}
 use Rattle.algebra.specs.Laws.SumLaws.{sum-cong}
 use Rattle.algebra.specs.DotProduct.{inner, garbage}
@@ -23,10 +22,9 @@ use Rattle.fold.specs.Sizes.{pairs, garbageSize}
 use Rattle.fold.specs.Statement.{part}
 use Rattle.fold.specs.Messages.{elements, times, half, h, hDigits, aggregate, outer₂, u₂}
 use Rattle.fold.specs.Laws.EntryLaws.{aggregate-φ}
-use Rattle.fold.specs.Laws.WriterLaws.{length-elements, el-pairs, garbage-places, garbage-cong}
+use Rattle.fold.specs.Laws.WriterLaws.{length-elements, el-written, el-pairs, garbage-places, garbage-cong}
 use Rattle.fold.specs.PairElements.{pairElements}
 use Rattle.constraints.specs.Laws.AggregatedLaws.{values-sum}
-use Rattle.prover.specs.Laws.Places.{part-fits}
 use Rattle.aggregation.specs.Garbage.{aggregatePart, cross, partProduct, squareElements, halved}
 
 -- ---- one row of products
@@ -36,15 +34,6 @@ pub part-product-end : (d n : ℕ) (phi s : List ℤ) (j : ℕ) {out : List ℤ}
 unfolding partProduct inner part
 part-product-end d n phi s j out =
     out ∙ ap (array d) (sum-cong (R d) n _ _ (λ y _. ap (λ (p : ℕ). R d .mul (el d phi p) (el d s (j * n + y))) (zero-add y)))
-
--- elements at the beginning of a list, read back
-el-written : (d m : ℕ) (x : ℕ → R d .Carrier) (old : List ℤ) {xs : List ℤ} → xs ≡ over old 0 (elements d m x) → (e : ℕ) → e < m → el d xs e ≡ x e
-unfolding elements
-el-written d m x old written e h =
-    let within : 0 * d ≤ length old = omega arith in
-    ap (λ (xs : List ℤ). el d xs e) written
-    ∙ (rw (zero-mul d, zero-add e) at (el-overs d old (elements d m x) 0 m e within (length-elements d m x) h))
-    ∙ el-flat-coeffs d m x e h
 
 pub row-written : (d n r : ℕ) (φ : ℕ → ℕ → R d .Carrier) (i : ℕ) (s old out : List ℤ) (a : ℕ) {phi next : List ℤ}
     → phi ≡ over old 0 (elements d n (φ i)) → next ≡ over out a (elements d r (partProduct d n phi s))
@@ -57,36 +46,7 @@ row-written d n r φ i s old out a {phi} written next =
 
 -- ---- all rows
 
-pub record Squares (d r : ℕ) (x : ℕ → ℕ → R d .Carrier) (old : List ℤ) (i : ℕ) (new : List ℤ) : Type 0 where
-  pub within : i ≤ r
-  pub is : new ≡ over old 0 (flat i (λ k. elements d r (x k)))
-  pub same : length new ≡ length old
-
 module _ (d r : ℕ) (x : ℕ → ℕ → R d .Carrier) (old : List ℤ) where
-  pub squares-start : Squares d r x old 0 old
-  unfolding flat
-  squares-start = record { within = omega arith; is = sym (over-nil old 0); same = refl }
-
-  pub squares-turn : {i : ℕ} {new next : List ℤ} → r * r * d ≤ length old → Squares d r x old i new → i < r
-      → next ≡ over new (i * r * d) (elements d r (x i)) → Squares d r x old (i + 1) next
-  squares-turn {i} {new} {next} size sofar h written =
-      let place : i * r * d ≡ 0 + i * (r * d) = omega arith in
-      let fits = part-fits d r {i = i} h size in
-      record {
-        within = omega arith;
-        is =
-            written
-            ∙ rw (sofar .is, place)
-            (over-flat old 0 i (r * d) (λ k. elements d r (x k)) (λ k _. length-elements d r (x k)) (omega arith));
-        same =
-            ap length written
-            ∙ length-over new (i * r * d) (elements d r (x i)) (omega (arith, length-elements d r (x i), fits, sofar .same)) ∙ sofar .same;
-      }
-
-  pub squares-end : {i : ℕ} {new : List ℤ} → Squares d r x old i new → r ≤ i → new ≡ over old 0 (squareElements d r x)
-  unfolding squareElements
-  squares-end {i} done h = let all : i ≡ r = omega (arith, done .within) in rw all at (done .is)
-
   square-entry : (i j k : ℕ) → i < r → j < r → k < d
       → getD (squareElements d r x) ((i * r + j) * d + k) (pos 0) ≡ getD (elements d r (x i)) (j * d + k) (pos 0)
   unfolding squareElements

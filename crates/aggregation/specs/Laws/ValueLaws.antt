@@ -13,7 +13,6 @@ use Rattle.algebra.specs.DotProduct.{value}
 use Rattle.algebra.specs.Triangle.{pair, pairs-count}
 use Rattle.algebra.specs.Laws.TriangleLaws.{start-mono, pair-row, pair-end, pair-bound}
 use Rattle.ring.specs.Element.{R, Degree, lift, el, coeffs, array}
-use Rattle.ring.specs.Laws.ElementPlaces.{block-before}
 use Rattle.fold.specs.Known.Facts.{Shaped}
 use Rattle.fold.specs.Sizes.{pairs}
 use Rattle.fold.specs.Statement.{part}
@@ -108,11 +107,3 @@ values-end d n r L w term rows ψ ω s degree pairSums witnessSums out =
 -- the elements of all pairs have room in a local list
 pub pairs-room : {d n r : ℕ} → Shaped d n r → pairs r * d ≤ 8704
 pairs-room shaped = mul-le-mul (pairs-bound _ (shaped .parts-small)) (shaped .degree .small)
-
--- element e of those of a list
-pub place-fits : (d : ℕ) {m e len : ℕ} → e < m → m * d ≤ len → e * d + d ≤ len
-place-fits d {m} {e} h fits = omega (arith, block-before d e m h, fits)
-
--- the same in a list that was written to since
-pub place-within : (d : ℕ) {m e len since : ℕ} → e < m → len ≡ m * d → since ≡ len → e * d + d ≤ since
-place-within d {m} {e} h size same = omega (arith, block-before d e m h, size, same)

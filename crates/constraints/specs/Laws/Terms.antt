@@ -16,6 +16,7 @@ use Rattle.integers.specs.Laws.FlatLaws.{block-fits}
 use Rattle.algebra.specs.Sum.{sum}
 use Rattle.ring.specs.Element.{R, Degree, lift, el, array, number}
 use Rattle.ring.specs.Laws.ElementLaws.{lift-array}
+use Rattle.ring.specs.Laws.Loops.{Summed, summed-step}
 use Rattle.residues.specs.Laws.Words.{word}
 use Rattle.fold.specs.Sizes.{functionSize}
 use Rattle.fold.specs.Statement.{termAt, wholeAt}
@@ -23,7 +24,6 @@ use Rattle.fold.specs.Refusals.{termLength, wholeLength}
 use Rattle.fold.specs.Entries.{termEntry, wholeEntry}
 use Rattle.constraints.specs.Known.Facts.{TermFacts, WholeFacts}
 use Rattle.constraints.specs.Laws.SizeLaws.{function-small, numbers-small}
-use Rattle.constraints.specs.Laws.Running.{Summing, summing-step}
 
 -- ---- the part of a list from a place on
 
@@ -42,17 +42,17 @@ unfoldable pub termTerm : (d : ℕ) (term ψ : List ℤ) (step first e : ℕ) �
 termTerm d term ψ step first e i = R d .mul (number d (getD ψ (first + i) (pos 0))) (el d (drop (i * step) term) e)
 
 module _ {d : ℕ} (term ψ : List ℤ) (step first e : ℕ) {L j : ℕ} {acc : List ℤ}
-    (running : Summing d (termTerm d term ψ step first e) L j acc) where
+    (running : Summed d L (termTerm d term ψ step first e) j acc) where
   -- one turn of the loop
   pub term-step : {at : ℕ} {entry weighted next : List ℤ} → Degree d → j < L → at ≡ j * step
       → mag (getD ψ (first + j) (pos 0)) < 2 ^ 31
       → entry ≡ array d (el d (take (length term - at) (drop at term)) e)
       → weighted ≡ array d (R d .mul (number d (toZ w32 (ofZ w32 (getD ψ (first + j) (pos 0))))) (lift d entry))
       → next ≡ array d (R d .add (lift d acc) (lift d weighted))
-      → Summing d (termTerm d term ψ step first e) L (j + 1) next
+      → Summed d L (termTerm d term ψ step first e) (j + 1) next
   unfolding termTerm
   term-step {at} {entry} {weighted} {next} degree h place small is scaled added =
-      summing-step running (degree .small) h
+      summed-step running degree h
       (scaled
       ∙ rw (
         word (getD ψ (first + j) (pos 0)) small,
@@ -73,11 +73,11 @@ module _ {d n r L : ℕ} {term ψ : List ℤ} (facts : TermFacts d n r L term ψ
   term-step-small = rw is (numbers-small (facts .shaped))
 
   -- constraint j ends within the list
-  pub term-room : {j : ℕ} → j < L → j * (size * d + 1) + (size * d + 1) ≤ length term
+  term-room : {j : ℕ} → j < L → j * (size * d + 1) + (size * d + 1) ≤ length term
   unfolding termLength
   term-room {j} h = rw is (omega (arith, facts .term-length, mul-le-mul-right (functionSize n r * d + 1) h))
 
-  pub term-small : length term ≤ 8667168
+  term-small : length term ≤ 8667168
   unfolding termLength
   term-small =
       let one : functionSize n r * d + 1 ≤ 270849 = omega (arith, numbers-small (facts .shaped)) in
@@ -89,8 +89,9 @@ module _ {d n r L : ℕ} {term ψ : List ℤ} (facts : TermFacts d n r L term ψ
       let below : e < size = omega (arith, is, l) in
       omega (arith, term-room h, place, mul-le-mul-right d below)
 
-  pub term-start : {j at : ℕ} → j < L → at ≡ j * (size * d + 1) → at ≤ length term
-  term-start {j} {at} h place = omega (arith, term-room h, place)
+  -- constraint j from place `at` on
+  pub term-inside : {j at : ℕ} → j < L → at ≡ j * (size * d + 1) → (at + (size * d + 1) ≤ length term) × (length term ≤ 8667168)
+  term-inside {j} {at} h place = (omega (arith, term-room h, place), term-small)
 
 pub ψ-place : {d n r L : ℕ} {term ψ : List ℤ} → TermFacts d n r L term ψ → {k j : ℕ}
     → k < 5 → j < L → (k * L + j < length ψ) × (k * L + j < 160)
@@ -101,16 +102,16 @@ pub ψ-place : {d n r L : ℕ} {term ψ : List ℤ} → TermFacts d n r L term �
 unfoldable pub wholeTerm : (d : ℕ) (whole α : List ℤ) (step e : ℕ) → ℕ → R d .Carrier
 wholeTerm d whole α step e k = R d .mul (el d α k) (el d (drop (k * step) whole) e)
 
-module _ {d : ℕ} (whole α : List ℤ) (step e : ℕ) {K k : ℕ} {acc : List ℤ} (running : Summing d (wholeTerm d whole α step e) K k acc) where
+module _ {d : ℕ} (whole α : List ℤ) (step e : ℕ) {K k : ℕ} {acc : List ℤ} (running : Summed d K (wholeTerm d whole α step e) k acc) where
   pub whole-step : {at : ℕ} {entry weight weighted next : List ℤ} → Degree d → k < K → at ≡ k * step
       → entry ≡ array d (el d (take (length whole - at) (drop at whole)) e)
       → weight ≡ array d (el d α k)
       → weighted ≡ array d (R d .mul (lift d weight) (lift d entry))
       → next ≡ array d (R d .add (lift d acc) (lift d weighted))
-      → Summing d (wholeTerm d whole α step e) K (k + 1) next
+      → Summed d K (wholeTerm d whole α step e) (k + 1) next
   unfolding wholeTerm
   whole-step {at} degree h place is by product added =
-      summing-step running (degree .small) h
+      summed-step running degree h
       (product
       ∙ rw (
         is,
@@ -136,11 +137,11 @@ module _ {d n r K : ℕ} {whole α : List ℤ} (facts : WholeFacts d n r K whole
       let more : size + 1 ≤ 4233 = omega (arith, whole-size-small) in
       product-small more (facts .shaped .degree .small)
 
-  pub whole-room : {k : ℕ} → k < K → k * ((size + 1) * d) + (size + 1) * d ≤ length whole
+  whole-room : {k : ℕ} → k < K → k * ((size + 1) * d) + (size + 1) * d ≤ length whole
   unfolding wholeLength
   whole-room {k} h = rw is (omega (arith, facts .whole-length, mul-le-mul-right ((functionSize n r + 1) * d) h))
 
-  pub whole-small : length whole ≤ 8669184
+  whole-small : length whole ≤ 8669184
   unfolding wholeLength
   whole-small =
       let one : (functionSize n r + 1) * d ≤ 270912 = rw is at whole-step-small in
@@ -151,8 +152,8 @@ module _ {d n r K : ℕ} {whole α : List ℤ} (facts : WholeFacts d n r K whole
       let below : e ≤ size = omega (arith, is, l) in
       omega (arith, whole-room h, place, mul-le-mul-right d below)
 
-  pub whole-start : {k at : ℕ} → k < K → at ≡ k * ((size + 1) * d) → at ≤ length whole
-  whole-start {k} {at} h place = omega (arith, whole-room h, place)
+  pub whole-inside : {k at : ℕ} → k < K → at ≡ k * ((size + 1) * d) → (at + (size + 1) * d ≤ length whole) × (length whole ≤ 8669184)
+  whole-inside {k} {at} h place = (omega (arith, whole-room h, place), whole-small)
 
 pub α-place : {d n r K : ℕ} {whole α : List ℤ} → WholeFacts d n r K whole α → {k : ℕ} → k < K → k * d + d ≤ length α
 α-place {d} facts h = omega (arith, facts .α-length, mul-le-mul-right d h)

@@ -11,12 +11,13 @@ use lib.Seq.{getD-append-add}
 use Rattle.integers.specs.Lists.{tab}
 use Rattle.integers.specs.Laws.ListLaws.{length-tab, getD-tab}
 use Rattle.integers.specs.Flat.{flat}
-use Rattle.integers.specs.Laws.FlatLaws.{flat-cong, flat-append, getD-flat, block-fits}
+use Rattle.integers.specs.Laws.FlatLaws.{flat-cong, getD-flat, block-fits}
 use Rattle.algebra.specs.CommRing.{CommRing}
 use Rattle.algebra.specs.Triangle.{start, pair, pairs-count}
 use Rattle.ring.specs.Element.{R}
 use Rattle.fold.specs.Sizes.{pairs, tSize, garbageSize}
 use Rattle.fold.specs.Laws.TableSums.{length-digits}
+use Rattle.fold.specs.Laws.WriterLaws.{flat-start}
 use Rattle.fold.specs.NextInstance.{power, zeros, zTable, tTable, garbageTable}
 
 -- ---- lists
@@ -60,13 +61,6 @@ module _ {A : Type 0} where
           let c : (i * t + e) * m ≡ q * m = ap (λ x. x * m) b in
           omega arith
 
-  -- rows of widths w 0, w 1, .. are one row
-  flat-start : (w : ℕ → ℕ) (n : ℕ) (F : ℕ → List A) → flat n (λ i. flat (w i) (λ k. F (start w i + k))) ≡ flat (start w n) F
-  unfolding flat start
-  flat-start w zero F = refl
-  flat-start w (suc n) F =
-      ap (λ xs. xs ++ flat (w n) (λ k. F (start w n + k))) (flat-start w n F) ∙ sym (flat-append (start w n) (w n) F)
-
 pair-at : (r i k : ℕ) → pair r i (i + k) ≡ start (λ k. r - k) i + k
 unfolding pair
 pair-at r i k = ap (λ x. start (λ k. r - k) i + x) (add-sub-cancel-left i k)
@@ -104,7 +98,7 @@ module _ (d : ℕ) where
       one-row r same =
           flat-cong r _ _ (λ i l. flat-cong (r - i) _ _ (λ k b.
           ap (λ u. tab t (λ e. u ⊗ power d base e)) (sym (same i (i + k) (omega arith) (omega arith)) ∙ ap G (pair-at r i k))))
-          ∙ flat-start (λ k. r - k) r row
+          ∙ sym (flat-start (λ k. r - k) r row)
 
 -- ---- a table of four blocks
 

@@ -1,4 +1,5 @@
 -- The lists of Tables.antt as the functions of tables.rt and folded.rt write them, each at the beginning of a list.
+--     cond-equal, cond-apart    the two values of a test for i = j
 --     product-end, folded-end   what a function returns, from what its calls return
 --     tables-of                 the four contracts give the record Tables
 use mathlib.Core.Path.{_≡_, refl, sym, ap, ap₂, _∙_}
@@ -8,6 +9,7 @@ use Prim.Native.Nat.{ℕ, _+_, _*_, _≤_, _<_}
 use native.Mathlib.Nat.{zero-add, zero-mul}
 use native.Mathlib.Omega.{arith}
 use lib.Dec.{eqb}
+use borrow.Author.Tests.{eq-eqb, ne-eqb}
 use lib.ListN.{length}
 use lib.IntN.{ℤ, pos}
 use mir.Syntax.{w32}
@@ -30,6 +32,14 @@ use Rattle.fold.specs.PairElements.{pairElements}
 use Rattle.constraints.specs.Laws.AggregatedLaws.{values-product}
 use Rattle.next_constraints.specs.Tables.{TableRoom, Tables}
 use Rattle.next_constraints.specs.Folded.{foldedTerm, foldedSum}
+
+-- ---- the two values of a test for i = j
+
+pub cond-equal {ℓ} : {A : Type ℓ} (i j : ℕ) (x y : A) → i ≡ j → x ≡ cond (eqb i j) x y
+cond-equal i j x y e = rw (eq-eqb i j e) refl
+
+pub cond-apart {ℓ} : {A : Type ℓ} (i j : ℕ) (x y : A) → (i ≡ j → ⊥) → y ≡ cond (eqb i j) x y
+cond-apart i j x y e = rw (ne-eqb i j e) refl
 
 -- ---- what functions return
 

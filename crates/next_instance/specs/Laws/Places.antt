@@ -1,7 +1,6 @@
--- Places within slices, and the sizes of an opening and of a constraint of the next instance.
+-- The sizes of an opening and of a constraint of the next instance.
 use mathlib.Core.Path.{_≡_}
 use Prim.Native.Nat.{ℕ, _+_, _*_, _<_, _≤_}
-use native.Mathlib.Nat.{mul-le-mul-right}
 use native.Mathlib.Omega.{arith}
 use Rattle.algebra.specs.Triangle.{start}
 use Rattle.algebra.specs.Laws.TriangleLaws.{start-mono}
@@ -15,14 +14,6 @@ use Rattle.fold.specs.Laws.PlaceBounds.{t-size-bound, g-size-bound, h-size-boun
 use Rattle.next_instance.specs.declared.cut.Cut.{Cut}
 use Rattle.chunks.specs.Known.CutSizes.{CutSizes}
 use Rattle.next_instance.specs.Known.Facts.{CutFacts}
-
--- an element's place is no greater than that of its numbers
-pub place-below : (d x : ℕ) {len : ℕ} → 0 < d → x * d ≤ len → x ≤ len
-place-below d x {len} h e = omega (arith, mul-le-mul-right x h)
-
--- element k of those from element a on
-pub element-fits : (d a : ℕ) {k n len : ℕ} → k < n → (a + n) * d ≤ len → (a + k) * d + d ≤ len
-element-fits d a {k} {n} h e = omega (arith, mul-le-mul-right d h)
 
 module _ (s : Sizes) (fits : VerifySized s) where
   pub rest-small : restSize (s .r) (s .kappa) (s .t1) (s .t2) ≤ 3200

@@ -26,7 +26,7 @@ use Rattle.residues.specs.Range.{projections}
 use Rattle.residues.specs.Laws.RangeLaws.{projections-at}
 use Rattle.residues.specs.Laws.Words.{word}
 use Rattle.fold.specs.Messages.{p}
-use Rattle.prover.specs.Laws.Places.{block-fits}
+use Rattle.ring.specs.Laws.ElementPlaces.{block-before}
 use Rattle.prover.specs.Projected.{dot}
 
 -- one term more of a sum that is far from the limits
@@ -98,18 +98,21 @@ entry size rows s j = centred (sum ℤ-ring size (λ y. getD rows (j * size + y)
 
 pub record Projecting (w : ℕ) (rows s old : List ℤ) (j at : ℕ) (new : List ℤ) : Type 0 where
   pub within : j ≤ w
+  pub size : length rows ≡ w * length s
+  pub count : length old ≡ w
   pub place : at ≡ j * length s
   pub is : new ≡ over old 0 (tab j (entry (length s) rows s))
   pub same : length new ≡ length old
 
-module _ (w : ℕ) (rows s old : List ℤ) (size : length rows ≡ w * length s) (count : length old ≡ w) where
-  pub projecting-start : Projecting w rows s old 0 0 old
+module _ {w : ℕ} {rows s old : List ℤ} where
+  pub projecting-start : length rows ≡ w * length s → length old ≡ w → Projecting w rows s old 0 0 old
   unfolding tab
-  projecting-start = record { within = omega arith; place = sym (zero-mul (length s)); is = sym (over-nil old 0); same = refl }
+  projecting-start e f =
+      record { within = omega arith; size = e; count = f; place = sym (zero-mul (length s)); is = sym (over-nil old 0); same = refl }
 
   module _ {j at : ℕ} {new : List ℤ} (sofar : Projecting w rows s old j at new) where
     pub projecting-fit : j < w → at + length s ≤ length rows
-    projecting-fit h = omega (arith, block-fits (length s) j w h, sofar .place)
+    projecting-fit h = omega (arith, block-before (length s) j w h, sofar .place, sofar .size)
 
     -- row j as it is lent
     pub projecting-part : j < w → length (take (at + length s - at) (drop at rows)) ≡ length s
@@ -130,9 +133,11 @@ module _ (w : ℕ) (rows s old : List ℤ) (size : length rows ≡ w * length s)
         let value : v ≡ entry (length s) rows s j =
         e ∙ ap centred (sum-cong ℤ-ring (length s) _ _ (λ y l. ap (λ (x : ℤ). x *ℤ getD s y (pos 0)) (row-entry y l))) in
         let held : toZ w32 (ofZ w32 v) ≡ entry (length s) rows s j = rw value (toZ-ofZ (centred-fits _)) in
-        let inside : 0 + j < length old = omega arith in
+        let inside : 0 + j < length old = omega (arith, sofar .count) in
         record {
           within = omega arith;
+          size = sofar .size;
+          count = sofar .count;
           place = omega (arith, sofar .place);
           is = rw (sofar .is) (rw zero-add at (over-tab old 0 j (entry (length s) rows s) (toZ w32 (ofZ w32 v)) inside held));
           same = length-set new j (toZ w32 (ofZ w32 v)) ∙ sofar .same;
@@ -143,5 +148,5 @@ module _ (w : ℕ) (rows s old : List ℤ) (size : length rows ≡ w * length s)
     projecting-end d n r e h =
         let all : j ≡ w = omega (arith, sofar .within) in
         (rw all at (sofar .is))
-        ∙ over-all old (tab w (entry (length s) rows s)) (length-tab w _ ∙ sym count)
+        ∙ over-all old (tab w (entry (length s) rows s)) (length-tab w _ ∙ sym (sofar .count))
         ∙ ap (λ (m : ℕ). tab w (entry m rows s)) e

@@ -1,10 +1,11 @@
 -- Elements laid out one after the other in a list, d numbers to each: element p stands at place p * d.
+--     block-before .. digit-fits            what stands within a list, by how many elements it has room for
 --     coeff-el, el-zero, el-drop, el-take   elements of a list and of its parts
 --     el-overs                              elements stored from a place on
 --     el-flat, el-flat-coeffs               elements of a list that is given element by element
 use mathlib.Core.Path.{_≡_, sym, ap, _∙_}
 use mathlib.Core.List.{List}
-use Prim.Native.Nat.{ℕ, _+_, _*_, _<_, _≤_}
+use Prim.Native.Nat.{ℕ, _+_, _-_, _*_, _<_, _≤_}
 use native.Mathlib.Nat.{zero-mul, add-mul, add-assoc, mul-le-mul-right}
 use native.Mathlib.Omega.{arith}
 use lib.ListN.{length, getD, take, drop}
@@ -16,12 +17,50 @@ use Rattle.integers.specs.Flat.{flat}
 use Rattle.integers.specs.Laws.FlatLaws.{getD-flat}
 use Rattle.algebra.specs.Polynomial.{coeff}
 use Rattle.residues.specs.Modulus.{Zq, red}
+use Rattle.residues.specs.Laws.DigitBlockLaws.{last-fits}
 use Rattle.ring.specs.Element.{R, lift, el, coeffs}
 use Rattle.ring.specs.Laws.ElementLaws.{coeff-lift, lift-cong, lift-coeffs, length-coeffs}
+
+-- ---- within a list of `len` numbers
 
 -- block p, of d numbers, stands before block n
 pub block-before : (d p n : ℕ) → p < n → p * d + d ≤ n * d
 block-before d p n h = omega (arith, mul-le-mul-right d h)
+
+-- an element's place is no greater than that of its numbers
+pub place-below : (d x : ℕ) {len : ℕ} → 0 < d → x * d ≤ len → x ≤ len
+place-below d x h e = omega (arith, mul-le-mul-right x h)
+
+pub element-below : (d x : ℕ) {len : ℕ} → 0 < d → x * d + d ≤ len → x < len
+element-below d x h e = omega (arith, mul-le-mul-right x h)
+
+-- element k of n
+pub element-within : (d : ℕ) {k n len : ℕ} → k < n → n * d ≤ len → k * d + d ≤ len
+element-within d {k} {n} h e = omega (arith, block-before d k n h)
+
+-- element k of those from element a on
+pub element-fits : (d a : ℕ) {k n len : ℕ} → k < n → (a + n) * d ≤ len → (a + k) * d + d ≤ len
+element-fits d a {k} {n} h e = omega (arith, block-before d k n h)
+
+-- row i of r rows of n elements, and its place
+pub row-fits : (d n : ℕ) {r i len : ℕ} → i < r → r * n * d ≤ len → (i * n + n) * d ≤ len
+row-fits d n {r} {i} h e = omega (arith, mul-le-mul-right d (block-before n i r h))
+
+pub row-below : (d n : ℕ) {r i len : ℕ} → 0 < d → i < r → r * n * d ≤ len → i * n + n ≤ len
+row-below d n {i = i} some h e = place-below d (i * n + n) some (row-fits d n h e)
+
+-- the last of t parts of n elements
+pub last-place : (d n t : ℕ) {len : ℕ} → 0 < t → len ≡ t * (n * d) → ((t - 1) * n + n) * d ≤ len
+last-place d n t h e = omega (arith, last-fits t (n * d) h)
+
+pub block-below : (w t : ℕ) {len : ℕ} → 0 < t → len ≡ t * w → w ≤ len
+block-below w t h e = omega (arith, mul-le-mul-right w h)
+
+-- digit e of those that start at element p, `stride` elements apart, ends before a later one does
+pub digit-fits : (d p stride : ℕ) {e f len : ℕ} → e ≤ f → (p + f * stride) * d + d ≤ len → (p + e * stride) * d + d ≤ len
+digit-fits d p stride {e} {f} h l = omega (arith, mul-le-mul-right d (mul-le-mul-right stride h))
+
+-- ---- elements of a list
 
 module _ (d : ℕ) where
   pub coeff-el : (xs : List ℤ) (p k : ℕ) → k < d → coeff Zq (el d xs p) k ≡ red (getD xs (p * d + k) (pos 0))

@@ -3,7 +3,6 @@ use mathlib.Core.Path.{_≡_, refl, sym, ap, ap₂, _∙_}
 use mathlib.Core.Logic.{_⊎_, inl, inr}
 use mathlib.Core.List.{List}
 use Prim.Native.Nat.{ℕ, _+_, _-_, _*_, _%_, _≤_, _<_}
-use native.Mathlib.Nat.{mul-le-mul-left, mul-le-mul-right}
 use native.Mathlib.Omega.{arith}
 use lib.Dec.{ltb→lt}
 use lib.ListN.{length, getD, replicate, getD-replicate}
@@ -128,42 +127,13 @@ holds-end {d} {u} {n} {acc} r =
 abbrev pub pair : (d : ℕ) → List ℤ → ℕ → List ℤ → ℕ → ℕ → R d .Carrier
 pair d u p v s k = R d .mul (el d u (p + k)) (el d v (s + k))
 
-pub record Summed (d n : ℕ) (f : ℕ → R d .Carrier) (acc a e : List ℕ) (k : ℕ) : Type 0 where
-  pub within : k ≤ n
-  pub held : Holds d (sum (R d) k f) k acc
-  pub left : length a ≡ 64
-  pub right : length e ≡ 129
-
-pub summed-start : (d n : ℕ) (f : ℕ → R d .Carrier) → Degree d → Summed d n f (replicate 64 0) (replicate 64 0) (replicate 129 0) 0
+pub pairs-start : {d : ℕ} (f : ℕ → R d .Carrier) → Degree d → Holds d (sum (R d) 0 f) 0 (replicate 64 0)
 unfolding sum
-summed-start d n f degree =
-    record { within = omega arith; held = holds-start degree; left = refl; right = refl }
+pairs-start f degree = holds-start degree
 
-module _ {d n : ℕ} {f : ℕ → R d .Carrier} {acc a e : List ℕ} {k : ℕ} (now : Summed d n f acc a e k) where
-  pub summed-step : {a′ e′ acc′ : List ℕ} → k < n → length a′ ≡ 64 → length e′ ≡ 129 → Gained d (f k) acc acc′
-      → Summed d n f acc′ a′ e′ (k + 1)
-  summed-step h left right sums =
-      record {
-        within = omega arith;
-        held = rw (sum-one-more (R d) k f) (holds-step (now .held) sums);
-        left = left;
-        right = right;
-      }
-
-  pub summed-end : n ≤ k → tab 64 (upto d (λ j. centred (pos (getD acc j 0))) (pos 0)) ≡ array d (sum (R d) n f)
-  summed-end h =
-      let all : k ≡ n = omega (arith, now .within) in
-      holds-end (now .held) ∙ ap (λ t. array d (sum (R d) t f)) all
-
--- element p + k of n elements from element p on lies within the list
-module _ {d n k len : ℕ} (p : ℕ) (degree : Degree d) (h : k < n) (room : (p + n) * d ≤ len) where
-  pub element-within : (p + k) * d + d ≤ len
-  element-within =
-      let step : (p + k + 1) * d ≤ (p + n) * d = mul-le-mul-right d (omega arith) in
-      omega arith
-
-  pub index-within : p + k ≤ len
-  index-within = omega (arith, mul-le-mul-left (p + n) (degree .positive))
+pub pairs-step : {d : ℕ} (f : ℕ → R d .Carrier) {k : ℕ} {old new : List ℕ} → Holds d (sum (R d) k f) k old → Gained d (f k) old new
+    → Holds d (sum (R d) (k + 1) f) (k + 1) new
+pairs-step {d} f {k} before sums = rw (sum-one-more (R d) k f) (holds-step before sums)
 
 -- ---- a product is an inner product of one pair
 

@@ -3,7 +3,7 @@
 use mathlib.Core.Path.{_≡_, sym, ap, ap₂, _∙_}
 use mathlib.Core.List.{List}
 use Prim.Native.Nat.{ℕ, suc, _+_, _-_, _*_, _^_, _<_, _≤_}
-use native.Mathlib.Nat.{pow-zero, pow-succ', zero-add as nat-zero-add, mul-le-mul-left, mul-le-mul-right}
+use native.Mathlib.Nat.{pow-zero, pow-succ', zero-add as nat-zero-add}
 use native.Mathlib.Omega.{arith}
 use lib.IntN.{ℤ, pos, _*ℤ_}
 use Rattle.algebra.specs.Laws.RingLaws.{one-mul, zero-add}
@@ -81,13 +81,3 @@ module _ (d b : ℕ) where
       (ap (lift d) ed ∙ lift-array d _ small)
       ∙ sym (horner-step t e f h l)
       )
-
--- ---- the digits' places
-
--- digit e of those that start at element p, `stride` elements apart, ends before the last one does
-pub digit-fits : (d p stride : ℕ) {e f n : ℕ} → e ≤ f → (p + f * stride) * d + d ≤ n → (p + e * stride) * d + d ≤ n
-digit-fits d p stride {e} {f} h l = omega (arith, mul-le-mul-right d (mul-le-mul-right stride h))
-
--- an element's index is below the number of the list's numbers
-pub index-below : (d x : ℕ) {n : ℕ} → 0 < d → x * d + d ≤ n → x < n
-index-below d x h l = omega (arith, mul-le-mul-left x h)

@@ -18,8 +18,9 @@ use Rattle.fold.specs.declared.Sizes.{Sizes}
 use Rattle.fold.specs.Sizes.{pairs, garbageSize}
 use Rattle.fold.specs.Laws.SizeBounds.{pairs-bound}
 use Rattle.fold.specs.Opening.{block, gPlace, hPlace, garbageOf}
+use Rattle.ring.specs.Laws.Loops.{held}
 use Rattle.verifier.specs.Known.Facts.{Fits, Opening}
-use Rattle.verifier.specs.Laws.PlaceLaws.{held, garbage-at}
+use Rattle.verifier.specs.Laws.PlaceLaws.{garbage-at}
 use Rattle.verifier.specs.Places.{garbageAt}
 use Rattle.verifier.specs.Laws.SizeLaws.{g-within, h-within}
 use Rattle.verifier.specs.Mixed.{weighed, Garbage, mixedTerm, mixedRow}
@@ -74,8 +75,8 @@ module _ (d r b t place : ℕ) (c o : List ℤ) where
       → r′ ≡ array d (R d .mul (lift d g) (lift d xy)) → r′ ≡ array d (mixedTerm d r b t place c o i k)
   unfolding mixedTerm
   mixed-term-once i k q g x y xy r′ small h eq eg ex ey exy e =
-      e ∙ ap (array d) (ap₂ (R d .mul) (held d small eg ∙ garbage-at d r b t (block d o place) i (i + k) q eq) (held d small exy ∙ ap₂
-      (R d .mul) (held d small ex) (held d small ey))
+      e ∙ ap (array d) (ap₂ (R d .mul) (held small eg ∙ garbage-at d r b t (block d o place) i (i + k) q eq) (held small exy ∙ ap₂
+      (R d .mul) (held small ex) (held small ey))
       ∙ sym (weighed-zero (R d) k _ h))
 
   pub mixed-term-twice : (i k q : ℕ) (g x y xy once r′ : List ℤ) → d ≤ 64 → 0 < k → q ≡ pair r i (i + k) → g ≡ array d (garbageAt d b t
@@ -84,8 +85,8 @@ module _ (d r b t place : ℕ) (c o : List ℤ) where
       → once ≡ array d (R d .mul (lift d g) (lift d xy)) → r′ ≡ array d (R d .add (lift d once) (lift d once)) → r′ ≡ array d (mixedTerm d r b t place c o i k)
   unfolding mixedTerm
   mixed-term-twice i k q g x y xy once r′ small h eq eg ex ey exy e double =
-      let value = held d small e ∙ ap₂ (R d .mul) (held d small eg ∙ garbage-at d r b t (block d o place) i (i + k) q eq)
-      (held d small exy ∙ ap₂ (R d .mul) (held d small ex) (held d small ey)) in
+      let value = held small e ∙ ap₂ (R d .mul) (held small eg ∙ garbage-at d r b t (block d o place) i (i + k) q eq)
+      (held small exy ∙ ap₂ (R d .mul) (held small ex) (held small ey)) in
       double ∙ ap (array d) (ap₂ (R d .add) value value ∙ sym (weighed-apart (R d) k _ h))
 
 pub pair-along : (r i k q : ℕ) → q ≡ pair r i i → q + k ≡ pair r i (i + k)

@@ -1,33 +1,22 @@
 -- Laws of what Places.antt defines.
-use mathlib.Core.Path.{_≡_, refl, sym, ap, _∙_}
+use mathlib.Core.Path.{_≡_, refl, ap}
 use mathlib.Core.List.{List}
 use Prim.Native.Nat.{ℕ, suc, _+_, _*_, _-_, _<_, _≤_}
-use native.Mathlib.Nat.{mul-le-mul-right, zero-mul}
+use native.Mathlib.Nat.{mul-le-mul-right}
 use native.Mathlib.Omega.{arith}
 use lib.ListN.{length}
 use lib.IntN.{ℤ}
-use Rattle.integers.specs.Over.{over}
 use Rattle.algebra.specs.Sum.{sum}
 use Rattle.algebra.specs.Triangle.{pair}
 use Rattle.algebra.specs.DotProduct.{inner}
-use Rattle.ring.specs.Element.{R, lift, el, array}
-use Rattle.ring.specs.Laws.ElementLaws.{lift-array}
-use Rattle.ring.specs.Laws.ElementPlaces.{el-overs, el-flat-coeffs}
+use Rattle.ring.specs.Element.{R, el}
+use Rattle.ring.specs.Laws.ElementPlaces.{place-below, element-within}
 use Rattle.ring.specs.Joined.{joined}
 use Rattle.ring.specs.Laws.DigitElements.{joined-cong}
-use Rattle.fold.specs.Messages.{elements, times}
+use Rattle.fold.specs.Messages.{times}
 use Rattle.fold.specs.Opening.{block, zOf, tOf, garbageOf}
-use Rattle.fold.specs.Laws.WriterLaws.{length-elements}
 use Rattle.verifier.specs.Known.Facts.{Holds}
 use Rattle.verifier.specs.Places.{garbageAt}
-
--- what an element's sixty-four numbers stand for
-pub held : (d : ℕ) {xs : List ℤ} {u : R d .Carrier} → d ≤ 64 → xs ≡ array d u → lift d xs ≡ u
-held d {u = u} small e = rw e (lift-array d u small)
-
--- a place below a list's length
-pub place-within : (d p l : ℕ) → 0 < d → p * d ≤ l → p ≤ l
-place-within d p l above h = omega (arith, mul-le-mul-right p above)
 
 -- ---- recomposition
 
@@ -93,22 +82,11 @@ part-fits d e f h = rw (e, f) h
 
 -- element k of a list of n
 pub element-fits : (d n k : ℕ) (xs : List ℤ) → Holds d n xs → k < n → k * d + d ≤ length xs
-element-fits d n k xs whole h = omega (arith, mul-le-mul-right d h, whole .sized)
-
--- ---- z, written at the start of a list
-
-pub el-written : (d n : ℕ) (x : ℕ → R d .Carrier) (old new : List ℤ) → new ≡ over old 0 (elements d n x) → (k : ℕ) → k < n → el d new k ≡ x k
-unfolding elements
-el-written d n x old new e k h =
-    let start : 0 ≡ 0 * d = sym (zero-mul d) in
-    let place : k ≡ 0 + k = omega arith in
-    rw (e, start) (ap (el d (over old (0 * d) (elements d n x))) place
-    ∙ el-overs d old (elements d n x) 0 n k (omega (arith, zero-mul d)) (length-elements d n x) h)
-    ∙ el-flat-coeffs d n x k h
+element-fits d n k xs whole h = element-within d h (omega (arith, whole .sized))
 
 -- ---- the places themselves fit a machine word
 
 pub t-first-within : (d κ t a i k l : ℕ) → 0 < d → k < κ → 0 < t → (a + (i * t + t) * κ) * d ≤ l → i * t + (a + i * t * κ + k) ≤ l + l
 t-first-within d κ t a i k l above h digits fits =
     let one : 1 ≤ κ = omega arith in
-    omega (arith, place-within d (a + (i * t + t) * κ) l above fits, mul-le-mul-right (i * t + t) one, mul-le-mul-right κ digits)
+    omega (arith, place-below d (a + (i * t + t) * κ) above fits, mul-le-mul-right (i * t + t) one, mul-le-mul-right κ digits)

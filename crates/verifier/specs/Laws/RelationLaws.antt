@@ -3,9 +3,7 @@ use mathlib.Core.Path.{_≡_, refl, sym, ap, ap₂, _∙_}
 use mathlib.Core.Bool.{Bool}
 use mathlib.Core.List.{List}
 use Prim.Native.Nat.{ℕ, _+_, _*_, _<_, _≤_}
-use native.Mathlib.Nat.{mul-le-mul}
 use lib.IntN.{ℤ}
-use Rattle.integers.specs.Laws.FlatLaws.{block-fits}
 use Rattle.algebra.specs.Sum.{sum}
 use Rattle.algebra.specs.Laws.SumLaws.{sum-cong}
 use Rattle.algebra.specs.Triangle.{pair, rows}
@@ -19,9 +17,9 @@ use Rattle.fold.specs.Laws.EntryLaws.{aggregate-a, aggregate-φ}
 use Rattle.fold.specs.Messages.{aggregate, aggregateConstant}
 use Rattle.fold.specs.Opening.{block, gPlace, hPlace, garbageOf}
 use Rattle.fold.specs.Verdict.{check₇, check₈}
-use Rattle.fold.specs.Known.Facts.{Shaped}
+use Rattle.ring.specs.Laws.Loops.{held}
 use Rattle.verifier.specs.Known.Facts.{gBlockOf, gValue, hValue}
-use Rattle.verifier.specs.Laws.PlaceLaws.{held, garbage-at}
+use Rattle.verifier.specs.Laws.PlaceLaws.{garbage-at}
 use Rattle.verifier.specs.Places.{garbageAt}
 use Rattle.verifier.specs.Relation.{phiTerm, phiProduct, linearTerm, relationTerm}
 
@@ -36,7 +34,7 @@ module _ (s : Sizes) (whole term projections ψ ω α δ : List ℤ) where
         → value ≡ array (s .d) (el (s .d) z y) → r ≡ array (s .d) (R (s .d) .mul (lift (s .d) phi) (lift (s .d) value))
         → r ≡ array (s .d) (phiTerm s whole term projections ψ ω α δ z e y)
     unfolding phiTerm
-    phi-term e y phi value r small ep ev er = er ∙ ap (array (s .d)) (ap₂ (R (s .d) .mul) (held (s .d) small ep) (held (s .d) small ev))
+    phi-term e y phi value r small ep ev er = er ∙ ap (array (s .d)) (ap₂ (R (s .d) .mul) (held small ep) (held small ev))
 
   module _ (c z : List ℤ) where
     pub linear-term : (i : ℕ) (product challenge r : List ℤ) → s .d ≤ 64 → product ≡ array (s .d) (phiProduct s whole term projections ψ ω α δ z i)
@@ -44,7 +42,7 @@ module _ (s : Sizes) (whole term projections ψ ω α δ : List ℤ) where
         → r ≡ array (s .d) (linearTerm s whole term projections ψ ω α δ c z i)
     unfolding linearTerm
     linear-term i product challenge r small ep ec er =
-        er ∙ ap (array (s .d)) (ap₂ (R (s .d) .mul) (held (s .d) small ep) (held (s .d) small ec))
+        er ∙ ap (array (s .d)) (ap₂ (R (s .d) .mul) (held small ep) (held small ec))
 
     linear-sum : sum (R (s .d)) (s .r) (linearTerm s whole term projections ψ ω α δ c z)
         ≡ sum (R (s .d)) (s .r) (λ i. R (s .d) .mul (inner (R (s .d)) (s .n) (aggregate (s .d) (s .n) (s .r) (s .k) (s .l)
@@ -63,19 +61,16 @@ module _ (s : Sizes) (whole term projections ψ ω α δ : List ℤ) where
         (s .d) z) (hValue s o)
     unfolding check₇
     check-seven o place left right t small el ep er result =
-        result ∙ ap₂ (same (s .d)) (held (s .d) small el ∙ linear-sum) (held (s .d) small er ∙ rw ep refl)
+        result ∙ ap₂ (same (s .d)) (held small el ∙ linear-sum) (held small er ∙ rw ep refl)
 
 -- element y of part i, of r parts of rank n
-pub part-place : (n r i y : ℕ) → i < r → y < n → i * n + y < r * n
-part-place n r i y h l = block-fits r n i y h l
-
 module _ (s : Sizes) (whole term ψ α δ o : List ℤ) where
   pub relation-term : (place q : ℕ) (a g r : List ℤ) → s .d ≤ 64
       → a ≡ array (s .d) (aggregateA (s .d) (s .n) (s .r) (s .k) (s .l) whole term ψ α δ q)
       → g ≡ array (s .d) (garbageAt (s .d) (s .b2) (s .t2) (block (s .d) o place) q)
       → r ≡ array (s .d) (R (s .d) .mul (lift (s .d) a) (lift (s .d) g)) → r ≡ array (s .d) (relationTerm s whole term ψ α δ o place q)
   unfolding relationTerm
-  relation-term place q a g r small ea eg er = er ∙ ap (array (s .d)) (ap₂ (R (s .d) .mul) (held (s .d) small ea) (held (s .d) small eg))
+  relation-term place q a g r small ea eg er = er ∙ ap (array (s .d)) (ap₂ (R (s .d) .mul) (held small ea) (held small eg))
 
   module _ (w : ℕ) (projections ω : List ℤ) where
     relation-sum : sum (R (s .d)) (pairs (s .r)) (relationTerm s whole term ψ α δ o (gPlace 2 (s .n) (s .r) (s .kappa) (s .t1)))
@@ -99,8 +94,5 @@ module _ (s : Sizes) (whole term ψ α δ o : List ℤ) where
         (aggregateConstant (s .d) (s .n) (s .r) (s .k) whole α δ b″) (gValue s o) (hValue s o)
     unfolding check₈
     check-eight b″ gplace hplace gsum hsum left right t small eg egs eh ehs el er result =
-        result ∙ ap₂ (same (s .d)) (held (s .d) small el
-        ∙ ap₂ (R (s .d) .add) (held (s .d) small (rw eg at egs) ∙ relation-sum) (held (s .d) small ehs ∙ rw eh refl)) (held (s .d) small er)
-
-pub parts-bound : {d n r : ℕ} → Shaped d n r → r * n ≤ 4096
-parts-bound shaped = mul-le-mul (shaped .parts-small) (shaped .rank-small)
+        result ∙ ap₂ (same (s .d)) (held small el
+        ∙ ap₂ (R (s .d) .add) (held small (rw eg at egs) ∙ relation-sum) (held small ehs ∙ rw eh refl)) (held small er)

@@ -15,8 +15,8 @@ use Rattle.fold.specs.Sizes.{tSize, garbageSize}
 use Rattle.fold.specs.Messages.{times, outer₁, outer₂}
 use Rattle.fold.specs.Opening.{block, tPlace, gPlace, hPlace}
 use Rattle.fold.specs.Verdict.{check₅, check₆, check₇}
+use Rattle.ring.specs.Laws.Loops.{held}
 use Rattle.verifier.specs.Known.Facts.{tBlockOf, gBlockOf, hBlockOf}
-use Rattle.verifier.specs.Laws.PlaceLaws.{held}
 
 module _ (s : Sizes) (small : s .d ≤ 64) (o U : List ℤ) (k : ℕ) where
   -- t digits and g digits, of the given numbers of elements, from the given places on
@@ -30,8 +30,8 @@ module _ (s : Sizes) (small : s .d ≤ 64) (o U : List ℤ) (k : ℕ) where
       → r ≡ same (s .d) (el (s .d) U k) (outer₁ (s .d) (s .r) (s .kappa) (s .t1) (s .t2) B C k (tBlockOf s o) (gBlockOf s o))
   unfolding outer₁
   first-row B C tcount tstart gcount gstart tpart gpart row u r tc tp tx gc gp gx sums ux result =
-      result ∙ ap₂ (same (s .d)) (held (s .d) small ux) (held (s .d) small sums
-      ∙ ap₂ (R (s .d) .add) (held (s .d) small tx ∙ rw (tc, tp) refl) (held (s .d) small gx ∙ rw (gc, gp) refl))
+      result ∙ ap₂ (same (s .d)) (held small ux) (held small sums
+      ∙ ap₂ (R (s .d) .add) (held small tx ∙ rw (tc, tp) refl) (held small gx ∙ rw (gc, gp) refl))
 
   pub second-row : (D : List ℤ) (count start : ℕ) (row u : List ℤ) (r : Bool) → count ≡ garbageSize (s .r) (s .t1)
       → start ≡ hPlace 2 (s .n) (s .r) (s .kappa) (s .t1) (s .t2)
@@ -40,7 +40,7 @@ module _ (s : Sizes) (small : s .d ≤ 64) (o U : List ℤ) (k : ℕ) where
       → r ≡ same (s .d) (el (s .d) U k) (outer₂ (s .d) (s .r) (s .t1) D k (hBlockOf s o))
   unfolding outer₂
   second-row D count start row u r hc hp hx ux result =
-      result ∙ ap₂ (same (s .d)) (held (s .d) small ux) (held (s .d) small hx ∙ rw (hc, hp) refl)
+      result ∙ ap₂ (same (s .d)) (held small ux) (held small hx ∙ rw (hc, hp) refl)
 
 -- a matrix times vectors that agree
 pub times-cong : (d m : ℕ) (M : List ℤ) (k : ℕ) (x y : ℕ → R d .Carrier) → ((i : ℕ) → i < m → x i ≡ y i) → times d m M k x ≡ times d m M k y
@@ -67,11 +67,11 @@ pub amortized-row : (d n : ℕ) (A z : List ℤ) (k : ℕ) (total : R d .Carrier
     → left ≡ array d (times d n A k (block d z 0)) → right ≡ array d total → r ≡ same d (lift d left) (lift d right)
     → r ≡ same d (times d n A k (el d z)) total
 amortized-row d n A z k total left right r small e f result =
-    result ∙ ap₂ (same d) (held d small e ∙ times-block d n A k z) (held d small f)
+    result ∙ ap₂ (same d) (held small e ∙ times-block d n A k z) (held small f)
 
 pub folded-term : (d : ℕ) (x y : R d .Carrier) (xs ys zs : List ℤ) → d ≤ 64 → xs ≡ array d x → ys ≡ array d y
     → zs ≡ array d (R d .mul (lift d xs) (lift d ys)) → zs ≡ array d (R d .mul x y)
-folded-term d x y xs ys zs small e f g = g ∙ ap (array d) (ap₂ (R d .mul) (held d small e) (held d small f))
+folded-term d x y xs ys zs small e f g = g ∙ ap (array d) (ap₂ (R d .mul) (held small e) (held small f))
 
 pub self-product : (d n r : ℕ) (c z : List ℤ) (g : ℕ → ℕ → R d .Carrier) (left right : List ℤ) (t : Bool) → d ≤ 64
     → left ≡ array d (sum (R d) n (λ k. R d .mul (el d z (0 + k)) (el d z (0 + k)))) → right ≡ array d (mixed (R d) r g (el d c))
@@ -79,7 +79,7 @@ pub self-product : (d n r : ℕ) (c z : List ℤ) (g : ℕ → ℕ → R d .Carr
 unfolding check₆ inner
 self-product d n r c z g left right t small e f result =
     let terms = sum-cong (R d) n _ (λ k. R d .mul (el d z k) (el d z k)) (λ k _. ap (λ i. R d .mul (el d z i) (el d z i)) (zero-add k)) in
-    result ∙ ap₂ (same d) (held d small e ∙ terms) (held d small f)
+    result ∙ ap₂ (same d) (held small e ∙ terms) (held small f)
 
 pub check-seven-cong : (d n r : ℕ) (c : List ℤ) (x y : ℕ → R d .Carrier) → ((i : ℕ) → i < n → x i ≡ y i) → (φ h : ℕ → ℕ → R d .Carrier)
     → check₇ d n r c φ x h ≡ check₇ d n r c φ y h

@@ -2,7 +2,7 @@
 use borrow.Author.Needs.{needs}
 use Prim.Native.Nat.{_*_}
 use native.Mathlib.Omega.{arith}
-use Rattle.prover.specs.Laws.Places.{place-below}
+use Rattle.ring.specs.Laws.ElementPlaces.{place-below}
 use Rattle.aggregation.specs.Laws.GarbageLaws.{square-small, square-place, half-sum-end}
 use Rattle.aggregation.proofs.garbage.half_sum.Statement.{statement}
 use Rattle.aggregation.proofs.garbage.half_sum.Tie as tie
@@ -27,9 +27,6 @@ add-second c =
     let a = c .args in
     omega (arith, square-small (a .r) {i = a .j} {j = a .i} (c .pre .1 .1) (c .pre .1 .0), place-below (a .d) (a .r * a .r) (c .pre .0 .positive) (c .pre .1 .2))
 
-from-slice-requires : tie.Need-from-slice-requires
-from-slice-requires c κs = (c .pre .0, square-place (c .args .d) (c .args .r) (c .pre .1 .0) (c .pre .1 .1) (c .pre .1 .2))
-
 from-slice-requires-2 : tie.Need-from-slice-requires-2
 from-slice-requires-2 c κs =
     let s = c .before in
@@ -45,13 +42,6 @@ returns c =
 pub half-sum-spec : {M : Type 1} → statement M
 half-sum-spec =
     tie.close
-    (tie.spec
-    mul-first
-    add-first
-    mul-second
-    add-second
-    from-slice-requires
-    from-slice-requires-2
-    (λ c κs. search needs)
-    (λ c κs. search needs)
-    returns)
+    (tie.spec mul-first add-first mul-second add-second
+    (λ c κs. (c .pre .0, square-place (c .args .d) (c .args .r) (c .pre .1 .0) (c .pre .1 .1) (c .pre .1 .2)))
+    from-slice-requires-2 (λ c κs. search needs) (λ c κs. search needs) returns)

@@ -6,11 +6,6 @@ use Rattle.aggregation.specs.Laws.GarbageLaws.{square-room, digits-lengt
 use Rattle.aggregation.proofs.garbage.write_h.Statement.{statement}
 use Rattle.aggregation.proofs.garbage.write_h.Tie as tie
 
-write-products-requires : tie.Need-write-products-requires
-write-products-requires c κs =
-    let s = c .before in
-    (s .pre .aggregated, (s .pre .s-length, square-room (s .pre .aggregated .wholes .shaped)))
-
 write-half-sums-requires : tie.Need-write-half-sums-requires
 write-half-sums-requires c κs =
     let s = c .before .before .before .before .before in
@@ -48,14 +43,7 @@ returns c =
 pub write-h-spec : {M : Type 1} → statement M
 write-h-spec =
     tie.close
-    (tie.spec
-    (λ c. search needs)
-    write-products-requires
-    (λ c. search needs)
-    (λ c. search needs)
-    write-half-sums-requires
-    (λ c κs. search needs)
-    (λ c. search needs)
-    write-digits-requires
-    (λ c. search needs)
-    returns)
+    (tie.spec (λ c. search needs)
+    (λ c κs. let s = c .before in (s .pre .aggregated, (s .pre .s-length, square-room (s .pre .aggregated .wholes .shaped))))
+    (λ c. search needs) (λ c. search needs) write-half-sums-requires (λ c κs. search needs) (λ c. search needs)
+    write-digits-requires (λ c. search needs) returns)

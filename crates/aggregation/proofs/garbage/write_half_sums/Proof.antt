@@ -1,8 +1,7 @@
 -- `aggregation::garbage::write_half_sums` meets its contract. The loop's invariant: the first i rows are written.
-use Prim.Native.Nat.{_+_, _-_}
+use Prim.Native.Nat.{_-_}
 use native.Mathlib.Omega.{arith}
-use Rattle.fold.specs.Laws.WriterLaws.{Rows, rows-start, rows-fit, rows-turn, rows-end}
-use Rattle.prover.specs.Laws.Places.{place-below}
+use Rattle.fold.specs.Laws.WriterLaws.{Rows, rows-start, rows-fit, rows-below, rows-turn, rows-end}
 use Rattle.aggregation.specs.Garbage.{halved}
 use Rattle.aggregation.proofs.garbage.write_half_sums.Statement.{statement}
 use Rattle.aggregation.proofs.garbage.write_half_sums.Tie as tie
@@ -14,47 +13,16 @@ Inv-loop d r products out₀ at₀ i₀ out at i =
 abbrev μ-loop : tie.MeasureT-loop
 μ-loop d r products out₀ at₀ i₀ out at i = r - i
 
-loop-holds : tie.Need-loop-holds Inv-loop μ-loop
-loop-holds c = rows-start _ _ _ _ (c .pre .1 .1)
-
 write-half-row-requires : tie.Need-write-half-row-requires Inv-loop μ-loop
 write-half-row-requires c κs =
     let l = c .before .before in
-    let s = l .before in
-    let fits = rows-fit _ _ _ _ (s .pre .1 .1) (l .loop .inv) (c .before .loop-test .taken) in
-    (s .pre .0, (omega arith, s .pre .1 .0, rw (l .loop .inv .same) fits))
-
-add-at : tie.Need-add-at Inv-loop μ-loop
-add-at c =
-    let l = c .before .before .before .before in
-    let s = l .before in
-    let a = s .args in
-    let fits = rows-fit _ _ _ _ (s .pre .1 .1) (l .loop .inv) (c .before .before .before .loop-test .taken) in
-    omega (arith, place-below (a .d) (l .loop .at + (a .r - l .loop .i)) (s .pre .0 .positive) fits)
-
-loop-again : tie.Need-loop-again Inv-loop μ-loop
-loop-again c =
-    let l = c .before .before .before .before in
-    rows-turn _ _ _ _ (l .before .pre .1 .1) (l .loop .inv) (c .before .before .before .loop-test .taken) (c .before .write-half-row .ensures)
-
-same-length : tie.Need-same-length Inv-loop μ-loop
-same-length c = c .before .loop .inv .same
-
-returns : tie.Need-returns Inv-loop μ-loop
-returns c = rows-end _ _ _ _ (c .before .before .pre .1 .1) (c .before .loop .inv) (c .loop-test .left)
+    (l .before .pre .0, (omega arith, l .before .pre .1 .0, rows-fit (l .loop .inv) (c .before .loop-test .taken)))
 
 pub write-half-sums-spec : {M : Type 1} → statement M
 write-half-sums-spec =
     tie.close
-    (tie.spec
-    Inv-loop
-    μ-loop
-    loop-holds
-    write-half-row-requires
-    (λ c. omega arith)
-    add-at
-    (λ c. omega arith)
-    (λ c. omega arith)
-    loop-again
-    same-length
-    returns)
+    (tie.spec Inv-loop μ-loop (λ c. rows-start (c .pre .1 .1)) write-half-row-requires (λ c. omega arith)
+    (λ c. omega (arith, rows-below (c .before .before .before .before .loop .inv) (c .before .before .before .before .before .pre .0) (c .before .before .before .loop-test .taken)))
+    (λ c. omega arith) (λ c. omega arith)
+    (λ c. rows-turn (c .before .before .before .before .loop .inv) (c .before .before .before .loop-test .taken) (c .before .write-half-row .ensures))
+    (λ c. c .before .loop .inv .same) (λ c. rows-end (c .before .loop .inv) (c .loop-test .left)))

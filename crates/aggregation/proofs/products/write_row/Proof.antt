@@ -3,15 +3,10 @@ use borrow.Author.Needs.{needs}
 use native.Mathlib.Nat.{mul-le-mul}
 use native.Mathlib.Omega.{arith}
 use Rattle.ring.specs.Laws.ElementPlaces.{block-before}
-use Rattle.prover.specs.Laws.Places.{part-fits}
+use Rattle.ring.specs.Laws.ElementPlaces.{row-fits}
 use Rattle.aggregation.specs.Laws.GarbageLaws.{phi-room, row-written}
 use Rattle.aggregation.proofs.products.write_row.Statement.{statement}
 use Rattle.aggregation.proofs.products.write_row.Tie as tie
-
-write-phi-part-requires : tie.Need-write-phi-part-requires
-write-phi-part-requires c κs =
-    let s = c .before in
-    (s .pre .0, (s .pre .1 .0, (s .pre .1 .1 .1, phi-room (s .pre .0 .wholes .shaped))))
 
 mul-at : tie.Need-mul-at
 mul-at c =
@@ -31,7 +26,7 @@ write-part-products-requires c κs =
         shaped .rank-small,
         omega (arith, phi-room shaped, kept),
         omega (arith, s .pre .1 .1 .0),
-        part-fits (z .d) (z .r) {i = s .args .i} (s .pre .1 .1 .1) (s .pre .1 .1 .2),
+        row-fits (z .d) (z .r) {i = s .args .i} (s .pre .1 .1 .1) (s .pre .1 .1 .2),
       ),
     )
 
@@ -44,11 +39,6 @@ returns c =
 pub write-row-spec : {M : Type 1} → statement M
 write-row-spec =
     tie.close
-    (tie.spec
-    (λ c. search needs)
-    write-phi-part-requires
-    mul-at
-    (λ c. search needs)
-    write-part-products-requires
-    (λ c. search needs)
-    returns)
+    (tie.spec (λ c. search needs)
+    (λ c κs. let s = c .before in (s .pre .0, (s .pre .1 .0, (s .pre .1 .1 .1, phi-room (s .pre .0 .wholes .shaped))))) mul-at
+    (λ c. search needs) write-part-products-requires (λ c. search needs) returns)

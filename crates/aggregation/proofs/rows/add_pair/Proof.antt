@@ -5,13 +5,10 @@ use native.Mathlib.Omega.{arith}
 use Rattle.algebra.specs.DotProduct.{inner}
 use Rattle.fold.specs.Statement.{part}
 use Rattle.fold.specs.Messages.{g}
-use Rattle.prover.specs.Laws.Places.{place-below}
+use Rattle.ring.specs.Laws.ElementPlaces.{place-below}
 use Rattle.aggregation.specs.Laws.RowLaws.{zero-row, by-element}
 use Rattle.aggregation.proofs.rows.add_pair.Statement.{statement}
 use Rattle.aggregation.proofs.rows.add_pair.Tie as tie
-
-is-zero-requires : tie.Need-is-zero-requires
-is-zero-requires c κs = c .pre .0
 
 returns : tie.Need-returns
 returns c =
@@ -32,14 +29,6 @@ mul-right c =
     let a = s .args in
     omega (arith, place-below (a .d) (a .j * a .n + a .n) (s .pre .0 .positive) (s .pre .1 .0 .2))
 
-inner-requires : tie.Need-inner-requires
-inner-requires c κs =
-    let s = c .before .before in
-    (s .pre .0, (omega (arith, s .pre .1 .0 .0), s .pre .1 .0 .1, s .pre .1 .0 .2))
-
-add-products-requires : tie.Need-add-products-requires
-add-products-requires c κs = c .before .before .before .pre .0
-
 returns-2 : tie.Need-returns-2
 unfolding g inner part
 returns-2 c =
@@ -50,11 +39,6 @@ returns-2 c =
 pub add-pair-spec : {M : Type 1} → statement M
 add-pair-spec =
     tie.close
-    (tie.spec
-    is-zero-requires
-    returns
-    mul-left
-    mul-right
-    inner-requires
-    add-products-requires
-    returns-2)
+    (tie.spec (λ c κs. c .pre .0) returns mul-left mul-right
+    (λ c κs. let s = c .before .before in (s .pre .0, (omega (arith, s .pre .1 .0 .0), s .pre .1 .0 .1, s .pre .1 .0 .2)))
+    (λ c κs. c .before .before .before .pre .0) returns-2)

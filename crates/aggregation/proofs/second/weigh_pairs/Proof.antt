@@ -19,29 +19,12 @@ Inv-loop shape l term psi witness parts sums₀ at₀ i₀ sums at i =
 abbrev μ-loop : tie.MeasureT-loop
 μ-loop shape l term psi witness parts sums₀ at₀ i₀ sums at i = parts - i
 
-loop-holds : tie.Need-loop-holds Inv-loop μ-loop
-loop-holds c = (omega arith, sym (pair-zero (c .args .shape .r)), sums-start _ _)
-
-add-part-pairs-requires : tie.Need-add-part-pairs-requires Inv-loop μ-loop
-add-part-pairs-requires c κs =
-    let s = c .before .before in
-    (s .pre, ((c .loop-test .taken, c .before .loop .inv .1), c .before .loop .inv .2))
-
-sub-at : tie.Need-sub-at Inv-loop μ-loop
-sub-at c = omega (arith, c .before .loop-test .taken)
-
 add-at : tie.Need-add-at Inv-loop μ-loop
 add-at c =
     let l = c .before .before in
     let r = l .before .args .shape .r in
     let room = pair-room r (l .loop .i) (l .loop .inv .1) (c .before .loop-test .taken) in
     omega (arith, room, pairs-bound _ (l .before .pre .terms .shaped .parts-small))
-
-add-i : tie.Need-add-i Inv-loop μ-loop
-add-i c = omega (arith, c .before .loop-test .taken)
-
-loop-less : tie.Need-loop-less Inv-loop μ-loop
-loop-less c = omega (arith, c .before .loop-test .taken)
 
 loop-again : tie.Need-loop-again Inv-loop μ-loop
 loop-again c =
@@ -59,14 +42,7 @@ returns c =
 pub weigh-pairs-spec : {M : Type 1} → statement M
 weigh-pairs-spec =
     tie.close
-    (tie.spec
-    Inv-loop
-    μ-loop
-    loop-holds
-    add-part-pairs-requires
-    sub-at
-    add-at
-    add-i
-    loop-less
-    loop-again
-    returns)
+    (tie.spec Inv-loop μ-loop (λ c. (omega arith, sym (pair-zero (c .args .shape .r)), sums-start _ _))
+    (λ c κs. let s = c .before .before in (s .pre, ((c .loop-test .taken, c .before .loop .inv .1), c .before .loop .inv .2)))
+    (λ c. omega (arith, c .before .loop-test .taken)) add-at (λ c. omega (arith, c .before .loop-test .taken))
+    (λ c. omega (arith, c .before .loop-test .taken)) loop-again returns)

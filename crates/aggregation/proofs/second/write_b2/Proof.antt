@@ -11,19 +11,6 @@ write-sums-requires c κs =
     let projected = c .before .pre .0 .seconds .projected in
     (projected .row-count, projected .ω-length, length-replicate 25920 (pos 0))
 
-weigh-pairs-requires : tie.Need-weigh-pairs-requires
-weigh-pairs-requires c κs =
-    let s = c .before .before in
-    record { terms = s .pre .0 .seconds .terms; s-length = s .pre .0 .s-length }
-
-weigh-witness-requires : tie.Need-weigh-witness-requires
-weigh-witness-requires c κs = (c .before .before .before .before .pre .0, c .before .before .write-sums .ensures)
-
-write-sums-requires-2 : tie.Need-write-sums-requires-2
-write-sums-requires-2 c κs =
-    let s = c .before .before .before .before .before .before in
-    (s .pre .0 .seconds .terms .shaped .degree, s .pre .1)
-
 returns : tie.Need-returns
 returns c =
     let w = c .before .before .before in
@@ -35,10 +22,8 @@ returns c =
 pub write-b2-spec : {M : Type 1} → statement M
 write-b2-spec =
     tie.close
-    (tie.spec
-    write-sums-requires
-    weigh-pairs-requires
-    weigh-witness-requires
-    write-sums-requires-2
-    (λ c. search needs)
-    returns)
+    (tie.spec write-sums-requires
+    (λ c κs. let s = c .before .before in record { terms = s .pre .0 .seconds .terms; s-length = s .pre .0 .s-length })
+    (λ c κs. (c .before .before .before .before .pre .0, c .before .before .write-sums .ensures))
+    (λ c κs. let s = c .before .before .before .before .before .before in (s .pre .0 .seconds .terms .shaped .degree, s .pre .1))
+    (λ c. search needs) returns)

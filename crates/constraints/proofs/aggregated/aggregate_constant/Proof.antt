@@ -5,18 +5,6 @@ use borrow.Author.Needs.{needs}
 use Rattle.constraints.proofs.aggregated.aggregate_constant.Statement.{statement}
 use Rattle.constraints.proofs.aggregated.aggregate_constant.Tie as tie
 
-function-size-requires : tie.Need-function-size-requires
-function-size-requires c κs = (c .pre .0 .shaped .rank-small, c .pre .0 .shaped .parts-small)
-
-whole-entry-requires : tie.Need-whole-entry-requires
-whole-entry-requires c κs = (c .before .pre .0, omega (arith, c .function-size .ensures))
-
-inner-requires : tie.Need-inner-requires
-inner-requires c κs = search needs
-
-sum-requires : tie.Need-sum-requires
-sum-requires c κs = c .before .before .before .pre .0 .shaped .degree
-
 returns : tie.Need-returns
 returns c =
     let s = c .before .before .before .before in
@@ -26,4 +14,6 @@ returns c =
 pub aggregate-constant-spec : {M : Type 1} → statement M
 aggregate-constant-spec =
     tie.close
-    (tie.spec function-size-requires whole-entry-requires inner-requires sum-requires returns)
+    (tie.spec (λ c κs. (c .pre .0 .shaped .rank-small, c .pre .0 .shaped .parts-small))
+    (λ c κs. (c .before .pre .0, omega (arith, c .function-size .ensures))) (λ c κs. search needs)
+    (λ c κs. c .before .before .before .pre .0 .shaped .degree) returns)

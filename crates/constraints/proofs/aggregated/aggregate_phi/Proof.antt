@@ -6,9 +6,6 @@ use Rattle.constraints.specs.Laws.AggregatedLaws.{aggregate-φ-end}
 use Rattle.constraints.proofs.aggregated.aggregate_phi.Statement.{statement}
 use Rattle.constraints.proofs.aggregated.aggregate_phi.Tie as tie
 
-pair-count-requires : tie.Need-pair-count-requires
-pair-count-requires c κs = c .pre .0 .wholes .shaped .parts-small
-
 add-place : tie.Need-add-place
 add-place c =
     let shaped = c .before .pre .0 .wholes .shaped in
@@ -19,14 +16,6 @@ whole-entry-requires c κs =
     let s = c .before in
     let size = function-parts (s .args .shape .n) (s .args .shape .r) in
     (s .pre .0 .wholes, omega (arith, c .pair-count .ensures, size, s .pre .1 .1))
-
-weighted-phi-requires : tie.Need-weighted-phi-requires
-weighted-phi-requires c κs =
-    let s = c .before .before in
-    (s .pre .0 .seconds, (s .pre .1 .0, (s .pre .0 .δ-length, s .pre .1 .1)))
-
-sum-requires : tie.Need-sum-requires
-sum-requires c κs = c .before .before .before .pre .0 .wholes .shaped .degree
 
 returns : tie.Need-returns
 returns c =
@@ -39,10 +28,6 @@ returns c =
 pub aggregate-phi-spec : {M : Type 1} → statement M
 aggregate-phi-spec =
     tie.close
-    (tie.spec
-    pair-count-requires
-    add-place
-    whole-entry-requires
-    weighted-phi-requires
-    sum-requires
-    returns)
+    (tie.spec (λ c κs. c .pre .0 .wholes .shaped .parts-small) add-place whole-entry-requires
+    (λ c κs. let s = c .before .before in (s .pre .0 .seconds, (s .pre .1 .0, (s .pre .0 .δ-length, s .pre .1 .1))))
+    (λ c κs. c .before .before .before .pre .0 .wholes .shaped .degree) returns)

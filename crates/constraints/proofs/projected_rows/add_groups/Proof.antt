@@ -12,9 +12,6 @@ Inv-loop d count w rows omega sums e codes acc₀ groups group₀ acc group = (g
 abbrev μ-loop : tie.MeasureT-loop
 μ-loop d count w rows omega sums e codes acc₀ groups group₀ acc group = groups - group
 
-loop-holds : tie.Need-loop-holds Inv-loop μ-loop
-loop-holds c = (omega arith, c .pre .1 .1 .1)
-
 add-group-requires : tie.Need-add-group-requires Inv-loop μ-loop
 add-group-requires c κs =
     let l = c .before .before in
@@ -24,21 +21,14 @@ add-group-requires c κs =
 add-group : tie.Need-add-group Inv-loop μ-loop
 add-group c = omega arith
 
-loop-less : tie.Need-loop-less Inv-loop μ-loop
-loop-less c = omega arith
-
 loop-again : tie.Need-loop-again Inv-loop μ-loop
 loop-again c =
     let g = c .before .before .before .loop .group in
     let next : g * 4 + 4 ≡ (g + 1) * 4 = omega arith in
     (omega arith, rw next at (c .add-group .ensures))
 
-returns : tie.Need-returns Inv-loop μ-loop
-returns c =
-    let all : c .before .loop .group ≡ c .before .before .args .w / 4 = omega arith in
-    rw all at (c .before .loop .inv .1)
-
 pub add-groups-spec : {M : Type 1} → statement M
 add-groups-spec =
     tie.close
-    (tie.spec Inv-loop μ-loop loop-holds add-group-requires add-group loop-less loop-again returns)
+    (tie.spec Inv-loop μ-loop (λ c. (omega arith, c .pre .1 .1 .1)) add-group-requires add-group (λ c. omega arith) loop-again
+    (λ c. let all : c .before .loop .group ≡ c .before .before .args .w / 4 = omega arith in rw all at (c .before .loop .inv .1)))

@@ -12,33 +12,15 @@ Inv-loop shape w rows omega e acc₀ groups j₀ acc j = (j ≤ w) × Summed (sh
 abbrev μ-loop : tie.MeasureT-loop
 μ-loop shape w rows omega e acc₀ groups j₀ acc j = w - j
 
-mul-j : tie.Need-mul-j Inv-loop μ-loop
-mul-j c = omega arith
-
-loop-holds : tie.Need-loop-holds Inv-loop μ-loop
-loop-holds c = (omega arith, c .pre .1 .1)
-
 add-row-requires : tie.Need-add-row-requires Inv-loop μ-loop
 add-row-requires c κs =
     let l = c .before .before in
     let s = l .before in
     (s .pre .0, ((s .pre .1 .0, c .before .loop-test .taken), l .loop .inv .1))
 
-add-j : tie.Need-add-j Inv-loop μ-loop
-add-j c = omega arith
-
-loop-less : tie.Need-loop-less Inv-loop μ-loop
-loop-less c = omega arith
-
-loop-again : tie.Need-loop-again Inv-loop μ-loop
-loop-again c = (omega arith, c .add-row .ensures)
-
-returns : tie.Need-returns Inv-loop μ-loop
-returns c =
-    let all : c .before .loop .j ≡ c .before .before .args .w = omega arith in
-    rw all at (c .before .loop .inv .1)
-
 pub add-rest-spec : {M : Type 1} → statement M
 add-rest-spec =
     tie.close
-    (tie.spec Inv-loop μ-loop mul-j loop-holds add-row-requires add-j loop-less loop-again returns)
+    (tie.spec Inv-loop μ-loop (λ c. omega arith) (λ c. (omega arith, c .pre .1 .1)) add-row-requires (λ c. omega arith)
+    (λ c. omega arith) (λ c. (omega arith, c .add-row .ensures))
+    (λ c. let all : c .before .loop .j ≡ c .before .before .args .w = omega arith in rw all at (c .before .loop .inv .1)))

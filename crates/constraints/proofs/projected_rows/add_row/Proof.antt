@@ -16,21 +16,6 @@ Inv-loop w rows omega e j acc₀ d parts rank count element at y₀ acc y =
 abbrev μ-loop : tie.MeasureT-loop
 μ-loop w rows omega e j acc₀ d parts rank count element at y₀ acc y = d - y
 
-mul-count : tie.Need-mul-count Inv-loop μ-loop
-mul-count c = omega (arith, witness-small (c .pre .0 .shaped))
-
-mul-element : tie.Need-mul-element Inv-loop μ-loop
-mul-element c = omega (arith, element-small (c .pre .0) (c .pre .1 .0 .1) (c .pre .1 .0 .0))
-
-add-element : tie.Need-add-element Inv-loop μ-loop
-add-element c = omega (arith, element-small (c .pre .0) (c .pre .1 .0 .1) (c .pre .1 .0 .0))
-
-mul-at : tie.Need-mul-at Inv-loop μ-loop
-mul-at c = omega (arith, element-small (c .pre .0) (c .pre .1 .0 .1) (c .pre .1 .0 .0))
-
-loop-holds : tie.Need-loop-holds Inv-loop μ-loop
-loop-holds c = turning-start _ _ _ _ _ _ 1 (c .pre .1 .1)
-
 add-x : tie.Need-add-x Inv-loop μ-loop
 add-x c =
     let s = c .before .before in
@@ -42,14 +27,6 @@ mul-x c =
     let s = c .before .before in
     let small = element-small (s .pre .0) (s .pre .1 .0 .1) (s .pre .1 .0 .0) in
     omega (arith, small, s .pre .0 .shaped .degree .small)
-
-shared-slice-copy-out-x : tie.Need-shared-slice-copy-out-x Inv-loop μ-loop
-shared-slice-copy-out-x c =
-    let s = c .before .before in
-    element-place (s .pre .0) (s .pre .1 .0 .1) (s .pre .1 .0 .0) (c .loop-test .taken)
-
-mul-add-entry : tie.Need-mul-add-entry Inv-loop μ-loop
-mul-add-entry c = omega (arith, c .before .before .before .before .pre .0 .shaped .degree .small)
 
 add-entry-requires : tie.Need-add-entry-requires Inv-loop μ-loop
 add-entry-requires c κs =
@@ -69,26 +46,14 @@ loop-again c =
     let l = c .before .before .before .before in
     row-step _ _ _ _ _ _ (l .loop .inv) (c .before .before .before .loop-test .taken) (c .before .before .x .given) (c .add-entry .ensures)
 
-returns : tie.Need-returns Inv-loop μ-loop
-returns c = turning-end _ _ _ _ _ _ (c .before .loop .inv) (c .loop-test .left)
-
 pub add-row-spec : {M : Type 1} → statement M
 add-row-spec =
     tie.close
-    (tie.spec
-    Inv-loop
-    μ-loop
-    mul-count
-    mul-element
-    add-element
-    mul-at
-    loop-holds
-    add-x
-    mul-x
-    shared-slice-copy-out-x
-    mul-add-entry
-    add-entry-requires
-    (λ c. omega arith)
-    (λ c. omega arith)
-    loop-again
-    returns)
+    (tie.spec Inv-loop μ-loop (λ c. omega (arith, witness-small (c .pre .0 .shaped)))
+    (λ c. omega (arith, element-small (c .pre .0) (c .pre .1 .0 .1) (c .pre .1 .0 .0)))
+    (λ c. omega (arith, element-small (c .pre .0) (c .pre .1 .0 .1) (c .pre .1 .0 .0)))
+    (λ c. omega (arith, element-small (c .pre .0) (c .pre .1 .0 .1) (c .pre .1 .0 .0)))
+    (λ c. turning-start _ _ _ _ _ _ 1 (c .pre .1 .1)) add-x mul-x
+    (λ c. let s = c .before .before in element-place (s .pre .0) (s .pre .1 .0 .1) (s .pre .1 .0 .0) (c .loop-test .taken))
+    (λ c. omega (arith, c .before .before .before .before .pre .0 .shaped .degree .small)) add-entry-requires (λ c. omega arith)
+    (λ c. omega arith) loop-again (λ c. turning-end _ _ _ _ _ _ (c .before .loop .inv) (c .loop-test .left)))

@@ -9,12 +9,6 @@ use borrow.Author.Needs.{needs}
 use Rattle.constraints.proofs.projected_rows.projection_row.Statement.{statement}
 use Rattle.constraints.proofs.projected_rows.projection_row.Tie as tie
 
-mul-count : tie.Need-mul-count
-mul-count c = omega (arith, witness-small (c .pre .0 .shaped))
-
-group-codes-requires : tie.Need-group-codes-requires
-group-codes-requires c κs = (c .before .pre .0, (c .before .pre .1 .1, length-replicate {A = ℕ} 4096 0))
-
 add-groups-requires : tie.Need-add-groups-requires
 add-groups-requires c κs =
     let f = c .before .before in
@@ -24,16 +18,10 @@ add-groups-requires c κs =
       (s .pre .1 .0, (f .group-codes .ensures, summed-start _ _ _ _ _ _ (facts .shaped .degree .small))),
     )
 
-returns : tie.Need-returns
-returns c = c .centred-row .ensures ∙ row-end _ _ _ _ _ _ _ (c .before .before .add-rest .ensures)
-
 pub projection-row-spec : {M : Type 1} → statement M
 projection-row-spec =
     tie.close
-    (tie.spec
-    mul-count
-    group-codes-requires
-    add-groups-requires
-    (λ c κs. search needs)
-    (λ c κs. search needs)
-    returns)
+    (tie.spec (λ c. omega (arith, witness-small (c .pre .0 .shaped)))
+    (λ c κs. (c .before .pre .0, (c .before .pre .1 .1, length-replicate {A = ℕ} 4096 0))) add-groups-requires
+    (λ c κs. search needs) (λ c κs. search needs)
+    (λ c. c .centred-row .ensures ∙ row-end _ _ _ _ _ _ _ (c .before .before .add-rest .ensures)))

@@ -15,18 +15,6 @@ Inv-loop w rows omega e codes₀ d parts rank count step groups g₀ codes g = (
 abbrev μ-loop : tie.MeasureT-loop
 μ-loop w rows omega e codes₀ d parts rank count step groups g₀ codes g = groups - g
 
-mul-count : tie.Need-mul-count Inv-loop μ-loop
-mul-count c = omega (arith, witness-small (c .pre .0 .shaped))
-
-mul-step : tie.Need-mul-step Inv-loop μ-loop
-mul-step c = omega (arith, step-small (c .pre .0))
-
-loop-holds : tie.Need-loop-holds Inv-loop μ-loop
-loop-holds c = (omega arith, groups-start _ _ _ _ _ (c .pre .1 .1))
-
-mul-row : tie.Need-mul-row Inv-loop μ-loop
-mul-row c = omega (arith, c .before .before .pre .0 .row-count)
-
 mul-element : tie.Need-mul-element Inv-loop μ-loop
 mul-element c =
     let s = c .before .before in
@@ -41,9 +29,6 @@ mul-at : tie.Need-mul-at Inv-loop μ-loop
 mul-at c =
     let s = c .before .before in
     omega (arith, element-small (s .pre .0) (group-row (s .pre .0) (c .loop-test .taken)) (s .pre .1 .0))
-
-mul-write-codes : tie.Need-mul-write-codes Inv-loop μ-loop
-mul-write-codes c = omega (arith, c .before .before .before .pre .0 .row-count)
 
 write-codes-requires : tie.Need-write-codes-requires Inv-loop μ-loop
 write-codes-requires c κs =
@@ -61,27 +46,11 @@ loop-again c =
     let l = c .before .before .before in
     (omega arith, groups-step (l .before .pre .0 .shaped .degree .small) (l .loop .inv .1) (c .write-codes .ensures))
 
-returns : tie.Need-returns Inv-loop μ-loop
-returns c =
-    let all : c .before .loop .g ≡ c .before .before .args .w / 4 = omega arith in
-    rw all at (c .before .loop .inv .1)
-
 pub group-codes-spec : {M : Type 1} → statement M
 group-codes-spec =
     tie.close
-    (tie.spec
-    Inv-loop
-    μ-loop
-    mul-count
-    mul-step
-    loop-holds
-    mul-row
-    mul-element
-    add-element
-    mul-at
-    mul-write-codes
-    write-codes-requires
-    (λ c. omega arith)
-    (λ c. omega arith)
-    loop-again
-    returns)
+    (tie.spec Inv-loop μ-loop (λ c. omega (arith, witness-small (c .pre .0 .shaped))) (λ c. omega (arith, step-small (c .pre .0)))
+    (λ c. (omega arith, groups-start _ _ _ _ _ (c .pre .1 .1))) (λ c. omega (arith, c .before .before .pre .0 .row-count))
+    mul-element add-element mul-at (λ c. omega (arith, c .before .before .before .pre .0 .row-count)) write-codes-requires
+    (λ c. omega arith) (λ c. omega arith) loop-again
+    (λ c. let all : c .before .loop .g ≡ c .before .before .args .w / 4 = omega arith in rw all at (c .before .loop .inv .1)))

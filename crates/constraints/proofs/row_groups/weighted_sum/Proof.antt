@@ -36,12 +36,5 @@ returns c =
 pub weighted-sum-spec : {M : Type 1} → statement M
 weighted-sum-spec =
     tie.close
-    (tie.spec
-    (λ c κs. search needs)
-    (λ c. search needs)
-    add-term-requires-2
-    (λ c. search needs)
-    add-term-requires-3
-    (λ c. search needs)
-    add-term-requires-4
-    returns)
+    (tie.spec (λ c κs. search needs) (λ c. search needs) add-term-requires-2 (λ c. search needs) add-term-requires-3
+    (λ c. search needs) add-term-requires-4 returns)

@@ -11,12 +11,6 @@ Inv-loop w omega sums₀ groups count i₀ sums i = Tabled w omega i sums
 abbrev μ-loop : tie.MeasureT-loop
 μ-loop w omega sums₀ groups count i₀ sums i = count - i
 
-mul-count : tie.Need-mul-count Inv-loop μ-loop
-mul-count c = omega (arith, c .pre .0)
-
-loop-holds : tie.Need-loop-holds Inv-loop μ-loop
-loop-holds c = tabled-start _ _ _ (c .pre .2)
-
 mul-at : tie.Need-mul-at Inv-loop μ-loop
 mul-at c =
     let s = c .before .before in
@@ -37,36 +31,13 @@ weighted-sum-requires c κs =
     let s = c .before .before in
     rw (s .pre .1) (weights-place (s .args .w) (c .before .loop .i) (s .pre .0) (c .loop-test .taken) .2)
 
-mul-sum : tie.Need-mul-sum Inv-loop μ-loop
-mul-sum c = omega (arith, c .before .before .before .pre .0)
-
-element-set-from-sum : tie.Need-element-set-from-sum Inv-loop μ-loop
-element-set-from-sum c = omega (arith, c .before .before .before .pre .0)
-
-add-i : tie.Need-add-i Inv-loop μ-loop
-add-i c = omega (arith, c .before .before .before .pre .0)
-
 loop-again : tie.Need-loop-again Inv-loop μ-loop
 loop-again c = tabled-step (c .before .before .loop .inv) (c .before .before .before .pre .0) (c .before .loop-test .taken) (c .weighted-sum .ok) (c .weighted-sum .ensures)
-
-returns : tie.Need-returns Inv-loop μ-loop
-returns c = tabled-end (c .before .loop .inv) (omega arith)
 
 pub write-sums-spec : {M : Type 1} → statement M
 write-sums-spec =
     tie.close
-    (tie.spec
-    Inv-loop
-    μ-loop
-    mul-count
-    loop-holds
-    mul-at
-    mul-at-2
-    add-at
-    weighted-sum-requires
-    mul-sum
-    element-set-from-sum
-    add-i
-    (λ c. omega arith)
-    loop-again
-    returns)
+    (tie.spec Inv-loop μ-loop (λ c. omega (arith, c .pre .0)) (λ c. tabled-start _ _ _ (c .pre .2)) mul-at mul-at-2 add-at
+    weighted-sum-requires (λ c. omega (arith, c .before .before .before .pre .0))
+    (λ c. omega (arith, c .before .before .before .pre .0)) (λ c. omega (arith, c .before .before .before .pre .0))
+    (λ c. omega arith) loop-again (λ c. tabled-end (c .before .loop .inv) (omega arith)))

@@ -6,9 +6,6 @@ use Rattle.constraints.specs.Laws.AggregatedLaws.{second-φ-end}
 use Rattle.constraints.proofs.second.second_phi.Statement.{statement}
 use Rattle.constraints.proofs.second.second_phi.Tie as tie
 
-pair-count-requires : tie.Need-pair-count-requires
-pair-count-requires c κs = c .pre .0 .shaped .parts-small
-
 add-place : tie.Need-add-place
 add-place c =
     let shaped = c .before .pre .0 .shaped in
@@ -20,12 +17,6 @@ term-entry-requires c κs =
     let size = function-parts (s .args .shape .n) (s .args .shape .r) in
     (s .pre .0, (s .pre .1 .0, omega (arith, c .pair-count .ensures, size, s .pre .1 .1)))
 
-conjugate-requires : tie.Need-conjugate-requires
-conjugate-requires c κs = c .before .before .pre .0 .shaped .degree
-
-sum-requires : tie.Need-sum-requires
-sum-requires c κs = c .before .before .before .pre .0 .shaped .degree
-
 returns : tie.Need-returns
 returns c =
     let f = c .before .before .before in
@@ -35,10 +26,5 @@ returns c =
 pub second-phi-spec : {M : Type 1} → statement M
 second-phi-spec =
     tie.close
-    (tie.spec
-    pair-count-requires
-    add-place
-    term-entry-requires
-    conjugate-requires
-    sum-requires
-    returns)
+    (tie.spec (λ c κs. c .pre .0 .shaped .parts-small) add-place term-entry-requires
+    (λ c κs. c .before .before .pre .0 .shaped .degree) (λ c κs. c .before .before .before .pre .0 .shaped .degree) returns)

@@ -66,17 +66,6 @@ returns-4 c =
 pub check3-entry-spec : {M : Type 1} → statement M
 check3-entry-spec =
     tie.close
-    (tie.spec
-    (λ c κs. search needs)
-    (λ c κs. search needs)
-    returns
-    (λ c κs. search needs)
-    (λ c κs. search needs)
-    row-entry-requires
-    returns-2
-    (λ c κs. search needs)
-    (λ c κs. search needs)
-    row-entry-requires-2
-    returns-3
-    (λ c κs. search needs)
-    returns-4)
+    (tie.spec (λ c κs. search needs) (λ c κs. search needs) returns (λ c κs. search needs) (λ c κs. search needs)
+    row-entry-requires returns-2 (λ c κs. search needs) (λ c κs. search needs) row-entry-requires-2 returns-3
+    (λ c κs. search needs) returns-4)

@@ -31,10 +31,4 @@ returns-2 c =
 pub check4-entry-spec : {M : Type 1} → statement M
 check4-entry-spec =
     tie.close
-    (tie.spec
-    (λ c κs. search needs)
-    (λ c κs. search needs)
-    returns
-    (λ c κs. search needs)
-    row-entry-requires
-    returns-2)
+    (tie.spec (λ c κs. search needs) (λ c κs. search needs) returns (λ c κs. search needs) row-entry-requires returns-2)

@@ -37,18 +37,8 @@ t-entry-requires c κs =
     let f = s .pre .0 in
     let some = t₁-some z f in
     let inside = in-t z (s .args .p) (t .t-place .ensures) (c .before .g-place .ensures) refl (c .before .before .if1 .left) (c .if2 .taken) in
-    let place = s .args .p - t .t-place .result in (
-      f .shaped .degree,
-      (
-        f .base₁,
-        (
-          f .κ-positive,
-          some,
-          part-room (z .d) (z .r) (z .kappa) (z .t1) place _ (f .κ-positive) some inside
-              (s .pre .1 .1 .0),
-        ),
-      ),
-    )
+    let room = part-room (z .d) (z .r) (z .kappa) (z .t1) (s .args .p - t .t-place .result) _ (f .κ-positive) some inside (s .pre .1 .1 .0) in
+    (f .shaped .degree, (f .base₁, (f .κ-positive, some, room)))
 
 returns-2 : tie.Need-returns-2
 returns-2 c =
@@ -71,13 +61,5 @@ returns-3 c =
 pub check5-entry-spec : {M : Type 1} → statement M
 check5-entry-spec =
     tie.close
-    (tie.spec
-    (λ c κs. search needs)
-    mul-from
-    z-entry-requires
-    returns
-    (λ c κs. search needs)
-    t-entry-requires
-    returns-2
-    (λ c κs. search needs)
-    returns-3)
+    (tie.spec (λ c κs. search needs) mul-from z-entry-requires returns (λ c κs. search needs) t-entry-requires returns-2
+    (λ c κs. search needs) returns-3)

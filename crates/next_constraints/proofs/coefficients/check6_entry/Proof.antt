@@ -46,12 +46,5 @@ returns-3 c =
 pub check6-entry-spec : {M : Type 1} → statement M
 check6-entry-spec =
     tie.close
-    (tie.spec
-    (λ c κs. search needs)
-    (λ c κs. search needs)
-    returns
-    (λ c κs. search needs)
-    garbage-entry-requires
-    returns-2
-    (λ c κs. search needs)
-    returns-3)
+    (tie.spec (λ c κs. search needs) (λ c κs. search needs) returns (λ c κs. search needs) garbage-entry-requires returns-2
+    (λ c κs. search needs) returns-3)

@@ -44,12 +44,5 @@ returns-3 c =
 pub check7-entry-spec : {M : Type 1} → statement M
 check7-entry-spec =
     tie.close
-    (tie.spec
-    (λ c κs. search needs)
-    (λ c κs. search needs)
-    returns
-    (λ c κs. search needs)
-    (λ c κs. search needs)
-    returns-2
-    garbage-entry-requires
-    returns-3)
+    (tie.spec (λ c κs. search needs) (λ c κs. search needs) returns (λ c κs. search needs) (λ c κs. search needs) returns-2
+    garbage-entry-requires returns-3)

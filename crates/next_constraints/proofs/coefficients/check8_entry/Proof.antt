@@ -56,12 +56,5 @@ returns-3 c =
 pub check8-entry-spec : {M : Type 1} → statement M
 check8-entry-spec =
     tie.close
-    (tie.spec
-    (λ c κs. search needs)
-    (λ c κs. search needs)
-    returns
-    (λ c κs. search needs)
-    garbage-entry-requires
-    returns-2
-    garbage-entry-requires-2
-    returns-3)
+    (tie.spec (λ c κs. search needs) (λ c κs. search needs) returns (λ c κs. search needs) garbage-entry-requires returns-2
+    garbage-entry-requires-2 returns-3)

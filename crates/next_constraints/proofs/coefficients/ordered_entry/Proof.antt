@@ -35,11 +35,4 @@ returns-3 c =
 pub ordered-entry-spec : {M : Type 1} → statement M
 ordered-entry-spec =
     tie.close
-    (tie.spec
-    (λ c κs. search needs)
-    returns
-    (λ c. search needs)
-    (λ c κs. search needs)
-    returns-2
-    outer-entry-requires
-    returns-3)
+    (tie.spec (λ c κs. search needs) returns (λ c. search needs) (λ c κs. search needs) returns-2 outer-entry-requires returns-3)

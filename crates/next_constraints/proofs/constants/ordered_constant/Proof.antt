@@ -51,16 +51,5 @@ returns-4 c =
 pub ordered-constant-spec : {M : Type 1} → statement M
 ordered-constant-spec =
     tie.close
-    (tie.spec
-    (λ c. search needs)
-    (λ c κs. search needs)
-    returns
-    (λ c κs. search needs)
-    returns-2
-    (λ c. search needs)
-    (λ c. search needs)
-    (λ c. search needs)
-    from-slice-requires
-    returns-3
-    from-slice-requires-2
-    returns-4)
+    (tie.spec (λ c. search needs) (λ c κs. search needs) returns (λ c κs. search needs) returns-2 (λ c. search needs)
+    (λ c. search needs) (λ c. search needs) from-slice-requires returns-3 from-slice-requires-2 returns-4)

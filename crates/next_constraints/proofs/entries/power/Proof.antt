@@ -16,18 +16,6 @@ Inv-loop base e acc₀ i₀ acc i = (acc ≡ ofZ w32 (centred (pos (base ^ i))))
 abbrev μ-loop : tie.MeasureT-loop
 μ-loop base e acc₀ i₀ acc i = e - i
 
-loop-holds : tie.Need-loop-holds Inv-loop μ-loop
-loop-holds c = (power-start (c .args .base), omega arith)
-
-fold-digit-requires : tie.Need-fold-digit-requires Inv-loop μ-loop
-fold-digit-requires c κs = c .before .before .pre
-
-add-i : tie.Need-add-i Inv-loop μ-loop
-add-i c = omega arith
-
-loop-less : tie.Need-loop-less Inv-loop μ-loop
-loop-less c = omega arith
-
 loop-again : tie.Need-loop-again Inv-loop μ-loop
 loop-again c =
     let l = c .before .before in
@@ -42,4 +30,5 @@ returns c =
 pub power-spec : {M : Type 1} → statement M
 power-spec =
     tie.close
-    (tie.spec Inv-loop μ-loop loop-holds fold-digit-requires add-i loop-less loop-again returns)
+    (tie.spec Inv-loop μ-loop (λ c. (power-start (c .args .base), omega arith)) (λ c κs. c .before .before .pre)
+    (λ c. omega arith) (λ c. omega arith) loop-again returns)

@@ -34,11 +34,5 @@ returns c =
 pub z-entry-spec : {M : Type 1} → statement M
 z-entry-spec =
     tie.close
-    (tie.spec
-    (λ c. search needs)
-    (λ c. search needs)
-    (λ c κs. search needs)
-    add-from-slice
-    from-slice-requires
-    (λ c κs. search needs)
-    returns)
+    (tie.spec (λ c. search needs) (λ c. search needs) (λ c κs. search needs) add-from-slice from-slice-requires
+    (λ c κs. search needs) returns)

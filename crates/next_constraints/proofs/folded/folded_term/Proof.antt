@@ -3,7 +3,7 @@ use native.Mathlib.Omega.{arith}
 use borrow.Author.Needs.{needs}
 use Rattle.integers.specs.Laws.FlatLaws.{block-fits}
 use Rattle.constraints.specs.Laws.SizeLaws.{witness-small}
-use Rattle.next_constraints.specs.Laws.TablePlaces.{element-within}
+use Rattle.ring.specs.Laws.ElementPlaces.{element-within}
 use Rattle.next_constraints.specs.Laws.TableLaws.{folded-term-end}
 use Rattle.next_constraints.proofs.folded.folded_term.Statement.{statement}
 use Rattle.next_constraints.proofs.folded.folded_term.Tie as tie
@@ -42,10 +42,4 @@ returns c =
 pub folded-term-spec : {M : Type 1} → statement M
 folded-term-spec =
     tie.close
-    (tie.spec
-    mul-start
-    add-place
-    aggregate-phi-requires
-    from-slice-requires
-    (λ c κs. search needs)
-    returns)
+    (tie.spec mul-start add-place aggregate-phi-requires from-slice-requires (λ c κs. search needs) returns)

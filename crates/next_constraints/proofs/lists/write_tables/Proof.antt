@@ -4,11 +4,6 @@ use Rattle.next_constraints.specs.Laws.TableLaws.{tables-of}
 use Rattle.next_constraints.proofs.lists.write_tables.Statement.{statement}
 use Rattle.next_constraints.proofs.lists.write_tables.Tie as tie
 
-write-folded-requires : tie.Need-write-folded-requires
-write-folded-requires c κs =
-    let s = c .before in
-    (s .pre .0, (s .pre .1 .0, s .pre .1 .1 .folded-length))
-
 write-products-requires : tie.Need-write-products-requires
 write-products-requires c κs =
     let s = c .before .before .before .before in
@@ -40,13 +35,6 @@ returns c =
 pub write-tables-spec : {M : Type 1} → statement M
 write-tables-spec =
     tie.close
-    (tie.spec
-    write-folded-requires
-    write-products-requires
-    write-relation-requires
-    write-diagonal-requires
-    (λ c. search needs)
-    (λ c. search needs)
-    (λ c. search needs)
-    (λ c. search needs)
-    returns)
+    (tie.spec (λ c κs. let s = c .before in (s .pre .0, (s .pre .1 .0, s .pre .1 .1 .folded-length))) write-products-requires
+    write-relation-requires write-diagonal-requires (λ c. search needs) (λ c. search needs) (λ c. search needs)
+    (λ c. search needs) returns)

@@ -1,6 +1,6 @@
 -- `next_constraints::tables::pair_factor` meets its contract.
 use lib.IntN.{pos}
-use Rattle.next_constraints.specs.Laws.TablePlaces.{cond-equal, cond-apart}
+use Rattle.next_constraints.specs.Laws.TableLaws.{cond-equal, cond-apart}
 use Rattle.next_constraints.proofs.tables.pair_factor.Statement.{statement}
 use Rattle.next_constraints.proofs.tables.pair_factor.Tie as tie
 

@@ -1,11 +1,10 @@
 -- `next_constraints::tables::write_diagonal` meets its contract. The loop's invariant: the first i rows are written.
 use mathlib.Core.Bool.{cond}
-use Prim.Native.Nat.{_+_, _-_}
+use Prim.Native.Nat.{_-_}
 use native.Mathlib.Omega.{arith}
 use lib.Dec.{eqb}
 use Rattle.ring.specs.Element.{R}
-use Rattle.fold.specs.Laws.WriterLaws.{Rows, rows-start, rows-fit, rows-turn, rows-end}
-use Rattle.next_constraints.specs.Laws.TablePlaces.{place-below}
+use Rattle.fold.specs.Laws.WriterLaws.{Rows, rows-start, rows-fit, rows-below, rows-turn, rows-end}
 use Rattle.next_constraints.proofs.tables.write_diagonal.Statement.{statement}
 use Rattle.next_constraints.proofs.tables.write_diagonal.Tie as tie
 
@@ -15,48 +14,16 @@ Inv-loop d r out₀ at₀ i₀ out at i = Rows d r (λ i j. cond (eqb i j) (R d 
 abbrev μ-loop : tie.MeasureT-loop
 μ-loop d r out₀ at₀ i₀ out at i = r - i
 
-loop-holds : tie.Need-loop-holds Inv-loop μ-loop
-loop-holds c = rows-start _ _ _ _ (c .pre .1)
-
 write-diagonal-row-requires : tie.Need-write-diagonal-row-requires Inv-loop μ-loop
 write-diagonal-row-requires c κs =
     let l = c .before .before in
-    let s = l .before in
-    let fits = rows-fit _ _ _ _ (s .pre .1) (l .loop .inv) (c .before .loop-test .taken) in
-    (s .pre .0, (omega arith, rw (l .loop .inv .same) fits))
-
-add-at : tie.Need-add-at Inv-loop μ-loop
-add-at c =
-    let l = c .before .before .before .before in
-    let s = l .before in
-    let a = s .args in
-    let fits = rows-fit _ _ _ _ (s .pre .1) (l .loop .inv) (c .before .before .before .loop-test .taken) in
-    omega (arith, place-below (a .d) (l .loop .at + (a .r - l .loop .i)) (s .pre .0 .positive) fits)
-
-loop-again : tie.Need-loop-again Inv-loop μ-loop
-loop-again c =
-    let l = c .before .before .before .before in
-    rows-turn _ _ _ _ (l .before .pre .1) (l .loop .inv) (c .before .before .before .loop-test .taken)
-    (c .before .write-diagonal-row .ensures)
-
-same-length : tie.Need-same-length Inv-loop μ-loop
-same-length c = c .before .loop .inv .same
-
-returns : tie.Need-returns Inv-loop μ-loop
-returns c = rows-end _ _ _ _ (c .before .before .pre .1) (c .before .loop .inv) (c .loop-test .left)
+    (l .before .pre .0, (omega arith, rows-fit (l .loop .inv) (c .before .loop-test .taken)))
 
 pub write-diagonal-spec : {M : Type 1} → statement M
 write-diagonal-spec =
     tie.close
-    (tie.spec
-    Inv-loop
-    μ-loop
-    loop-holds
-    write-diagonal-row-requires
-    (λ c. omega arith)
-    add-at
-    (λ c. omega arith)
-    (λ c. omega arith)
-    loop-again
-    same-length
-    returns)
+    (tie.spec Inv-loop μ-loop (λ c. rows-start (c .pre .1)) write-diagonal-row-requires (λ c. omega arith)
+    (λ c. omega (arith, rows-below (c .before .before .before .before .loop .inv) (c .before .before .before .before .before .pre .0) (c .before .before .before .loop-test .taken)))
+    (λ c. omega arith) (λ c. omega arith)
+    (λ c. rows-turn (c .before .before .before .before .loop .inv) (c .before .before .before .loop-test .taken) (c .before .write-diagonal-row .ensures))
+    (λ c. c .before .loop .inv .same) (λ c. rows-end (c .before .loop .inv) (c .loop-test .left)))

@@ -8,8 +8,9 @@ use lib.IntN.{ℤ}
 use Rattle.fold.specs.Arguments.{statementOf, drawsOf}
 use Rattle.fold.specs.Statement.{Transcript}
 use Rattle.fold.specs.NextInstance.{constraint}
-use Rattle.fold.specs.Laws.WriterLaws.{Elements, elements-start, elements-turn}
-use Rattle.next_instance.specs.Laws.Places.{place-below, element-fits}
+use Rattle.ring.specs.Laws.Writers.{Elements, elements-start, elements-turn, elements-end}
+use Rattle.ring.specs.Laws.ElementPlaces.{place-below, element-fits}
+use Rattle.fold.specs.Messages.{elements}
 use Rattle.next_instance.proofs.a_part.write_a_row.Statement.{statement}
 use Rattle.next_instance.proofs.a_part.write_a_row.Tie as tie
 
@@ -17,13 +18,10 @@ abbrev Inv-loop : tie.InvT-loop
 Inv-loop sizes nu parts x s out₀ at d count k₀ out k =
     (k ≤ parts - s) × (length out ≡ length out₀)
     × ((A B C D whole term rows ψ ω α δ c : List ℤ) (transcript : Transcript) (μ : ℕ)
-    → Elements (sizes .d) at (λ k. constraint (statementOf sizes A B C D whole term) (drawsOf rows ψ ω α δ c) transcript nu μ x .a s (s + k)) out₀ k out)
+    → Elements (sizes .d) at (parts - s) (λ k. constraint (statementOf sizes A B C D whole term) (drawsOf rows ψ ω α δ c) transcript nu μ x .a s (s + k)) out₀ k out)
 
 abbrev μ-loop : tie.MeasureT-loop
 μ-loop sizes nu parts x s out₀ at d count k₀ out k = parts - s - k
-
-loop-holds : tie.Need-loop-holds Inv-loop μ-loop
-loop-holds c = (omega arith, refl, λ A B C D whole term rows ψ ω α δ c′ transcript μ. elements-start _ _ _ _)
 
 a-entry-requires : tie.Need-a-entry-requires Inv-loop μ-loop
 a-entry-requires c κs =
@@ -49,40 +47,24 @@ loop-again : tie.Need-loop-again Inv-loop μ-loop
 loop-again c =
     let l = c .before .before .before .before .before in
     let s = l .before in
-    let a = s .args in
-    let fits = element-fits (a .sizes .d) (a .at) {k = l .loop .k} (omega arith) (s .pre .1 .1) in (
+    let inside = c .before .before .before .before .loop-test .taken in (
       omega arith,
       c .before .store .kept .1 .1 .0 ∙ l .loop .inv .1,
       λ A B C D whole term rows ψ ω α δ c′ transcript μ.
-          elements-turn _ _ _ _ (s .pre .0 .shaped .degree .small) refl fits (l .loop .inv .2 A B C D whole term rows ψ ω α δ c′ transcript μ)
+          elements-turn (l .loop .inv .2 A B C D whole term rows ψ ω α δ c′ transcript μ) (s .pre .0 .shaped .degree) refl inside
           (c .before .before .before .a-entry .ensures A B C D whole term rows ψ ω α δ c′ transcript μ) (c .before .store .ensures),
     )
 
-same-length : tie.Need-same-length Inv-loop μ-loop
-same-length c = c .before .loop .inv .1
-
 returns : tie.Need-returns Inv-loop μ-loop
+unfolding elements
 returns c =
     λ A B C D whole term rows ψ ω α δ c′ transcript μ.
-    let l = c .before in
-    let a = l .before .args in
-    let all : l .loop .k ≡ a .parts - a .s = omega arith in
-    rw all at (l .loop .inv .2 A B C D whole term rows ψ ω α δ c′ transcript μ .is)
+    elements-end (c .before .loop .inv .2 A B C D whole term rows ψ ω α δ c′ transcript μ) (c .loop-test .left)
 
 pub write-a-row-spec : {M : Type 1} → statement M
 write-a-row-spec =
     tie.close
-    (tie.spec
-    Inv-loop
-    μ-loop
-    (λ c. omega arith)
-    loop-holds
-    (λ c. omega arith)
-    a-entry-requires
-    add-store
-    store-requires
-    (λ c. omega arith)
-    (λ c. omega arith)
-    loop-again
-    same-length
-    returns)
+    (tie.spec Inv-loop μ-loop (λ c. omega arith)
+    (λ c. (omega arith, refl, λ A B C D whole term rows ψ ω α δ c′ transcript μ. elements-start (c .pre .1 .1)))
+    (λ c. omega arith) a-entry-requires add-store store-requires (λ c. omega arith) (λ c. omega arith) loop-again
+    (λ c. c .before .loop .inv .1) returns)

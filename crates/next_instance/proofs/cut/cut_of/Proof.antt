@@ -49,11 +49,5 @@ returns c =
 pub cut-of-spec : {M : Type 1} → statement M
 cut-of-spec =
     tie.close
-    (tie.spec
-    (λ c κs. search needs)
-    next-rank-requires
-    (λ c. search needs)
-    (λ c. search needs)
-    (λ c κs. search needs)
-    function-size-requires
-    returns)
+    (tie.spec (λ c κs. search needs) next-rank-requires (λ c. search needs) (λ c. search needs) (λ c κs. search needs)
+    function-size-requires returns)

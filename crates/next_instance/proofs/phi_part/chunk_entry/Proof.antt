@@ -6,19 +6,6 @@ use borrow.Author.Needs.{needs}
 use Rattle.next_instance.proofs.phi_part.chunk_entry.Statement.{statement}
 use Rattle.next_instance.proofs.phi_part.chunk_entry.Tie as tie
 
-add-coefficient : tie.Need-add-coefficient
-add-coefficient c =
-    let s = c .before in
-    omega (arith, c .if1 .taken, s .pre .1 .1 .1, opening-small (s .args .sizes) (s .pre .0 .limits))
-
-coefficient-requires : tie.Need-coefficient-requires
-coefficient-requires c κs =
-    let s = c .before in
-    (s .pre .0, (s .pre .1 .0, (s .pre .1 .1 .0, omega (arith, c .if1 .taken, s .pre .1 .1 .1))))
-
-additive-identity-requires : tie.Need-additive-identity-requires
-additive-identity-requires c κs = search needs
-
 returns : tie.Need-returns
 returns c =
     λ whole term rows ψ ω α δ transcript ν μ tables.
@@ -35,4 +22,7 @@ returns-2 c =
 pub chunk-entry-spec : {M : Type 1} → statement M
 chunk-entry-spec =
     tie.close
-    (tie.spec add-coefficient coefficient-requires additive-identity-requires returns returns-2)
+    (tie.spec
+    (λ c. let s = c .before in omega (arith, c .if1 .taken, s .pre .1 .1 .1, opening-small (s .args .sizes) (s .pre .0 .limits)))
+    (λ c κs. let s = c .before in (s .pre .0, (s .pre .1 .0, (s .pre .1 .1 .0, omega (arith, c .if1 .taken, s .pre .1 .1 .1)))))
+    (λ c κs. search needs) returns returns-2)

@@ -8,7 +8,8 @@ use lib.IntN.{ℤ}
 use Rattle.fold.specs.Chunks.{width}
 use Rattle.fold.specs.Statement.{Transcript}
 use Rattle.next_constraints.specs.Tables.{Tables}
-use Rattle.next_instance.specs.Laws.Places.{place-below, cut-sizes, opening-small, part-below, part-short, part-within}
+use Rattle.ring.specs.Laws.ElementPlaces.{place-below}
+use Rattle.next_instance.specs.Laws.Places.{cut-sizes, opening-small, part-below, part-short, part-within}
 use Rattle.next_instance.specs.Written.{tableOf}
 use Rattle.next_instance.specs.Laws.WrittenLaws.{Running, PartsWritten, running-start, running-turn, running-fits, parts-start, parts-turn}
 use Rattle.next_instance.proofs.phi_part.write_phi.Statement.{statement}
@@ -24,9 +25,6 @@ Inv-loop sizes cut a b c-matrix d-matrix c folded products relation diagonal x o
 
 abbrev μ-loop : tie.MeasureT-loop
 μ-loop sizes cut a b c-matrix d-matrix c folded products relation diagonal x out₀ at n rank parts start₀ place₀ s₀ out start place s = cut .parts - s
-
-loop-holds : tie.Need-loop-holds Inv-loop μ-loop
-loop-holds c = (running-start _ _ _ _ _, λ whole term rows ψ ω α δ transcript ν μ tables. parts-start _ _ _ _ _ _)
 
 chunk-width-requires : tie.Need-chunk-width-requires Inv-loop μ-loop
 chunk-width-requires c κs =
@@ -82,9 +80,6 @@ add-s c =
     let below = part-below (s .args .sizes) (s .args .cut) cut (c .before .before .before .before .loop-test .taken) in
     omega (arith, below, cut .parts-small)
 
-loop-less : tie.Need-loop-less Inv-loop μ-loop
-loop-less c = omega (arith, c .before .before .before .before .loop-test .taken)
-
 loop-again : tie.Need-loop-again Inv-loop μ-loop
 loop-again c =
     let l = c .before .before .before .before .before in
@@ -101,9 +96,6 @@ loop-again c =
           (c .before .write-chunk .ensures whole term rows ψ ω α δ transcript ν μ tables),
     )
 
-same-length : tie.Need-same-length Inv-loop μ-loop
-same-length c = c .before .loop .inv .0 .same
-
 returns : tie.Need-returns Inv-loop μ-loop
 returns c =
     λ whole term rows ψ ω α δ transcript ν μ tables.
@@ -114,16 +106,8 @@ returns c =
 pub write-phi-spec : {M : Type 1} → statement M
 write-phi-spec =
     tie.close
-    (tie.spec
-    Inv-loop
-    μ-loop
-    loop-holds
-    chunk-width-requires
-    write-chunk-requires
-    add-start
-    add-place
-    add-s
-    loop-less
-    loop-again
-    same-length
+    (tie.spec Inv-loop μ-loop
+    (λ c. (running-start _ _ _ _ _, λ whole term rows ψ ω α δ transcript ν μ tables. parts-start _ _ _ _ _ _))
+    chunk-width-requires write-chunk-requires add-start add-place add-s
+    (λ c. omega (arith, c .before .before .before .before .loop-test .taken)) loop-again (λ c. c .before .loop .inv .0 .same)
     returns)

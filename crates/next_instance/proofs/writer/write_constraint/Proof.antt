@@ -30,11 +30,6 @@ write-phi-requires c κs =
     let room = c .before .before .write-a .kept .1 .1 .1 .1 .0 ∙ s .pre .1 .1 .1 .1 .1 in
     (s .pre .0, (s .pre .1 .0, (cut, (s .pre .1 .1 .1 .1 .0, φ-fits (a .sizes) (a .cut) cut (a .sizes .d) room))))
 
-constant-entry-requires : tie.Need-constant-entry-requires
-constant-entry-requires c κs =
-    let s = c .before .before .before .before .before .before in
-    (s .pre .1 .1 .0, s .pre .1 .1 .1 .1 .0)
-
 store-requires : tie.Need-store-requires
 store-requires c κs =
     let φ = c .before .before .before in
@@ -73,10 +68,6 @@ returns c =
 pub write-constraint-spec : {M : Type 1} → statement M
 write-constraint-spec =
     tie.close
-    (tie.spec
-    write-a-requires
-    write-phi-requires
-    constant-entry-requires
-    store-requires
-    (λ c. search needs)
-    returns)
+    (tie.spec write-a-requires write-phi-requires
+    (λ c κs. let s = c .before .before .before .before .before .before in (s .pre .1 .1 .0, s .pre .1 .1 .1 .1 .0)) store-requires
+    (λ c. search needs) returns)

@@ -9,7 +9,7 @@ use Rattle.fold.specs.Arguments.{transcriptOf}
 use Rattle.fold.specs.Sizes.{nextCount}
 use Rattle.fold.specs.Chunks.{width}
 use Rattle.fold.specs.Constraint.{laidOut}
-use Rattle.fold.specs.Laws.WriterLaws.{Blocks, blocks-start, blocks-turn, blocks-end}
+use Rattle.ring.specs.Laws.Writers.{Blocks, blocks-start, blocks-turn, blocks-all}
 use Rattle.next_constraints.specs.Tables.{Tables}
 use Rattle.next_instance.specs.Laws.Places.{size-small}
 use Rattle.next_instance.specs.Laws.Filled.{Filled, filled-start, filled-fit, filled-part, filled-turn, all-fit}
@@ -23,27 +23,13 @@ Inv-loop sizes cut a b c-matrix d-matrix whole u1 b2 alpha delta u2 c folded pro
     Filled (sizes .kappa + sizes .kappa1 + sizes .kappa2 + 3) ((cut .size + 1) * sizes .d) out₀ x at out
     × ((term rows ψ ω p : List ℤ)
     → Tables (sizes .d) (sizes .n) (sizes .r) (sizes .k) (sizes .l) (sizes .w) whole term rows ψ ω alpha delta c folded products relation diagonal
-    → Blocks (sizes .kappa + sizes .kappa1 + sizes .kappa2 + 3) ((cut .size + 1) * sizes .d)
+    → Blocks 0 (sizes .kappa + sizes .kappa1 + sizes .kappa2 + 3) ((cut .size + 1) * sizes .d)
     (λ x. laidOut (sizes .d) (cut .rank) (cut .parts) (width 2 (sizes .n) (cut .nu) (cut .m) (cut .mu))
     (constraintOf sizes a b c-matrix d-matrix c whole term rows ψ ω alpha delta (transcriptOf u1 p b2 u2) (cut .nu) (cut .mu) x))
     out₀ x at out)
 
 abbrev μ-loop : tie.MeasureT-loop
 μ-loop sizes cut a b c-matrix d-matrix whole u1 b2 alpha delta u2 c folded products relation diagonal out₀ count size at₀ x₀ out at x = sizes .kappa + sizes .kappa1 + sizes .kappa2 + 3 - x
-
-add-count : tie.Need-add-count Inv-loop μ-loop
-add-count c = let l = c .before .pre .0 .limits in omega (arith, l .κ-small, l .κ₁-small)
-
-add-count-2 : tie.Need-add-count-2 Inv-loop μ-loop
-add-count-2 c = let l = c .before .before .pre .0 .limits in omega (arith, l .κ-small, l .κ₁-small, l .κ₂-small)
-
-add-count-3 : tie.Need-add-count-3 Inv-loop μ-loop
-add-count-3 c = let l = c .before .before .pre .0 .limits in omega (arith, l .κ-small, l .κ₁-small, l .κ₂-small)
-
-add-size : tie.Need-add-size Inv-loop μ-loop
-add-size c =
-    let s = c .before .before .before in
-    omega (arith, size-small (s .args .sizes) (s .args .cut) (s .pre .1 .1 .1 .0))
 
 mul-size : tie.Need-mul-size Inv-loop μ-loop
 mul-size c =
@@ -55,31 +41,17 @@ loop-holds : tie.Need-loop-holds Inv-loop μ-loop
 loop-holds c =
     let s = c .before .before .before .before in
     let room = all-fit (s .args .sizes) (s .args .cut) (s .pre .1 .1 .1 .0) (s .pre .1 .1 .1 .1) in
-    (filled-start _ _ _ room, λ term rows ψ ω p tables. blocks-start _ _ _ _ room)
+    (filled-start room, λ term rows ψ ω p tables. blocks-start (omega (arith, room)))
 
 add-next : tie.Need-add-next Inv-loop μ-loop
 add-next c =
-    let l = c .before in
-    let s = l .before .before .before .before .before in
-    let room = all-fit (s .args .sizes) (s .args .cut) (s .pre .1 .1 .1 .0) (s .pre .1 .1 .1 .1) in
-    let fits = filled-fit _ _ _ room (l .loop .inv .0) (c .loop-test .taken) in
-    omega (arith, fits, s .good .1 .1 .1 .1 .1 .1 .1 .1 .1 .1 .1 .1 .1 .1 .1 .1 .1 .0)
+    let s = c .before .before .before .before .before .before in
+    omega (arith, filled-fit (c .before .loop .inv .0) (c .loop-test .taken), s .good .1 .1 .1 .1 .1 .1 .1 .1 .1 .1 .1 .1 .1 .1 .1 .1 .1 .0)
 
 mul-write-constraint : tie.Need-mul-write-constraint Inv-loop μ-loop
 mul-write-constraint c =
-    let l = c .before in
-    let s = l .before .before .before .before .before in
-    let room = all-fit (s .args .sizes) (s .args .cut) (s .pre .1 .1 .1 .0) (s .pre .1 .1 .1 .1) in
-    let fits = filled-fit _ _ _ room (l .loop .inv .0) (c .loop-test .taken) in
-    omega (arith, fits, s .good .1 .1 .1 .1 .1 .1 .1 .1 .1 .1 .1 .1 .1 .1 .1 .1 .1 .0)
-
-part-write-constraint-end : tie.Need-part-write-constraint-end Inv-loop μ-loop
-part-write-constraint-end c =
-    let l = c .before in
-    let s = l .before .before .before .before .before in
-    let room = all-fit (s .args .sizes) (s .args .cut) (s .pre .1 .1 .1 .0) (s .pre .1 .1 .1 .1) in
-    let fits = filled-fit _ _ _ room (l .loop .inv .0) (c .loop-test .taken) in
-    omega (arith, fits, l .loop .inv .0 .same)
+    let s = c .before .before .before .before .before .before in
+    omega (arith, filled-fit (c .before .loop .inv .0) (c .loop-test .taken), s .good .1 .1 .1 .1 .1 .1 .1 .1 .1 .1 .1 .1 .1 .1 .1 .1 .1 .0)
 
 write-constraint-requires : tie.Need-write-constraint-requires Inv-loop μ-loop
 unfolding nextCount
@@ -87,19 +59,14 @@ write-constraint-requires c κs =
     let l = c .before .before in
     let s = l .before .before .before .before .before in
     let cut = s .pre .1 .1 .1 .0 in
-    let room = all-fit (s .args .sizes) (s .args .cut) cut (s .pre .1 .1 .1 .1) in
-    let block = filled-part _ _ _ room (l .loop .inv .0) (c .before .loop-test .taken) in
+    let block = filled-part (l .loop .inv .0) (c .before .loop-test .taken) in
     let size = ap (λ (e : ℕ). (e + 1) * s .args .sizes .d) (cut .size-is) in
     (s .pre .0, (s .pre .1 .0, (s .pre .1 .1 .0, (cut, (c .before .loop-test .taken, block ∙ size)))))
 
 add-x : tie.Need-add-x Inv-loop μ-loop
 add-x c =
-    let l = c .before .before .before .before in
-    let limits = l .before .before .before .before .before .pre .0 .limits in
+    let limits = c .before .before .before .before .before .before .before .before .before .pre .0 .limits in
     omega (arith, c .before .before .before .loop-test .taken, limits .κ-small, limits .κ₁-small, limits .κ₂-small)
-
-loop-less : tie.Need-loop-less Inv-loop μ-loop
-loop-less c = omega (arith, c .before .before .before .loop-test .taken)
 
 loop-again : tie.Need-loop-again Inv-loop μ-loop
 loop-again c =
@@ -107,17 +74,13 @@ loop-again c =
     let s = l .before .before .before .before .before in
     let a = s .args in
     let cut = s .pre .1 .1 .1 .0 in
-    let room = all-fit (a .sizes) (a .cut) cut (s .pre .1 .1 .1 .1) in
     let inside = c .before .before .before .loop-test .taken in
     let block = c .before .write-constraint in (
-      filled-turn _ _ _ room (block .last .1 .1 .1 .1 .1 .1 .1 .1 .1 .1 .1 .1 .1 .1 .1 .1 .1 .1 .0) (l .loop .inv .0) inside (block .kept .1 .1 .1 .1 .1 .1 .1 .1 .1 .1 .1 .1 .1 .1 .1 .1 .1 .1 .0) refl,
+      filled-turn (l .loop .inv .0) (block .last .1 .1 .1 .1 .1 .1 .1 .1 .1 .1 .1 .1 .1 .1 .1 .1 .1 .1 .0) inside (block .kept .1 .1 .1 .1 .1 .1 .1 .1 .1 .1 .1 .1 .1 .1 .1 .1 .1 .1 .0) refl,
       λ term rows ψ ω p tables.
-          blocks-turn _ _ _ _ room (λ i. length-block (a .sizes .d) (a .cut .rank) (a .cut .parts) (a .cut .size) _ _ (cut .size-is))
-          (l .loop .inv .1 term rows ψ ω p tables) inside (block .ensures term rows ψ ω p tables) refl,
+          blocks-turn (l .loop .inv .1 term rows ψ ω p tables) (λ i. length-block (a .sizes .d) (a .cut .rank) (a .cut .parts) (a .cut .size) _ _ (cut .size-is))
+          inside (block .ensures term rows ψ ω p tables) refl,
     )
-
-same-length : tie.Need-same-length Inv-loop μ-loop
-same-length c = c .before .loop .inv .0 .same
 
 returns : tie.Need-returns Inv-loop μ-loop
 unfolding nextCount
@@ -128,29 +91,17 @@ returns c =
     let a = s .args in
     let cut = s .pre .1 .1 .1 .0 in
     let room = all-fit (a .sizes) (a .cut) cut (s .pre .1 .1 .1 .1) in
-    blocks-end _ _ _ _ room (λ i. length-block (a .sizes .d) (a .cut .rank) (a .cut .parts) (a .cut .size) _ _ (cut .size-is))
-    (l .loop .inv .1 term rows ψ ω p tables) (c .loop-test .left)
+    blocks-all (l .loop .inv .1 term rows ψ ω p tables) (λ i. length-block (a .sizes .d) (a .cut .rank) (a .cut .parts) (a .cut .size) _ _ (cut .size-is))
+    room (c .loop-test .left)
 
 pub write-constraints-spec : {M : Type 1} → statement M
 write-constraints-spec =
     tie.close
-    (tie.spec
-    Inv-loop
-    μ-loop
-    add-count
-    add-count-2
-    add-count-3
-    add-size
-    mul-size
-    loop-holds
-    add-next
-    mul-write-constraint
-    (λ c. omega arith)
-    (λ c. omega arith)
-    part-write-constraint-end
-    write-constraint-requires
-    add-x
-    loop-less
-    loop-again
-    same-length
-    returns)
+    (tie.spec Inv-loop μ-loop (λ c. let l = c .before .pre .0 .limits in omega (arith, l .κ-small, l .κ₁-small))
+    (λ c. let l = c .before .before .pre .0 .limits in omega (arith, l .κ-small, l .κ₁-small, l .κ₂-small))
+    (λ c. let l = c .before .before .pre .0 .limits in omega (arith, l .κ-small, l .κ₁-small, l .κ₂-small))
+    (λ c. let s = c .before .before .before in omega (arith, size-small (s .args .sizes) (s .args .cut) (s .pre .1 .1 .1 .0)))
+    mul-size loop-holds add-next mul-write-constraint (λ c. omega arith) (λ c. omega arith)
+    (λ c. omega (arith, filled-fit (c .before .loop .inv .0) (c .loop-test .taken), c .before .loop .inv .0 .same))
+    write-constraint-requires add-x (λ c. omega (arith, c .before .before .before .loop-test .taken)) loop-again
+    (λ c. c .before .loop .inv .0 .same) returns)

@@ -50,17 +50,6 @@ returns c =
 pub write-instance-spec : {M : Type 1} → statement M
 write-instance-spec =
     tie.close
-    (tie.spec
-    (λ c κs. search needs)
-    (λ c. search needs)
-    (λ c. search needs)
-    (λ c. search needs)
-    (λ c. search needs)
-    write-tables-requires
-    (λ c. search needs)
-    (λ c. search needs)
-    (λ c. search needs)
-    (λ c. search needs)
-    write-constraints-requires
-    (λ c. search needs)
-    returns)
+    (tie.spec (λ c κs. search needs) (λ c. search needs) (λ c. search needs) (λ c. search needs) (λ c. search needs)
+    write-tables-requires (λ c. search needs) (λ c. search needs) (λ c. search needs) (λ c. search needs)
+    write-constraints-requires (λ c. search needs) returns)

@@ -1,6 +1,6 @@
 -- `prover::amortize::write_z` meets its contract: z stands in the second half of the slice before it is split.
 use borrow.Author.Needs.{needs}
-use Rattle.prover.specs.Laws.Sums.{folded-digits}
+use Rattle.prover.specs.Laws.OutputLaws.{folded-digits}
 use Rattle.prover.proofs.amortize.write_z.Statement.{statement}
 use Rattle.prover.proofs.amortize.write_z.Tie as tie
 

@@ -2,8 +2,8 @@
 use borrow.Author.Needs.{needs}
 use Prim.Native.Nat.{_+_, _*_}
 use native.Mathlib.Omega.{arith}
-use Rattle.prover.specs.Laws.Places.{place-below}
-use Rattle.prover.specs.Laws.Sums.{outer-sum}
+use Rattle.ring.specs.Laws.ElementPlaces.{place-below}
+use Rattle.prover.specs.Laws.OutputLaws.{outer-sum}
 use Rattle.prover.proofs.commit.outer_row.Statement.{statement}
 use Rattle.prover.proofs.commit.outer_row.Tie as tie
 

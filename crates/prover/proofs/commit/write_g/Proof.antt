@@ -51,10 +51,5 @@ returns c =
 pub write-g-spec : {M : Type 1} → statement M
 write-g-spec =
     tie.close
-    (tie.spec
-    (λ c. search needs)
-    write-pair-products-requires
-    (λ c. search needs)
-    write-garbage-digits-requires
-    (λ c. search needs)
-    returns)
+    (tie.spec (λ c. search needs) write-pair-products-requires (λ c. search needs) write-garbage-digits-requires
+    (λ c. search needs) returns)

@@ -3,7 +3,7 @@ use borrow.Author.Needs.{needs}
 use Prim.Native.Nat.{_-_, _*_, _+_}
 use native.Mathlib.Omega.{arith}
 use Rattle.fold.specs.Laws.WriterLaws.{split-elements}
-use Rattle.prover.specs.Laws.Places.{place-below, last-place, block-below}
+use Rattle.ring.specs.Laws.ElementPlaces.{place-below, last-place, block-below}
 use Rattle.prover.proofs.commit.write_t_part.Statement.{statement}
 use Rattle.prover.proofs.commit.write_t_part.Tie as tie
 
@@ -36,11 +36,4 @@ returns c =
 pub write-t-part-spec : {M : Type 1} → statement M
 write-t-part-spec =
     tie.close
-    (tie.spec
-    (λ c. search needs)
-    mul-last
-    write-products-requires
-    mul-width
-    (λ c κs. search needs)
-    (λ c. search needs)
-    returns)
+    (tie.spec (λ c. search needs) mul-last write-products-requires mul-width (λ c κs. search needs) (λ c. search needs) returns)

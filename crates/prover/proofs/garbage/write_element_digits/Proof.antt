@@ -22,10 +22,4 @@ returns c =
 pub write-element-digits-spec : {M : Type 1} → statement M
 write-element-digits-spec =
     tie.close
-    (tie.spec
-    (λ c κs. search needs)
-    (λ c. search needs)
-    store-requires
-    (λ c κs. search needs)
-    (λ c. search needs)
-    returns)
+    (tie.spec (λ c κs. search needs) (λ c. search needs) store-requires (λ c κs. search needs) (λ c. search needs) returns)

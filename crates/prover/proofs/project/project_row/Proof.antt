@@ -15,9 +15,6 @@ Inv-loop row witness acc₀ y₀ acc y = Dotted row witness y acc
 abbrev μ-loop : tie.MeasureT-loop
 μ-loop row witness acc₀ y₀ acc y = length witness - y
 
-loop-holds : tie.Need-loop-holds Inv-loop μ-loop
-loop-holds c = dotted-start _ _
-
 add-product-requires : tie.Need-add-product-requires Inv-loop μ-loop
 add-product-requires c κs =
     let l = c .before .before .before in
@@ -45,17 +42,5 @@ returns c =
 pub project-row-spec : {M : Type 1} → statement M
 project-row-spec =
     tie.close
-    (tie.spec
-    Inv-loop
-    μ-loop
-    loop-holds
-    (λ c. omega arith)
-    (λ c. omega arith)
-    (λ c. omega arith)
-    (λ c. omega arith)
-    add-product-requires
-    (λ c. omega arith)
-    (λ c. omega arith)
-    loop-again
-    (λ c κs. tt)
-    returns)
+    (tie.spec Inv-loop μ-loop (λ c. dotted-start _ _) (λ c. omega arith) (λ c. omega arith) (λ c. omega arith) (λ c. omega arith)
+    add-product-requires (λ c. omega arith) (λ c. omega arith) loop-again (λ c κs. tt) returns)

@@ -14,68 +14,32 @@ Inv-loop w rows witness out₀ size at₀ j₀ out at j = Projecting w rows witn
 abbrev μ-loop : tie.MeasureT-loop
 μ-loop w rows witness out₀ size at₀ j₀ out at j = w - j
 
-loop-holds : tie.Need-loop-holds Inv-loop μ-loop
-loop-holds c = projecting-start _ _ _ _ (rows-length (c .pre)) (c .pre .output)
-
-add-next : tie.Need-add-next Inv-loop μ-loop
-add-next c =
-    let s = c .before .before in
-    omega (arith, projecting-fit _ _ _ _ (rows-length (s .pre)) (s .pre .output) (c .before .loop .inv) (c .loop-test .taken))
-
-mul-project-row : tie.Need-mul-project-row Inv-loop μ-loop
-mul-project-row c =
-    let s = c .before .before in
-    omega (arith, projecting-fit _ _ _ _ (rows-length (s .pre)) (s .pre .output) (c .before .loop .inv) (c .loop-test .taken))
-
-part-project-row-end : tie.Need-part-project-row-end Inv-loop μ-loop
-part-project-row-end c =
-    let s = c .before .before in
-    omega (arith, projecting-fit _ _ _ _ (rows-length (s .pre)) (s .pre .output) (c .before .loop .inv) (c .loop-test .taken))
-
 project-row-requires : tie.Need-project-row-requires Inv-loop μ-loop
 project-row-requires c κs =
     let l = c .before .before in
     let s = l .before in (
       projections-part (l .loop .at) (l .loop .at + length (s .args .witness .now) - l .loop .at) (s .args .rows .now) (s .pre .entries),
-      projecting-part _ _ _ _ (rows-length (s .pre)) (s .pre .output) (l .loop .inv) (c .before .loop-test .taken),
+      projecting-part (l .loop .inv) (c .before .loop-test .taken),
       witness-short (s .pre),
     )
 
 loop-again : tie.Need-loop-again Inv-loop μ-loop
 loop-again c =
     let l = c .before .before .before in
-    let s = l .before in
-    projecting-turn _ _ _ _ (rows-length (s .pre)) (s .pre .output) (l .loop .inv) (c .before .before .loop-test .taken)
-    (c .project-row .ensures)
-
-same-length : tie.Need-same-length Inv-loop μ-loop
-same-length c = c .before .loop .inv .same
+    projecting-turn (l .loop .inv) (c .before .before .loop-test .taken) (c .project-row .ensures)
 
 returns : tie.Need-returns Inv-loop μ-loop
 returns c =
-    let l = c .before in
-    let s = l .before in
-    let a = s .args in
-    projecting-end _ _ _ _ (rows-length (s .pre)) (s .pre .output) (l .loop .inv) (a .shape .d) (a .shape .n) (a .shape .r)
-    (s .pre .witness) (c .loop-test .left)
+    let s = c .before .before in
+    let z = s .args .shape in
+    projecting-end (c .before .loop .inv) (z .d) (z .n) (z .r) (s .pre .witness) (c .loop-test .left)
 
 pub write-p-spec : {M : Type 1} → statement M
 write-p-spec =
     tie.close
-    (tie.spec
-    Inv-loop
-    μ-loop
-    loop-holds
-    add-next
-    mul-project-row
-    (λ c. omega arith)
-    (λ c. omega arith)
-    part-project-row-end
-    project-row-requires
-    (λ c. omega arith)
-    (λ c. omega arith)
-    (λ c. omega arith)
-    (λ c. omega arith)
-    loop-again
-    same-length
-    returns)
+    (tie.spec Inv-loop μ-loop (λ c. projecting-start (rows-length (c .pre)) (c .pre .output))
+    (λ c. omega (arith, projecting-fit (c .before .loop .inv) (c .loop-test .taken)))
+    (λ c. omega (arith, projecting-fit (c .before .loop .inv) (c .loop-test .taken)))
+    (λ c. omega arith) (λ c. omega arith)
+    (λ c. omega (arith, projecting-fit (c .before .loop .inv) (c .loop-test .taken))) project-row-requires (λ c. omega arith) (λ c. omega arith)
+    (λ c. omega arith) (λ c. omega arith) loop-again (λ c. c .before .loop .inv .same) returns)

@@ -1,6 +1,7 @@
 -- `ring::coefficients::recomposed` meets its contract. The loop's invariant: `sum` is recomposed from the digits from e up.
 use mathlib.Core.Path.{_≡_, refl, sym, ap, _∙_}
-use Prim.Native.Nat.{ℕ, _+_, _-_, _*_, _<_}
+use Prim.Native.Nat.{ℕ, _+_, _-_, _*_, _<_, _≤_}
+use lib.ListN.{length}
 use native.Mathlib.Omega.{arith}
 use mir.Syntax.{w32}
 use mir.Val.{toZ}
@@ -8,7 +9,8 @@ use mir.Facts.{toZ-pos}
 use Rattle.integers.specs.Laws.Bridge.{zarith}
 use Rattle.ring.specs.Element.{R, el, array}
 use Rattle.ring.specs.Joined.{joined}
-use Rattle.ring.specs.Laws.Recomposition.{horner-start, horner-turn, horner-end, digit-fits, index-below}
+use Rattle.ring.specs.Laws.ElementPlaces.{element-below, digit-fits}
+use Rattle.ring.specs.Laws.Recomposition.{horner-start, horner-turn, horner-end}
 use Rattle.ring.proofs.coefficients.recomposed.Statement.{statement}
 use Rattle.ring.proofs.coefficients.recomposed.Tie as tie
 
@@ -19,21 +21,9 @@ Inv-loop d base t xs p stride factor e₀ top sum₀ e sum =
 abbrev μ-loop : tie.MeasureT-loop
 μ-loop d base t xs p stride factor e₀ top sum₀ e sum = e
 
-cast-factor : tie.Need-cast-factor Inv-loop μ-loop
-cast-factor c = omega zarith
-
-mul-top : tie.Need-mul-top Inv-loop μ-loop
-mul-top c =
-    let a = c .args in
-    omega (arith, index-below (a .d) (a .p + (a .t - 1) * a .stride) (c .pre .0 .positive) (c .pre .1 .1 .1))
-
-add-top : tie.Need-add-top Inv-loop μ-loop
-add-top c =
-    let a = c .args in
-    omega (arith, index-below (a .d) (a .p + (a .t - 1) * a .stride) (c .pre .0 .positive) (c .pre .1 .1 .1))
-
-loaded-requires : tie.Need-loaded-requires Inv-loop μ-loop
-loaded-requires c κs = (c .pre .0, c .pre .1 .1 .1)
+-- the last digit's place fits, and so does every other one's
+top : (c : tie.Start Inv-loop μ-loop) → c .args .p + (c .args .t - 1) * c .args .stride < length (c .args .xs .now)
+top c = element-below (c .args .d) _ (c .pre .0 .positive) (c .pre .1 .1 .1)
 
 loop-holds : tie.Need-loop-holds Inv-loop μ-loop
 loop-holds c =
@@ -44,33 +34,15 @@ loop-holds c =
       refl,
     )
 
-mul-place : tie.Need-mul-place Inv-loop μ-loop
-mul-place c =
+fits : (c : tie.In-loop Inv-loop μ-loop) → let a = c .before .before .before .args in
+    (a .p + (c .before .loop .e - 1) * a .stride) * a .d + a .d ≤ length (a .xs .now)
+fits c =
     let s = c .before .before .before in
-    let a = s .args in
-    let e = c .before .loop .e - 1 in
-    let fits = digit-fits (a .d) (a .p) (a .stride) {e = e} {f = a .t - 1} (omega arith) (s .pre .1 .1 .1) in
-    omega (arith, index-below (a .d) (a .p + e * a .stride) (s .pre .0 .positive) fits)
+    digit-fits (s .args .d) (s .args .p) (s .args .stride) {f = s .args .t - 1} (omega arith) (s .pre .1 .1 .1)
 
-add-place : tie.Need-add-place Inv-loop μ-loop
-add-place c =
-    let s = c .before .before .before in
-    let a = s .args in
-    let e = c .before .loop .e - 1 in
-    let fits = digit-fits (a .d) (a .p) (a .stride) {e = e} {f = a .t - 1} (omega arith) (s .pre .1 .1 .1) in
-    omega (arith, index-below (a .d) (a .p + e * a .stride) (s .pre .0 .positive) fits)
-
-loaded-requires-2 : tie.Need-loaded-requires-2 Inv-loop μ-loop
-loaded-requires-2 c κs =
-    let s = c .before .before .before in
-    let a = s .args in
-    (s .pre .0, digit-fits (a .d) (a .p) (a .stride) {e = c .before .loop .e - 1} {f = a .t - 1} (omega arith) (s .pre .1 .1 .1))
-
-scaled-requires : tie.Need-scaled-requires Inv-loop μ-loop
-scaled-requires c κs = c .before .before .before .before .pre .0
-
-added-requires : tie.Need-added-requires Inv-loop μ-loop
-added-requires c κs = c .before .before .before .before .before .pre .0
+below : (c : tie.In-loop Inv-loop μ-loop) → let a = c .before .before .before .args in
+    a .p + (c .before .loop .e - 1) * a .stride < length (a .xs .now)
+below c = let s = c .before .before .before in element-below (s .args .d) _ (s .pre .0 .positive) (fits c)
 
 loop-again : tie.Need-loop-again Inv-loop μ-loop
 loop-again c =
@@ -98,21 +70,8 @@ returns c =
 pub recomposed-spec : {M : Type 1} → statement M
 recomposed-spec =
     tie.close
-    (tie.spec
-    Inv-loop
-    μ-loop
-    cast-factor
-    (λ c. omega arith)
-    mul-top
-    add-top
-    loaded-requires
-    loop-holds
-    (λ c. omega arith)
-    mul-place
-    add-place
-    loaded-requires-2
-    scaled-requires
-    added-requires
-    (λ c. omega arith)
-    loop-again
-    returns)
+    (tie.spec Inv-loop μ-loop (λ c. omega zarith) (λ c. omega arith) (λ c. omega (arith, top c)) (λ c. omega (arith, top c))
+    (λ c κs. (c .pre .0, c .pre .1 .1 .1)) loop-holds (λ c. omega arith) (λ c. omega (arith, below c))
+    (λ c. omega (arith, below c)) (λ c κs. (c .before .before .before .pre .0, fits c))
+    (λ c κs. c .before .before .before .before .pre .0) (λ c κs. c .before .before .before .before .before .pre .0)
+    (λ c. omega arith) loop-again returns)

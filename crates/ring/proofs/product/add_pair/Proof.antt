@@ -12,12 +12,6 @@ Inv-loop d a e acc₀ half k₀ acc k = Adding d (column d a e) acc₀ half k ac
 abbrev μ-loop : tie.MeasureT-loop
 μ-loop d a e acc₀ half k₀ acc k = half - k
 
-loop-holds : tie.Need-loop-holds Inv-loop μ-loop
-loop-holds c = adding-start _ _ _ _ (c .pre .1 .size)
-
-columns-requires : tie.Need-columns-requires Inv-loop μ-loop
-columns-requires c κs = (omega arith, omega arith, omega arith)
-
 add-acc : tie.Need-add-acc Inv-loop μ-loop
 add-acc c =
     let t = c .before .before in
@@ -42,28 +36,7 @@ returns c = adding-end (c .before .loop .inv) (c .loop-test .left) (omega arith)
 pub add-pair-spec : {M : Type 1} → statement M
 add-pair-spec =
     tie.close
-    (tie.spec
-    Inv-loop
-    μ-loop
-    (λ c. omega arith)
-    loop-holds
-    (λ c. omega arith)
-    (λ c. omega arith)
-    (λ c. omega arith)
-    columns-requires
-    (λ c. omega arith)
-    (λ c. omega arith)
-    add-acc
-    (λ c. omega arith)
-    (λ c. omega arith)
-    (λ c. omega arith)
-    (λ c. omega arith)
-    (λ c. omega arith)
-    add-acc-3
-    (λ c. omega arith)
-    (λ c. omega arith)
-    (λ c. omega arith)
-    (λ c. omega arith)
-    (λ c. omega arith)
-    loop-again
-    returns)
+    (tie.spec Inv-loop μ-loop (λ c. omega arith) (λ c. adding-start _ _ _ _ (c .pre .1 .size)) (λ c. omega arith)
+    (λ c. omega arith) (λ c. omega arith) (λ c κs. (omega arith, omega arith, omega arith)) (λ c. omega arith) (λ c. omega arith)
+    add-acc (λ c. omega arith) (λ c. omega arith) (λ c. omega arith) (λ c. omega arith) (λ c. omega arith) add-acc-3
+    (λ c. omega arith) (λ c. omega arith) (λ c. omega arith) (λ c. omega arith) (λ c. omega arith) loop-again returns)

@@ -58,13 +58,5 @@ returns-2 c =
 pub add-product-spec : {M : Type 1} → statement M
 add-product-spec =
     tie.close
-    (tie.spec
-    (λ c κs. search needs)
-    (λ c κs. search needs)
-    raise-requires
-    raised-weight-requires
-    add-pair-requires
-    returns
-    (λ c κs. search needs)
-    (λ c κs. search needs)
-    returns-2)
+    (tie.spec (λ c κs. search needs) (λ c κs. search needs) raise-requires raised-weight-requires add-pair-requires returns
+    (λ c κs. search needs) (λ c κs. search needs) returns-2)

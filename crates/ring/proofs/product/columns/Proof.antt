@@ -14,15 +14,6 @@ Inv-loop d start other a e sum₀ high₀ sum2₀ high2₀ i₀ sum high sum2 hi
 abbrev μ-loop : tie.MeasureT-loop
 μ-loop d start other a e sum₀ high₀ sum2₀ high2₀ i₀ sum high sum2 high2 i = d - i
 
-loop-holds : tie.Need-loop-holds Inv-loop μ-loop
-loop-holds c = (running-start _ _ (term-small _ _ _), running-start _ _ (term-small _ _ _))
-
-mul-product : tie.Need-mul-product Inv-loop μ-loop
-mul-product c = product-fits _ _
-
-mul-product2 : tie.Need-mul-product2 Inv-loop μ-loop
-mul-product2 c = product-fits _ _
-
 add-high : tie.Need-add-high Inv-loop μ-loop
 unfolding term
 add-high c =
@@ -43,17 +34,11 @@ loop-again c =
       running-step (t .before .loop .inv .1) (t .before .before .pre .0) (t .loop-test .taken) (c .wrapping-add-u642 .ensures),
     )
 
-mul-first : tie.Need-mul-first Inv-loop μ-loop
-mul-first c = omega (arith, running-high (c .before .before .before .loop .inv .0) (c .before .before .before .before .pre .0))
-
 add-first : tie.Need-add-first Inv-loop μ-loop
 add-first c =
     let t = c .before .before in
     let w = c .before .wrapping-sub-u64 in
     omega (arith, running-end-fits (t .before .loop .inv .0) (t .before .before .pre .0) (t .loop-test .left) (w .ok) (w .ensures))
-
-mul-second : tie.Need-mul-second Inv-loop μ-loop
-mul-second c = omega (arith, running-high (c .before .before .before .loop .inv .1) (c .before .before .before .before .pre .0))
 
 add-second : tie.Need-add-second Inv-loop μ-loop
 add-second c =
@@ -75,33 +60,11 @@ returns c =
 pub columns-spec : {M : Type 1} → statement M
 columns-spec =
     tie.close
-    (tie.spec
-    Inv-loop
-    μ-loop
-    loop-holds
-    (λ c. omega arith)
-    (λ c. omega arith)
-    (λ c. omega arith)
-    (λ c. omega arith)
-    (λ c. omega arith)
-    (λ c. omega arith)
-    (λ c. omega arith)
-    (λ c. omega arith)
-    mul-product
-    mul-product2
-    (λ c κs. tt)
-    (λ c κs. tt)
-    add-high
-    add-high2
-    (λ c. omega arith)
-    (λ c. omega arith)
-    loop-again
-    (λ c. omega arith)
-    (λ c κs. tt)
-    (λ c. omega arith)
-    (λ c κs. tt)
-    mul-first
+    (tie.spec Inv-loop μ-loop (λ c. (running-start _ _ (term-small _ _ _), running-start _ _ (term-small _ _ _)))
+    (λ c. omega arith) (λ c. omega arith) (λ c. omega arith) (λ c. omega arith) (λ c. omega arith) (λ c. omega arith)
+    (λ c. omega arith) (λ c. omega arith) (λ c. product-fits _ _) (λ c. product-fits _ _) (λ c κs. tt) (λ c κs. tt) add-high
+    add-high2 (λ c. omega arith) (λ c. omega arith) loop-again (λ c. omega arith) (λ c κs. tt) (λ c. omega arith) (λ c κs. tt)
+    (λ c. omega (arith, running-high (c .before .before .before .loop .inv .0) (c .before .before .before .before .pre .0)))
     add-first
-    mul-second
-    add-second
-    returns)
+    (λ c. omega (arith, running-high (c .before .before .before .loop .inv .1) (c .before .before .before .before .pre .0)))
+    add-second returns)

@@ -13,9 +13,6 @@ Inv-loop d c a e acc₀ half k₀ acc k = Adding d (shortColumn d a e c) acc₀ 
 abbrev μ-loop : tie.MeasureT-loop
 μ-loop d c a e acc₀ half k₀ acc k = half - k
 
-loop-holds : tie.Need-loop-holds Inv-loop μ-loop
-loop-holds c = adding-start _ _ _ _ (c .pre .1 .0 .size)
-
 columns-requires : tie.Need-columns-requires Inv-loop μ-loop
 columns-requires c κs =
     let start = c .before .before in
@@ -47,28 +44,7 @@ returns c =
 pub add-pair-spec : {M : Type 1} → statement M
 add-pair-spec =
     tie.close
-    (tie.spec
-    Inv-loop
-    μ-loop
-    (λ c. omega arith)
-    loop-holds
-    (λ c. omega arith)
-    (λ c. omega arith)
-    (λ c. omega arith)
-    columns-requires
-    (λ c. omega arith)
-    (λ c. omega arith)
-    add-acc
-    (λ c. omega arith)
-    (λ c. omega arith)
-    (λ c. omega arith)
-    (λ c. omega arith)
-    (λ c. omega arith)
-    add-acc-3
-    (λ c. omega arith)
-    (λ c. omega arith)
-    (λ c. omega arith)
-    (λ c. omega arith)
-    (λ c. omega arith)
-    loop-again
-    returns)
+    (tie.spec Inv-loop μ-loop (λ c. omega arith) (λ c. adding-start _ _ _ _ (c .pre .1 .0 .size)) (λ c. omega arith)
+    (λ c. omega arith) (λ c. omega arith) columns-requires (λ c. omega arith) (λ c. omega arith) add-acc (λ c. omega arith)
+    (λ c. omega arith) (λ c. omega arith) (λ c. omega arith) (λ c. omega arith) add-acc-3 (λ c. omega arith) (λ c. omega arith)
+    (λ c. omega arith) (λ c. omega arith) (λ c. omega arith) loop-again returns)

@@ -22,17 +22,11 @@ loop-holds c =
       sized-start _ _ _ (λ j h. narrow-term _ _ _ _ j narrow other≤d h),
     )
 
-mul-sum : tie.Need-mul-sum Inv-loop μ-loop
-mul-sum c = product-fits _ _
-
 add-sum : tie.Need-add-sum Inv-loop μ-loop
 unfolding term
 add-sum c =
     let l = c .before .before .before .before in
     sized-fits (l .loop .inv .0) (l .before .pre .0) (l .before .pre .3) (c .before .before .before .loop-test .taken)
-
-mul-sum2 : tie.Need-mul-sum2 Inv-loop μ-loop
-mul-sum2 c = product-fits _ _
 
 add-sum2 : tie.Need-add-sum2 Inv-loop μ-loop
 unfolding term
@@ -49,18 +43,6 @@ loop-again c =
       sized-step (l .loop .inv .1) (l .before .pre .0) (l .before .pre .3) t,
     )
 
-mul-first : tie.Need-mul-first Inv-loop μ-loop
-mul-first c = omega (arith, sized-most (c .before .loop .inv .0) (c .before .before .pre .0) (c .before .before .pre .3))
-
-add-first : tie.Need-add-first Inv-loop μ-loop
-add-first c = omega (arith, sized-most (c .before .loop .inv .0) (c .before .before .pre .0) (c .before .before .pre .3))
-
-mul-second : tie.Need-mul-second Inv-loop μ-loop
-mul-second c = omega (arith, sized-most (c .before .loop .inv .1) (c .before .before .pre .0) (c .before .before .pre .3))
-
-add-second : tie.Need-add-second Inv-loop μ-loop
-add-second c = omega (arith, sized-most (c .before .loop .inv .1) (c .before .before .pre .0) (c .before .before .pre .3))
-
 returns : tie.Need-returns Inv-loop μ-loop
 unfolding shortColumn
 returns c =
@@ -73,27 +55,10 @@ returns c =
 pub columns-spec : {M : Type 1} → statement M
 columns-spec =
     tie.close
-    (tie.spec
-    Inv-loop
-    μ-loop
-    loop-holds
-    (λ c. omega arith)
-    (λ c. omega arith)
-    (λ c. omega arith)
-    (λ c. omega arith)
-    (λ c. omega arith)
-    (λ c. omega arith)
-    (λ c. omega arith)
-    (λ c. omega arith)
-    mul-sum
-    add-sum
-    mul-sum2
-    add-sum2
-    (λ c. omega arith)
-    (λ c. omega arith)
-    loop-again
-    mul-first
-    add-first
-    mul-second
-    add-second
-    returns)
+    (tie.spec Inv-loop μ-loop loop-holds (λ c. omega arith) (λ c. omega arith) (λ c. omega arith) (λ c. omega arith)
+    (λ c. omega arith) (λ c. omega arith) (λ c. omega arith) (λ c. omega arith) (λ c. product-fits _ _) add-sum
+    (λ c. product-fits _ _) add-sum2 (λ c. omega arith) (λ c. omega arith) loop-again
+    (λ c. omega (arith, sized-most (c .before .loop .inv .0) (c .before .before .pre .0) (c .before .before .pre .3)))
+    (λ c. omega (arith, sized-most (c .before .loop .inv .0) (c .before .before .pre .0) (c .before .before .pre .3)))
+    (λ c. omega (arith, sized-most (c .before .loop .inv .1) (c .before .before .pre .0) (c .before .before .pre .3)))
+    (λ c. omega (arith, sized-most (c .before .loop .inv .1) (c .before .before .pre .0) (c .before .before .pre .3))) returns)

@@ -15,9 +15,6 @@ Inv-loop d v p at excess₀ i₀ excess i = Counting d v p excess i
 abbrev μ-loop : tie.MeasureT-loop
 μ-loop d v p at excess₀ i₀ excess i = d - i
 
-loop-holds : tie.Need-loop-holds Inv-loop μ-loop
-loop-holds c = counting-start _ _ _
-
 add-excess : tie.Need-add-excess Inv-loop μ-loop
 add-excess c =
     let l = c .before .before .before in
@@ -34,23 +31,9 @@ loop-again c =
     let value = c .magnitude .ensures ∙ ap natAbs (word x given) in
     counting-step (l .loop .inv) (c .before .before .loop-test .taken) value (magnitude-small x given value)
 
-returns : tie.Need-returns Inv-loop μ-loop
-returns c = counting-end (c .before .loop .inv) (c .loop-test .left)
-
 pub is-short-spec : {M : Type 1} → statement M
 is-short-spec =
     tie.close
-    (tie.spec
-    Inv-loop
-    μ-loop
-    (λ c. omega arith)
-    loop-holds
-    (λ c. omega arith)
-    (λ c. omega arith)
-    (λ c. omega arith)
-    (λ c κs. tt)
-    add-excess
-    (λ c. omega arith)
-    (λ c. omega arith)
-    loop-again
-    returns)
+    (tie.spec Inv-loop μ-loop (λ c. omega arith) (λ c. counting-start _ _ _) (λ c. omega arith) (λ c. omega arith)
+    (λ c. omega arith) (λ c κs. tt) add-excess (λ c. omega arith) (λ c. omega arith) loop-again
+    (λ c. counting-end (c .before .loop .inv) (c .loop-test .left)))

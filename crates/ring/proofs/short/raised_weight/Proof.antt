@@ -11,34 +11,13 @@ Inv-loop d a sum₀ i₀ sum i = Totalling d a sum i
 abbrev μ-loop : tie.MeasureT-loop
 μ-loop d a sum₀ i₀ sum i = d - i
 
-loop-holds : tie.Need-loop-holds Inv-loop μ-loop
-loop-holds c = totalling-start _ _
-
-add-sum : tie.Need-add-sum Inv-loop μ-loop
-add-sum c = omega (arith, c .before .before .loop .inv .small, c .before .before .before .pre .1 _ (c .before .loop-test .taken))
-
 loop-again : tie.Need-loop-again Inv-loop μ-loop
 loop-again c = totalling-step (c .before .before .loop .inv) (c .before .loop-test .taken) (c .before .before .before .pre .1 _ (c .before .loop-test .taken))
-
-sub-result : tie.Need-sub-result Inv-loop μ-loop
-sub-result c = omega (arith, c .before .loop .inv .small)
-
-returns : tie.Need-returns Inv-loop μ-loop
-returns c = totalling-end (c .before .loop .inv) (c .loop-test .left)
 
 pub raised-weight-spec : {M : Type 1} → statement M
 raised-weight-spec =
     tie.close
-    (tie.spec
-    Inv-loop
-    μ-loop
-    loop-holds
-    (λ c. omega arith)
-    (λ c. omega arith)
-    add-sum
-    (λ c. omega arith)
-    (λ c. omega arith)
-    loop-again
-    sub-result
-    (λ c. omega arith)
-    returns)
+    (tie.spec Inv-loop μ-loop (λ c. totalling-start _ _) (λ c. omega arith) (λ c. omega arith)
+    (λ c. omega (arith, c .before .before .loop .inv .small, c .before .before .before .pre .1 _ (c .before .loop-test .taken)))
+    (λ c. omega arith) (λ c. omega arith) loop-again (λ c. omega (arith, c .before .loop .inv .small)) (λ c. omega arith)
+    (λ c. totalling-end (c .before .loop .inv) (c .loop-test .left)))

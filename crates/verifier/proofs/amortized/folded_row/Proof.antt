@@ -3,7 +3,7 @@ use Prim.Native.Nat.{_-_}
 use native.Mathlib.Omega.{arith}
 use Rattle.ring.specs.Element.{R, el}
 use Rattle.verifier.specs.Known.Facts.{tValue}
-use Rattle.verifier.specs.Laws.Loops.{Summed, summed-start, summed-step, summed-end}
+use Rattle.ring.specs.Laws.Loops.{Summed, summed-start, summed-step, summed-end}
 use Rattle.verifier.proofs.amortized.folded_row.Statement.{statement}
 use Rattle.verifier.proofs.amortized.folded_row.Tie as tie
 
@@ -14,39 +14,22 @@ Inv-loop sizes c opening k d count acc₀ i₀ acc i = Summed (sizes .d) (sizes 
 abbrev μ-loop : tie.MeasureT-loop
 μ-loop sizes c opening k d count acc₀ i₀ acc i = count - i
 
-loop-holds : tie.Need-loop-holds Inv-loop μ-loop
-loop-holds c = summed-start _ _ _ (c .additive-identity .ensures _)
-
 folded-term-requires : tie.Need-folded-term-requires Inv-loop μ-loop
 folded-term-requires c κs =
     let s = c .before .before .before in
     let p = s .pre in
     (p .0, (p .1 .0, (p .1 .1 .0, (c .loop-test .taken, p .1 .1 .1))))
 
-sum-requires : tie.Need-sum-requires Inv-loop μ-loop
-sum-requires c κs = c .before .before .before .before .pre .0 .shaped .degree
-
 loop-again : tie.Need-loop-again Inv-loop μ-loop
 loop-again c =
     let l = c .before .before .before in
     let s = l .before .before in
-    summed-step _ _ _ (c .before .folded-term .result .coefficients) (s .pre .0 .shaped .degree .small) (l .loop .inv)
-    (c .before .before .loop-test .taken) (c .before .folded-term .ensures) (c .sum .ensures)
-
-returns : tie.Need-returns Inv-loop μ-loop
-returns c = summed-end _ _ _ (c .before .loop .inv) (c .loop-test .left)
+    summed-step (l .loop .inv) (s .pre .0 .shaped .degree) (c .before .before .loop-test .taken)
+    (c .before .folded-term .ensures) (c .sum .ensures)
 
 pub folded-row-spec : {M : Type 1} → statement M
 folded-row-spec =
     tie.close
-    (tie.spec
-    Inv-loop
-    μ-loop
-    (λ c κs. tt)
-    loop-holds
-    folded-term-requires
-    sum-requires
-    (λ c. omega arith)
-    (λ c. omega arith)
-    loop-again
-    returns)
+    (tie.spec Inv-loop μ-loop (λ c κs. tt) (λ c. summed-start (c .additive-identity .ensures _)) folded-term-requires
+    (λ c κs. c .before .before .before .before .pre .0 .shaped .degree) (λ c. omega arith) (λ c. omega arith) loop-again
+    (λ c. summed-end (c .before .loop .inv) (c .loop-test .left)))

@@ -11,9 +11,6 @@ use borrow.Author.Needs.{needs}
 use Rattle.verifier.proofs.amortized.folded_term.Statement.{statement}
 use Rattle.verifier.proofs.amortized.folded_term.Tie as tie
 
-t-place-requires : tie.Need-t-place-requires
-t-place-requires c κs = search needs
-
 t-of-requires : tie.Need-t-of-requires
 t-of-requires c κs =
     let s = c .before in
@@ -35,9 +32,6 @@ from-slice-requires c κs =
     let s = c .before .before in
     (s .pre .0 .shaped .degree, element-fits _ _ (s .args .i) _ (s .pre .1 .0) (s .pre .1 .1 .1 .0))
 
-product-requires : tie.Need-product-requires
-product-requires c κs = search needs
-
 returns : tie.Need-returns
 returns c =
     let s = c .before .before .before .before in
@@ -49,4 +43,4 @@ returns c =
 pub folded-term-spec : {M : Type 1} → statement M
 folded-term-spec =
     tie.close
-    (tie.spec t-place-requires t-of-requires from-slice-requires product-requires returns)
+    (tie.spec (λ c κs. search needs) t-of-requires from-slice-requires (λ c κs. search needs) returns)

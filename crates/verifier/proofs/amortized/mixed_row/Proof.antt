@@ -5,7 +5,7 @@ use native.Mathlib.Omega.{arith}
 use Rattle.ring.specs.Element.{array}
 use Rattle.verifier.specs.Mixed.{mixedTerm}
 use Rattle.verifier.specs.Laws.MixedLaws.{mixed-row, pair-along, pair-small}
-use Rattle.verifier.specs.Laws.Loops.{Summed, summed-start, summed-step, summed-end}
+use Rattle.ring.specs.Laws.Loops.{Summed, summed-start, summed-step, summed-end}
 use Rattle.verifier.proofs.amortized.mixed_row.Statement.{statement}
 use Rattle.verifier.proofs.amortized.mixed_row.Tie as tie
 
@@ -14,9 +14,6 @@ Inv-loop d r b t opening place c i q width acc₀ k₀ acc k = Summed d width (m
 
 abbrev μ-loop : tie.MeasureT-loop
 μ-loop d r b t opening place c i q width acc₀ k₀ acc k = width - k
-
-loop-holds : tie.Need-loop-holds Inv-loop μ-loop
-loop-holds c = summed-start _ _ _ (c .additive-identity .ensures _)
 
 add-mixed-term : tie.Need-add-mixed-term Inv-loop μ-loop
 add-mixed-term c =
@@ -34,34 +31,21 @@ mixed-term-requires c κs =
     let s = c .before .before .before in
     (s .pre .0, (s .pre .1 .0, (omega arith, pair-along (s .args .r) (s .args .i) (c .before .loop .k) (s .args .q) (s .pre .1 .1 .1))))
 
-sum-requires : tie.Need-sum-requires Inv-loop μ-loop
-sum-requires c κs = c .before .before .before .before .pre .0 .degree
-
 loop-again : tie.Need-loop-again Inv-loop μ-loop
 loop-again c =
     let l = c .before .before .before in
     let s = l .before .before in
-    summed-step _ _ _ (c .before .mixed-term .result .coefficients) (s .pre .0 .degree .small) (l .loop .inv)
-    (c .before .before .loop-test .taken) (c .before .mixed-term .ensures) (c .sum .ensures)
+    summed-step (l .loop .inv) (s .pre .0 .degree) (c .before .before .loop-test .taken)
+    (c .before .mixed-term .ensures) (c .sum .ensures)
 
 returns : tie.Need-returns Inv-loop μ-loop
 returns c =
     let s = c .before .before .before in
-    summed-end _ _ _ (c .before .loop .inv) (c .loop-test .left) ∙ ap (array (s .args .d)) (mixed-row _ _ _ _ _ _ _ (s .args .i))
+    summed-end (c .before .loop .inv) (c .loop-test .left) ∙ ap (array (s .args .d)) (mixed-row _ _ _ _ _ _ _ (s .args .i))
 
 pub mixed-row-spec : {M : Type 1} → statement M
 mixed-row-spec =
     tie.close
-    (tie.spec
-    Inv-loop
-    μ-loop
-    (λ c. omega arith)
-    (λ c κs. tt)
-    loop-holds
-    add-mixed-term
-    mixed-term-requires
-    sum-requires
-    (λ c. omega arith)
-    (λ c. omega arith)
-    loop-again
-    returns)
+    (tie.spec Inv-loop μ-loop (λ c. omega arith) (λ c κs. tt) (λ c. summed-start (c .additive-identity .ensures _)) add-mixed-term
+    mixed-term-requires (λ c κs. c .before .before .before .before .pre .0 .degree) (λ c. omega arith) (λ c. omega arith)
+    loop-again returns)

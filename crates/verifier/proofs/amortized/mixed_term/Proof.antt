@@ -10,17 +10,10 @@ use Rattle.verifier.proofs.amortized.mixed_term.Tie as tie
 garbage-of-requires : tie.Need-garbage-of-requires
 garbage-of-requires c κs =
     let a = c .args in
-    let g = c .pre .0 in (
-      g .degree,
-      (
-        g .base,
-        (
-          g .digits,
-          garbage-fits (a .d) (a .r) (a .t) (a .place) (a .i) (a .i + a .k) (a .q) _ (omega arith)
-              (c .pre .1 .1 .0) (c .pre .1 .1 .1) (g .inside),
-        ),
-      ),
-    )
+    let g = c .pre .0 in
+    let (k-fits, q-is) = c .pre .1 .1 in
+    let fits = garbage-fits (a .d) (a .r) (a .t) (a .place) (a .i) (a .i + a .k) (a .q) _ (omega arith) k-fits q-is (g .inside) in
+    (g .degree, (g .base, (g .digits, fits)))
 
 from-slice-requires : tie.Need-from-slice-requires
 from-slice-requires c κs =
@@ -58,13 +51,5 @@ returns-2 c =
 pub mixed-term-spec : {M : Type 1} → statement M
 mixed-term-spec =
     tie.close
-    (tie.spec
-    garbage-of-requires
-    from-slice-requires
-    (λ c. search needs)
-    from-slice-requires-2
-    (λ c κs. search needs)
-    (λ c κs. search needs)
-    returns
-    (λ c κs. search needs)
-    returns-2)
+    (tie.spec garbage-of-requires from-slice-requires (λ c. search needs) from-slice-requires-2 (λ c κs. search needs)
+    (λ c κs. search needs) returns (λ c κs. search needs) returns-2)

@@ -17,16 +17,10 @@ linear-sum-requires c κs =
     let s = w .before .before in
     (s .pre .1 .0, (w .write-sums .ensures, (s .pre .1 .1 .0, s .pre .1 .1 .1 .0)))
 
-h-place-requires : tie.Need-h-place-requires
-h-place-requires c κs = c .before .before .before .before .pre .0
-
 mixed-sum-requires : tie.Need-mixed-sum-requires
 mixed-sum-requires c κs =
     let s = c .before .before .before .before .before in
     (h-garbage (s .args .sizes) (s .pre .0) _ (s .pre .1 .1 .1 .1) _ (c .h-place .ensures), s .pre .1 .1 .0)
-
-equals-requires : tie.Need-equals-requires
-equals-requires c κs = c .before .before .before .before .before .before .pre .0 .shaped .degree
 
 returns : tie.Need-returns
 returns c =
@@ -41,10 +35,5 @@ returns c =
 pub linear-part-spec : {M : Type 1} → statement M
 linear-part-spec =
     tie.close
-    (tie.spec
-    write-sums-requires
-    linear-sum-requires
-    h-place-requires
-    mixed-sum-requires
-    equals-requires
-    returns)
+    (tie.spec write-sums-requires linear-sum-requires (λ c κs. c .before .before .before .before .pre .0) mixed-sum-requires
+    (λ c κs. c .before .before .before .before .before .before .pre .0 .shaped .degree) returns)

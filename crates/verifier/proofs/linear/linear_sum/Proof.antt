@@ -4,7 +4,7 @@ use native.Mathlib.Omega.{arith}
 use Rattle.verifier.specs.Laws.PlaceLaws.{element-fits}
 use Rattle.verifier.specs.Relation.{linearTerm}
 use Rattle.verifier.specs.Laws.RelationLaws.{linear-term}
-use Rattle.verifier.specs.Laws.Loops.{Summed, summed-start, summed-step, summed-end}
+use Rattle.ring.specs.Laws.Loops.{Summed, summed-start, summed-step, summed-end}
 use Rattle.verifier.proofs.linear.linear_sum.Statement.{statement}
 use Rattle.verifier.proofs.linear.linear_sum.Tie as tie
 
@@ -15,32 +15,15 @@ Inv-loop sizes whole term rows psi omega table alpha delta c z d count acc₀ i�
 abbrev μ-loop : tie.MeasureT-loop
 μ-loop sizes whole term rows psi omega table alpha delta c z d count acc₀ i₀ acc i = count - i
 
-loop-holds : tie.Need-loop-holds Inv-loop μ-loop
-loop-holds c = summed-start _ _ _ (c .additive-identity .ensures _)
-
-phi-product-requires : tie.Need-phi-product-requires Inv-loop μ-loop
-phi-product-requires c κs =
-    let s = c .before .before .before in
-    (s .pre .0, (s .pre .1 .0, (s .pre .1 .1 .1, c .loop-test .taken)))
-
 from-slice-requires : tie.Need-from-slice-requires Inv-loop μ-loop
 from-slice-requires c κs =
     let s = c .before .before .before .before in
     (s .pre .0 .wholes .shaped .degree, element-fits _ _ (c .before .before .loop .i) _ (s .pre .1 .1 .0) (c .before .loop-test .taken))
 
-product-requires : tie.Need-product-requires Inv-loop μ-loop
-product-requires c κs = c .before .before .before .before .before .pre .0 .wholes .shaped .degree
-
-sum-requires : tie.Need-sum-requires Inv-loop μ-loop
-sum-requires c κs = c .before .before .before .before .before .before .pre .0 .wholes .shaped .degree
-
 add-i : tie.Need-add-i Inv-loop μ-loop
 add-i c =
     let l = c .before .before .before .before in
     omega (arith, l .loop-test .taken, l .before .before .before .pre .0 .wholes .shaped .parts-small)
-
-loop-less : tie.Need-loop-less Inv-loop μ-loop
-loop-less c = omega (arith, c .before .before .before .before .loop-test .taken)
 
 loop-again : tie.Need-loop-again Inv-loop μ-loop
 loop-again c =
@@ -52,24 +35,15 @@ loop-again c =
     let small = s .pre .0 .wholes .shaped .degree .small in
     let value = linear-term (s .args .sizes) _ _ _ _ _ _ _ _ _ (l .loop .i) _ _ _ small (p .phi-product .ensures)
     (f .from-slice .ensures) (e .product .ensures) in
-    summed-step _ _ _ (e .product .result .coefficients) small (l .loop .inv) (p .before .loop-test .taken) value (c .sum .ensures)
-
-returns : tie.Need-returns Inv-loop μ-loop
-returns c = summed-end _ _ _ (c .before .loop .inv) (c .loop-test .left)
+    summed-step (l .loop .inv) (s .pre .0 .wholes .shaped .degree) (p .before .loop-test .taken)
+    value (c .sum .ensures)
 
 pub linear-sum-spec : {M : Type 1} → statement M
 linear-sum-spec =
     tie.close
-    (tie.spec
-    Inv-loop
-    μ-loop
-    (λ c κs. tt)
-    loop-holds
-    phi-product-requires
-    from-slice-requires
-    product-requires
-    sum-requires
-    add-i
-    loop-less
-    loop-again
-    returns)
+    (tie.spec Inv-loop μ-loop (λ c κs. tt) (λ c. summed-start (c .additive-identity .ensures _))
+    (λ c κs. let s = c .before .before .before in (s .pre .0, (s .pre .1 .0, (s .pre .1 .1 .1, c .loop-test .taken))))
+    from-slice-requires (λ c κs. c .before .before .before .before .before .pre .0 .wholes .shaped .degree)
+    (λ c κs. c .before .before .before .before .before .before .pre .0 .wholes .shaped .degree) add-i
+    (λ c. omega (arith, c .before .before .before .before .loop-test .taken)) loop-again
+    (λ c. summed-end (c .before .loop .inv) (c .loop-test .left)))

@@ -6,17 +6,11 @@ use borrow.Author.Needs.{needs}
 use Rattle.verifier.proofs.linear.phi_term.Statement.{statement}
 use Rattle.verifier.proofs.linear.phi_term.Tie as tie
 
-aggregate-phi-requires : tie.Need-aggregate-phi-requires
-aggregate-phi-requires c κs = search needs
-
 from-slice-requires : tie.Need-from-slice-requires
 from-slice-requires c κs =
     let s = c .before in
     let z = s .args .sizes in
     (s .pre .0 .wholes .shaped .degree, omega (arith, block-before (z .d) (s .args .y) (z .n) (s .pre .1 .1 .1 .1), s .pre .1 .1 .0))
-
-product-requires : tie.Need-product-requires
-product-requires c κs = search needs
 
 returns : tie.Need-returns
 returns c =
@@ -27,4 +21,4 @@ returns c =
 pub phi-term-spec : {M : Type 1} → statement M
 phi-term-spec =
     tie.close
-    (tie.spec aggregate-phi-requires from-slice-requires product-requires returns)
+    (tie.spec (λ c κs. search needs) from-slice-requires (λ c κs. search needs) returns)

@@ -39,10 +39,4 @@ returns c =
 pub short-opening-spec : {M : Type 1} → statement M
 short-opening-spec =
     tie.close
-    (tie.spec
-    (λ c κs. search needs)
-    mul-t-start
-    (λ c κs. search needs)
-    mul-h-start
-    short-parts-requires
-    returns)
+    (tie.spec (λ c κs. search needs) mul-t-start (λ c κs. search needs) mul-h-start short-parts-requires returns)

@@ -8,9 +8,6 @@ use borrow.Author.Needs.{needs}
 use Rattle.verifier.proofs.norms.short_parts.Statement.{statement}
 use Rattle.verifier.proofs.norms.short_parts.Tie as tie
 
-slice-aggregate-compare : tie.Need-slice-aggregate-compare
-slice-aggregate-compare c = sym (length-take-le _ _ (omega arith))
-
 returns : tie.Need-returns
 unfolding withinThree
 returns c =
@@ -20,18 +17,6 @@ returns c =
 pub short-parts-spec : {M : Type 1} → statement M
 short-parts-spec =
     tie.close
-    (tie.spec
-    slice-aggregate-compare
-    (λ c κs. search needs)
-    (λ c. search needs)
-    (λ c. search needs)
-    (λ c. search needs)
-    (λ c. search needs)
-    (λ c κs. search needs)
-    (λ c. search needs)
-    (λ c. search needs)
-    (λ c. search needs)
-    (λ c. search needs)
-    (λ c κs. search needs)
-    (λ c κs. search needs)
-    returns)
+    (tie.spec (λ c. sym (length-take-le _ _ (omega arith))) (λ c κs. search needs) (λ c. search needs) (λ c. search needs)
+    (λ c. search needs) (λ c. search needs) (λ c κs. search needs) (λ c. search needs) (λ c. search needs) (λ c. search needs)
+    (λ c. search needs) (λ c κs. search needs) (λ c κs. search needs) returns)

@@ -5,7 +5,7 @@ use Rattle.ring.specs.Element.{el, same}
 use Rattle.fold.specs.Messages.{outer₁}
 use Rattle.fold.specs.Verdict.{check₃}
 use Rattle.verifier.specs.Known.Facts.{tBlockOf, gBlockOf}
-use Rattle.verifier.specs.Laws.Loops.{Tested, tested-start, tested-step, tested-end}
+use Rattle.ring.specs.Laws.Loops.{Tested, tested-start, tested-step, tested-end}
 use Rattle.verifier.proofs.outer.first_outer.Statement.{statement}
 use Rattle.verifier.proofs.outer.first_outer.Tie as tie
 
@@ -16,29 +16,18 @@ Inv-loop sizes b c u1 opening rows all₀ k₀ all k = Tested rows (λ k. same (
 abbrev μ-loop : tie.MeasureT-loop
 μ-loop sizes b c u1 opening rows all₀ k₀ all k = rows - k
 
-loop-holds : tie.Need-loop-holds Inv-loop μ-loop
-loop-holds c = tested-start _ _
-
 first-row-requires : tie.Need-first-row-requires Inv-loop μ-loop
 first-row-requires c κs =
     let s = c .before .before in
     let p = s .pre in
     (p .0, (p .1 .0, (p .1 .1 .0, (p .1 .1 .1 .0, (p .1 .1 .1 .1, c .loop-test .taken)))))
 
-add-k : tie.Need-add-k Inv-loop μ-loop
-add-k c = omega arith
-
-loop-less : tie.Need-loop-less Inv-loop μ-loop
-loop-less c = omega arith
-
-loop-again : tie.Need-loop-again Inv-loop μ-loop
-loop-again c = tested-step _ _ (c .first-row .result) (c .before .before .loop .inv) (c .before .loop-test .taken) (c .first-row .ensures)
-
 returns : tie.Need-returns Inv-loop μ-loop
 unfolding check₃
-returns c = tested-end _ _ (c .before .loop .inv) (c .loop-test .left)
+returns c = tested-end (c .before .loop .inv) (c .loop-test .left)
 
 pub first-outer-spec : {M : Type 1} → statement M
 first-outer-spec =
     tie.close
-    (tie.spec Inv-loop μ-loop loop-holds first-row-requires add-k loop-less loop-again returns)
+    (tie.spec Inv-loop μ-loop (λ c. tested-start) first-row-requires (λ c. omega arith) (λ c. omega arith)
+    (λ c. tested-step (c .before .before .loop .inv) (c .before .loop-test .taken) (c .first-row .ensures)) returns)

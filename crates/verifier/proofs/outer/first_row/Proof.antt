@@ -50,14 +50,5 @@ returns c =
 pub first-row-spec : {M : Type 1} → statement M
 first-row-spec =
     tie.close
-    (tie.spec
-    (λ c κs. search needs)
-    (λ c κs. search needs)
-    row-times-requires
-    (λ c κs. search needs)
-    (λ c κs. search needs)
-    row-times-requires-2
-    (λ c κs. search needs)
-    from-slice-requires
-    (λ c κs. search needs)
-    returns)
+    (tie.spec (λ c κs. search needs) (λ c κs. search needs) row-times-requires (λ c κs. search needs) (λ c κs. search needs)
+    row-times-requires-2 (λ c κs. search needs) from-slice-requires (λ c κs. search needs) returns)

@@ -3,7 +3,8 @@ use mathlib.Core.Path.{ap, _∙_}
 use Prim.Native.Nat.{_+_, _*_}
 use native.Mathlib.Omega.{arith}
 use Rattle.ring.specs.Element.{array}
-use Rattle.verifier.specs.Laws.PlaceLaws.{row-times, place-within}
+use Rattle.ring.specs.Laws.ElementPlaces.{place-below}
+use Rattle.verifier.specs.Laws.PlaceLaws.{row-times}
 use borrow.Author.Needs.{needs}
 use Rattle.verifier.proofs.outer.row_times.Statement.{statement}
 use Rattle.verifier.proofs.outer.row_times.Tie as tie
@@ -11,7 +12,7 @@ use Rattle.verifier.proofs.outer.row_times.Tie as tie
 mul-row : tie.Need-mul-row
 mul-row c =
     let a = c .args in
-    omega (arith, place-within (a .d) (a .k * a .m + a .m) _ (c .pre .0 .positive) (c .pre .1 .1 .0))
+    omega (arith, place-below (a .d) (a .k * a .m + a .m) (c .pre .0 .positive) (c .pre .1 .1 .0))
 
 inner-requires : tie.Need-inner-requires
 inner-requires c κs = search needs

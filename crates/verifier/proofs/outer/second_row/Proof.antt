@@ -36,10 +36,4 @@ returns c =
 pub second-row-spec : {M : Type 1} → statement M
 second-row-spec =
     tie.close
-    (tie.spec
-    (λ c κs. search needs)
-    (λ c κs. search needs)
-    row-times-requires
-    from-slice-requires
-    (λ c κs. search needs)
-    returns)
+    (tie.spec (λ c κs. search needs) (λ c κs. search needs) row-times-requires from-slice-requires (λ c κs. search needs) returns)

@@ -3,19 +3,20 @@ use mathlib.Core.Path.{refl, ap, _∙_}
 use Prim.Native.Nat.{_+_, _*_}
 use native.Mathlib.Omega.{arith}
 use Rattle.ring.specs.Element.{array}
-use Rattle.verifier.specs.Laws.PlaceLaws.{garbage-recomposed, garbage-digit-fits, place-within}
+use Rattle.ring.specs.Laws.ElementPlaces.{place-below}
+use Rattle.verifier.specs.Laws.PlaceLaws.{garbage-recomposed, garbage-digit-fits}
 use Rattle.verifier.proofs.recomposed.garbage_of.Statement.{statement}
 use Rattle.verifier.proofs.recomposed.garbage_of.Tie as tie
 
 mul-first : tie.Need-mul-first
 mul-first c =
     let a = c .args in
-    omega (arith, place-within (a .d) (a .place + (a .q * a .t + a .t)) _ (c .pre .0 .positive) (c .pre .1 .1 .1))
+    omega (arith, place-below (a .d) (a .place + (a .q * a .t + a .t)) (c .pre .0 .positive) (c .pre .1 .1 .1))
 
 add-first : tie.Need-add-first
 add-first c =
     let a = c .args in
-    omega (arith, place-within (a .d) (a .place + (a .q * a .t + a .t)) _ (c .pre .0 .positive) (c .pre .1 .1 .1))
+    omega (arith, place-below (a .d) (a .place + (a .q * a .t + a .t)) (c .pre .0 .positive) (c .pre .1 .1 .1))
 
 recompose-requires : tie.Need-recompose-requires
 recompose-requires c κs =

@@ -1,46 +1,18 @@
 -- `verifier::recomposed::t_of` meets its contract.
 use mathlib.Core.Path.{refl, ap, _∙_}
+use Prim.Native.Nat.{_+_, _*_, _≤_}
 use native.Mathlib.Omega.{arith}
+use lib.ListN.{length}
 use Rattle.ring.specs.Element.{array}
 use Rattle.verifier.specs.Laws.PlaceLaws.{t-recomposed, t-digit-fits, t-first-within}
 use Rattle.verifier.proofs.recomposed.t_of.Statement.{statement}
 use Rattle.verifier.proofs.recomposed.t_of.Tie as tie
 
-mul-first : tie.Need-mul-first
-mul-first c =
+-- the first digit's place, and the products that it is formed of
+first : (c : tie.Start) → let a = c .args in a .i * a .t1 + (a .place + a .i * a .t1 * a .kappa + a .k) ≤ length (a .opening .now) + length (a .opening .now)
+first c =
     let a = c .args in
-    omega (
-      arith,
-      t-first-within (a .d) (a .kappa) (a .t1) (a .place) (a .i) (a .k) _ (c .pre .0 .positive) (c .pre .1 .1 .0 .1)
-          (c .pre .1 .1 .0 .0) (c .pre .1 .1 .1),
-    )
-
-mul-first-2 : tie.Need-mul-first-2
-mul-first-2 c =
-    let a = c .args in
-    omega (
-      arith,
-      t-first-within (a .d) (a .kappa) (a .t1) (a .place) (a .i) (a .k) _ (c .pre .0 .positive) (c .pre .1 .1 .0 .1)
-          (c .pre .1 .1 .0 .0) (c .pre .1 .1 .1),
-    )
-
-add-first : tie.Need-add-first
-add-first c =
-    let a = c .args in
-    omega (
-      arith,
-      t-first-within (a .d) (a .kappa) (a .t1) (a .place) (a .i) (a .k) _ (c .pre .0 .positive) (c .pre .1 .1 .0 .1)
-          (c .pre .1 .1 .0 .0) (c .pre .1 .1 .1),
-    )
-
-add-first-2 : tie.Need-add-first-2
-add-first-2 c =
-    let a = c .args in
-    omega (
-      arith,
-      t-first-within (a .d) (a .kappa) (a .t1) (a .place) (a .i) (a .k) _ (c .pre .0 .positive) (c .pre .1 .1 .0 .1)
-          (c .pre .1 .1 .0 .0) (c .pre .1 .1 .1),
-    )
+    t-first-within (a .d) (a .kappa) (a .t1) (a .place) (a .i) (a .k) _ (c .pre .0 .positive) (c .pre .1 .1 .0 .1) (c .pre .1 .1 .0 .0) (c .pre .1 .1 .1)
 
 recompose-requires : tie.Need-recompose-requires
 recompose-requires c κs =
@@ -56,4 +28,4 @@ returns c =
 
 pub t-of-spec : {M : Type 1} → statement M
 t-of-spec =
-    tie.close (tie.spec mul-first mul-first-2 add-first add-first-2 recompose-requires returns)
+    tie.close (tie.spec (λ c. omega (arith, first c)) (λ c. omega (arith, first c)) (λ c. omega (arith, first c)) (λ c. omega (arith, first c)) recompose-requires returns)

@@ -8,7 +8,7 @@ use Rattle.ring.specs.Element.{array}
 use Rattle.fold.specs.Opening.{block, garbageOf}
 use Rattle.verifier.specs.Laws.PlaceLaws.{garbage-at}
 use Rattle.verifier.specs.Laws.MixedLaws.{garbage-fits, pair-first, pair-next-row, pair-small}
-use Rattle.verifier.specs.Laws.Loops.{Summed, summed-start, summed-step, summed-end}
+use Rattle.ring.specs.Laws.Loops.{Summed, summed-start, summed-step, summed-end}
 use Rattle.verifier.proofs.relation.diagonal_sum.Statement.{statement}
 use Rattle.verifier.proofs.relation.diagonal_sum.Tie as tie
 
@@ -19,69 +19,36 @@ Inv-loop d r b t opening place acc₀ q₀ i₀ acc q i = Summed d r (λ i. garb
 abbrev μ-loop : tie.MeasureT-loop
 μ-loop d r b t opening place acc₀ q₀ i₀ acc q i = r - i
 
-loop-holds : tie.Need-loop-holds Inv-loop μ-loop
-loop-holds c = (summed-start _ _ _ (c .additive-identity .ensures _), pair-first _)
-
 garbage-of-requires : tie.Need-garbage-of-requires Inv-loop μ-loop
 garbage-of-requires c κs =
     let l = c .before in
-    let s = l .before .before in
-    let a = s .args in
-    let g = s .pre in (
-      g .degree,
-      (
-        g .base,
-        (
-          g .digits,
-          garbage-fits (a .d) (a .r) (a .t) (a .place) (l .loop .i) (l .loop .i) (l .loop .q) _ (le-refl _)
-              (c .loop-test .taken) (l .loop .inv .1) (g .inside),
-        ),
-      ),
-    )
-
-sum-requires : tie.Need-sum-requires Inv-loop μ-loop
-sum-requires c κs = c .before .before .before .before .pre .degree
+    let a = l .before .before .args in
+    let g = l .before .before .pre in
+    let i = l .loop .i in
+    let fits = garbage-fits (a .d) (a .r) (a .t) (a .place) i i (l .loop .q) _ (le-refl _) (c .loop-test .taken) (l .loop .inv .1) (g .inside) in
+    (g .degree, (g .base, (g .digits, fits)))
 
 add-q : tie.Need-add-q Inv-loop μ-loop
 add-q c =
     let l = c .before .before .before in
     let s = l .before .before in
-    omega (
-      arith,
-      pair-small (s .args .r) (l .loop .i) (l .loop .q) (s .pre .parts) (c .before .before .loop-test .taken)
-          (l .loop .inv .1),
-      s .pre .parts,
-    )
+    let small = pair-small (s .args .r) (l .loop .i) (l .loop .q) (s .pre .parts) (c .before .before .loop-test .taken) (l .loop .inv .1) in
+    omega (arith, small, s .pre .parts)
 
 loop-again : tie.Need-loop-again Inv-loop μ-loop
 loop-again c =
     let l = c .before .before .before in
     let s = l .before .before in
     let a = s .args in
-    let value = c .before .garbage-of .ensures
-    ∙ ap (array (a .d)) (garbage-at (a .d) (a .r) (a .b) (a .t) (block (a .d) (a .opening .now) (a .place)) (l .loop .i) (l .loop .i)
-    (l .loop .q) (l .loop .inv .1)) in (
-      summed-step _ _ _ (c .before .garbage-of .result .coefficients) (s .pre .degree .small) (l .loop .inv .0)
-          (c .before .before .loop-test .taken) value (c .sum .ensures),
-      pair-next-row (a .r) (l .loop .i) (l .loop .q) (c .before .before .loop-test .taken) (l .loop .inv .1),
-    )
-
-returns : tie.Need-returns Inv-loop μ-loop
-returns c = summed-end _ _ _ (c .before .loop .inv .0) (c .loop-test .left)
+    let i = l .loop .i in
+    let taken = c .before .before .loop-test .taken in
+    let place = garbage-at (a .d) (a .r) (a .b) (a .t) (block (a .d) (a .opening .now) (a .place)) i i (l .loop .q) (l .loop .inv .1) in
+    let value = c .before .garbage-of .ensures ∙ ap (array (a .d)) place in
+    (summed-step (l .loop .inv .0) (s .pre .degree) taken value (c .sum .ensures), pair-next-row (a .r) i (l .loop .q) taken (l .loop .inv .1))
 
 pub diagonal-sum-spec : {M : Type 1} → statement M
 diagonal-sum-spec =
     tie.close
-    (tie.spec
-    Inv-loop
-    μ-loop
-    (λ c κs. tt)
-    loop-holds
-    garbage-of-requires
-    sum-requires
-    (λ c. omega arith)
-    add-q
-    (λ c. omega arith)
-    (λ c. omega arith)
-    loop-again
-    returns)
+    (tie.spec Inv-loop μ-loop (λ c κs. tt) (λ c. (summed-start (c .additive-identity .ensures _), pair-first _))
+    garbage-of-requires (λ c κs. c .before .before .before .before .pre .degree) (λ c. omega arith) add-q (λ c. omega arith)
+    (λ c. omega arith) loop-again (λ c. summed-end (c .before .loop .inv .0) (c .loop-test .left)))

@@ -39,12 +39,5 @@ returns c =
 pub relation-holds-spec : {M : Type 1} → statement M
 relation-holds-spec =
     tie.close
-    (tie.spec
-    (λ c κs. search needs)
-    relation-sum-requires
-    (λ c κs. search needs)
-    diagonal-sum-requires
-    (λ c κs. search needs)
-    aggregate-constant-requires
-    (λ c κs. search needs)
-    returns)
+    (tie.spec (λ c κs. search needs) relation-sum-requires (λ c κs. search needs) diagonal-sum-requires (λ c κs. search needs)
+    aggregate-constant-requires (λ c κs. search needs) returns)

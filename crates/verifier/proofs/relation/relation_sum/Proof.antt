@@ -5,7 +5,7 @@ use native.Mathlib.Omega.{arith}
 use Rattle.algebra.specs.Sum.{sum}
 use Rattle.ring.specs.Element.{R, array}
 use Rattle.verifier.specs.Relation.{relationTerm}
-use Rattle.verifier.specs.Laws.Loops.{Summed, summed-start, summed-step, summed-end}
+use Rattle.ring.specs.Laws.Loops.{Summed, summed-start, summed-step, summed-end}
 use Rattle.verifier.proofs.relation.relation_sum.Statement.{statement}
 use Rattle.verifier.proofs.relation.relation_sum.Tie as tie
 
@@ -16,33 +16,24 @@ Inv-loop sizes whole term psi alpha delta opening place d count acc₀ q₀ acc 
 abbrev μ-loop : tie.MeasureT-loop
 μ-loop sizes whole term psi alpha delta opening place d count acc₀ q₀ acc q = count - q
 
-pair-count-requires : tie.Need-pair-count-requires Inv-loop μ-loop
-pair-count-requires c κs = c .pre .0 .shaped .parts-small
-
-loop-holds : tie.Need-loop-holds Inv-loop μ-loop
-loop-holds c = summed-start _ _ _ (c .additive-identity .ensures _)
-
 relation-term-requires : tie.Need-relation-term-requires Inv-loop μ-loop
 relation-term-requires c κs =
     let s = c .before .before .before .before in
     let p = s .pre in
     (p .0, (p .1 .0, (p .1 .1 .0, (p .1 .1 .1, rw (c .before .before .before .pair-count .ensures) at (c .loop-test .taken)))))
 
-sum-requires : tie.Need-sum-requires Inv-loop μ-loop
-sum-requires c κs = c .before .before .before .before .before .pre .0 .shaped .degree
-
 loop-again : tie.Need-loop-again Inv-loop μ-loop
 loop-again c =
     let l = c .before .before .before in
     let s = l .before .before .before in
-    summed-step _ _ _ (c .before .relation-term .result .coefficients) (s .pre .0 .shaped .degree .small) (l .loop .inv)
-    (c .before .before .loop-test .taken) (c .before .relation-term .ensures) (c .sum .ensures)
+    summed-step (l .loop .inv) (s .pre .0 .shaped .degree) (c .before .before .loop-test .taken)
+    (c .before .relation-term .ensures) (c .sum .ensures)
 
 returns : tie.Need-returns Inv-loop μ-loop
 returns c =
     let s = c .before .before .before .before in
     let z = s .args .sizes in
-    summed-end _ _ _ (c .before .loop .inv) (c .loop-test .left)
+    summed-end (c .before .loop .inv) (c .loop-test .left)
     ∙ ap (λ (m : ℕ). array (z .d) (sum (R (z .d)) m (relationTerm z (s .args .whole .now) (s .args .term .now) (s .args .psi .now)
     (s .args .alpha .now) (s .args .delta .now) (s .args .opening .now) (s .args .place))))
     (c .before .before .before .pair-count .ensures)
@@ -50,15 +41,7 @@ returns c =
 pub relation-sum-spec : {M : Type 1} → statement M
 relation-sum-spec =
     tie.close
-    (tie.spec
-    Inv-loop
-    μ-loop
-    pair-count-requires
-    (λ c κs. tt)
-    loop-holds
-    relation-term-requires
-    sum-requires
-    (λ c. omega arith)
-    (λ c. omega arith)
-    loop-again
+    (tie.spec Inv-loop μ-loop (λ c κs. c .pre .0 .shaped .parts-small) (λ c κs. tt)
+    (λ c. summed-start (c .additive-identity .ensures _)) relation-term-requires
+    (λ c κs. c .before .before .before .before .before .pre .0 .shaped .degree) (λ c. omega arith) (λ c. omega arith) loop-again
     returns)

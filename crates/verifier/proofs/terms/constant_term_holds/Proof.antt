@@ -70,17 +70,6 @@ returns c =
 pub constant-term-holds-spec : {M : Type 1} → statement M
 constant-term-holds-spec =
     tie.close
-    (tie.spec
-    (λ c κs. search needs)
-    mul-last
-    mul-weighted-sum
-    add-weighted-sum
-    weighted-sum-requires
-    mul-weighted-sum-2
-    weighted-sum-requires-2
-    (λ c κs. search needs)
-    from-slice-requires
-    (λ c κs. search needs)
-    (λ c κs. search needs)
-    (λ c κs. search needs)
-    returns)
+    (tie.spec (λ c κs. search needs) mul-last mul-weighted-sum add-weighted-sum weighted-sum-requires mul-weighted-sum-2
+    weighted-sum-requires-2 (λ c κs. search needs) from-slice-requires (λ c κs. search needs) (λ c κs. search needs)
+    (λ c κs. search needs) returns)

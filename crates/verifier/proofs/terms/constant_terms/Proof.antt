@@ -4,7 +4,7 @@ use Prim.Native.Nat.{_-_}
 use native.Mathlib.Omega.{arith}
 use Rattle.verifier.specs.ConstantTerms.{termHolds}
 use Rattle.verifier.specs.Laws.ConstantTermLaws.{check-two}
-use Rattle.verifier.specs.Laws.Loops.{Tested, tested-start, tested-step, tested-end}
+use Rattle.ring.specs.Laws.Loops.{Tested, tested-start, tested-step, tested-end}
 use Rattle.verifier.proofs.terms.constant_terms.Statement.{statement}
 use Rattle.verifier.proofs.terms.constant_terms.Tie as tie
 
@@ -15,30 +15,10 @@ Inv-loop sizes term psi omega p b2 all₀ k₀ all k = Tested 5 (termHolds (size
 abbrev μ-loop : tie.MeasureT-loop
 μ-loop sizes term psi omega p b2 all₀ k₀ all k = 5 - k
 
-loop-holds : tie.Need-loop-holds Inv-loop μ-loop
-loop-holds c = tested-start _ _
-
-constant-term-holds-requires : tie.Need-constant-term-holds-requires Inv-loop μ-loop
-constant-term-holds-requires c κs =
-    let s = c .before .before in
-    (s .pre .0, (s .pre .1, c .loop-test .taken))
-
-loop-again : tie.Need-loop-again Inv-loop μ-loop
-loop-again c = tested-step _ _ (c .constant-term-holds .result) (c .before .before .loop .inv) (c .before .loop-test .taken)
-    (c .constant-term-holds .ensures)
-
-returns : tie.Need-returns Inv-loop μ-loop
-returns c = tested-end _ _ (c .before .loop .inv) (c .loop-test .left) ∙ check-two _ _ _ _ _ _ _ _ _ _
-
 pub constant-terms-spec : {M : Type 1} → statement M
 constant-terms-spec =
     tie.close
-    (tie.spec
-    Inv-loop
-    μ-loop
-    loop-holds
-    constant-term-holds-requires
-    (λ c. omega arith)
-    (λ c. omega arith)
-    loop-again
-    returns)
+    (tie.spec Inv-loop μ-loop (λ c. tested-start)
+    (λ c κs. let s = c .before .before in (s .pre .0, (s .pre .1, c .loop-test .taken))) (λ c. omega arith) (λ c. omega arith)
+    (λ c. tested-step (c .before .before .loop .inv) (c .before .loop-test .taken) (c .constant-term-holds .ensures))
+    (λ c. tested-end (c .before .loop .inv) (c .loop-test .left) ∙ check-two _ _ _ _ _ _ _ _ _ _))

@@ -1,6 +1,7 @@
 -- `verifier::terms::weighted_sum` meets its contract. The accumulator holds the sum of the products so far.
-use Prim.Native.Nat.{_-_}
+use Prim.Native.Nat.{_+_, _-_, _*_, _<_}
 use native.Mathlib.Omega.{arith}
+use lib.ListN.{length}
 use Rattle.verifier.specs.ConstantTerms.{weighted}
 use Rattle.verifier.specs.Laws.ConstantTermLaws.{Weighed, weighed-start, weighed-step, weighed-end, step-fits}
 use Rattle.verifier.proofs.terms.weighted_sum.Statement.{statement}
@@ -12,49 +13,11 @@ Inv-loop count weights at xs first step acc₀ l₀ acc l = Weighed count (weigh
 abbrev μ-loop : tie.MeasureT-loop
 μ-loop count weights at xs first step acc₀ l₀ acc l = count - l
 
-loop-holds : tie.Need-loop-holds Inv-loop μ-loop
-loop-holds c = weighed-start _ _
-
-add-x : tie.Need-add-x Inv-loop μ-loop
-add-x c = omega (arith, c .loop-test .taken, c .before .before .pre .0)
-
-mul-x : tie.Need-mul-x Inv-loop μ-loop
-mul-x c = omega (arith, c .loop-test .taken, c .before .before .pre .0)
-
-shared-slice-copy-out-x : tie.Need-shared-slice-copy-out-x Inv-loop μ-loop
-shared-slice-copy-out-x c = omega (arith, c .loop-test .taken, c .before .before .pre .0)
-
-mul-y : tie.Need-mul-y Inv-loop μ-loop
-mul-y c =
-    let s = c .before .before .before in
-    omega (
-      arith,
-      step-fits (s .args .count) (s .args .first) (s .args .step) (c .before .before .loop .l) _
-          (c .before .loop-test .taken) (s .pre .1),
-    )
-
-add-y : tie.Need-add-y Inv-loop μ-loop
-add-y c =
-    let s = c .before .before .before in
-    omega (
-      arith,
-      step-fits (s .args .count) (s .args .first) (s .args .step) (c .before .before .loop .l) _
-          (c .before .loop-test .taken) (s .pre .1),
-    )
-
-mul-y-2 : tie.Need-mul-y-2 Inv-loop μ-loop
-mul-y-2 c =
-    let s = c .before .before .before in
-    omega (
-      arith,
-      step-fits (s .args .count) (s .args .first) (s .args .step) (c .before .before .loop .l) _
-          (c .before .loop-test .taken) (s .pre .1),
-    )
-
-shared-slice-copy-out-y : tie.Need-shared-slice-copy-out-y Inv-loop μ-loop
-shared-slice-copy-out-y c =
-    let s = c .before .before .before in
-    step-fits (s .args .count) (s .args .first) (s .args .step) (c .before .before .loop .l) _ (c .before .loop-test .taken) (s .pre .1)
+-- the next number's place
+place : (c : tie.In-loop Inv-loop μ-loop) → let a = c .before .before .args in a .first + c .before .loop .l * a .step < length (a .xs .now)
+place c =
+    let s = c .before .before in
+    step-fits (s .args .count) (s .args .first) (s .args .step) (c .before .loop .l) _ (c .loop-test .taken) (s .pre .1)
 
 loop-again : tie.Need-loop-again Inv-loop μ-loop
 loop-again c =
@@ -65,26 +28,12 @@ loop-again c =
     weighed-step (s .args .count) _ (s .args .at) _ (s .args .first) (s .args .step) (l .loop .l) (l .loop .acc) _ _ (l .loop .inv)
     (x .before .loop-test .taken) (x .x .given) (y .y .given) (c .before .multiply .ensures) (c .add .ensures)
 
-returns : tie.Need-returns Inv-loop μ-loop
-returns c = weighed-end _ _ (c .before .loop .inv) (c .loop-test .left)
-
 pub weighted-sum-spec : {M : Type 1} → statement M
 weighted-sum-spec =
     tie.close
-    (tie.spec
-    Inv-loop
-    μ-loop
-    loop-holds
-    add-x
-    mul-x
-    shared-slice-copy-out-x
-    mul-y
-    add-y
-    mul-y-2
-    shared-slice-copy-out-y
-    (λ c κs. tt)
-    (λ c κs. tt)
-    (λ c. omega arith)
-    (λ c. omega arith)
-    loop-again
-    returns)
+    (tie.spec Inv-loop μ-loop (λ c. weighed-start _ _) (λ c. omega (arith, c .loop-test .taken, c .before .before .pre .0))
+    (λ c. omega (arith, c .loop-test .taken, c .before .before .pre .0))
+    (λ c. omega (arith, c .loop-test .taken, c .before .before .pre .0)) (λ c. omega (arith, place (c .before)))
+    (λ c. omega (arith, place (c .before))) (λ c. omega (arith, place (c .before))) (λ c. place (c .before)) (λ c κs. tt)
+    (λ c κs. tt) (λ c. omega arith) (λ c. omega arith) loop-again
+    (λ c. weighed-end _ _ (c .before .loop .inv) (c .loop-test .left)))

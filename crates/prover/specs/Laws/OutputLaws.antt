@@ -1,8 +1,7 @@
--- The sums of the messages as loops form them.
---     folded-start, folded-turn     z_k, one part more
+-- The sums of the messages as functions form them.
 --     folded-digits                 z's two digits
 --     outer-sum                     a row of B·x + C·y from its two inner products
-use mathlib.Core.Path.{_≡_, refl, sym, ap, ap₂, _∙_}
+use mathlib.Core.Path.{_≡_, sym, ap, ap₂, _∙_}
 use mathlib.Core.List.{List}
 use Prim.Native.Nat.{ℕ, _+_, _*_, _≤_}
 use native.Mathlib.Nat.{zero-add, one-mul, mul-assoc}
@@ -11,34 +10,13 @@ use lib.ListN.{length, drop}
 use lib.IntN.{ℤ}
 use Rattle.integers.specs.Over.{over}
 use Rattle.algebra.specs.Sum.{sum}
-use Rattle.algebra.specs.Laws.SumLaws.{sum-one-more}
-use Rattle.algebra.specs.DotProduct.{inner, folded}
+use Rattle.algebra.specs.DotProduct.{inner}
 use Rattle.ring.specs.Element.{R, lift, el, array}
-use Rattle.ring.specs.Laws.ElementLaws.{lift-array}
+use Rattle.ring.specs.Laws.Loops.{held-sum}
 use Rattle.residues.specs.Digits.{split}
-use Rattle.fold.specs.Statement.{part}
 use Rattle.fold.specs.Messages.{elements, times, z, zDigits}
 use Rattle.fold.specs.Laws.WriterLaws.{split-elements}
 use Rattle.prover.specs.Outputs.{outer}
-
--- an element read back from its sixty-four numbers
-lift-of : (d : ℕ) (u : R d .Carrier) {xs : List ℤ} → d ≤ 64 → xs ≡ array d u → lift d xs ≡ u
-lift-of d u small e = ap (lift d) e ∙ lift-array d u small
-
-module _ (d n k : ℕ) (c s : List ℤ) where
-  pub folded-start : z d n 0 c s k ≡ R d .zero
-  unfolding z folded sum
-  folded-start = refl
-
-  pub folded-turn : (i : ℕ) {total x y xy next : List ℤ} → d ≤ 64 → total ≡ array d (z d n i c s k) → x ≡ array d (el d c i)
-      → y ≡ array d (el d s (i * n + k)) → xy ≡ array d (R d .mul (lift d x) (lift d y))
-      → next ≡ array d (R d .add (lift d total) (lift d xy)) → next ≡ array d (z d n (i + 1) c s k)
-  unfolding z folded part
-  folded-turn i small total x y xy next =
-      next
-      ∙ ap₂ (λ a b. array d (R d .add a b)) (lift-of d _ small total)
-      (lift-of d _ small xy ∙ ap₂ (R d .mul) (lift-of d _ small x) (lift-of d _ small y))
-      ∙ ap (array d) (sym (sum-one-more (R d) i (λ j. R d .mul (el d c j) (el d s (j * n + k)))))
 
 -- both digits, from the elements in the second half of a slice
 pub folded-digits : (d n r b : ℕ) (c s old : List ℤ) {new out : List ℤ} → length old ≡ 2 * n * d
@@ -59,7 +37,4 @@ pub outer-sum : (d m l k : ℕ) (B x C y : List ℤ) {left right out : List ℤ}
     → out ≡ array d (outer d m l B x C y k)
 unfolding outer
 outer-sum d m l k B x C y small left right out =
-    out
-    ∙ ap₂ (λ a b. array d (R d .add a b))
-    (lift-of d _ small left ∙ times-sum d m k B x)
-    (lift-of d _ small right ∙ times-sum d l k C y)
+    held-sum _ _ small left right out ∙ ap₂ (λ a b. array d (R d .add a b)) (times-sum d m k B x) (times-sum d l k C y)
