@@ -4,7 +4,7 @@ use native.Mathlib.Omega.{arith}
 use Prim.Native.Nat.{_+_, _*_, _≤_}
 use Rattle.sheet.specs.Sections.{total}
 use Rattle.fold.specs.Refusals.{challenges}
-use Rattle.sheet.specs.Reading.{challengesIn}
+use Rattle.sheet.specs.Laws.ListLaws.{challenges-part}
 use Rattle.sheet.specs.Laws.ReadingLaws.{lines-positive, front-span, later-span, body-part, body-coefficients, challenges-end}
 use Rattle.sheet.proofs.reader.challenges_ok.Statement.{statement}
 use Rattle.sheet.proofs.reader.challenges_ok.Tie as tie
@@ -43,14 +43,13 @@ are-challenges-requires c κs =
     )
 
 returns : tie.Need-returns
-unfolding challengesIn
 returns c =
     let start = c .before .before .before .before .before in
     let from = c .before .before .challenges-from .ensures in
     c .are-challenges .ensures
     ∙ ap (challenges (start .args .s .d) (start .args .s .r))
     (rw from
-    (sym (body-part (c .before .before .before .before .before .args .s) (c .before .before .before .before .before .args .text .now)
+    (sym (challenges-part (start .args .s) _ ∙ body-part (c .before .before .before .before .before .args .s) (c .before .before .before .before .before .args .text .now)
     (c .before .before .before .sections-of .result) (start .pre .0) (c .before .before .before .sections-of .ensures) _ _
     (challenges-end (start .args .s)))))
 

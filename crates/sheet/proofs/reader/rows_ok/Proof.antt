@@ -2,7 +2,7 @@
 use mathlib.Core.Path.{sym, ap, _∙_}
 use native.Mathlib.Omega.{arith}
 use Rattle.residues.specs.Range.{allWithin, projections}
-use Rattle.sheet.specs.Reading.{rowsIn}
+use Rattle.sheet.specs.Laws.ListLaws.{rows-part}
 use Rattle.sheet.specs.Laws.ReadingLaws.{lines-positive, front-span, later-span, body-part, rows-end}
 use Rattle.sheet.proofs.reader.rows_ok.Statement.{statement}
 use Rattle.sheet.proofs.reader.rows_ok.Tie as tie
@@ -38,14 +38,14 @@ all-within-requires c κs =
     )
 
 returns : tie.Need-returns
-unfolding projections rowsIn
+unfolding projections
 returns c =
     let from = c .before .before .before .rows-from .ensures in
     let count = c .before .row-numbers .ensures in
     c .all-within .ensures
     ∙ ap (allWithin 1)
     (rw (from, count)
-    (sym (body-part (c .before .before .before .before .before .before .args .s)
+    (sym (rows-part (c .before .before .before .before .before .before .args .s) _ ∙ body-part (c .before .before .before .before .before .before .args .s)
     (c .before .before .before .before .before .before .args .text .now) (c .before .before .before .before .sections-of .result)
     (c .before .before .before .before .before .before .pre) (c .before .before .before .before .sections-of .ensures) _ _
     (rows-end (c .before .before .before .before .before .before .args .s)))))
