@@ -18,12 +18,7 @@ codeOf answer = record { kind = kindOf answer; number = numberOf answer }
 
 -- a product: its answer, and the sixty-four numbers of its element
 abbrev pub productCode : Product → CProduct
-productCode p =
-    record {
-      kind = kindOf (p .answer);
-      number = numberOf (p .answer);
-      element = record { coefficients = p .element .coefficients };
-    }
+productCode p = record { kind = kindOf (p .answer); number = numberOf (p .answer); element = record { coefficients = p .element .coefficients } }
 
 -- kind and number of the reader's answer, and its header
 abbrev pub sheetCode : SheetAnswer → CSheet

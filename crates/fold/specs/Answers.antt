@@ -4,7 +4,6 @@ use mathlib.Core.Bool.{Bool, true, cond}
 use mathlib.Core.List.{List, [], _∷_}
 use Prim.Native.Nat.{ℕ, zero, suc}
 use lib.Dec.{eqb}
-use lib.IntN.{ℤ}
 use Rattle.fold.specs.declared.Verdict.{Verdict}
 use Rattle.fold.specs.declared.Verdict.the-variants.{Accepted, Failed}
 use Rattle.fold.specs.declared.Answer.{Answer}
@@ -48,6 +47,6 @@ checked zero answer = answer
 checked (suc k) answer = Judged (Failed (suc k))
 
 -- "Nothing lent is written", "nothing is written": the new numbers, or on a refusal or a failed check those that were there
-unfoldable pub written : ℕ → List ℤ → List ℤ → List ℤ
+unfoldable pub written : {A : Type 0} → ℕ → List A → List A → List A
 written zero new old = new
 written (suc n) new old = old

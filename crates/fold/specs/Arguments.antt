@@ -9,23 +9,13 @@ use Rattle.fold.specs.declared.GarbageSizes.{GarbageSizes}
 use Rattle.fold.specs.declared.Sizes.{Sizes}
 use Rattle.fold.specs.Answers.{firstFailing}
 use Rattle.fold.specs.Statement.{Statement, Draws, Transcript}
-use Rattle.fold.specs.Known.CallLimits.{CommitLimits, GarbageLimits, VerifyLimits}
+pub use Rattle.fold.specs.Known.CallLimits.{CommitSized, GarbageSized, VerifySized}
 use Rattle.fold.specs.Refusals.{commitTests, projectTests, aggregateTests, garbageTests, amortizeTests, verifyTests, productTests}
 
 abbrev pub statementOf : Sizes → (A B C D whole term : List ℤ) → Statement
 statementOf sizes A B C D whole term =
     record {
-      relation =
-          record {
-            d = sizes .d;
-            n = sizes .n;
-            r = sizes .r;
-            K = sizes .k;
-            L = sizes .l;
-            bound = sizes .bound;
-            whole = whole;
-            term = term;
-          };
+      relation = record { d = sizes .d; n = sizes .n; r = sizes .r; K = sizes .k; L = sizes .l; bound = sizes .bound; whole = whole; term = term };
       w = sizes .w;
       tz = 2;
       κ = sizes .kappa;
@@ -42,6 +32,18 @@ statementOf sizes A B C D whole term =
       C = C;
       D = D;
     }
+
+-- the structs that the messages take, from the sizes of a statement
+abbrev pub shapeOf : Sizes → Shape
+shapeOf m = record { d = m .d; n = m .n; r = m .r }
+
+abbrev pub commitSizesOf : Sizes → CommitSizes
+commitSizesOf m =
+    record { d = m .d; n = m .n; r = m .r; kappa = m .kappa; kappa1 = m .kappa1; b1 = m .b1; b2 = m .b2; t1 = m .t1; t2 = m .t2 }
+
+abbrev pub garbageSizesOf : Sizes → GarbageSizes
+garbageSizesOf m =
+    record { d = m .d; n = m .n; r = m .r; k = m .k; l = m .l; w = m .w; kappa2 = m .kappa2; b1 = m .b1; t1 = m .t1 }
 
 abbrev pub drawsOf : (rows ψ ω α δ c : List ℤ) → Draws
 drawsOf rows ψ ω α δ c = record { projections = rows; ψ = ψ; ω = ω; α = α; δ = δ; c = c }
@@ -75,16 +77,3 @@ verifyRefusal 𝓢 𝓓 𝓣 o = firstFailing (verifyTests 𝓢 𝓓 𝓣 o)
 
 abbrev pub productRefusal : ℕ → (x y : List ℤ) → ℕ
 productRefusal d x y = firstFailing (productTests d x y)
-
--- ---- the limits of sizes that stand in a struct
-
-abbrev pub CommitSized : CommitSizes → Type 0
-CommitSized m = CommitLimits (m .d) (m .n) (m .r) (m .kappa) (m .kappa1) (m .b1) (m .b2) (m .t1) (m .t2)
-
-abbrev pub GarbageSized : GarbageSizes → Type 0
-GarbageSized m = GarbageLimits (m .d) (m .n) (m .r) (m .k) (m .l) (m .w) (m .kappa2) (m .b1) (m .t1)
-
-abbrev pub VerifySized : Sizes → Type 0
-VerifySized m =
-    VerifyLimits (m .d) (m .n) (m .r) (m .k) (m .l) (m .w) (m .kappa) (m .kappa1) (m .kappa2) (m .b) (m .b1) (m .b2) (m .t1) (m .t2)
-    (m .bound) (m .target)

@@ -6,6 +6,7 @@ pub mod CutLaws
 pub mod DifferenceLaws
 pub mod HonestChecks
 pub mod HonestVerdict
+pub mod HonestWritten
 pub mod LaidOut
 pub mod Layout
 pub mod MessageLaws

@@ -13,9 +13,8 @@ use Rattle.algebra.specs.Sum.{sum}
 use Rattle.ring.specs.Element.{R, el, number}
 use Rattle.fold.specs.Chunks.{width, padded}
 use Rattle.fold.specs.Sizes.{tSize, garbageSize, restSize, nextRank, nextParts, nextCount}
-use Rattle.fold.specs.Statement.{Relation}
 use Rattle.fold.specs.Messages.{aggregated, aggregateConstant}
-use Rattle.fold.specs.Statement.{Statement, Draws, Transcript}
+use Rattle.fold.specs.Statement.{Relation, Statement, Draws, Transcript}
 use Rattle.fold.specs.Constraint.{Constraint, laidOut}
 
 module _ (d : ℕ) where
@@ -91,11 +90,7 @@ module _ (𝓢 : Statement) (𝓓 : Draws) (𝓣 : Transcript) (ν μ : ℕ) whe
   -- check 6: <z,z> - Σ g_ii c_i² - 2Σ g_ij c_i c_j
   abbrev pub constraint₆ : Constraint d
   constraint₆ =
-      record {
-        a = squares d tz ν b;
-        table = noZ ++ (noT ++ (garbageTable d r b₂ t₂ (λ i j. ⊖ product d (el d c) i j) ++ noH));
-        constant = 𝟘;
-      }
+      record { a = squares d tz ν b; table = noZ ++ (noT ++ (garbageTable d r b₂ t₂ (λ i j. ⊖ product d (el d c) i j) ++ noH)); constant = 𝟘 }
 
   -- check 7: Σ <φ_i,z> c_i - Σ h_ii c_i² - 2Σ h_ij c_i c_j
   abbrev pub constraint₇ : Constraint d
@@ -136,11 +131,7 @@ module _ (𝓢 : Statement) (𝓓 : Draws) (𝓣 : Transcript) (ν μ : ℕ) whe
   -- check 4, row k: D·h - u2
   abbrev pub constraint₄ : ℕ → Constraint d
   constraint₄ k =
-      record {
-        a = no-a d;
-        table = noZ ++ (noT ++ (noG ++ tab (garbageSize r t₁) (λ y. el d D (k * garbageSize r t₁ + y))));
-        constant = el d u₂ k;
-      }
+      record { a = no-a d; table = noZ ++ (noT ++ (noG ++ tab (garbageSize r t₁) (λ y. el d D (k * garbageSize r t₁ + y)))); constant = el d u₂ k }
 
   -- "Constraints, all of the whole kind: checks 5 (κ), 6, 7, 8, 3 (κ1), 4 (κ2)"
   unfoldable pub constraint : ℕ → Constraint d
@@ -164,6 +155,9 @@ module _ (𝓢 : Statement) (𝓓 : Draws) (𝓣 : Transcript) (ν μ : ℕ) whe
   unfoldable pub nextWhole : List ℤ
   nextWhole = flat (nextCount κ κ₁ κ₂) (λ x. laidOut d n′ r′ (width tz n ν m μ) (constraint x))
 
-  -- "K' = κ+κ1+κ2+3, L' = 0, bound β'²"
+  -- "K' = κ+κ1+κ2+3, L' = 0, bound β'²", for the constraints that some numbers are
+  abbrev pub relationOf : (numbers : List ℤ) → Relation
+  relationOf numbers = record { d = d; n = n′; r = r′; K = nextCount κ κ₁ κ₂; L = 0; bound = target; whole = numbers; term = [] }
+
   abbrev pub nextRelation : Relation
-  nextRelation = record { d = d; n = n′; r = r′; K = nextCount κ κ₁ κ₂; L = 0; bound = target; whole = nextWhole; term = [] }
+  nextRelation = relationOf nextWhole

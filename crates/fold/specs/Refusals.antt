@@ -67,7 +67,7 @@ unfoldable pub lengthBound : ℤ → Bool
 lengthBound β² = between 0 999999999999999 β²
 
 -- row 7: "a slice's length is not what the sizes give"
-unfoldable pub sized : (xs : List ℤ) → ℕ → Bool
+unfoldable pub sized : {A : Type 0} (xs : List A) → ℕ → Bool
 sized xs k = eqb (length xs) k
 
 -- row 10: "challenge outside the rule", for each of the r elements of c

@@ -1,3 +1,4 @@
+pub mod FirstRefusal
 pub mod HonestRuns
 pub mod HonestFormed
 pub mod MessagesTaken

@@ -9,13 +9,13 @@ use Rattle.fold.specs.declared.Answer.{Answer}
 use Rattle.fold.specs.declared.Answer.the-variants.{Written}
 use Rattle.fold.specs.declared.Sizes.{Sizes}
 use Rattle.fold.specs.Answers.{answered}
-use Rattle.fold.specs.Arguments.{statementOf, drawsOf, transcriptOf}
+use Rattle.fold.specs.Arguments.{statementOf, drawsOf, transcriptOf, shapeOf, commitSizesOf, garbageSizesOf}
 use Rattle.fold.specs.Arguments.{commitRefusal, projectRefusal, aggregateRefusal, garbageRefusal, amortizeRefusal}
 use Rattle.fold.specs.Verification.{verification}
 use Rattle.cases.specs.Numbers.{padded, word, sizeAt}
 use Rattle.cases.specs.Text.{lineNumbers}
 use Rattle.cases.specs.Lists.{nthList}
-use Rattle.fold_cases.specs.Input.{sizesOf, shapeOf, commitSizesOf, garbageSizesOf, room}
+use Rattle.fold_cases.specs.Input.{sizesOf, room}
 
 module _ (sizes : Sizes) (xs : List ℤ) where
   unfoldable pub commitAnswer : Answer

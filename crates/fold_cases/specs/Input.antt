@@ -5,9 +5,6 @@ use lib.IntN.{ℤ, pos}
 use lib.ListN.{getD, take, replicate}
 use Rattle.integers.specs.Laws.Bridge.{P}
 use Rattle.fold.specs.declared.Sizes.{Sizes}
-use Rattle.fold.specs.declared.Shape.{Shape}
-use Rattle.fold.specs.declared.CommitSizes.{CommitSizes}
-use Rattle.fold.specs.declared.GarbageSizes.{GarbageSizes}
 use Rattle.cases.specs.Numbers.{sizeAt}
 use Rattle.cases.specs.Lists.{pastLists}
 
@@ -34,39 +31,6 @@ sizesOf xs =
       t2 = naturalAt xs 14;
       bound = naturalAt xs 15;
       target = naturalAt xs 16;
-    }
-
--- ---- the sizes that a call takes
-
-abbrev pub shapeOf : Sizes → Shape
-shapeOf s = record { d = s .d; n = s .n; r = s .r }
-
-abbrev pub commitSizesOf : Sizes → CommitSizes
-commitSizesOf s =
-    record {
-      d = s .d;
-      n = s .n;
-      r = s .r;
-      kappa = s .kappa;
-      kappa1 = s .kappa1;
-      b1 = s .b1;
-      b2 = s .b2;
-      t1 = s .t1;
-      t2 = s .t2;
-    }
-
-abbrev pub garbageSizesOf : Sizes → GarbageSizes
-garbageSizesOf s =
-    record {
-      d = s .d;
-      n = s .n;
-      r = s .r;
-      k = s .k;
-      l = s .l;
-      w = s .w;
-      kappa2 = s .kappa2;
-      b1 = s .b1;
-      t1 = s .t1;
     }
 
 -- list i to be written, of those whose lengths follow k lists: filled with 77, and empty where it is longer than 8192

@@ -4,7 +4,7 @@ ghost use mathlib.Core.Path.{_≡_};
 ghost use Rattle.lizkarg.specs.Calls.{Committed, Projected, Aggregated, GarbageCommitted, Amortized};
 ghost use Rattle.capi.specs.Codes.{Coded, codeOf};
 ghost use Rattle.cases.specs.Lists.{nthList};
-ghost use Rattle.fold_cases.specs.Input.{shapeOf, commitSizesOf, garbageSizesOf};
+ghost use Rattle.fold.specs.Arguments.{shapeOf, commitSizesOf, garbageSizesOf};
 ghost use Rattle.fold_cases.specs.Answers.{commitAnswer, projectAnswer, aggregateAnswer, garbageAnswer, amortizeAnswer};
 use crate::input::FILL;
 use crate::input::ROOM;

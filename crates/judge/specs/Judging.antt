@@ -1,19 +1,16 @@
 -- Document 01, 'Sheet': the answer to a text, and the line that says it.
---     listLengths s, listAt     the lists of a sheet, one after another, and list k of them
 --     foldSizes, sheetStatement, sheetDraws, sheetTranscript, sheetOpening    what the verifier takes from a sheet
 --     judgedText text           the answer to a text
 --     verdictLine answer        the line that the program prints
 use mathlib.Core.Bool.{cond}
 use mathlib.Core.List.{List, [], _∷_}
-use Prim.Native.Nat.{ℕ, zero, suc, _*_}
+use Prim.Native.Nat.{ℕ}
 use lib.Dec.{leb}
-use lib.ListN.{length, take, drop}
+use lib.ListN.{length}
 use lib.IntN.{ℤ, pos}
 use Rattle.fold.specs.declared.Sizes.{Sizes}
 use Rattle.fold.specs.declared.Answer.{Answer}
 use Rattle.fold.specs.declared.Answer.the-variants as answer
-use Rattle.fold.specs.Sizes.{five, tSize, garbageSize, openingSize}
-use Rattle.fold.specs.Refusals.{wholeLength, termLength, projectionLength}
 use Rattle.fold.specs.Statement.{Statement, Draws, Transcript}
 use Rattle.fold.specs.Arguments.{statementOf, drawsOf, transcriptOf}
 use Rattle.fold.specs.Answers.{kindOf, numberOf}
@@ -21,39 +18,9 @@ use Rattle.fold.specs.Verification.{verification}
 use Rattle.sheet.specs.declared.sizes.SheetSizes.{SheetSizes}
 use Rattle.sheet.specs.declared.reader.SheetAnswer.{SheetAnswer}
 use Rattle.sheet.specs.Sections.{total}
+use Rattle.sheet.specs.Lists.{listLengths, listAt}
 use Rattle.sheet.specs.Reading.{headerNumbers, sizesOf, bodyNumbers, reading, answerOf, headerOf}
 use Rattle.sheet.specs.Layout.{lineText}
-
--- ---- the lists of a sheet
-
--- "A, B, C, D by rows; each whole constraint ..; each constant-term one ..; u1; projection rows ..; p, ψ, ω ..; b''; α; δ; u2; c; the opening":
--- how many numbers each has
-unfoldable pub listLengths : SheetSizes → List ℕ
-listLengths s =
-    s .kappa * s .n * s .d
-    ∷ s .kappa1 * tSize (s .r) (s .kappa) (s .t1) * s .d
-    ∷ s .kappa1 * garbageSize (s .r) (s .t2) * s .d
-    ∷ s .kappa2 * garbageSize (s .r) (s .t1) * s .d
-    ∷ wholeLength (s .d) (s .n) (s .r) (s .k)
-    ∷ termLength (s .d) (s .n) (s .r) (s .l)
-    ∷ s .kappa1 * s .d
-    ∷ projectionLength (s .d) (s .n) (s .r) (s .w)
-    ∷ s .w
-    ∷ five * s .l
-    ∷ five * s .w
-    ∷ five * s .d
-    ∷ s .k * s .d
-    ∷ five * s .d
-    ∷ s .kappa2 * s .d
-    ∷ s .r * s .d
-    ∷ openingSize 2 (s .n) (s .r) (s .kappa) (s .t1) (s .t2) * s .d
-    ∷ []
-
--- list k, where lists of these lengths stand one after another
-unfoldable pub listAt : List ℕ → List ℤ → ℕ → List ℤ
-listAt [] xs k = []
-listAt (m ∷ ms) xs zero = take m xs
-listAt (m ∷ ms) xs (suc k) = listAt ms (drop m xs) k
 
 -- the verifier takes no ν and μ
 unfoldable pub foldSizes : SheetSizes → Sizes

@@ -1,4 +1,3 @@
-pub mod ListLaws
 pub mod StageLaws
 pub mod RoomLaws
 pub mod ReadLaws

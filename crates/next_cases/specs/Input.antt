@@ -1,13 +1,10 @@
--- Sizes among the numbers of a case, and the structs that the calls take.
+-- Sizes among the numbers of a case, and those of a part of the next witness.
 use mathlib.Core.List.{List}
 use Prim.Native.Nat.{ℕ}
 use lib.ListN.{getD}
 use lib.IntN.{ℤ, pos}
 use mir.Syntax.{w64}
 use mir.Val.{ofZ}
-use Rattle.fold.specs.declared.Shape.{Shape}
-use Rattle.fold.specs.declared.CommitSizes.{CommitSizes}
-use Rattle.fold.specs.declared.GarbageSizes.{GarbageSizes}
 use Rattle.fold.specs.declared.Sizes.{Sizes}
 use Rattle.chunks.specs.declared.part.PartSizes.{PartSizes}
 
@@ -35,37 +32,6 @@ sizesOf xs =
       t2 = wideSize xs 13;
       bound = wideSize xs 16;
       target = wideSize xs 17;
-    }
-
-abbrev pub shapeOf : Sizes → Shape
-shapeOf m = record { d = m .d; n = m .n; r = m .r }
-
-abbrev pub commitSizesOf : Sizes → CommitSizes
-commitSizesOf m =
-    record {
-      d = m .d;
-      n = m .n;
-      r = m .r;
-      kappa = m .kappa;
-      kappa1 = m .kappa1;
-      b1 = m .b1;
-      b2 = m .b2;
-      t1 = m .t1;
-      t2 = m .t2;
-    }
-
-abbrev pub garbageSizesOf : Sizes → GarbageSizes
-garbageSizesOf m =
-    record {
-      d = m .d;
-      n = m .n;
-      r = m .r;
-      k = m .k;
-      l = m .l;
-      w = m .w;
-      kappa2 = m .kappa2;
-      b1 = m .b1;
-      t1 = m .t1;
     }
 
 -- the sizes of an opening and of its cut

@@ -6,7 +6,7 @@ use Prim.Native.Nat.{ℕ, _-_}
 use lib.IntN.{ℤ}
 use lib.ListN.{length, drop}
 use Rattle.fold.specs.declared.Sizes.{Sizes}
-use Rattle.fold.specs.Arguments.{statementOf, drawsOf, transcriptOf}
+use Rattle.fold.specs.Arguments.{statementOf, drawsOf, transcriptOf, shapeOf, commitSizesOf, garbageSizesOf}
 use Rattle.fold.specs.Statement.{Statement, Draws, Transcript}
 use Rattle.fold.specs.Verification.{verification}
 use Rattle.lizkarg.specs.Calls.{Committed, Projected, Aggregated, GarbageCommitted, Amortized}
@@ -17,7 +17,7 @@ use Rattle.capi.specs.Codes.{Coded, codeOf}
 use Rattle.cases.specs.Numbers.{padded, word, sizeAt}
 use Rattle.cases.specs.Lists.{pastLists, nthList}
 use Rattle.cases.specs.Text.{lineNumbers}
-use Rattle.next_cases.specs.Input.{wideSize, sizesOf, shapeOf, commitSizesOf, garbageSizesOf, partSizesOf}
+use Rattle.next_cases.specs.Input.{wideSize, sizesOf, partSizesOf}
 use Rattle.next_cases.specs.Messages.{filled, blank, messageOf, openingOf, kept}
 use Rattle.next_cases.specs.Witness.{witnessOf}
 

@@ -1,17 +1,12 @@
 -- Document 01, 'Sheet': "Each number is decimal, right-justified with blanks in 16 columns, no leading zeros, no plus, no minus zero".
 --     fieldText z     the 16 bytes of a number
 --     Fits16 z        the numbers that 16 columns hold
---     readField l     the number whose field the bytes l are
 use mathlib.Core.Bool.{Bool, true, false, cond}
 use mathlib.Core.List.{List, [], _∷_, _++_}
-use Prim.Native.Nat.{ℕ, zero, suc, _+_, _*_, _-_, _/_, _%_}
-use lib.Dec.{leb, ltb, eqb}
-use lib.IntN.{ℤ, pos, negsuc, negℤ, natAbs}
+use Prim.Native.Nat.{ℕ, zero, suc, _+_, _/_, _%_}
+use lib.Dec.{ltb}
+use lib.IntN.{ℤ, pos, negsuc, natAbs}
 use lib.Signed.{_≤ℤ_}
-use Rattle.sheet.specs.declared.field.Field.{Field}
-use Rattle.sheet.specs.declared.field.Field.the-variants.{Number, Broken}
-
--- ---- writing
 
 -- the byte left of what is written, where m is still to be written and a minus is due in front of it if s: a digit, "-" or a blank
 unfoldable pub columnByte : Bool → ℕ → ℕ
@@ -40,28 +35,3 @@ fieldText z = signedText (negative z) (natAbs z)
 pub record Fits16 (z : ℤ) : Type 0 where
   pub least : negsuc 999999999999998 ≤ℤ z
   pub most : z ≤ℤ pos 9999999999999999
-
--- ---- reading: the digits' value, and the bytes compared with the field of that number, without and with a minus
-
-unfoldable pub digitStep : ℕ → ℕ → ℕ
-digitStep m byte = cond (cond (leb 48 byte) (leb byte 57) false) (m * 10 + (byte - 48)) m
-
-unfoldable pub valueFrom : ℕ → List ℕ → ℕ
-valueFrom m [] = m
-valueFrom m (byte ∷ l) = valueFrom (digitStep m byte) l
-
-unfoldable pub sameBytes : List ℕ → List ℕ → Bool
-sameBytes [] [] = true
-sameBytes [] (y ∷ ys) = false
-sameBytes (x ∷ xs) [] = false
-sameBytes (x ∷ xs) (y ∷ ys) = cond (eqb x y) (sameBytes xs ys) false
-
-abbrev pub fieldIf : Bool → Field → Field → Field
-fieldIf true a b = a
-fieldIf false a b = b
-
-unfoldable pub fieldOf : List ℕ → ℤ → Field → Field
-fieldOf l z other = fieldIf (sameBytes l (fieldText z)) (Number z) other
-
-unfoldable pub readField : List ℕ → Field
-readField l = fieldOf l (pos (valueFrom 0 l)) (fieldOf l (negℤ (pos (valueFrom 0 l))) Broken)

@@ -4,6 +4,7 @@ pub mod FieldSteps
 pub mod FieldsLaws
 pub mod NumberLaws
 pub mod SectionLaws
+pub mod ListLaws
 pub mod PlaceLaws
 pub mod WalkLaws
 pub mod ChallengeLaws

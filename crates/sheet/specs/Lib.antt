@@ -1,6 +1,7 @@
 -- Definitions
 pub mod Field
 pub mod Fields
+pub mod Lists
 pub mod Sections
 pub mod Place
 pub mod Reading

@@ -12,20 +12,20 @@ use mathlib.Core.Bool.{Bool, false, cond}
 use mathlib.Core.List.{List, [], _∷_, _++_}
 use Prim.Native.Nat.{ℕ, zero, suc, _*_}
 use lib.Dec.{eqb}
-use lib.ListN.{length, getD, take, drop}
+use lib.ListN.{length, getD}
 use lib.IntN.{ℤ, pos, natAbs}
 use Rattle.integers.specs.Lists.{tab}
 use Rattle.residues.specs.Range.{coefficients, projections}
 use Rattle.fold.specs.declared.Answer.{Answer}
 use Rattle.fold.specs.declared.Answer.the-variants as answer
 use Rattle.fold.specs.Answers.{firstFailing, answered, written}
-use Rattle.fold.specs.Refusals.{allOf, degree, rank, parts, constraintCount, projectionCount, commitmentRank, base, digitCount, chunks}
-use Rattle.fold.specs.Refusals.{lengthBound, challenges, projectionLength}
+use Rattle.fold.specs.Refusals.{allOf, degree, rank, parts, constraintCount, projectionCount, commitmentRank, base, digitCount, chunks, lengthBound, challenges}
 use Rattle.sheet.specs.declared.sizes.SheetSizes.{SheetSizes}
 use Rattle.sheet.specs.declared.sizes.Sections.{Sections}
 use Rattle.sheet.specs.declared.reader.SheetAnswer.{SheetAnswer}
 use Rattle.sheet.specs.declared.reader.SheetAnswer.the-variants.{Sheet, Refused}
-use Rattle.sheet.specs.Sections.{sectionsOf, total, rowsFrom, challengesFrom, endsLine}
+use Rattle.sheet.specs.Lists.{listLengths, listAt}
+use Rattle.sheet.specs.Sections.{sectionsOf, total, endsLine}
 use Rattle.sheet.specs.Place.{place, laid, numberAt, numbersFrom}
 
 -- ---- the header: "d n r K L w κ κ1 κ2 b b1 b2 t1 t2 ν μ β² β'²", one line of 18 fields
@@ -97,10 +97,10 @@ bodyNumbers s text = numbersFrom (endsLine (sectionsOf s)) 289 text 0 (total s)
 
 -- the projection rows and the challenges among the numbers after the header
 unfoldable pub rowsIn : SheetSizes → List ℤ → List ℤ
-rowsIn s xs = take (projectionLength (s .d) (s .n) (s .r) (s .w)) (drop (rowsFrom s) xs)
+rowsIn s xs = listAt (listLengths s) xs 7
 
 unfoldable pub challengesIn : SheetSizes → List ℤ → List ℤ
-challengesIn s xs = take (s .r * s .d) (drop (challengesFrom s) xs)
+challengesIn s xs = listAt (listLengths s) xs 15
 
 -- rows 8 to 10
 unfoldable pub numberTests : SheetSizes → List ℤ → List (ℕ × Bool)

@@ -4,8 +4,8 @@ ghost use mathlib.Core.Bool.{Bool};
 ghost use Prim.Native.Nat.{_+_, _*_, _<_, _≤_};
 ghost use lib.ListN.{length, take, drop};
 ghost use lib.IntN.{pos, negℤ};
-ghost use Rattle.sheet.specs.Field.{columnByte, minusDue, signedText, digitStep, valueFrom, sameBytes, readField};
-ghost use Rattle.sheet.specs.Fields.{fieldAt, isNumber, numberIn};
+ghost use Rattle.sheet.specs.Field.{columnByte, minusDue, signedText};
+ghost use Rattle.sheet.specs.Fields.{digitStep, valueFrom, sameBytes, readField, fieldAt, isNumber, numberIn};
 
 // What 16 bytes of a sheet are.
 pub enum Field {

@@ -1,5 +1,4 @@
 -- Demand 1
-pub mod Refused
 pub mod Refusals
 -- Demand 2
 pub mod NextInstance
@@ -8,5 +7,3 @@ pub mod HonestRuns
 pub mod TwoOpenings
 -- The sheet and its verdict
 pub mod Sheet
--- Laws
-pub mod Laws

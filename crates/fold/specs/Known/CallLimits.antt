@@ -10,6 +10,9 @@ use Rattle.fold.specs.Refusals.{degree, rank, parts, commitBounds, proje
 use Rattle.fold.specs.Refusals.{sizeRows, boundRows}
 use Rattle.fold.specs.Laws.RefusalLaws.{Passes, allOf-all, degree-fits, rank-iff, parts-iff, constraintCount-iff, projectionCount-iff}
 use Rattle.fold.specs.Laws.RefusalLaws.{commitmentRank-iff, base-fits, digitCount-iff, lengthBound-iff}
+use Rattle.fold.specs.declared.CommitSizes.{CommitSizes}
+use Rattle.fold.specs.declared.GarbageSizes.{GarbageSizes}
+use Rattle.fold.specs.declared.Sizes.{Sizes}
 
 pub record CommitLimits (d n r κ κ₁ b₁ b₂ t₁ t₂ : ℕ) : Type 0 where
   pub shaped : Shaped d n r
@@ -179,3 +182,16 @@ verify-limits d n r K L w κ κ₁ κ₂ b b₁ b₂ t₁ t₂ bound target (e�
       bound-small = lengthBound-iff bound .0 (h₆ .0) .1;
       target-small = lengthBound-iff target .0 (h₆ .1 .0) .1;
     }
+
+-- ---- the limits of sizes that stand in a struct
+
+abbrev pub CommitSized : CommitSizes → Type 0
+CommitSized m = CommitLimits (m .d) (m .n) (m .r) (m .kappa) (m .kappa1) (m .b1) (m .b2) (m .t1) (m .t2)
+
+abbrev pub GarbageSized : GarbageSizes → Type 0
+GarbageSized m = GarbageLimits (m .d) (m .n) (m .r) (m .k) (m .l) (m .w) (m .kappa2) (m .b1) (m .t1)
+
+abbrev pub VerifySized : Sizes → Type 0
+VerifySized m =
+    VerifyLimits (m .d) (m .n) (m .r) (m .k) (m .l) (m .w) (m .kappa) (m .kappa1) (m .kappa2) (m .b) (m .b1) (m .b2) (m .t1) (m .t2)
+    (m .bound) (m .target)

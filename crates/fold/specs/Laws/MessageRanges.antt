@@ -9,6 +9,7 @@ use native.Mathlib.Omega.{arith}
 use lib.ListN.{length, getD}
 use lib.IntN.{ℤ, pos, natAbs}
 use Rattle.integers.specs.Laws.ListLaws.{length-tab, getD-tab}
+use Rattle.integers.specs.Lists.{all}
 use Rattle.integers.specs.Flat.{flat}
 use Rattle.residues.specs.Laws.ModulusLaws.{centred-bound}
 use Rattle.ring.specs.Element.{R, coeffs}
@@ -23,7 +24,7 @@ use Rattle.fold.specs.Sizes.{five}
 
 -- lists laid out one after the other
 coefficients-flat : (n : ℕ) (F : ℕ → List ℤ) → ((i : ℕ) → i < n → coefficients (F i) ≡ true) → coefficients (flat n F) ≡ true
-unfolding flat coefficients allWithin
+unfolding flat coefficients allWithin all
 coefficients-flat zero F h = refl
 coefficients-flat (suc n) F h =
     coefficients-join (flat n F) (F n) (coefficients-flat n F (λ i l. h i (le-step l))) (h n (lt-suc-self n))

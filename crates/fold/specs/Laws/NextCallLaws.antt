@@ -1,5 +1,5 @@
 -- The calls of the next instance: when everything is written, and what the part that is handed back is.
-use mathlib.Core.Path.{_≡_, refl, sym}
+use mathlib.Core.Path.{_≡_, refl, sym, _∙_}
 use mathlib.Core.Logic.{_↔_}
 use mathlib.Core.List.{List, _++_}
 use Prim.Native.Nat.{ℕ, zero, suc, _-_, _*_}
@@ -17,11 +17,11 @@ use Rattle.fold.specs.Verdict.{messageChecks}
 use Rattle.fold.specs.Refusals.{nextTests, partTests, wholeLength}
 use Rattle.fold.specs.Laws.RefusalLaws.{passes-refusal, allOf-all, between-iff, chunks-iff, sized-iff}
 use Rattle.fold.specs.Laws.TestLaws.{holds}
-use Rattle.fold.specs.Chunks.{width, padded}
+use Rattle.fold.specs.Chunks.{width, padded, unpadded, ZeroPadding}
 use Rattle.fold.specs.Laws.PaddingLaws.{chunk-padded}
-use Rattle.fold.specs.NextInstance.{nextWhole, nextWitness, nextRelation, n′, r′, constraint}
+use Rattle.fold.specs.NextInstance.{nextWhole, nextWitness, relationOf, m, n′, r′, constraint}
 use Rattle.fold.specs.Laws.NextSolves.{FirstChecks}
-use Rattle.fold.specs.Theorems.NextInstanceTheorem.{next-instance-judged}
+use Rattle.fold.specs.Theorems.NextInstanceTheorem.{next-instance-judged, solution-accepted}
 use Rattle.fold.specs.NextCall.{firstChecks, nextAnswer, nextOut, partRefusal, nextPart}
 use Rattle.fold.specs.Laws.LaidOut.{length-written}
 
@@ -58,11 +58,22 @@ module _ (𝓢 : Statement) (𝓓 : Draws) (𝓣 : Transcript) (ν μ : ℕ) (ou
   unfolding nextWhole wholeLength
   length-nextWhole = length-written _ _ _ _ _ (constraint 𝓢 𝓓 𝓣 ν μ)
 
-  -- demand 2 over the answer of the call
-  pub next-instance-written : nextAnswer 𝓢 𝓓 𝓣 ν μ out ≡ Written → (o : List ℤ)
-      → length o ≡ openingSize (𝓢 .tz) (𝓢 .relation .n) (𝓢 .relation .r) (𝓢 .κ) (𝓢 .t₁) (𝓢 .t₂) * 𝓢 .relation .d
-      → (verification 𝓢 𝓓 𝓣 o ≡ Judged Accepted) ↔ Solves (nextRelation 𝓢 𝓓 𝓣 ν μ) (nextWitness 𝓢 𝓓 𝓣 ν μ o)
-  next-instance-written e = let (none, pass) = written-iff .0 e in next-instance-judged 𝓢 𝓓 𝓣 ν μ out none pass
+  -- demand 2 over the answer of the call, and over the numbers out′ that it left
+  module _ {out′ : List ℤ} (e : nextAnswer 𝓢 𝓓 𝓣 ν μ out ≡ Written) (is : out′ ≡ nextOut 𝓢 𝓓 𝓣 ν μ out) where
+    numbers : out′ ≡ nextWhole 𝓢 𝓓 𝓣 ν μ
+    numbers = is ∙ written-out e
+
+    pub next-instance-written : (o : List ℤ)
+        → length o ≡ openingSize (𝓢 .tz) (𝓢 .relation .n) (𝓢 .relation .r) (𝓢 .κ) (𝓢 .t₁) (𝓢 .t₂) * 𝓢 .relation .d
+        → (verification 𝓢 𝓓 𝓣 o ≡ Judged Accepted) ↔ Solves (relationOf 𝓢 𝓓 𝓣 ν μ out′) (nextWitness 𝓢 𝓓 𝓣 ν μ o)
+    next-instance-written = let (none, pass) = written-iff .0 e in rw numbers (next-instance-judged 𝓢 𝓓 𝓣 ν μ out none pass)
+
+    pub solution-written : (s : List ℤ)
+        → length s ≡ r′ 𝓢 𝓓 𝓣 ν μ * n′ 𝓢 𝓓 𝓣 ν μ * 𝓢 .relation .d
+        → ZeroPadding (𝓢 .relation .d) (𝓢 .tz) (𝓢 .relation .n) ν (m 𝓢 𝓓 𝓣 ν μ) μ s
+        → Solves (relationOf 𝓢 𝓓 𝓣 ν μ out′) s
+        → verification 𝓢 𝓓 𝓣 (unpadded (𝓢 .relation .d) (𝓢 .tz) (𝓢 .relation .n) ν (m 𝓢 𝓓 𝓣 ν μ) μ s) ≡ Judged Accepted
+    solution-written = let (none, pass) = written-iff .0 e in rw numbers (solution-accepted 𝓢 𝓓 𝓣 ν μ out none pass)
 
 -- a part that is not refused, with zeros after it, is that part of the padded opening
 pub part-of-padded : (d n r κ t₁ t₂ tz ν μ i : ℕ) (o : List ℤ) → partRefusal d n r κ t₁ t₂ tz ν μ i o ≡ 0

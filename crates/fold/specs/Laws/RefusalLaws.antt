@@ -13,6 +13,7 @@ use lib.Dec.{T, leb, ltb, eqb, ltb→lt}
 use lib.ListN.{length, drop, take}
 use lib.IntN.{ℤ, pos}
 use borrow.Author.Tests.{le-leb, leb-true, eq-eqb, eqb-true}
+pub use Rattle.integers.specs.Laws.AllLaws.{both-left, both-right, both-true}
 use Rattle.ring.specs.Element.{Degree}
 use Rattle.residues.specs.Digits.{Base}
 use Rattle.fold.specs.Answers.{firstFailing}
@@ -23,19 +24,6 @@ use Rattle.residues.specs.Range.{challenge}
 
 false-true : {A : Type 0} → false ≡ true → A
 false-true e = absurd (subst T (sym e) tt)
-
--- ---- a conjunction of two tests
-
-pub both-left : (s t : Bool) → cond s t false ≡ true → s ≡ true
-both-left true t e = refl
-both-left false t e = e
-
-pub both-right : (s t : Bool) → cond s t false ≡ true → t ≡ true
-both-right true t e = e
-both-right false t e = false-true e
-
-pub both-true : (s t : Bool) → s ≡ true → t ≡ true → cond s t false ≡ true
-both-true s t e h = rw e h
 
 -- ---- the tests of a call
 
@@ -205,7 +193,7 @@ pub lengthBound-iff : (β² : ℕ) → (lengthBound (pos β²) ≡ true) ↔ ((0
 unfolding lengthBound
 lengthBound-iff β² = between-iff 0 999999999999999 β²
 
-pub sized-iff : (xs : List ℤ) (k : ℕ) → (sized xs k ≡ true) ↔ (length xs ≡ k)
+pub sized-iff : {A : Type 0} (xs : List A) (k : ℕ) → (sized xs k ≡ true) ↔ (length xs ≡ k)
 unfolding sized
 sized-iff xs k = (eqb-true (length xs) k, eq-eqb (length xs) k)
 

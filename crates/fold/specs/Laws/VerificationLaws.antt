@@ -2,21 +2,20 @@
 use mathlib.Core.Path.{_≡_, refl}
 use mathlib.Core.Bool.{true}
 use mathlib.Core.List.{List}
-use Prim.Native.Nat.{ℕ, zero, suc, _*_}
+use Prim.Native.Nat.{ℕ, zero, suc, _*_, _<_}
 use native.Mathlib.Omega.{arith}
-use lib.ListN.{length}
+use lib.ListN.{length, take, drop}
 use lib.IntN.{ℤ}
-use Rattle.residues.specs.Range.{coefficients}
+use Rattle.residues.specs.Range.{coefficients, challenge}
 use Rattle.fold.specs.declared.Verdict.{Verdict}
 use Rattle.fold.specs.declared.Verdict.the-variants.{Accepted}
 use Rattle.fold.specs.declared.Answer.the-variants.{Judged}
 use Rattle.fold.specs.Answers.{firstFailing, answered}
 use Rattle.fold.specs.Sizes.{openingSize}
-use Rattle.fold.specs.Statement.{Relation}
-use Rattle.fold.specs.Statement.{Statement, Draws, Transcript}
+use Rattle.fold.specs.Statement.{Relation, Statement, Draws, Transcript}
 use Rattle.fold.specs.Verdict.{verdict}
 use Rattle.fold.specs.Refusals.{verifyTests}
-use Rattle.fold.specs.Laws.RefusalLaws.{allOf-head, sized-iff}
+use Rattle.fold.specs.Laws.RefusalLaws.{allOf-head, sized-iff, challenges-iff}
 use Rattle.fold.specs.Laws.TestLaws.{holds}
 use Rattle.fold.specs.Verification.{verification}
 use Rattle.fold.specs.Laws.Accepted.{Accepts, accepts}
@@ -29,20 +28,23 @@ judged-accepted (suc k) v e = let z : _≡_ {A = ℕ} 0 1 = cc in absurd (omega 
 module _ (𝓢 : Statement) (𝓓 : Draws) (𝓣 : Transcript) (o : List ℤ) where
   open Statement 𝓢 using (relation, tz, κ, t₁, t₂)
   open Relation relation using (d, n, r)
-
-  -- rows 7 and 8 look at the opening first
-  pub opening-unrefused : firstFailing (verifyTests 𝓢 𝓓 𝓣 o) ≡ 0 → (length o ≡ openingSize tz n r κ t₁ t₂ * d) × (coefficients o ≡ true)
-  unfolding verifyTests
-  opening-unrefused e =
-      let row = holds (verifyTests 𝓢 𝓓 𝓣 o) refl e in (sized-iff o _ .0 (allOf-head _ _ (row 7)), allOf-head _ _ (row 8))
+  open Draws 𝓓 using (c)
 
   pub record AcceptedOpening : Type 0 where
     pub facts : Accepts 𝓢 𝓓 𝓣 o
     pub sized : length o ≡ openingSize tz n r κ t₁ t₂ * d
     pub small : coefficients o ≡ true
+    pub rule : (i : ℕ) → i < r → challenge (take d (drop (i * d) c)) ≡ true
 
+  -- rows 7 and 8 look at the opening first
   pub accepted-opening : verification 𝓢 𝓓 𝓣 o ≡ Judged Accepted → AcceptedOpening
+  unfolding verifyTests
   accepted-opening e =
       let (unrefused, passed) = judged-accepted (firstFailing (verifyTests 𝓢 𝓓 𝓣 o)) (verdict 𝓢 𝓓 𝓣 o) e in
-      let (size, range) = opening-unrefused unrefused in
-      record { facts = accepts 𝓢 𝓓 𝓣 o passed; sized = size; small = range }
+      let row = holds (verifyTests 𝓢 𝓓 𝓣 o) refl unrefused in
+      record {
+        facts = accepts 𝓢 𝓓 𝓣 o passed;
+        sized = sized-iff o _ .0 (allOf-head _ _ (row 7));
+        small = allOf-head _ _ (row 8);
+        rule = challenges-iff d r c .0 (row 10);
+      }

@@ -2,50 +2,66 @@
 -- and c come in, none of them refused, the verdict on the honest messages and opening is failed 1 exactly when 2·|p|² is above w·β²;
 -- otherwise failed 9 exactly when the squared length of all its digits is above the target bound; otherwise accepted."
 -- Document 01: "z = Σ c_i s_i in two digits to base b": tz is 2. For another number of digits above 0, see `honest-runs-shaped`.
-use mathlib.Core.Path.{_≡_}
+use mathlib.Core.Path.{_≡_, ap}
 use mathlib.Core.Logic.{_↔_}
 use mathlib.Core.List.{List}
-use Prim.Native.Nat.{ℕ, _*_, _≤_, _<_}
+use Prim.Native.Nat.{_*_, _≤_, _<_}
 use native.Mathlib.Omega.{arith}
 use lib.IntN.{ℤ}
 use Rattle.integers.specs.Sums.{normSq}
 use Rattle.fold.specs.declared.Verdict.{Verdict}
 use Rattle.fold.specs.declared.Verdict.the-variants.{Accepted, Failed}
-use Rattle.fold.specs.Answers.{firstFailing}
-use Rattle.fold.specs.Statement.{Relation, Meets}
-use Rattle.fold.specs.Statement.{Statement, Draws}
+use Rattle.fold.specs.declared.Answer.the-variants.{Judged}
+use Rattle.fold.specs.Answers.{firstFailing, answered}
+use Rattle.fold.specs.Statement.{Relation, Meets, Statement, Draws, Transcript}
 use Rattle.fold.specs.Verdict.{verdict}
+use Rattle.fold.specs.Verification.{verification}
 use Rattle.fold.specs.Honest.{honestTranscript, honestOpening}
 use Rattle.fold.specs.Refusals.{proverTests}
 use Rattle.fold.specs.Laws.HonestChecks.{Shaped}
+use Rattle.fold.specs.Theorems.HonestFormed.{honest-formed}
 use Rattle.fold.specs.Laws.HonestVerdict.{outcome-fails-1, outcome-fails-9, outcome-accepted, honest-verdict, shaped}
+
+-- a verdict by the squared lengths of p and of all digits of an opening o: `is v` says that the verdict is v
+module _ (𝓢 : Statement) where
+  open Statement 𝓢 using (relation, w, target)
+  open Relation relation using (bound)
+
+  pub record HonestVerdict (p o : List ℤ) (is : Verdict → Type 0) : Type 0 where
+    pub failed-1 : is (Failed 1) ↔ (w * bound < 2 * normSq p)
+    pub failed-9 : is (Failed 9) ↔ ((2 * normSq p ≤ w * bound) × (target < normSq o))
+    pub accepted : is Accepted ↔ ((2 * normSq p ≤ w * bound) × (normSq o ≤ target))
+
+judged-iff : {v w : Verdict} {X : Type 0} → (v ≡ w) ↔ X → (Judged v ≡ Judged w) ↔ X
+judged-iff e = (λ h. e .0 cc, λ x. ap Judged (e .1 x))
 
 module _ (𝓢 : Statement) (𝓓 : Draws) (s : List ℤ) where
   open Statement 𝓢 using (relation, w, tz, target)
   open Relation relation using (bound)
 
-  -- the verdict, twice the squared length of p, and the squared length of all digits
-  abbrev pub honestVerdict : Verdict
-  honestVerdict = verdict 𝓢 𝓓 (honestTranscript 𝓢 𝓓 s) (honestOpening 𝓢 𝓓 s)
+  abbrev 𝓣 : Transcript
+  𝓣 = honestTranscript 𝓢 𝓓 s
 
-  abbrev pub projected : ℕ
-  projected = 2 * normSq (honestTranscript 𝓢 𝓓 s .p)
+  abbrev o : List ℤ
+  o = honestOpening 𝓢 𝓓 s
 
-  abbrev pub opened : ℕ
-  opened = normSq (honestOpening 𝓢 𝓓 s)
-
-  pub record HonestRun : Type 0 where
-    pub failed-1 : (honestVerdict ≡ Failed 1) ↔ (w * bound < projected)
-    pub failed-9 : (honestVerdict ≡ Failed 9) ↔ ((projected ≤ w * bound) × (target < opened))
-    pub accepted : (honestVerdict ≡ Accepted) ↔ ((projected ≤ w * bound) × (opened ≤ target))
-
-  pub honest-runs-shaped : Shaped 𝓢 → Meets relation s → HonestRun
+  pub honest-runs-shaped : Shaped 𝓢 → Meets relation s → HonestVerdict 𝓢 (𝓣 .p) o (λ v. verdict 𝓢 𝓓 𝓣 o ≡ v)
   honest-runs-shaped sizes meets =
+      let projected = 2 * normSq (𝓣 .p) in
       record {
-        failed-1 = rw (honest-verdict 𝓢 𝓓 s sizes meets) (outcome-fails-1 projected (w * bound) opened target);
-        failed-9 = rw (honest-verdict 𝓢 𝓓 s sizes meets) (outcome-fails-9 projected (w * bound) opened target);
-        accepted = rw (honest-verdict 𝓢 𝓓 s sizes meets) (outcome-accepted projected (w * bound) opened target);
+        failed-1 = rw (honest-verdict 𝓢 𝓓 s sizes meets) (outcome-fails-1 projected (w * bound) (normSq o) target);
+        failed-9 = rw (honest-verdict 𝓢 𝓓 s sizes meets) (outcome-fails-9 projected (w * bound) (normSq o) target);
+        accepted = rw (honest-verdict 𝓢 𝓓 s sizes meets) (outcome-accepted projected (w * bound) (normSq o) target);
       }
 
-  pub honest-runs : tz ≡ 2 → firstFailing (proverTests 𝓢 𝓓 s) ≡ 0 → Meets relation s → HonestRun
-  honest-runs two accepted meets = honest-runs-shaped (shaped 𝓢 𝓓 s accepted (omega arith)) meets
+  pub honest-runs : tz ≡ 2 → firstFailing (proverTests 𝓢 𝓓 s) ≡ 0 → Meets relation s → HonestVerdict 𝓢 (𝓣 .p) o (λ v. verdict 𝓢 𝓓 𝓣 o ≡ v)
+  honest-runs two unrefused meets = honest-runs-shaped (shaped 𝓢 𝓓 s unrefused (omega arith)) meets
+
+  -- the verifier's answer: it refuses none of this
+  pub honest-answers : tz ≡ 2 → firstFailing (proverTests 𝓢 𝓓 s) ≡ 0 → Meets relation s
+      → HonestVerdict 𝓢 (𝓣 .p) o (λ v. verification 𝓢 𝓓 𝓣 o ≡ Judged v)
+  unfolding answered
+  honest-answers two unrefused meets =
+      let run = honest-runs two unrefused meets in
+      rw (honest-formed 𝓢 𝓓 s unrefused)
+      (record { failed-1 = judged-iff (run .failed-1); failed-9 = judged-iff (run .failed-9); accepted = judged-iff (run .accepted) })

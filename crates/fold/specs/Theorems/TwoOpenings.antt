@@ -19,9 +19,8 @@ use Rattle.ring.specs.Element.{R, el}
 use Rattle.fold.specs.declared.Verdict.the-variants.{Accepted}
 use Rattle.fold.specs.declared.Answer.the-variants.{Judged}
 use Rattle.fold.specs.Sizes.{tSize}
-use Rattle.fold.specs.Statement.{Relation}
 use Rattle.fold.specs.Messages.{elements, times, outer₁}
-use Rattle.fold.specs.Statement.{Statement, Draws, Transcript}
+use Rattle.fold.specs.Statement.{Relation, Statement, Draws, Transcript}
 use Rattle.fold.specs.Opening.{block, zLength, tgLength}
 use Rattle.fold.specs.Verdict.{zᵒ, tᵒ}
 use Rattle.fold.specs.Verification.{verification}
@@ -59,9 +58,8 @@ module _ (𝓢 : Statement) (𝓓 𝓓′ : Draws) (𝓣 𝓣′ : Transcript) (
         → times d n A k z-difference ≡ R d .mul (sub (R d) (el d (𝓓 .c) i) (el d (𝓓′ .c) i)) (tᵒ 𝓢 𝓓 𝓣 o i k)
     pub short : normSq (elements d n z-difference) ≤ 4 * factor * target
 
-  -- both are accepted, "for the same statement and the same u1"
-  module _ (accepted : verification 𝓢 𝓓 𝓣 o ≡ Judged Accepted) (accepted′ : verification 𝓢 𝓓′ 𝓣′ o′ ≡ Judged Accepted)
-      (same-u₁ : 𝓣 .u₁ ≡ 𝓣′ .u₁) where
+  -- both are accepted, for the same statement
+  module _ (accepted : verification 𝓢 𝓓 𝓣 o ≡ Judged Accepted) (accepted′ : verification 𝓢 𝓓′ 𝓣′ o′ ≡ Judged Accepted) where
     one : AcceptedOpening 𝓢 𝓓 𝓣 o
     one = accepted-opening 𝓢 𝓓 𝓣 o accepted
 
@@ -71,10 +69,10 @@ module _ (𝓢 : Statement) (𝓓 𝓓′ : Draws) (𝓣 𝓣′ : Transcript) (
     sizes : length (tgDigits 𝓢 o) ≡ length (tgDigits 𝓢 o′)
     sizes = length-tg 𝓢 o (one .sized) ∙ sym (length-tg 𝓢 o′ (two .sized))
 
-    -- "if their t or g digits differ anywhere"
-    pub digits-differ : tgDigits 𝓢 o ≢ tgDigits 𝓢 o′ → ShortKernel 𝓢 (difference (tgDigits 𝓢 o) (tgDigits 𝓢 o′))
+    -- "if their t or g digits differ anywhere": only here "the same u1" is used
+    pub digits-differ : 𝓣 .u₁ ≡ 𝓣′ .u₁ → tgDigits 𝓢 o ≢ tgDigits 𝓢 o′ → ShortKernel 𝓢 (difference (tgDigits 𝓢 o) (tgDigits 𝓢 o′))
     unfolding tgDigits tgLength
-    digits-differ ne =
+    digits-differ same-u₁ ne =
         let xs = tgDigits 𝓢 o in
         let ys = tgDigits 𝓢 o′ in
         let apart = differ xs ys sizes ne in
@@ -116,7 +114,7 @@ module _ (𝓢 : Statement) (𝓓 𝓓′ : Draws) (𝓣 𝓣′ : Transcript) (
 
     -- the whole of it, for the two z digits of document 01: 1 + b² is the sum of the squares of their weights 1 and b
     pub two-openings : tz ≡ 2 → (i : ℕ) → i < r → ((j : ℕ) → j < r → j ≢ i → el d (𝓓 .c) j ≡ el d (𝓓′ .c) j)
-        → (tgDigits 𝓢 o ≢ tgDigits 𝓢 o′ → ShortKernel 𝓢 (difference (tgDigits 𝓢 o) (tgDigits 𝓢 o′)))
+        → (𝓣 .u₁ ≡ 𝓣′ .u₁ → tgDigits 𝓢 o ≢ tgDigits 𝓢 o′ → ShortKernel 𝓢 (difference (tgDigits 𝓢 o) (tgDigits 𝓢 o′)))
         × (tgDigits 𝓢 o ≡ tgDigits 𝓢 o′ → ShortPreimage i (1 + b * b))
     two-openings digits i h others =
         let weights : total tz (λ e. b ^ (2 * e)) ≡ 1 + b * b = rw digits (two-weights b) in

@@ -16,7 +16,8 @@ use Rattle.sheet.specs.Field.{fieldText, signedText, columns, columnByte, minus
 use Rattle.sheet.specs.Layout.{copies, elements, matrixLines, wholeLines, termLines, rowLines, numberLines, lastLines, bodyLines}
 use Rattle.sheet.specs.Layout.{lineText, textOf, sheetText}
 use Rattle.sheet.specs.Cases.WholeSheet.{header, numbers, whole-numbers}
-use Rattle.judge.specs.Judging.{listLengths, listAt, foldSizes, judgedText, verdictLine}
+use Rattle.sheet.specs.Lists.{listLengths, listAt}
+use Rattle.judge.specs.Judging.{foldSizes, judgedText, verdictLine}
 use Rattle.judge.specs.Theorems.JudgeTheorem.{sheetVerdict, sheet-judged}
 
 -- the lists of the sheet are those of the case

@@ -1,24 +1,30 @@
--- The verifier refuses nothing that the reader took: rows 1 to 4 and 6 are tested by the header's numbers, row 7 holds by the sizes of the lists,
--- and rows 8 to 10 are tested by the other numbers.
---     unrefused     no row of the verifier refuses the numbers of a sheet
-use mathlib.Core.Path.{_≡_, refl, subst}
-use mathlib.Core.Bool.{true}
-use mathlib.Core.List.{List}
+-- The verifier refuses the numbers of a sheet as the reader does: rows 1 to 4 and 6 are tested by the header's numbers, row 7 holds by the sizes of
+-- the lists, and rows 8 to 10 are those of the other numbers.
+--     same-refusal    where the reader takes the header, rows 8 to 10 give the same number in both
+--     unrefused       so no row of the verifier refuses the numbers that the reader took
+use mathlib.Core.Path.{_≡_, refl, sym, ap, _∙_}
+use mathlib.Core.Bool.{Bool, true, false}
+use mathlib.Core.List.{List, _∷_}
 use Prim.Native.Nat.{ℕ, _<_}
 use native.Mathlib.Omega.{arith}
-use lib.ListN.{length, getD}
+use lib.ListN.{length, getD, take, drop}
 use lib.IntN.{ℤ, pos, negsuc, natAbs}
-use Rattle.residues.specs.Range.{coefficients, projections}
-use Rattle.fold.specs.Answers.{firstFailing}
+use Rattle.integers.specs.Lists.{tab, all}
+use Rattle.residues.specs.Range.{coefficients}
+use Rattle.ring.specs.Element.{every}
+use Rattle.ring.specs.Laws.ElementEquality.{every-true}
+use Rattle.fold.specs.Answers.{firstFailing, testOf}
 use Rattle.fold.specs.Refusals.{between, degree, rank, parts, constraintCount, projectionCount, commitmentRank, base, digitCount, lengthBound}
-use Rattle.fold.specs.Refusals.{sized, challenges, verifyTests}
+use Rattle.fold.specs.Refusals.{allOf, sized, ranges, verifyTests}
 use Rattle.fold.specs.Laws.RefusalLaws.{Passes, passes-refusal, allOf-all, all-allOf, sized-iff}
+use Rattle.fold.specs.Laws.TestLaws.{goes-on}
 use Rattle.sheet.specs.declared.sizes.SheetSizes.{SheetSizes}
+use Rattle.sheet.specs.Lists.{listLengths, listAt}
 use Rattle.sheet.specs.Sections.{total}
+use Rattle.sheet.specs.Laws.ListLaws.{length-list, coefficients-list, list-coefficients, lengths-total}
 use Rattle.sheet.specs.Laws.PlaceLaws.{contradiction}
-use Rattle.sheet.specs.Reading.{headerTests, sizesOf, numberTests}
-use Rattle.judge.specs.Judging.{listLengths, listAt, foldSizes, sheetStatement, sheetDraws, sheetTranscript, sheetOpening}
-use Rattle.judge.specs.Laws.ListLaws.{length-list, coefficients-list, lengths-total, rows-list, challenges-list}
+use Rattle.sheet.specs.Reading.{headerTests, sizesOf, rowsIn, challengesIn, numberTests}
+use Rattle.judge.specs.Judging.{foldSizes, sheetStatement, sheetDraws, sheetTranscript, sheetOpening}
 
 -- a number in a range that starts at 0 or above is its absolute value
 between-size : (low high : ℕ) (z : ℤ) → between low high z ≡ true → between low high (pos (natAbs z)) ≡ true
@@ -44,30 +50,31 @@ module _ (s : SheetSizes) (xs : List ℤ) where
         sized-iff (listAt (listLengths s) xs k) (getD (listLengths s) k 0) .1
         (length-list (listLengths s) xs k h (omega (arith, lengths-total s)))
 
-module _ (h xs : List ℤ) (header : Passes (headerTests h)) (numbers : Passes (numberTests (sizesOf h) xs))
-    (count : length xs ≡ total (sizesOf h)) where
-  s : SheetSizes
-  s = sizesOf h
+-- a test that holds exactly when another does is the same
+same-test : (s t : Bool) → (s ≡ true → t ≡ true) → (t ≡ true → s ≡ true) → s ≡ t
+same-test true t to back = sym (to refl)
+same-test false true to back = back refl
+same-test false false to back = refl
 
+module _ (h xs : List ℤ) (header : Passes (headerTests h)) (count : length xs ≡ total (sizesOf h)) where
   at : ℕ → ℤ
   at k = getD h k (pos 0)
 
-  within : (k : ℕ) → coefficients (listAt (listLengths (sizesOf h)) xs k) ≡ true
-  unfolding numberTests
-  within k = coefficients-list (listLengths (sizesOf h)) xs k (numbers .0)
+  -- what the verifier tests of a sheet
+  abbrev tests : List (ℕ × Bool)
+  tests = verifyTests (sheetStatement (sizesOf h) xs) (sheetDraws (sizesOf h) xs) (sheetTranscript (sizesOf h) xs) (sheetOpening (sizesOf h) xs)
 
-  pub unrefused : firstFailing (verifyTests (sheetStatement (sizesOf h) xs) (sheetDraws (sizesOf h) xs) (sheetTranscript (sizesOf h) xs)
-      (sheetOpening (sizesOf h) xs)) ≡ 0
-  unfolding verifyTests headerTests sizesOf numberTests foldSizes listLengths
+  -- rows 1 to 7 pass
+  early : Passes (take 6 tests)
+  unfolding verifyTests headerTests sizesOf foldSizes listLengths
       rank parts constraintCount projectionCount commitmentRank base digitCount lengthBound at
-  unrefused =
+  early =
       let counts = allOf-all _ (header .1 .0) in
       let ranks = allOf-all _ (header .1 .1 .0) in
       let bases = allOf-all _ (header .1 .1 .1 .0) in
       let bounds = allOf-all _ (header .1 .1 .1 .1 .1 .0) in
       let size : (k : ℕ) → k < 17 → sized (listAt (listLengths (sizesOf h)) xs k) (getD (listLengths (sizesOf h)) k 0) ≡ true =
       sized-list (sizesOf h) xs count in
-      passes-refusal _ (
       degree-size (at 0) (header .0)
       & all-allOf _ (
       between-size 1 256 (at 1) (counts .0)
@@ -111,25 +118,57 @@ module _ (h xs : List ℤ) (header : Passes (headerTests h)) (numbers : Passes (
       & size 13 (omega arith)
       & size 15 (omega arith)
       & tt)
-      & all-allOf _ (
-      within 16
-      & within 6
-      & within 8
-      & within 11
-      & within 14
-      & within 0
-      & within 1
-      & within 2
-      & within 3
-      & within 4
-      & within 5
-      & within 7
-      & within 9
-      & within 10
-      & within 12
-      & within 13
-      & within 15
+      & tt
+
+  within : (k : ℕ) → coefficients xs ≡ true → coefficients (listAt (listLengths (sizesOf h)) xs k) ≡ true
+  within k e = coefficients-list (listLengths (sizesOf h)) xs k e
+
+  -- row 8, list by list in the verifier's order, is row 8 of all numbers
+  abbrev lists : List Bool
+  lists =
+      coefficients (sheetOpening (sizesOf h) xs)
+      ∷ ranges (sheetStatement (sizesOf h) xs) (sheetDraws (sizesOf h) xs) (sheetTranscript (sizesOf h) xs)
+
+  range-to : testOf 8 tests ≡ true → coefficients xs ≡ true
+  unfolding verifyTests every all tab allOf listLengths
+  range-to e =
+      let (o, (u₁, (p, (b″, (u₂, (A, (B, (C, (D, (whole, (term, (rows, (ψ, (ω, (α, (δ, (c, _))))))))))))))))) = allOf-all lists e in
+      let test : ℕ → Bool = λ k. coefficients (listAt (listLengths (sizesOf h)) xs k) in
+      list-coefficients (listLengths (sizesOf h)) xs (omega (arith, count, lengths-total (sizesOf h)))
+      (every-true 17 test (all-allOf (tab 17 test) (A & B & C & D & whole & term & u₁ & rows & p & ψ & ω & b″ & α & δ & u₂ & c & o & tt)))
+
+  range-back : coefficients xs ≡ true → testOf 8 tests ≡ true
+  unfolding verifyTests
+  range-back e =
+      all-allOf lists (
+      within 16 e
+      & within 6 e
+      & within 8 e
+      & within 11 e
+      & within 14 e
+      & within 0 e
+      & within 1 e
+      & within 2 e
+      & within 3 e
+      & within 4 e
+      & within 5 e
+      & within 7 e
+      & within 9 e
+      & within 10 e
+      & within 12 e
+      & within 13 e
+      & within 15 e
       & tt)
-      & subst (λ (l : List ℤ). projections l ≡ true) (rows-list (sizesOf h) xs) (numbers .1 .0)
-      & subst (λ (l : List ℤ). challenges (sizesOf h .d) (sizesOf h .r) l ≡ true) (challenges-list (sizesOf h) xs) (numbers .1 .1 .0)
-      & tt)
+
+  same-range : testOf 8 tests ≡ coefficients xs
+  same-range = same-test (testOf 8 tests) (coefficients xs) range-to range-back
+
+  -- the verifier refuses the numbers as the reader does
+  pub same-refusal : firstFailing tests ≡ firstFailing (numberTests (sizesOf h) xs)
+  unfolding verifyTests numberTests rowsIn challengesIn foldSizes
+  same-refusal =
+      goes-on (take 6 tests) (drop 6 tests) early
+      ∙ ap (λ (t : Bool). firstFailing ((8, t) ∷ drop 1 (numberTests (sizesOf h) xs))) same-range
+
+  pub unrefused : Passes (numberTests (sizesOf h) xs) → firstFailing tests ≡ 0
+  unrefused numbers = same-refusal ∙ passes-refusal (numberTests (sizesOf h) xs) numbers

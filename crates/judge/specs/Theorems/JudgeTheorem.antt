@@ -1,4 +1,5 @@
 -- The answer to a text: document 01, 'Sheet'.
+--     numbers-answer    the verifier's refusal of a sheet's numbers is the reader's
 --     text-answer       the reader's refusal, or the verdict on the numbers: the verifier refuses nothing after the reader
 --     sheet-judged      the text of a sheet is judged, by the verdict on its numbers
 --     judged-sheet      and a text that is judged is the text of a sheet
@@ -20,6 +21,7 @@ use Rattle.fold.specs.declared.Answer.{Answer}
 use Rattle.fold.specs.declared.Answer.the-variants.{Refused, Judged, Written}
 use Rattle.fold.specs.Verdict.{verdict}
 use Rattle.fold.specs.Answers.{kindOf, numberOf, firstFailing, answered}
+use Rattle.fold.specs.Laws.RefusalLaws.{refusal-passes}
 use Rattle.sheet.specs.declared.sizes.SheetSizes.{SheetSizes}
 use Rattle.sheet.specs.declared.reader.SheetAnswer as reader
 use Rattle.sheet.specs.Sections.{total}
@@ -29,10 +31,10 @@ use Rattle.sheet.specs.Laws.PlaceLaws.{contradiction}
 use Rattle.sheet.specs.Laws.AnswerLaws.{header-bounded, reading-passed}
 use Rattle.sheet.specs.Laws.BodyLaws.{body-total}
 use Rattle.sheet.specs.Laws.SheetLaws.{length-body}
-use Rattle.sheet.specs.Layout.{sheetText, SheetNumbers}
+use Rattle.sheet.specs.Layout.{fields, bodyLines, sheetText, SheetNumbers}
 use Rattle.sheet.specs.Theorems.SheetTheorems.{sheet-exactly}
 use Rattle.judge.specs.Judging.{sheetStatement, sheetDraws, sheetTranscript, sheetOpening, judgedNumbers, judgedBy, judged, judgedText}
-use Rattle.judge.specs.Laws.PassLaws.{unrefused}
+use Rattle.judge.specs.Laws.PassLaws.{same-refusal, unrefused}
 
 -- the verdict on the numbers of a sheet
 abbrev pub sheetVerdict : SheetSizes → List ℤ → Verdict
@@ -46,6 +48,16 @@ short : (text : List ℕ) → length text ≤ 65536 → judgedText text ≡ judg
 unfolding judgedText
 short text h = rw (le-leb (length text) 65536 h) refl
 
+-- ---- the numbers of a sheet
+
+-- the verifier's answer to as many numbers as a header gives that is not refused
+pub numbers-answer : (h xs : List ℤ) → firstFailing (headerTests h) ≡ 0 → length xs ≡ fields (bodyLines (sizesOf h))
+    → judgedNumbers (sizesOf h) xs ≡ answered (firstFailing (numberTests (sizesOf h) xs)) (Judged (sheetVerdict (sizesOf h) xs))
+unfolding judgedNumbers headerTests
+numbers-answer h xs header count =
+    ap (λ (n : ℕ). answered n (Judged (sheetVerdict (sizesOf h) xs)))
+    (same-refusal h xs (refusal-passes (headerTests h) refl header) (count ∙ body-total (sizesOf h)))
+
 -- ---- every text
 
 taken : (text : List ℕ) → firstFailing (readingTests (roomOf text) text) ≡ 0
@@ -57,7 +69,7 @@ taken text e =
     let s = sizesOf h in
     let passed = reading-passed (roomOf text) text e in
     let positive = header-bounded h (passed .sizes) .degree-positive in
-    rw (unrefused h (bodyNumbers s text) (passed .sizes) (passed .numbers) (length-body s positive text ∙ body-total s)) refl
+    rw (unrefused h (bodyNumbers s text) (passed .sizes) (length-body s positive text ∙ body-total s) (passed .numbers)) refl
 
 by-refusal : (text : List ℕ) (n : ℕ) → firstFailing (readingTests (roomOf text) text) ≡ n
     → judgedBy (sheetIf n (sizesOf (headerNumbers text))) (bodyNumbers (sizesOf (headerNumbers text)) text)

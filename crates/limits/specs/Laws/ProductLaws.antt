@@ -1,7 +1,7 @@
 -- The tests of the ring product as code makes them, and the degree of a product that is not refused.
 use mathlib.Core.Path.{_≡_, refl, sym, ap, _∙_}
 use mathlib.Core.Bool.{Bool, true, cond, _&&_}
-use mathlib.Core.List.{List}
+use mathlib.Core.List.{List, []}
 use Prim.Native.Nat.{ℕ, _<_, _≤_, _-_}
 use native.Mathlib.Omega.{arith}
 use lib.IntN.{ℤ, pos}
@@ -9,6 +9,7 @@ use lib.ListN.{length, take, drop, length-drop, drop-of-length-le}
 use lib.Seq.{take-all}
 use Rattle.ring.specs.Element.{Degree}
 use Rattle.residues.specs.Range.{allWithin, coefficients}
+use Rattle.residues.specs.Laws.RangeLaws.{allWithin-of}
 use Rattle.fold.specs.Arguments.{productRefusal}
 use Rattle.fold.specs.Refusals.{degree, isElement, productTests}
 use Rattle.fold.specs.Laws.RefusalLaws.{refusal-passes, degree-fits}
@@ -17,8 +18,7 @@ use Rattle.limits.specs.Laws.StageLaws.{single, row, none}
 
 -- the numbers from d on, where there are none and where the slice is cut at d
 pub none-from : (d : ℕ) (xs : List ℤ) → length xs < d → true ≡ allWithin 0 (drop d xs)
-unfolding allWithin
-none-from d xs short = rw (drop-of-length-le xs (lt-le short)) refl
+none-from d xs short = rw (drop-of-length-le xs (lt-le short)) (sym (allWithin-of 0 [] (λ i h. let never : ⊥ = omega arith in absurd never)))
   where
     lt-le : {a b : ℕ} → a < b → a ≤ b
     lt-le h = omega (arith, h)

@@ -8,7 +8,7 @@ use lib.IntN.{ℤ, pos}
 use lib.ListN.{length, take, drop, replicate, length-replicate, length-drop}
 use Rattle.integers.specs.Over.{over}
 use Rattle.fold.specs.declared.Sizes.{Sizes}
-use Rattle.fold.specs.Arguments.{statementOf, drawsOf, transcriptOf}
+use Rattle.fold.specs.Arguments.{statementOf, drawsOf, transcriptOf, shapeOf, commitSizesOf, garbageSizesOf}
 use Rattle.fold.specs.Verification.{verification}
 use Rattle.lizkarg.specs.Calls.{Committed, Projected, Aggregated, GarbageCommitted, Amortized}
 use Rattle.chunks.specs.declared.part.PartSizes.{PartSizes}
@@ -19,7 +19,7 @@ use Rattle.capi.specs.Codes.{Coded, codeOf}
 use Rattle.cases.specs.Numbers.{padded, word, sizeAt, sizeOf}
 use Rattle.cases.specs.Lists.{firstWidth, pastList, pastLists, nthList}
 use Rattle.cases.specs.Text.{lineNumbers}
-use Rattle.next_cases.specs.Input.{wideSize, sizesOf, shapeOf, commitSizesOf, garbageSizesOf, partSizesOf}
+use Rattle.next_cases.specs.Input.{wideSize, sizesOf, partSizesOf}
 use Rattle.next_cases.specs.Messages.{filled, messageOf, openingOf, kept}
 use Rattle.next_cases.specs.Laws.MessageLaws.{front-filled, length-filled, blank-is}
 use Rattle.next_cases.specs.Witness.{nextWitness, productOf, widthFor, countFor, witnessOf}

@@ -29,9 +29,8 @@ use Rattle.sheet.specs.Sections.{Bounded, Sectioned, total, endsLine}
 use Rattle.sheet.specs.Place.{numbersFrom}
 use Rattle.sheet.specs.Laws.PlaceLaws.{contradiction}
 use Rattle.sheet.specs.Laws.HeaderLaws.{between-size}
-use Rattle.sheet.specs.Reading.{headerLaid, headerNumbers, headerTests, sizesOf, bodyLaid, bodyNumbers}
-use Rattle.sheet.specs.Reading.{frontTests, numberCount, numberTests, bodyTests, readingTests, sheetIf, reading}
-use Rattle.sheet.specs.Reading.{answerOf, headerOf, headerIf, readingRefusal, SheetRead}
+use Rattle.sheet.specs.Reading.{headerLaid, headerNumbers, headerTests, sizesOf, bodyLaid, bodyNumbers, frontTests, numberCount, numberTests, bodyTests}
+use Rattle.sheet.specs.Reading.{readingTests, sheetIf, reading, answerOf, headerOf, headerIf, readingRefusal, SheetRead}
 use Rattle.sheet.specs.Known.Reading.{Inside}
 use Rattle.sheet.specs.Laws.ReadingLaws.{body-within, all-numbers}
 use Rattle.sheet.specs.Laws.BodyLaws.{body-total}

@@ -8,11 +8,9 @@ use native.Mathlib.Nat.{zero-mul, suc-mul, zero-add, add-assoc}
 use native.Mathlib.Omega.{arith}
 use Rattle.fold.specs.Sizes.{pairs, functionSize}
 use Rattle.sheet.specs.declared.sizes.SheetSizes.{SheetSizes}
-use Rattle.sheet.specs.Sections.{matrixCount, wholeCount, rowCount, lastCount, termSize}
-use Rattle.sheet.specs.Sections.{onesCount, total}
+use Rattle.sheet.specs.Sections.{matrixCount, wholeCount, rowCount, lastCount, termSize, onesCount, total}
 use Rattle.sheet.specs.Layout.{copies, elements, fields, matrixLines, wholeLines, termLines, rowLines, numberLines, lastLines, bodyLines}
-use Rattle.sheet.specs.Laws.LayoutLaws.{Positive, fields-append, fields-copies, fields-elements, positive-append, positive-copies}
-use Rattle.sheet.specs.Laws.LayoutLaws.{positive-elements}
+use Rattle.sheet.specs.Laws.LayoutLaws.{Positive, fields-append, fields-copies, fields-elements, positive-append, positive-copies, positive-elements}
 
 -- ---- lines of elements joined
 

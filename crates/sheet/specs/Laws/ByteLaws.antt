@@ -7,7 +7,7 @@ use native.Mathlib.Omega.{arith}
 use lib.Dec.{T, leb, eqb}
 use lib.ListN.{length}
 use borrow.Author.Tests.{le-leb, lt-leb, leb-true, eq-eqb, eqb-true}
-use Rattle.sheet.specs.Field.{digitStep, valueFrom, sameBytes}
+use Rattle.sheet.specs.Fields.{digitStep, valueFrom, sameBytes}
 
 -- ---- lists of bytes compared
 

@@ -14,8 +14,7 @@ use borrow.Author.Tests.{ltb-true, ltb-false, ne-eqb}
 use Rattle.fold.specs.Sizes.{functionSize}
 use Rattle.sheet.specs.declared.sizes.SheetSizes.{SheetSizes}
 use Rattle.sheet.specs.declared.sizes.Sections.{Sections}
-use Rattle.sheet.specs.Sections.{matrixCount, wholeCount, rowCount, lastCount, termSize}
-use Rattle.sheet.specs.Sections.{onesCount, sectionsOf, total, endsElement, endsLine}
+use Rattle.sheet.specs.Sections.{matrixCount, wholeCount, rowCount, lastCount, termSize, onesCount, sectionsOf, total, endsElement, endsLine}
 use Rattle.sheet.specs.Laws.SectionLaws.{line-head, line-terms, line-middle, line-ones, line-tail}
 use Rattle.sheet.specs.Place.{fieldWidth, place}
 use Rattle.sheet.specs.Layout.{copies, elements, fields, bodyLines}

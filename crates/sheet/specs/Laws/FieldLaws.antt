@@ -7,8 +7,7 @@ use mathlib.Core.Bool.{Bool, true, false, cond}
 use mathlib.Core.List.{List, [], _∷_, _++_}
 use mathlib.Core.Logic.{_⊎_, inl, inr}
 use Prim.Native.Nat.{ℕ, zero, suc, _+_, _*_, _/_, _%_, _^_, _≤_, _<_}
-use native.Mathlib.Nat.{div-add-mod', mod-lt, div-lt-iff-lt-mul, le-div-iff-mul-le, pow-suc}
-use native.Mathlib.Nat.{pow-succ', one-le-pow, zero-div, zero-add, mul-assoc}
+use native.Mathlib.Nat.{div-add-mod', mod-lt, div-lt-iff-lt-mul, le-div-iff-mul-le, pow-suc, pow-succ', one-le-pow, zero-div, zero-add, mul-assoc}
 use native.Mathlib.Omega.{arith}
 use lib.Dec.{T, ltb, eqb}
 use lib.ListN.{length, length-append}
@@ -18,7 +17,7 @@ use Rattle.integers.specs.Laws.Bridge.{zarith, neg-pn}
 use Rattle.sheet.specs.declared.field.Field.{Field}
 use Rattle.sheet.specs.declared.field.Field.the-variants.{Number, Broken}
 use Rattle.sheet.specs.Field.{columnByte, minusDue, columns, negative, signedText, fieldText, Fits16}
-use Rattle.sheet.specs.Field.{digitStep, valueFrom, sameBytes, fieldIf, fieldOf, readField}
+use Rattle.sheet.specs.Fields.{digitStep, valueFrom, sameBytes, fieldIf, fieldOf, readField}
 use Rattle.sheet.specs.Laws.ByteLaws.{same-refl, same-equal, same-true, same-false, value-snoc, digit-step, other-step, step-bound}
 
 -- ---- the columns' value

@@ -12,7 +12,8 @@ use lib.Dec.{eqb}
 use lib.ListN.{length, getD, take, drop, length-take, length-drop}
 use lib.Seq.{take-suc, getD-drop}
 use borrow.Author.Tests.{eq-eqb, ne-eqb}
-use Rattle.sheet.specs.Field.{columnByte, minusDue, columns, signedText, digitStep, valueFrom, sameBytes}
+use Rattle.sheet.specs.Field.{columnByte, minusDue, columns, signedText}
+use Rattle.sheet.specs.Fields.{digitStep, valueFrom, sameBytes}
 use Rattle.sheet.specs.Laws.ByteLaws.{value-snoc, same-snoc}
 use Rattle.sheet.specs.Laws.FieldLaws.{value-bound, length-columns}
 

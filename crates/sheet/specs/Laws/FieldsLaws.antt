@@ -13,10 +13,10 @@ use mir.Val.{SFits, toZ, ofZ}
 use mir.Facts.{toZ-pos, toZ-ofZ}
 use Rattle.integers.specs.Laws.Bridge.{zarith, sub-pn, neg-pn}
 use Rattle.sheet.specs.declared.field.Field.the-variants.{Number, Broken}
-use Rattle.sheet.specs.Field.{signedText, fieldText, valueFrom, sameBytes, fieldOf, readField}
+use Rattle.sheet.specs.Field.{signedText, fieldText}
+use Rattle.sheet.specs.Fields.{valueFrom, sameBytes, fieldOf, readField, fieldAt}
 use Rattle.sheet.specs.Laws.FieldLaws.{length-field, fieldOf-other}
 use Rattle.sheet.specs.Laws.FieldSteps.{value-below}
-use Rattle.sheet.specs.Fields.{fieldAt}
 
 -- ---- the text ends before the field does
 

@@ -13,9 +13,8 @@ use mir.Val.{SFits}
 use Rattle.integers.specs.Laws.Bridge.{zarith, sub-pn, natAbs-pn, pn-min}
 use Rattle.sheet.specs.declared.field.Field.{Field}
 use Rattle.sheet.specs.declared.field.Field.the-variants.{Number, Broken}
-use Rattle.sheet.specs.Field.{readField}
+use Rattle.sheet.specs.Fields.{readField, fieldAt, numberIn}
 use Rattle.sheet.specs.Laws.FieldLaws.{read-fits}
-use Rattle.sheet.specs.Fields.{fieldAt, numberIn}
 use Rattle.sheet.specs.Place.{numberAt}
 
 pub number-small : (text : List ℕ) (at : ℕ) → natAbs (numberAt text at) ≤ 10000000000000000

@@ -10,7 +10,7 @@ use lib.Dec.{T, eqb, ltb}
 use lib.ListN.{length, getD, List·getD-eq-default}
 use borrow.Author.Tests.{eqb-true, ltb-true, ltb-false, not-true, not-false}
 use Rattle.ring.specs.Element.{every}
-use Rattle.ring.specs.Laws.ElementEquality.{every-true, every-zero, every-add-one}
+use Rattle.ring.specs.Laws.ElementEquality.{every-true, every-zero, every-suc, every-add-one}
 use Rattle.sheet.specs.declared.field.Field.{Field}
 use Rattle.sheet.specs.declared.field.Field.the-variants.{Broken}
 use Rattle.sheet.specs.declared.walk.End.the-variants.{At}
@@ -106,6 +106,17 @@ module _ (ends : ℕ → Bool) (at : ℕ) where
   pub place-mono : (i n : ℕ) → i ≤ n → place ends at i + (n - i) ≤ place ends at n
   place-mono i n h =
       let e : i + (n - i) ≡ n = omega arith in subst (λ (m : ℕ). place ends at i + (n - i) ≤ place ends at m) e (place-add i (n - i))
+
+-- ---- one field more
+
+pub laid-zero : (ends : ℕ → Bool) (at : ℕ) (text : List ℕ) → laid ends at text 0 ≡ true
+unfolding laid
+laid-zero ends at text = every-zero _
+
+pub laid-suc : (ends : ℕ → Bool) (at : ℕ) (text : List ℕ) (n : ℕ)
+    → laid ends at text (suc n) ≡ cond (laid ends at text n) (laidField text (place ends at n) (ends n)) false
+unfolding laid
+laid-suc ends at text n = every-suc n _
 
 -- ---- the loop of `laid_end`
 

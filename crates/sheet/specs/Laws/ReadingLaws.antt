@@ -17,13 +17,11 @@ use Rattle.fold.specs.Refusals.{challenges, projectionLength}
 use Rattle.sheet.specs.declared.sizes.SheetSizes.{SheetSizes}
 use Rattle.sheet.specs.declared.sizes.Sections.{Sections}
 use Rattle.sheet.specs.declared.walk.End.{End}
-use Rattle.sheet.specs.Sections.{Bounded, Sectioned, sectionsOf, termSize, rowCount, lastCount}
-use Rattle.sheet.specs.Sections.{total, rowsFrom, challengesFrom, endsLine}
+use Rattle.sheet.specs.Sections.{Bounded, Sectioned, sectionsOf, termSize, rowCount, lastCount, total, rowsFrom, challengesFrom, endsLine}
 use Rattle.sheet.specs.Place.{place, laid, endIf, numbersFrom, Span}
 use Rattle.sheet.specs.Laws.PlaceLaws.{contradiction, place-mono}
 use Rattle.sheet.specs.Laws.ChallengeLaws.{numbers-part}
-use Rattle.sheet.specs.Reading.{bodyLaid, bodyNumbers, rowsIn, challengesIn}
-use Rattle.sheet.specs.Reading.{numberTests, bodyTests}
+use Rattle.sheet.specs.Reading.{bodyLaid, bodyNumbers, rowsIn, challengesIn, numberTests, bodyTests}
 use Rattle.sheet.specs.Known.Reading.{endsAt, Inside}
 
 pub lines-positive : {s : SheetSizes} {q : Sections} → Bounded s → Sectioned s q → (0 < q .d) × (0 < q .period)

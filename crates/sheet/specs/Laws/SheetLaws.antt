@@ -11,25 +11,25 @@ use lib.ListN.{length, getD, take, drop, length-drop}
 use lib.Seq.{drop-length, ext-getD}
 use lib.IntN.{ℤ, pos}
 use borrow.Author.Tests.{eqb-true, eq-eqb}
+use Rattle.integers.specs.Laws.AllLaws.{both-left, both-right}
 use Rattle.integers.specs.Laws.ListLaws.{length-tab, getD-tab}
 use Rattle.integers.specs.Laws.Bridge.{zarith, natAbs-pn}
-use Rattle.ring.specs.Element.{every}
 use Rattle.ring.specs.Laws.ElementEquality.{every-true}
 use Rattle.residues.specs.Range.{coefficients}
 use Rattle.residues.specs.Laws.RangeLaws.{coefficients-at}
 use Rattle.sheet.specs.declared.field.Field.{Field}
 use Rattle.sheet.specs.declared.field.Field.the-variants.{Number, Broken}
 use Rattle.sheet.specs.declared.sizes.SheetSizes.{SheetSizes}
-use Rattle.sheet.specs.Field.{Fits16, readField}
+use Rattle.sheet.specs.Field.{Fits16}
+use Rattle.sheet.specs.Fields.{readField, fieldAt, isNumber, numberIn}
 use Rattle.sheet.specs.Laws.FieldLaws.{read-fits}
-use Rattle.sheet.specs.Fields.{fieldAt, isNumber, numberIn}
 use Rattle.sheet.specs.Sections.{sectionsOf, total, endsLine}
 use Rattle.sheet.specs.Place.{place, laidField, laid, numberAt}
-use Rattle.sheet.specs.Laws.PlaceLaws.{contradiction, laidField-number, laidField-fits}
+use Rattle.sheet.specs.Laws.PlaceLaws.{contradiction, laidField-number, laidField-fits, laid-suc}
 use Rattle.sheet.specs.Laws.WalkLaws.{length-numbers, number-of}
 use Rattle.sheet.specs.Reading.{headerSections, headerLaid, headerNumbers, bodyLaid, bodyNumbers}
 use Rattle.sheet.specs.Layout.{fields, bodyLines, lineText, textOf, AllFit}
-use Rattle.sheet.specs.Laws.TextLaws.{lineFields, laid-text, text-held, both-true}
+use Rattle.sheet.specs.Laws.TextLaws.{lineFields, laid-text, text-held}
 use Rattle.sheet.specs.Laws.LayoutLaws.{endsOf, fields-cong, line-fields, text-fields}
 use Rattle.sheet.specs.Laws.BodyLaws.{body-total, body-positive}
 use Rattle.sheet.specs.Laws.EndLaws.{body-ends, header-ends, header-place, header-end}
@@ -55,11 +55,11 @@ laid-fits ends at text n e i h =
 
 place-inside : (ends : ℕ → Bool) (at : ℕ) (text : List ℕ) (n : ℕ) → laid ends at text n ≡ true → at ≤ length text
     → place ends at n ≤ length text
-unfolding place laid every
+unfolding place
 place-inside ends at text zero e h = h
 place-inside ends at text (suc n) e h =
-    let both = both-true (every n (λ i. laidField text (place ends at i) (ends i))) (laidField text (place ends at n) (ends n)) e in
-    laidField-fits text (place ends at n) (ends n) (both .1)
+    laidField-fits text (place ends at n) (ends n)
+    (both-right (laid ends at text n) (laidField text (place ends at n) (ends n)) (sym (laid-suc ends at text n) ∙ e))
 
 -- ---- the header's line
 
@@ -143,9 +143,9 @@ module _ (s : SheetSizes) (p : 0 < s .d) where
         → (laid (endsLine (sectionsOf s)) 289 text (total s) ≡ true) × (place (endsLine (sectionsOf s)) 289 (total s) ≡ length text)
     unfolding bodyLaid
     body-parts e =
-        let both = both-true (laid (endsLine (sectionsOf s)) 289 text (total s))
-        (eqb (place (endsLine (sectionsOf s)) 289 (total s)) (length text)) e in
-        (both .0, eqb-true (place (endsLine (sectionsOf s)) 289 (total s)) (length text) (both .1))
+        let lines = laid (endsLine (sectionsOf s)) 289 text (total s) in
+        let end = eqb (place (endsLine (sectionsOf s)) 289 (total s)) (length text) in
+        (both-left lines end e, eqb-true (place (endsLine (sectionsOf s)) 289 (total s)) (length text) (both-right lines end e))
 
     pub body-text : bodyLaid s text ≡ true → drop 289 text ≡ textOf (bodyLines s) (bodyNumbers s text)
     body-text e =

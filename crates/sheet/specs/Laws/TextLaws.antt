@@ -3,7 +3,7 @@
 --     laid-text                  fields that are laid are the text of their numbers
 --     text-held, text-number     and the text of numbers that fit is laid, and gives them back
 use mathlib.Core.Path.{_≡_, refl, sym, ap, _∙_}
-use mathlib.Core.Bool.{Bool, true, false, cond}
+use mathlib.Core.Bool.{Bool, true, false}
 use mathlib.Core.Logic.{_⊎_, inl, inr}
 use mathlib.Core.List.{List, [], _∷_, _++_, append-assoc}
 use Prim.Native.Nat.{ℕ, zero, suc, _+_, _<_}
@@ -13,23 +13,19 @@ use lib.ListN.{length, getD, take, drop, take-append-drop}
 use lib.Seq.{drop-drop, drop-cons, getD-drop, take-at, drop-at}
 use lib.IntN.{ℤ}
 use borrow.Author.Tests.{eq-eqb}
+use Rattle.integers.specs.Laws.AllLaws.{both-left, both-right}
 use Rattle.integers.specs.Flat.{flat}
-use Rattle.ring.specs.Element.{every}
 use Rattle.sheet.specs.declared.field.Field.{Field}
 use Rattle.sheet.specs.declared.field.Field.the-variants.{Number, Broken}
-use Rattle.sheet.specs.Field.{fieldText, readField, Fits16}
+use Rattle.sheet.specs.Field.{fieldText, Fits16}
+use Rattle.sheet.specs.Fields.{readField, fieldAt, isNumber, numberIn}
 use Rattle.sheet.specs.Laws.FieldLaws.{read-text, read-written, length-field}
-use Rattle.sheet.specs.Fields.{fieldAt, isNumber, numberIn}
 use Rattle.sheet.specs.Place.{fieldWidth, place, laidField, laid, numberAt}
-use Rattle.sheet.specs.Laws.PlaceLaws.{contradiction, laidField-number, laidField-feed, laidField-fits}
+use Rattle.sheet.specs.Laws.PlaceLaws.{contradiction, laidField-number, laidField-feed, laidField-fits, laid-zero, laid-suc}
 
 unfoldable pub feed : Bool → List ℕ
 feed true = 10 ∷ []
 feed false = []
-
-pub both-true : (s t : Bool) → cond s t false ≡ true → (s ≡ true) × (t ≡ true)
-both-true true t e = (refl, e)
-both-true false t e = contradiction e refl
 
 -- ---- one field
 
@@ -102,13 +98,14 @@ lineFields ends x n = flat n (λ i. fieldText (x i) ++ feed (ends i))
 
 pub laid-text : (ends : ℕ → Bool) (at : ℕ) (text : List ℕ) (n : ℕ) → laid ends at text n ≡ true
     → drop at text ≡ lineFields ends (λ i. numberAt text (place ends at i)) n ++ drop (place ends at n) text
-unfolding lineFields flat laid every place
+unfolding lineFields flat place
 laid-text ends at text zero e = refl
 laid-text ends at text (suc n) e =
     let F : ℕ → List ℕ = λ i. fieldText (numberAt text (place ends at i)) ++ feed (ends i) in
-    let both = both-true (every n (λ i. laidField text (place ends at i) (ends i))) (laidField text (place ends at n) (ends n)) e in
-    laid-text ends at text n (both .0)
-    ∙ ap (λ (l : List ℕ). flat n F ++ l) (field-text text (place ends at n) (ends n) (both .1))
+    let both = sym (laid-suc ends at text n) ∙ e in
+    laid-text ends at text n (both-left (laid ends at text n) (laidField text (place ends at n) (ends n)) both)
+    ∙ ap (λ (l : List ℕ). flat n F ++ l)
+    (field-text text (place ends at n) (ends n) (both-right (laid ends at text n) (laidField text (place ends at n) (ends n)) both))
     ∙ sym (append-assoc (flat n F) (F n) (drop (place ends at n + fieldWidth (ends n)) text))
 
 -- the fields that a text holds from `at` on
@@ -119,8 +116,8 @@ pub record Held (ends : ℕ → Bool) (at : ℕ) (text : List ℕ) (x : ℕ → 
 
 pub text-held : (ends : ℕ → Bool) (at : ℕ) (text : List ℕ) (x : ℕ → ℤ) (n : ℕ) (rest : List ℕ) → ((i : ℕ) → i < n → Fits16 (x i))
     → drop at text ≡ lineFields ends x n ++ rest → Held ends at text x n rest
-unfolding lineFields flat laid every place
-text-held ends at text x zero rest fits e = record { is-laid = refl; number = λ i h. none i h; after = e }
+unfolding lineFields flat place
+text-held ends at text x zero rest fits e = record { is-laid = laid-zero ends at text; number = λ i h. none i h; after = e }
   where
     none : (i : ℕ) → i < 0 → numberAt text (place ends at i) ≡ x i
     none i h = let never : ⊥ = omega arith in absurd never
@@ -129,7 +126,7 @@ text-held ends at text x (suc n) rest fits e =
     let held = text-held ends at text x n (F n ++ rest) (λ i h. fits i (le-step h)) (e ∙ append-assoc (flat n F) (F n) rest) in
     let fit = fits n (lt-suc-self n) in
     record {
-      is-laid = rw (held .is-laid) (text-field text (place ends at n) (ends n) (x n) rest fit (held .after));
+      is-laid = rw (laid-suc ends at text n, held .is-laid) (text-field text (place ends at n) (ends n) (x n) rest fit (held .after));
       number = λ i h. last i (held .number i) (text-number text (place ends at n) (ends n) (x n) rest fit (held .after)) (eq-or-lt-of-le h);
       after = text-rest text (place ends at n) (ends n) (x n) rest fit (held .after);
     }

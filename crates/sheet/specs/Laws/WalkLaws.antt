@@ -13,7 +13,7 @@ use lib.Dec.{leb}
 use lib.ListN.{length, getD, set, length-set}
 use lib.IntN.{ℤ, pos, natAbs}
 use borrow.Author.Tests.{le-leb, leb-true, leb-false, not-true, not-false}
-use Rattle.integers.specs.Lists.{tab}
+use Rattle.integers.specs.Lists.{tab, all}
 use Rattle.integers.specs.Laws.ListLaws.{length-tab, getD-tab, tab-suc}
 use Rattle.integers.specs.Over.{over}
 use Rattle.integers.specs.Laws.OverLaws.{over-nil, over-tab}
@@ -67,7 +67,7 @@ module _ {ends : ℕ → Bool} {text : List ℕ} {from start count : ℕ} where
 -- ---- the loop of `all_within`
 
 single : (b : ℕ) (x : ℤ) → natAbs x ≤ b → allWithin b (x ∷ []) ≡ true
-unfolding allWithin
+unfolding allWithin all
 single b x h = rw (le-leb (natAbs x) b h) refl
 
 pub record Ranged (ends : ℕ → Bool) (text : List ℕ) (from start count bound here j : ℕ) : Type 0 where
@@ -76,7 +76,7 @@ pub record Ranged (ends : ℕ → Bool) (text : List ℕ) (from start count boun
 
 module _ {ends : ℕ → Bool} {text : List ℕ} {from start count bound : ℕ} where
   pub ranged-start : Span ends text from start count → Ranged ends text from start count bound start 0
-  unfolding numbersFrom tab allWithin
+  unfolding numbersFrom tab allWithin all
   ranged-start span = record { walk = walked-start span; passed = refl }
 
   module _ {here j : ℕ} (inv : Ranged ends text from start count bound here j) (more : j < count) {good : Bool}

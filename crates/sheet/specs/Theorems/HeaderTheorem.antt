@@ -6,8 +6,7 @@ use mathlib.Core.Path.{_≡_, refl}
 use mathlib.Core.List.{List, [], _∷_, _++_}
 use Prim.Native.Nat.{ℕ}
 use lib.IntN.{ℤ, pos}
-use Rattle.fold.specs.Statement.{Relation}
-use Rattle.fold.specs.Statement.{Statement, Draws}
+use Rattle.fold.specs.Statement.{Relation, Statement, Draws}
 use Rattle.fold.specs.Refusals.{chunks, sizeTests, boundTests}
 use Rattle.sheet.specs.Reading.{headerTests}
 

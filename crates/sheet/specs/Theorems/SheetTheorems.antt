@@ -25,8 +25,7 @@ use Rattle.sheet.specs.Laws.AnswerLaws.{front-passes, refusal-first, ref
 use Rattle.sheet.specs.Laws.AnswerLaws.{header-bounded, Passed, reading-passed, passed-reading, count-refused, count-good}
 use Rattle.sheet.specs.Layout.{fields, bodyLines, lineText, textOf, sheetText, AllFit, SheetNumbers}
 use Rattle.sheet.specs.Laws.BodyLaws.{body-total}
-use Rattle.sheet.specs.Laws.SheetLaws.{length-header, header-text, header-fit, HeaderRead, header-read}
-use Rattle.sheet.specs.Laws.SheetLaws.{length-body, body-text, body-fit, body-read}
+use Rattle.sheet.specs.Laws.SheetLaws.{length-header, header-text, header-fit, HeaderRead, header-read, length-body, body-text, body-fit, body-read}
 use Rattle.sheet.specs.Laws.SheetLaws.{coefficients-fit}
 
 -- ---- the lines

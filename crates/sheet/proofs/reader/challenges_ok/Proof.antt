@@ -4,7 +4,7 @@ use native.Mathlib.Omega.{arith}
 use Prim.Native.Nat.{_+_, _*_, _≤_}
 use Rattle.sheet.specs.Sections.{total}
 use Rattle.fold.specs.Refusals.{challenges}
-use Rattle.sheet.specs.Reading.{challengesIn}
+use Rattle.sheet.specs.Laws.ListLaws.{challenges-part}
 use Rattle.sheet.specs.Laws.ReadingLaws.{lines-positive, front-span, later-span, body-part, body-coefficients, challenges-end}
 use Rattle.sheet.proofs.reader.challenges_ok.Statement.{statement}
 use Rattle.sheet.proofs.reader.challenges_ok.Tie as tie
@@ -33,14 +33,13 @@ are-challenges-requires c κs =
     )
 
 returns : tie.Need-returns
-unfolding challengesIn
 returns c =
     let from = c .before .before in
     let start = from .before .before .before in
     c .are-challenges .ensures
     ∙ ap (challenges (start .args .s .d) (start .args .s .r))
     (rw (from .challenges-from .ensures)
-    (sym (body-part (start .pre .0) (from .before .sections-of .ensures) _ _ (challenges-end (start .args .s)))))
+    (sym (challenges-part (start .args .s) _ ∙ body-part (start .pre .0) (from .before .sections-of .ensures) _ _ (challenges-end (start .args .s)))))
 
 pub challenges-ok-spec : {M : Type 1} → statement M
 challenges-ok-spec =

@@ -2,7 +2,7 @@
 use mathlib.Core.Path.{sym, ap, _∙_}
 use native.Mathlib.Omega.{arith}
 use Rattle.residues.specs.Range.{allWithin, projections}
-use Rattle.sheet.specs.Reading.{rowsIn}
+use Rattle.sheet.specs.Laws.ListLaws.{rows-part}
 use Rattle.sheet.specs.Laws.ReadingLaws.{lines-positive, front-span, later-span, body-part, rows-end}
 use Rattle.sheet.proofs.reader.rows_ok.Statement.{statement}
 use Rattle.sheet.proofs.reader.rows_ok.Tie as tie
@@ -26,14 +26,14 @@ all-within-requires c κs =
     )
 
 returns : tie.Need-returns
-unfolding projections rowsIn
+unfolding projections
 returns c =
     let from = c .before .before .before in
     let start = from .before .before .before in
     c .all-within .ensures
     ∙ ap (allWithin 1)
     (rw (from .rows-from .ensures, c .before .row-numbers .ensures)
-    (sym (body-part (start .pre) (from .before .sections-of .ensures) _ _ (rows-end (start .args .s)))))
+    (sym (rows-part (start .args .s) _ ∙ body-part (start .pre) (from .before .sections-of .ensures) _ _ (rows-end (start .args .s)))))
 
 pub rows-ok-spec : {M : Type 1} → statement M
 rows-ok-spec =

@@ -1,22 +1,23 @@
 -- Laws of the lists of a sheet.
 --     before, list-part     where list k starts, and that it is that part of the numbers
 --     length-list           its length
---     lengths-total, rows-start, challenges-start    the lengths together, and where the projection rows and the challenges start
-use mathlib.Core.Path.{_≡_, refl, sym, ap, _∙_}
+--     coefficients-list, list-coefficients    all numbers are in range exactly when each list is
+--     lengths-total, rows-part, challenges-part    the lengths together; the projection rows and the challenges by the place where they start
+use mathlib.Core.Path.{_≡_, refl, ap, subst, _∙_}
 use mathlib.Core.Bool.{true}
 use mathlib.Core.List.{List, [], _∷_}
 use Prim.Native.Nat.{ℕ, zero, suc, _+_, _*_, _≤_, _<_}
 use native.Mathlib.Omega.{arith}
-use lib.ListN.{length, getD, take, drop, length-drop}
+use lib.ListN.{length, getD, take, drop, length-drop, take-append-drop}
 use lib.Seq.{length-take-le, drop-drop}
 use lib.IntN.{ℤ}
 use Rattle.residues.specs.Range.{coefficients}
-use Rattle.residues.specs.Laws.RangeLaws.{coefficients-part}
+use Rattle.residues.specs.Laws.RangeLaws.{coefficients-of, coefficients-join, coefficients-part}
 use Rattle.fold.specs.Refusals.{wholeLength, termLength, projectionLength}
 use Rattle.sheet.specs.declared.sizes.SheetSizes.{SheetSizes}
+use Rattle.sheet.specs.Lists.{listLengths, listAt}
 use Rattle.sheet.specs.Sections.{matrixCount, wholeCount, rowCount, lastCount, termSize, onesCount, total, rowsFrom, challengesFrom}
 use Rattle.sheet.specs.Reading.{rowsIn, challengesIn}
-use Rattle.judge.specs.Judging.{listLengths, listAt}
 
 -- ---- lists of any lengths
 
@@ -50,6 +51,16 @@ length-list (m ∷ ms) xs (suc k) h fits = length-list ms (drop m xs) k (omega a
 pub coefficients-list : (ms : List ℕ) (xs : List ℤ) (k : ℕ) → coefficients xs ≡ true → coefficients (listAt ms xs k) ≡ true
 coefficients-list ms xs k e = rw (list-part ms xs k) (coefficients-part (before ms k) (getD ms k 0) xs e)
 
+-- where every list is in range, and there are no other numbers, all numbers are
+pub list-coefficients : (ms : List ℕ) (xs : List ℤ) → length xs ≤ together ms
+    → ((k : ℕ) → k < length ms → coefficients (listAt ms xs k) ≡ true) → coefficients xs ≡ true
+unfolding listAt together
+list-coefficients [] xs fits h = coefficients-of xs (λ i l. let never : ⊥ = omega arith in absurd never)
+list-coefficients (m ∷ ms) xs fits h =
+    subst (λ (l : List ℤ). coefficients l ≡ true) (take-append-drop m xs)
+    (coefficients-join (take m xs) (drop m xs) (h 0 (omega arith))
+    (list-coefficients ms (drop m xs) (omega (arith, length-drop m xs)) (λ k l. h (suc k) (omega arith))))
+
 -- ---- the lists of a sheet
 
 module _ (s : SheetSizes) where
@@ -65,12 +76,11 @@ module _ (s : SheetSizes) where
   unfolding before listLengths challengesFrom matrixCount wholeCount rowCount termSize onesCount wholeLength termLength projectionLength
   challenges-start = omega arith
 
-  pub rows-list : (xs : List ℤ) → rowsIn s xs ≡ listAt (listLengths s) xs 7
+  pub rows-part : (xs : List ℤ) → rowsIn s xs ≡ take (projectionLength (s .d) (s .n) (s .r) (s .w)) (drop (rowsFrom s) xs)
   unfolding rowsIn listLengths
-  rows-list xs =
-      ap (λ (m : ℕ). take (projectionLength (s .d) (s .n) (s .r) (s .w)) (drop m xs)) (sym rows-start) ∙ sym (list-part (listLengths s) xs 7)
+  rows-part xs =
+      list-part (listLengths s) xs 7 ∙ ap (λ (m : ℕ). take (projectionLength (s .d) (s .n) (s .r) (s .w)) (drop m xs)) rows-start
 
-  pub challenges-list : (xs : List ℤ) → challengesIn s xs ≡ listAt (listLengths s) xs 15
+  pub challenges-part : (xs : List ℤ) → challengesIn s xs ≡ take (s .r * s .d) (drop (challengesFrom s) xs)
   unfolding challengesIn listLengths
-  challenges-list xs =
-      ap (λ (m : ℕ). take (s .r * s .d) (drop m xs)) (sym challenges-start) ∙ sym (list-part (listLengths s) xs 15)
+  challenges-part xs = list-part (listLengths s) xs 15 ∙ ap (λ (m : ℕ). take (s .r * s .d) (drop m xs)) challenges-start
