@@ -66,26 +66,27 @@ lizkarg_product lizkarg_multiply(size_t d, lizkarg_element x, lizkarg_element y)
 /* Message 1. Takes A (kappa·n elements), B (kappa1·r·t1·kappa), C (kappa1·P·t2) and the witness (r·n); writes the t digits
  * (r·t1·kappa), the g digits (P·t2) and u1 (kappa1). Written, or refused 1 to 4, 7, 8. */
 lizkarg_answer lizkarg_commit(lizkarg_commit_sizes sizes,
-    const int32_t *a, size_t a_len, const int32_t *b, size_t b_len, const int32_t *c, size_t c_len,
-    const int32_t *witness, size_t witness_len,
+    const int32_t *a_matrix, size_t a_matrix_len, const int32_t *b_matrix, size_t b_matrix_len,
+    const int32_t *c_matrix, size_t c_matrix_len, const int32_t *witness, size_t witness_len,
     int32_t *t, size_t t_len, int32_t *g, size_t g_len, int32_t *u1, size_t u1_len);
 
 /* Message 2. Takes w projection rows (w·r·n elements of -1, 0, 1) and the witness; writes p (w numbers). Written, or refused 1, 2, 7 to 9. */
 lizkarg_answer lizkarg_project(lizkarg_shape shape, size_t w,
-    const int32_t *rows, size_t rows_len, const int32_t *witness, size_t witness_len, int32_t *p, size_t p_len);
+    const int32_t *projections, size_t projections_len, const int32_t *witness, size_t witness_len, int32_t *p, size_t p_len);
 
 /* Message 3. Takes l constant-term constraints ((P + r·n)·d + 1 numbers each: a, phi, b), the projection rows, psi (5·l numbers), omega
  * (5·w numbers) and the witness; writes b'' (5 elements). Written, or refused 1, 2, 7 to 9. */
 lizkarg_answer lizkarg_aggregate(lizkarg_shape shape, size_t l, size_t w,
-    const int32_t *term, size_t term_len, const int32_t *rows, size_t rows_len, const int32_t *psi, size_t psi_len,
-    const int32_t *omega, size_t omega_len, const int32_t *witness, size_t witness_len, int32_t *b2, size_t b2_len);
+    const int32_t *constant_terms, size_t constant_terms_len, const int32_t *projections, size_t projections_len,
+    const int32_t *psi, size_t psi_len, const int32_t *omega, size_t omega_len, const int32_t *witness, size_t witness_len,
+    int32_t *second_b, size_t second_b_len);
 
 /* Message 4. Takes k whole constraints (P + r·n + 1 elements each: a, phi, b), the lists of message 3, alpha (k elements), delta (5), D
  * (kappa2·P·t1) and the witness; writes the h digits (P·t1) and u2 (kappa2). Written, or refused 1 to 4, 7 to 9. */
 lizkarg_answer lizkarg_commit_garbage(lizkarg_garbage_sizes sizes,
-    const int32_t *whole, size_t whole_len, const int32_t *term, size_t term_len, const int32_t *rows, size_t rows_len,
-    const int32_t *psi, size_t psi_len, const int32_t *omega, size_t omega_len, const int32_t *alpha, size_t alpha_len,
-    const int32_t *delta, size_t delta_len, const int32_t *d_matrix, size_t d_matrix_len,
+    const int32_t *whole, size_t whole_len, const int32_t *constant_terms, size_t constant_terms_len,
+    const int32_t *projections, size_t projections_len, const int32_t *psi, size_t psi_len, const int32_t *omega, size_t omega_len,
+    const int32_t *alpha, size_t alpha_len, const int32_t *delta, size_t delta_len, const int32_t *d_matrix, size_t d_matrix_len,
     const int32_t *witness, size_t witness_len, int32_t *h, size_t h_len, int32_t *u2, size_t u2_len);
 
 /* Message 5. Takes the challenges c (r elements) and the witness; writes z low, then z high (n elements each). Written, or refused 1, 2,
@@ -96,23 +97,25 @@ lizkarg_answer lizkarg_amortize(lizkarg_shape shape, size_t b,
 /* The verifier. opening: z low, z high, t, g and h digits, in this order in one list. Accepted; failed with the first check that fails;
  * or refused 1 to 4, 6 to 10. */
 lizkarg_answer lizkarg_verify(lizkarg_sizes sizes,
-    const int32_t *a, size_t a_len, const int32_t *b, size_t b_len, const int32_t *c_matrix, size_t c_matrix_len,
-    const int32_t *d_matrix, size_t d_matrix_len, const int32_t *whole, size_t whole_len, const int32_t *term, size_t term_len,
-    const int32_t *u1, size_t u1_len, const int32_t *rows, size_t rows_len, const int32_t *p, size_t p_len,
-    const int32_t *psi, size_t psi_len, const int32_t *omega, size_t omega_len, const int32_t *b2, size_t b2_len,
-    const int32_t *alpha, size_t alpha_len, const int32_t *delta, size_t delta_len, const int32_t *u2, size_t u2_len,
-    const int32_t *c, size_t c_len, const int32_t *opening, size_t opening_len);
+    const int32_t *a_matrix, size_t a_matrix_len, const int32_t *b_matrix, size_t b_matrix_len,
+    const int32_t *c_matrix, size_t c_matrix_len, const int32_t *d_matrix, size_t d_matrix_len,
+    const int32_t *whole, size_t whole_len, const int32_t *constant_terms, size_t constant_terms_len, const int32_t *u1, size_t u1_len,
+    const int32_t *projections, size_t projections_len, const int32_t *p, size_t p_len, const int32_t *psi, size_t psi_len,
+    const int32_t *omega, size_t omega_len, const int32_t *second_b, size_t second_b_len, const int32_t *alpha, size_t alpha_len,
+    const int32_t *delta, size_t delta_len, const int32_t *u2, size_t u2_len, const int32_t *c, size_t c_len,
+    const int32_t *opening, size_t opening_len);
 
 /* The next instance. Takes the lists of the verifier but the opening, and nu and mu; writes kappa + kappa1 + kappa2 + 3 whole constraints
  * on r' = 2·nu + mu parts of n' elements to out, (r'(r'+1)/2 + r'·n' + 1) elements each: a, phi, b; n' is the larger of n / nu and m / mu,
  * both rounded up, where m = r·kappa·t1 + P·(t1 + t2). Written; failed 1 or 2, and then out is not changed; or refused 1 to 11. */
 lizkarg_answer lizkarg_next_instance(lizkarg_sizes sizes, size_t nu, size_t mu,
-    const int32_t *a, size_t a_len, const int32_t *b, size_t b_len, const int32_t *c_matrix, size_t c_matrix_len,
-    const int32_t *d_matrix, size_t d_matrix_len, const int32_t *whole, size_t whole_len, const int32_t *term, size_t term_len,
-    const int32_t *u1, size_t u1_len, const int32_t *rows, size_t rows_len, const int32_t *p, size_t p_len,
-    const int32_t *psi, size_t psi_len, const int32_t *omega, size_t omega_len, const int32_t *b2, size_t b2_len,
-    const int32_t *alpha, size_t alpha_len, const int32_t *delta, size_t delta_len, const int32_t *u2, size_t u2_len,
-    const int32_t *c, size_t c_len, int32_t *out, size_t out_len);
+    const int32_t *a_matrix, size_t a_matrix_len, const int32_t *b_matrix, size_t b_matrix_len,
+    const int32_t *c_matrix, size_t c_matrix_len, const int32_t *d_matrix, size_t d_matrix_len,
+    const int32_t *whole, size_t whole_len, const int32_t *constant_terms, size_t constant_terms_len, const int32_t *u1, size_t u1_len,
+    const int32_t *projections, size_t projections_len, const int32_t *p, size_t p_len, const int32_t *psi, size_t psi_len,
+    const int32_t *omega, size_t omega_len, const int32_t *second_b, size_t second_b_len, const int32_t *alpha, size_t alpha_len,
+    const int32_t *delta, size_t delta_len, const int32_t *u2, size_t u2_len, const int32_t *c, size_t c_len,
+    int32_t *out, size_t out_len);
 
 /* The number with which lizkarg_next_part refuses: 1 to 5 or 7, 2 also for a part that is not 1 to 2·nu + mu; else 0. */
 uint8_t lizkarg_next_part_refusal(lizkarg_part_sizes sizes, size_t part, const int32_t *opening, size_t opening_len);

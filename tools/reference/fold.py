@@ -22,15 +22,18 @@ DEFINITIONS = {
 
 def answer(call, s, x):
     """ "The verifier's answer is either a refusal with its number or a judgement, and a judgement is accepted or failed with a
-    check." The other calls alike: ("refused", number), or what the definition gives.
+    check." ("refused", number), ("accepted", 0), ("failed", check), or ("written", lists) with the lists that the call writes by name.
     """
     number = sizes.refusal(call, s, x)
-    return ("refused", number) if number else DEFINITIONS[call](s, x)
+    if number:
+        return ("refused", number)
+    result = DEFINITIONS[call](s, x)
+    return ("written", result) if isinstance(result, dict) else result
 
 
 def answer_next_part(s, x, part):
     """ "where one of 1 to 7 applies (2 for a part outside 1..r') the stretch is empty, and a question beside it answers that
-    number, else 0." The number and the stretch.
+    number, else 0." The number and the chunk.
     """
     number = sizes.refusal("next_part", s, x, part)
     return (number, [] if number else next_part(s, x, part))

@@ -1,4 +1,4 @@
-"""Stored input and output of the test program for the next instance: `python3 next_cases.py DIR` writes DIR/stdin and DIR/stdout.
+"""Stored input and output of the test program for the next instance, crates/next_cases.
 
 Input: decimal numbers, one case a line, each number ended by one blank or line feed. A case is its kind (1, 2 or 3), then the eighteen sizes
     d n r K L w κ κ1 κ2 b b1 b2 t1 t2 ν μ β² β'²
@@ -8,20 +8,19 @@ a size or part -k stands for 2^64 - k. Every number of a list fits 32 bits with 
 Output: one line for each case. An answer is two numbers: its kind (0 accepted, 1 failed, 2 refused, 3 written) and its number.
 sum(X) is two numbers, the count of numbers of X and a checksum: with x_1, x_2, .. the numbers of X, the remainder from 0 to
 2147483646 of 1·x_1 + 2·x_2 + 3·x_3 + .. modulo 2147483647 = 2^31 - 1. shown(X) is sum(X), and after it all numbers of X where X has
-at most 1000.
-FILL is 77.
+at most 1000. FILL is 77.
 
 Kind 1, the next instance.
-    Input: A, B, C, D, whole, constant-term, u1, rows, p, ψ, ω, b'', α, δ, u2, c; length of the list to write.
+    Input: A, B, C, D, whole, constant terms, u1, projections, p, ψ, ω, b'', α, δ, u2, c; length of the list to write.
     Run: the list is filled with FILL; the call.
     Output: the answer, shown(the list).
 Kind 2, one part of the next witness.
     Input: the part's number i; the opening. The call takes d n r κ t1 t2 ν μ, i and the opening.
     Output: the number that the question answers (0 if none of the rows applies), shown(the part).
 Kind 3, a fold and a fold of the next instance. Nothing is refused here.
-    Input: A, B, C, D, whole, constant-term, rows, ψ, ω, α, δ, c, witness;
+    Input: A, B, C, D, whole, constant terms, projections, ψ, ω, α, δ, c, witness;
         lengths of z digits, t digits, g digits, h digits, u1, p, b'', u2, and of the next instance's constraints;
-        eighteen sizes of the second fold; A, B, C, D, rows, ω, α, δ, c of it (L is 0, so constant-term and ψ are empty);
+        eighteen sizes of the second fold; A, B, C, D, projections, ω, α, δ, c of it (L is 0, so constant terms and ψ are empty);
         lengths of z digits, t digits, g digits, h digits, u1, p, b'', u2 of it.
     Run: every list to write is filled with FILL. Messages 1 to 5 from the first statement and witness (commit, project, aggregate,
     commit_garbage, amortize), verify on them (the opening is the digits of z, t, g, h), next_instance. Then the second fold: its whole
@@ -32,40 +31,27 @@ Kind 3, a fold and a fold of the next instance. Nothing is refused here.
     second fold's messages and verdict in the same way.
 
 The longest list that is written has 24840 numbers in kind 1 and 2408 in kind 3, the longest that is read 630, 1036 and 576 in kinds 1,
-2 and 3; in kind 3 the longest opening has 1156 numbers and the longest second witness 256. The script prints the counts by answer.
+2 and 3; in kind 3 the longest opening has 1156 numbers and the longest second witness 256.
 """
 
 import random
-import sys
-from collections import Counter
-from pathlib import Path
 
 import fold
 import next_groups
 from next_fixtures import second_lists
-from next_groups import NEXT_READS
-from sizes import LENGTHS
+from sizes import CALLS, LENGTHS
+from stored import FILL, answer_numbers, numbers_text, shown, summed, write
 
-FILL = 77
-SHOWN = 1000
-MODULUS = 2**31 - 1
-
-KINDS = {"accepted": 0, "failed": 1, "refused": 2, "written": 3}
-
-FOLD_READS = "A B C D whole constant_term rows psi omega alpha delta c witness".split()
-SECOND_READS = "A B C D rows omega alpha delta c".split()
+MESSAGES = ("message_1", "message_2", "message_3", "message_4", "message_5")
+FOLD_READS = "a_matrix b_matrix c_matrix d_matrix whole constant_terms projections psi omega alpha delta c witness".split()
+SECOND_READS = "a_matrix b_matrix c_matrix d_matrix projections omega alpha delta c".split()
 FOLD_WRITES = "z_digits t_digits g_digits h_digits u1 p second_b u2".split()
-
-
-MESSAGES = {
-    "message_1": "t_digits g_digits u1", "message_2": "p", "message_3": "second_b", "message_4": "h_digits u2", "message_5": "z_digits"
-}
 
 # The longest list that is written, by kind.
 LONGEST = {1: 24840, 3: 2408}
 
 
-# Numbers in and out
+# Numbers in
 
 def size_number(value):
     """A size of 64 bits as a number with a sign."""
@@ -78,25 +64,22 @@ def lists(x, names):
     return fold.flat([len(x[name])] + x[name] for name in names)
 
 
-def summed(numbers):
-    return [len(numbers), sum(k * number for k, number in enumerate(numbers, start=1)) % MODULUS]
-
-
-def shown(numbers):
-    return summed(numbers) + (numbers if len(numbers) <= SHOWN else [])
-
-
 # The kinds
+
+def next_list(s, x, room):
+    """The answer to the next instance, and the list of `room` numbers afterwards."""
+    filled = [FILL] * room
+    answer = kind, content = fold.answer("next_instance", s, x | {"next_whole": filled})
+    return answer_numbers(answer), content["next_whole"] if kind == "written" else filled
+
 
 def next_instance(s, x, length=None):
     """Kind 1. `length` is that of the list to write, the right one if it is left out."""
     room = LENGTHS["next_whole"](s) if length is None else length
     assert room <= LONGEST[1]
-    line = [1] + [size_number(size) for size in s] + lists(x, NEXT_READS) + [room]
-    kind, content = fold.answer("next_instance", s, x | {"next_whole": [FILL] * room})
-    if kind == "written":
-        return line, [KINDS[kind], 0] + shown(content)
-    return line, [KINDS[kind], content] + shown([FILL] * room)
+    line = [1] + [size_number(size) for size in s] + lists(x, CALLS["next_instance"].reads) + [room]
+    answer, whole = next_list(s, x, room)
+    return line, answer + shown(whole)
 
 
 def part(s, i, opening):
@@ -108,29 +91,25 @@ def part(s, i, opening):
 
 def fold_output(s, x):
     """The messages' answers and sums, the verdict; and the verifier's lists."""
-    messages = {}
-    output = []
-    for call, writes in MESSAGES.items():
-        written = fold.answer(call, s, x)
-        messages |= written
-        output += [KINDS["written"], 0] + fold.flat(summed(written[name]) for name in writes.split())
     y = fold.honest(s, x)
-    assert all(y[name] == messages[name] for name in ("u1", "p", "second_b", "u2"))
-    kind, number = fold.answer("verify", s, y)
-    return output + [KINDS[kind], number], y
+    output = []
+    for call in MESSAGES:
+        answer = _, written = fold.answer(call, s, x)
+        assert all(y[name] == written[name] for name in written if name in y)
+        output += answer_numbers(answer) + fold.flat(summed(written[name]) for name in CALLS[call].lengths_only)
+    return output + answer_numbers(fold.answer("verify", s, y)), y
 
 
 def twice(s, x, following, draws, expected):
     """Kind 3. `expected` are the two verdicts and the next instance's answer."""
-    line = [3] + list(s) + lists(x, FOLD_READS) + [LENGTHS[name](s) for name in FOLD_WRITES + ["next_whole"]]
+    room = LENGTHS["next_whole"](s)
+    line = [3] + list(s) + lists(x, FOLD_READS) + [LENGTHS[name](s) for name in FOLD_WRITES] + [room]
     line += list(following) + lists(draws, SECOND_READS) + [LENGTHS[name](following) for name in FOLD_WRITES]
-    assert max(LENGTHS[name](sized) for name in FOLD_WRITES for sized in (s, following)) <= LENGTHS["next_whole"](s) <= LONGEST[3]
+    assert max(LENGTHS[name](sized) for name in FOLD_WRITES for sized in (s, following)) <= room <= LONGEST[3]
     output, y = fold_output(s, x)
-    kind, content = fold.answer("next_instance", s, y)
-    whole = content if kind == "written" else [FILL] * LENGTHS["next_whole"](s)
+    answer, whole = next_list(s, y, room)
     second = second_lists(s, y, whole, draws)
     second_output, _ = fold_output(following, second)
-    answer = [KINDS[kind], 0 if kind == "written" else content]
     assert (output[-2:], answer, second_output[-2:]) == expected, (output[-2:], answer, second_output[-2:])
     return line, output + answer + summed(whole) + summed(second["witness"]) + second_output
 
@@ -138,29 +117,12 @@ def twice(s, x, following, draws, expected):
 RUNS = {1: next_instance, 2: part, 3: twice}
 
 
-def text(lines):
-    return "".join(" ".join(map(str, line)) + "\n" for line in lines)
-
-
-def main():
-    directory = Path(sys.argv[1])
+def files():
     rng = random.Random(30)
     cases = [RUNS[kind](*case) for group in next_groups.GROUPS for kind, *case in group(rng)]
-    (directory / "stdin").write_text(text(line for line, _ in cases))
-    (directory / "stdout").write_text(text(output for _, output in cases))
-    names = {number: kind for kind, number in KINDS.items()}
-    counts = Counter()
-    for line, output in cases:
-        if line[0] == 1:
-            counts["next instance", names[output[0]], output[1]] += 1
-        elif line[0] == 2:
-            counts["part", "refused" if output[0] else "handed back", output[0]] += 1
-        else:
-            counts["two folds, second verdict", names[output[-2]], output[-1]] += 1
-    for (what, kind, number), count in sorted(counts.items()):
-        print(f"{count} {what} {kind} {number}")
-    print(f"{len(cases)} cases, {sum(len(line) for line, _ in cases)} numbers, {(directory / 'stdin').stat().st_size} bytes")
+    yield "crates/next_cases/stdin", numbers_text(line for line, _ in cases)
+    yield "crates/next_cases/stdout", numbers_text(output for _, output in cases)
 
 
 if __name__ == "__main__":
-    main()
+    write(files)

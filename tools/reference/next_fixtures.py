@@ -3,14 +3,10 @@
 import fold
 import ring
 import sizes
-from sizes import LARGEST_BOUND, LENGTHS, Sizes
-from test_reference import coefficient, random_lists
+from fixtures import SMALL, challenges, coefficients, least_beta_squared, moved, random_lists, uniform
+from sizes import LARGEST_BOUND, LENGTHS
 
-# The smallest sizes of a statement with a constraint.
-FIRST = Sizes(
-    d=2, n=1, r=1, K=1, L=0, w=0, kappa=1, kappa1=1, kappa2=1, b=16, b1=65536, b2=256, t1=2, t2=2, nu=1, mu=1,
-    beta_squared=LARGEST_BOUND, target_beta_squared=LARGEST_BOUND,
-)
+FIRST = SMALL._replace(b=16, b2=256)
 
 ACCEPTED, WRITTEN = [0, 0], [3, 0]
 
@@ -19,8 +15,8 @@ def honest_lists(rng, s, small=False):
     """The verifier's lists of an honest run. `small` matrices and constraints keep a long line short."""
     x = random_lists(rng, s, True)
     if small:
-        for name in "A B C D whole".split():
-            x[name] = [rng.randint(-9, 9) for _ in x[name]]
+        for name in "a_matrix b_matrix c_matrix d_matrix whole".split():
+            x[name] = uniform(rng, 9, len(x[name]))
     return fold.honest(s, x)
 
 
@@ -36,33 +32,37 @@ def second_sizes(s, **free):
 
 def second_draws(rng, following):
     """The matrices and draws of the second fold."""
-    x = {name: [coefficient(rng) for _ in range(LENGTHS[name](following))] for name in "A B C D omega alpha delta".split()}
-    x["rows"] = [rng.choice((0, 0, 0, 0, 0, 0, 0, 1, -1)) for _ in range(LENGTHS["rows"](following))]
-    x["c"] = [rng.randint(-2, 2) for _ in range(LENGTHS["c"](following))]
+    names = "a_matrix b_matrix c_matrix d_matrix omega alpha delta".split()
+    x = {name: coefficients(rng, LENGTHS[name](following)) for name in names}
+    x["projections"] = [rng.choice((0, 0, 0, 0, 0, 0, 0, 1, -1)) for _ in range(LENGTHS["projections"](following))]
+    x["c"] = challenges(rng, following)
     return x
+
+
+def second_witness(s, y):
+    """The padded opening."""
+    return fold.flat(fold.flat(fold.next_witness(s, y)))
 
 
 def second_lists(s, y, whole, draws):
     """The lists of the second fold's prover: the constraints as they stand, the padded opening as witness."""
-    return draws | {"whole": whole, "constant_term": [], "psi": [], "witness": fold.flat(fold.flat(fold.next_witness(s, y)))}
+    return draws | {"whole": whole, "constant_terms": [], "psi": [], "witness": second_witness(s, y)}
 
 
 def second_fold(s, x, following, draws):
     """The verifier's lists of the second fold, where the next instance is written."""
     y = fold.honest(s, x)
-    kind, whole = fold.answer("next_instance", s, y)
+    kind, written = fold.answer("next_instance", s, y)
     assert kind == "written" and fold.solves(fold.next_statement(s, y), fold.next_witness(s, y))
-    return fold.honest(following, second_lists(s, y, whole, draws))
+    return fold.honest(following, second_lists(s, y, written["next_whole"], draws))
 
 
 def tight(s, x, following, draws):
     """Both folds with the least target bounds under which check 9 holds, the first's no less than the second's check 1 needs."""
     y = fold.honest(s, x)
-    least = sizes.rounded_up(2 * ring.squared_norm(y["p"]), s.w) if s.w else 0
-    s = s._replace(beta_squared=least, target_beta_squared=LARGEST_BOUND)
+    s = s._replace(beta_squared=least_beta_squared(s, y), target_beta_squared=LARGEST_BOUND)
     z = second_fold(s, x, following, draws)
-    needed = sizes.rounded_up(2 * ring.squared_norm(z["p"]), following.w) if following.w else 0
-    s = s._replace(target_beta_squared=max(ring.squared_norm(y["opening"]), needed))
+    s = s._replace(target_beta_squared=max(ring.squared_norm(y["opening"]), least_beta_squared(following, z)))
     return s, following._replace(beta_squared=s.target_beta_squared, target_beta_squared=ring.squared_norm(z["opening"]))
 
 
@@ -89,11 +89,9 @@ def two_folds(rng):
     s, x, following, draws, _ = cases["d = 2, rows"]
     less = following._replace(target_beta_squared=following.target_beta_squared - 1)
     cases["second too long"] = (s, x, less, draws, (ACCEPTED, WRITTEN, [1, 9]))
-    witness = fold.flat(fold.flat(fold.next_witness(s, fold.honest(s, x))))
-    signs = [(number > 0) - (number < 0) for number in witness]
-    cases["second projection too long"] = (s, x, following, draws | {"rows": signs * following.w}, (ACCEPTED, WRITTEN, [1, 1]))
-    moved = x | {"whole": x["whole"][:-1] + [ring.centred(x["whole"][-1] + 1)]}
-    cases["witness misses a constraint"] = (s, moved, following, draws, ([1, 8], WRITTEN, [1, 8]))
+    signs = [(number > 0) - (number < 0) for number in second_witness(s, fold.honest(s, x))]
+    cases["second projection too long"] = (s, x, following, draws | {"projections": signs * following.w}, (ACCEPTED, WRITTEN, [1, 1]))
+    cases["witness misses a constraint"] = (s, moved(x, "whole", -1), following, draws, ([1, 8], WRITTEN, [1, 8]))
     shorter = s._replace(beta_squared=s.beta_squared - 1)
     cases["first projection too long, nothing written"] = (shorter, x, following, draws, ([1, 1], [1, 1], [1, 8]))
 

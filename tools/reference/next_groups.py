@@ -2,11 +2,9 @@
 
 import ring
 import sizes
+from fixtures import least_beta_squared, moved, replaced, whole_case
 from next_fixtures import FIRST, honest_lists, two_folds
-from sizes import LENGTHS, SHEET_LISTS
-from test_reference import whole_case
-
-NEXT_READS = [name for name in SHEET_LISTS if name != "opening"]
+from sizes import CALLS, LENGTHS
 
 
 # Cases of kind 1
@@ -43,7 +41,7 @@ def bases(rng):
         yield (1, s, honest_lists(rng, s))
 
 
-# n' = 256 by n, by m in one stretch, by m in two; n' = 257
+# n' = 256 by n, by m in one chunk, by m in two; n' = 257
 LARGE = {
     "n = 256": FIRST._replace(n=256),
     "n = 256 in two": FIRST._replace(n=256, nu=2),
@@ -75,19 +73,13 @@ def judged(rng):
     """Failed 1 and failed 2, the list untouched; faults of the other checks do not matter, nor does a target bound that is too small."""
     s = FIRST._replace(n=2, r=2, L=1, w=2, nu=1, mu=2)
     y = honest_lists(rng, s)
-    least = sizes.rounded_up(2 * ring.squared_norm(y["p"]), s.w)
-    constants = list(y["constant_term"])
-    constants[-1] = ring.centred(constants[-1] + 1)
-    fifth = list(y["second_b"])
-    fifth[4 * s.d] = ring.centred(fifth[4 * s.d] + 1)
-    other = list(y["second_b"])
-    other[1] = ring.centred(other[1] + 1)
-    for changes in (
-        {}, {"constant_term": constants}, {"second_b": fifth}, {"second_b": other}, {"u1": [5, 5], "u2": [7, 7]}, {"p": [0, 0]},
-        {"p": [ring.LARGEST] * 2},
+    least = least_beta_squared(s, y)
+    for changed in (
+        y, moved(y, "constant_terms", -1), moved(y, "second_b", 4 * s.d), moved(y, "second_b", 1), y | {"u1": [5, 5], "u2": [7, 7]},
+        y | {"p": [0, 0]}, y | {"p": [ring.LARGEST] * 2},
     ):
         for beta_squared in (least, least - 1):
-            yield (1, s._replace(beta_squared=beta_squared, target_beta_squared=rng.choice((0, 10, 10**14))), y | changes)
+            yield (1, s._replace(beta_squared=beta_squared, target_beta_squared=rng.choice((0, 10, 10**14))), changed)
 
 
 def refused(rng):
@@ -110,21 +102,21 @@ def refused(rng):
         {"nu": 0, "beta_squared": 10**15}, {"t1": 9, "target_beta_squared": 10**15},
     ):
         yield (1, s._replace(**fault), y, room)
-    for name in NEXT_READS:
+    for name in CALLS["next_instance"].reads:
         yield (1, s, y | {name: y[name] + [0]})
         yield (1, s, y | {name: y[name][:-1]})
-        yield (1, s, y | {name: [ring.LARGEST + 1] + y[name][1:]})
-        yield (1, s, y | {name: y[name][:-1] + [-ring.LARGEST - 1]})
+        yield (1, s, replaced(y, name, 0, ring.LARGEST + 1))
+        yield (1, s, replaced(y, name, -1, -ring.LARGEST - 1))
     for length in (0, room - 1, room + 1, room // 2):
         yield (1, s, y, length)
-    yield (1, s, y | {"c": [3] + y["c"][1:]}, room + 1)
-    yield (1, s, y | {"rows": [2] + y["rows"][1:]})
-    yield (1, s, y | {"rows": y["rows"][:-1] + [-2]})
-    yield (1, s, y | {"c": y["c"][:-1] + [3]})
-    yield (1, s, y | {"c": [-3] + y["c"][1:]})
-    yield (1, s, y | {"rows": y["rows"][:-1] + [2], "c": [3] + y["c"][1:]})
-    yield (1, s, y | {"rows": y["rows"][:-1] + [2], "u2": y["u2"][:-1] + [ring.LARGEST + 1]})
-    yield (1, s, y | {"c": y["c"][:-1] + [3], "p": [ring.LARGEST]})
+    yield (1, s, replaced(y, "c", 0, 3), room + 1)
+    yield (1, s, replaced(y, "projections", 0, 2))
+    yield (1, s, replaced(y, "projections", -1, -2))
+    yield (1, s, replaced(y, "c", -1, 3))
+    yield (1, s, replaced(y, "c", 0, -3))
+    yield (1, s, replaced(replaced(y, "projections", -1, 2), "c", 0, 3))
+    yield (1, s, replaced(replaced(y, "projections", -1, 2), "u2", -1, ring.LARGEST + 1))
+    yield (1, s, replaced(y, "c", -1, 3) | {"p": [ring.LARGEST]})
     yield (1, s._replace(nu=8), y | {"c": y["c"] + [3]}, room)
 
 

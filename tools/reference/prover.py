@@ -18,10 +18,10 @@ def message_1(s, x):
     "Order: .. t by part, then digit, then row; g and h by i, then j, then digit."
     """
     witness_parts = parts(s, x["witness"])
-    A = matrix(s, x["A"], s.kappa)
+    a_matrix = matrix(s, x["a_matrix"], s.kappa)
     t_digits = []
     for s_i in witness_parts:
-        t_i = [element_digits(s.b1, s.t1, t_ik) for t_ik in matrix_product(s.d, A, s_i)]
+        t_i = [element_digits(s.b1, s.t1, t_ik) for t_ik in matrix_product(s.d, a_matrix, s_i)]
         for e in range(s.t1):
             for row in range(s.kappa):
                 t_digits.append(t_i[row][e])
@@ -34,32 +34,36 @@ def message_1(s, x):
 
 def first_outer_commitment(s, x, t_digits, g_digits):
     """ "u1 = B·(t digits) + C·(g digits), κ1 rows." """
-    from_t = matrix_product(s.d, matrix(s, x["B"], s.kappa1), t_digits)
-    from_g = matrix_product(s.d, matrix(s, x["C"], s.kappa1), g_digits)
+    from_t = matrix_product(s.d, matrix(s, x["b_matrix"], s.kappa1), t_digits)
+    from_g = matrix_product(s.d, matrix(s, x["c_matrix"], s.kappa1), g_digits)
     return [add(a, b) for a, b in zip(from_t, from_g, strict=True)]
 
 
 def second_outer_commitment(s, x, h_digits):
     """ "u2 = D·(h digits), κ2 rows." """
-    return matrix_product(s.d, matrix(s, x["D"], s.kappa2), h_digits)
+    return matrix_product(s.d, matrix(s, x["d_matrix"], s.kappa2), h_digits)
+
+
+def projection_rows(s, x):
+    """ "projection rows (by row, then part)": one list of numbers for each row."""
+    return cut(x["projections"], s.r * s.n * s.d)
 
 
 def message_2(s, x):
     """ "p_j = the centred dot product of row j with all coefficients of all parts." """
-    rows = cut(x["rows"], s.r * s.n * s.d)
+    rows = projection_rows(s, x)
     return {"p": [ring.centred(sum(a * b for a, b in zip(row, x["witness"], strict=True))) for row in rows]}
 
 
 def projection_functions(s, x):
     """For row j the function of φ_i = "σ(row j, part i)" and no a."""
     a = {pair: ring.zero(s.d) for pair in pairs(s.r)}
-    rows = cut(x["rows"], s.r * s.n * s.d)
-    return [Function(a, [[conjugate(e) for e in part] for part in parts(s, row)]) for row in rows]
+    return [Function(a, [[conjugate(e) for e in part] for part in parts(s, row)]) for row in projection_rows(s, x)]
 
 
 def second_functions(s, x):
     """ "Given ψ (5 by L) and ω (5 by w), for k = 1..5: a''= Σψ a'; φ''_i = Σψ φ'_i + Σω_j σ(row j, part i)". """
-    functions = [f for f, _ in statement(s, x).constant_term] + projection_functions(s, x)
+    functions = [f for f, _ in statement(s, x).constant_terms] + projection_functions(s, x)
     return [
         combine(s.d, s.n, s.r, scale, x["psi"][k * s.L : (k + 1) * s.L] + x["omega"][k * s.w : (k + 1) * s.w], functions)
         for k in range(AGGREGATES)

@@ -1,7 +1,6 @@
-"""Stored input and output of the test program for the reader's call: `python3 reader_cases.py DIR` writes DIR/stdin and DIR/stdout.
+"""Stored input and output of the test program for the reader's call, crates/sheet_cases.
 
-Input: a line with the count of cases, then for each a line with the count of the sheet's bytes, these bytes, a line feed. Each count is one
-field of 16 columns. Output: five lines for each case.
+Input: stored.sheets_text. Output: five lines for each case.
 
     count                           how many numbers the header's sizes give
     kind number header shown(X)     three times, for a slice of one number less than the count, of as many, and of one more: the reader's
@@ -9,22 +8,16 @@ field of 16 columns. Output: five lines for each case.
                                     afterwards, which the program fills with FILL before the call; shown(X) as in next_cases.py
     kind number                     the judge's answer (kind 0 accepted, 1 failed, 2 refused)
 
-With a second argument `names` the script prints a line for each case: its name and its answers.
+With the argument `names` the script prints a line for each case: its name and its answers.
 """
 
 import random
 import sys
-from pathlib import Path
 
 import sheet
-from next_cases import shown
+from fixtures import SMALL, honest, replaced, whole_case_text
 from sheet_faults import ROWS, header_with
-from sheet_fixtures import SMALL, honest, replaced
-from test_reference import whole_case_text
-
-FILL = 77
-
-KINDS = {"accepted": 0, "failed": 1, "refused": 2, "written": 3}
+from stored import FILL, answer_numbers, numbers_text, sheets_text, shown, write
 
 
 def good_sheets(rng):
@@ -53,7 +46,7 @@ def refused_sheets(rng):
     yield "a line feed more", text + b"\n"
     yield "a header of more numbers than 65536 bytes hold", b"".join(header_with(d=64, K=12))
     s, y = honest(rng, SMALL._replace(r=2, L=1, w=1))
-    wide, row, challenge = ("opening", -1, 2147483599), ("rows", 0, 2), ("c", -1, 3)
+    wide, row, challenge = ("opening", -1, 2147483599), ("projections", 0, 2), ("c", -1, 3)
     for name, faults in (("8", (wide,)), ("9", (row,)), ("10", (challenge,)), ("8, 10", (wide, challenge)), ("9, 10", (row, challenge))):
         numbers = y
         for fault in faults:
@@ -67,25 +60,27 @@ def case_lines(text):
     count = sheet.sheet_numbers(text)
     lines = [[count]]
     for length in (max(count - 1, 0), count, count + 1):
-        (kind, number), header, numbers = sheet.read_into(text, [FILL] * length)
-        lines.append([KINDS[kind], number] + header + shown(numbers))
-    kind, number = sheet.judge(text)
-    return lines + [[KINDS[kind], number]]
+        answer, header, numbers = sheet.read_into(text, [FILL] * length)
+        lines.append(answer_numbers(answer) + header + shown(numbers))
+    return lines + [answer_numbers(sheet.judge(text))]
 
 
-def main():
+def all_cases():
     rng = random.Random(14)
-    folder = Path(sys.argv[1])
-    cases = [case for group in (good_sheets, refused_sheets) for case in group(rng)]
-    answers = [(name, case_lines(text)) for name, text in cases]
-    stream = sheet.line_text([len(cases)]) + b"".join(sheet.line_text([len(text)]) + text + b"\n" for _, text in cases)
-    (folder / "stdin").write_bytes(stream)
-    (folder / "stdout").write_text("".join(" ".join(map(str, line)) + "\n" for _, lines in answers for line in lines))
-    if sys.argv[2:] == ["names"]:
-        for name, lines in answers:
-            print(lines[0][0], *(f"{line[0]} {line[1]}" for line in lines[1:]), name, sep=", ")
-    print(f"{len(cases)} cases, {len(stream)} bytes")
+    return [case for group in (good_sheets, refused_sheets) for case in group(rng)]
+
+
+def files():
+    texts = [text for _, text in all_cases()]
+    yield "crates/sheet_cases/stdin", sheets_text(texts)
+    yield "crates/sheet_cases/stdout", numbers_text(line for text in texts for line in case_lines(text))
+
+
+def print_names():
+    for name, text in all_cases():
+        count, *answers = case_lines(text)
+        print(*count, *(f"{line[0]} {line[1]}" for line in answers), name, sep=", ")
 
 
 if __name__ == "__main__":
-    main()
+    print_names() if sys.argv[1:] == ["names"] else write(files)

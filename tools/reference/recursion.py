@@ -29,10 +29,15 @@ def padded_chunks(s, z_low, z_high, tail):
     ]
 
 
+def opening_sections(s, x):
+    """z low, z high, and "the rest"."""
+    o = read_opening(s, x)
+    return o.z_low, o.z_high, o.t_digits + o.g_digits + o.h_digits
+
+
 def next_witness(s, x):
     """The parts of the padded opening: r' parts of n' elements."""
-    o = read_opening(s, x)
-    return padded_chunks(s, o.z_low, o.z_high, o.t_digits + o.g_digits + o.h_digits)
+    return padded_chunks(s, *opening_sections(s, x))
 
 
 def next_part(s, x, part):
@@ -40,8 +45,7 @@ def next_part(s, x, part):
 
     `part` counts from 1 to r'.
     """
-    o = read_opening(s, x)
-    return flat(chunks(s, o.z_low, o.z_high, o.t_digits + o.g_digits + o.h_digits)[part - 1])
+    return flat(chunks(s, *opening_sections(s, x))[part - 1])
 
 
 def next_constraint(s, quadratic=None, z=None, t=None, g=None, h=None, b=None):
@@ -71,7 +75,7 @@ def next_check_5(s, x, row):
         for weight in powers(s.b1, s.t1)
         for k in range(s.kappa)
     ]
-    return next_constraint(s, z=matrix(s, x["A"], s.kappa)[row], t=t)
+    return next_constraint(s, z=matrix(s, x["a_matrix"], s.kappa)[row], t=t)
 
 
 def garbage_coefficients(s, x, base, count):
@@ -87,7 +91,7 @@ def garbage_coefficients(s, x, base, count):
 def next_check_6(s, x):
     """ "<z,z> = Σ g_ii c_i² + 2Σ_{i<j} g_ij c_i c_j"; "an empty stretch has the same a in check 6 as a full one".
 
-    With z = low + b·high, <z,z> = <low,low> + 2b<low,high> + b²<high,high>, stretch by stretch.
+    With z = low + b·high, <z,z> = <low,low> + 2b<low,high> + b²<high,high>, chunk by chunk.
     """
     quadratic = {}
     for k in range(s.nu):
@@ -107,21 +111,21 @@ def next_check_7(s, x):
 
 def next_check_8(s, x):
     """ "Σ a_ij g_ij + Σ h_ii = b", "as left side minus right side". """
-    a = aggregate(s, x).a
-    g = [scale(weight, a[pair]) for pair in pairs(s.r) for weight in powers(s.b2, s.t2)]
+    aggregate_a = aggregate(s, x).a
+    g = [scale(weight, aggregate_a[pair]) for pair in pairs(s.r) for weight in powers(s.b2, s.t2)]
     h = [scale(weight if i == j else 0, ring.one(s.d)) for i, j in pairs(s.r) for weight in powers(s.b1, s.t1)]
     return next_constraint(s, g=g, h=h, b=aggregate_constant(s, x))
 
 
 def next_check_3(s, x, row):
     """ "3 and 4 as the sum over the digits minus u1 or u2". """
-    B, C = matrix(s, x["B"], s.kappa1), matrix(s, x["C"], s.kappa1)
-    return next_constraint(s, t=B[row], g=C[row], b=elements(s.d, x["u1"])[row])
+    t, g = (matrix(s, x[name], s.kappa1)[row] for name in ("b_matrix", "c_matrix"))
+    return next_constraint(s, t=t, g=g, b=elements(s.d, x["u1"])[row])
 
 
 def next_check_4(s, x, row):
     """ "3 and 4 as the sum over the digits minus u1 or u2". """
-    return next_constraint(s, h=matrix(s, x["D"], s.kappa2)[row], b=elements(s.d, x["u2"])[row])
+    return next_constraint(s, h=matrix(s, x["d_matrix"], s.kappa2)[row], b=elements(s.d, x["u2"])[row])
 
 
 def next_statement(s, x):
@@ -146,4 +150,4 @@ def next_instance(s, x):
     for number, check in ((1, check_1), (2, check_2)):
         if not check(s, x):
             return ("failed", number)
-    return ("written", flat(write_constraint(constraint) for constraint in next_statement(s, x).whole))
+    return {"next_whole": flat(write_constraint(constraint) for constraint in next_statement(s, x).whole)}

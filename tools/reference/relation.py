@@ -52,7 +52,7 @@ Function = namedtuple("Function", "a phi")
 # A function and its constant b: an element for the whole kind, a number for the constant-term kind.
 Constraint = namedtuple("Constraint", "function b")
 
-Statement = namedtuple("Statement", "d n r whole constant_term beta_squared")
+Statement = namedtuple("Statement", "d n r whole constant_terms beta_squared")
 
 
 def read_function(d, n, r, numbers):
@@ -77,8 +77,8 @@ def constant_term_constraints(d, n, r, numbers):
 def statement(s, x):
     """ "K constraints vanish wholly. L others vanish in the constant term only, and their b is a number." """
     whole = whole_constraints(s.d, s.n, s.r, x["whole"])
-    constant_term_kind = constant_term_constraints(s.d, s.n, s.r, x["constant_term"])
-    return Statement(s.d, s.n, s.r, whole, constant_term_kind, s.beta_squared)
+    constant_terms = constant_term_constraints(s.d, s.n, s.r, x["constant_terms"])
+    return Statement(s.d, s.n, s.r, whole, constant_terms, s.beta_squared)
 
 
 def value(d, function, witness_parts):
@@ -94,7 +94,7 @@ def meets(statement, witness_parts):
     """ "A witness meets all constraints when both kinds hold at it; its length isn't asked." """
     d = statement.d
     return all(value(d, f, witness_parts) == b for f, b in statement.whole) and all(
-        constant_term(value(d, f, witness_parts)) == b for f, b in statement.constant_term
+        constant_term(value(d, f, witness_parts)) == b for f, b in statement.constant_terms
     )
 
 

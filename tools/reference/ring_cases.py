@@ -1,6 +1,5 @@
-"""The stored input and output of the test program of the ring layer.
+"""The stored input and output of the test program of the ring layer, crates/ring_cases.
 
-`python3 tools/reference/ring_cases.py DIR` writes DIR/stdin and DIR/stdout. The cases are always the same (fixed seed).
 Input: one case a line, decimal integers parted by single blanks, first the operation's number, then its arguments.
 Output: one line a case, the results parted by single blanks. A result of yes or no is 1 or 0.
 Elements given to operations 2 to 8 and 12 are any signed 32-bit numbers, and the results are those modulo q, centred.
@@ -8,14 +7,14 @@ Operation 19 is the product for C: `d x[64] y[64]`. Its results are the answer's
 numbers of the product, which are zero where it is refused: 1 where d is not listed, 8 where a number is out of range or not zero past d.
 """
 
-import pathlib
 import random
-import sys
 
 import ring
+import stored
+from fixtures import BASES, counted, uniform
+from relation import cut, elements, flat
 from ring import DEGREES, LARGEST
 
-BASES = (2, 3, 4, 5, 7, 16, 255, 256, 65535, 65536)
 COUNTS = range(2, 9)
 
 LEAST_I32, LARGEST_I32 = -(2**31), 2**31 - 1
@@ -29,29 +28,24 @@ LARGEST_RESULTS = 512
 
 # Operations: the results of one case from its arguments
 
-def cut(numbers, size):
-    """Consecutive blocks of `size` numbers."""
-    return [numbers[k : k + size] for k in range(0, len(numbers), size)]
-
-
 def on_two_elements(operation):
     """`d a[d] b[d]`"""
-    return lambda d, *numbers: operation(list(numbers[:d]), list(numbers[d:]))
+    return lambda d, *numbers: operation(numbers[:d], numbers[d:])
 
 
 def on_one_element(operation):
     """`d a[d]`"""
-    return lambda d, *numbers: operation(list(numbers))
+    return lambda d, *numbers: operation(numbers)
 
 
 def inner_product(d, n, *numbers):
     """`d n u[n*d] v[n*d]`"""
-    return ring.inner_product(d, cut(list(numbers[: n * d]), d), cut(list(numbers[n * d :]), d))
+    return ring.inner_product(d, elements(d, numbers[: n * d]), elements(d, numbers[n * d :]))
 
 
 def element_digits(d, base, count, *a):
     """`d B t a[d]`, the lowest digit's d numbers first."""
-    return [x for element in ring.element_digits(base, count, list(a)) for x in element]
+    return flat(ring.element_digits(base, count, a))
 
 
 ELEMENT = 64
@@ -59,16 +53,16 @@ ELEMENT = 64
 
 def fits(d, x):
     """Sixty-four numbers are an element of degree d."""
-    return ring.in_range(x) and not any(x[d:])
+    return ring.in_range(x) and ring.zero_past_degree(d, x)
 
 
 def c_product(d, *numbers):
     """`d x[64] y[64]`"""
-    x, y = cut(list(numbers), ELEMENT)
+    x, y = cut(numbers, ELEMENT)
     refusal = 1 if d not in DEGREES else 0 if fits(d, x) and fits(d, y) else 8
     if refusal:
-        return [2, refusal] + [0] * ELEMENT
-    return [3, 0] + padded(ring.multiply(x[:d], y[:d]))
+        return stored.answer_numbers(("refused", refusal)) + [0] * ELEMENT
+    return stored.answer_numbers(("written", None)) + padded(ring.multiply(x[:d], y[:d]))
 
 
 def padded(numbers):
@@ -103,12 +97,12 @@ OPERATIONS = {
 
 def coefficients(rng, count):
     """Numbers in the coefficient range."""
-    return [rng.randint(-LARGEST, LARGEST) for _ in range(count)]
+    return uniform(rng, LARGEST, count)
 
 
 def small(rng, count):
     """Numbers from -9 to 9."""
-    return [rng.randint(-9, 9) for _ in range(count)]
+    return uniform(rng, 9, count)
 
 
 def ends(rng, count):
@@ -205,15 +199,12 @@ def predicate_cases(rng):
             cases.append((operation, 1, edge))
             cases.append((operation, 4, 0, 1, -1, edge))
             cases.append((operation, 4, edge, 0, 1, -1))
-        cases.append((operation, 64, *(rng.randint(-1, 1) for _ in range(64))))
+        cases.append((operation, 64, *uniform(rng, 1, 64)))
         cases.append((operation, 64, *coefficients(rng, 64)))
     for d in (32, 64):
         for twos, ones in ((17, 3), (18, 0), (17, 4), (10, 31), (10, 32), (16, 7), (16, 8)):
             if twos + ones <= d:
-                c = [rng.choice((-2, 2)) for _ in range(twos)] + [rng.choice((-1, 1)) for _ in range(ones)]
-                c += [0] * (d - len(c))
-                rng.shuffle(c)
-                cases.append((15, d, *c))
+                cases.append((15, d, *counted(rng, d, twos, ones)))
     for d in DEGREES:
         cases.append((15, d, *[0] * d))
         cases.append((15, d, *[2] * d))
@@ -287,23 +278,16 @@ def all_cases():
     return cases
 
 
-def text(lines):
-    """One line a list of numbers."""
-    return "".join(" ".join(map(str, numbers)) + "\n" for numbers in lines)
-
-
-def main():
-    directory = pathlib.Path(sys.argv[1])
+def files():
     cases = all_cases()
     results = [OPERATIONS[operation](*arguments) for operation, *arguments in cases]
-    stdin, stdout = text(cases), text(results)
+    stdin = stored.numbers_text(cases)
     assert len(stdin) <= LARGEST_INPUT_BYTES, len(stdin)
     assert max(map(len, cases)) <= LARGEST_LINE_NUMBERS
     assert max(map(len, results)) <= LARGEST_RESULTS
-    (directory / "stdin").write_text(stdin)
-    (directory / "stdout").write_text(stdout)
-    print(f"{len(cases)} cases, {sum(map(len, cases))} numbers, {len(stdin)} and {len(stdout)} bytes")
+    yield "crates/ring_cases/stdin", stdin
+    yield "crates/ring_cases/stdout", stored.numbers_text(results)
 
 
 if __name__ == "__main__":
-    main()
+    stored.write(files)

@@ -1,36 +1,37 @@
-"""Writes the numbers of the second closed case, all computed here. SecondCase.antt proves that they are the definitions'.
+"""The numbers of the second closed case, all computed here: crates/fold/specs/Cases/SecondCaseNumbers.antt. SecondCase.antt proves that
+they are the definitions'.
 
-    python3 tools/reference/second_case.py > crates/fold/specs/Cases/SecondCaseNumbers.antt
-
-The file is the same every time. Sizes are small, with odd and even bases; matrices, constraints and draws have coefficients of
+Sizes are small, with odd and even bases; matrices, constraints and draws have coefficients of
 every size; the witness is short and meets its constraints.
 """
 
 import random
 
 import fold
-import ring
 import sizes
-import test_reference
-from sizes import Sizes
+import stored
+from fixtures import ACCEPTED, OPEN, failed, least_bounds, moved, random_lists, with_commitments
+from sizes import LENGTHS, Sizes
 
 SEED = 1
 COLUMNS = 130
 
 # 5 elements of z are cut into chunks of 2, 2, 1 and 0, 42 of the rest into 14, 14 and 14.
 SIZES = Sizes(
-    d=2, n=5, r=3, K=2, L=3, w=4, kappa=2, kappa1=3, kappa2=2, b=4, b1=255, b2=3, t1=2, t2=3, nu=4, mu=3,
-    beta_squared=sizes.LARGEST_BOUND, target_beta_squared=sizes.LARGEST_BOUND,
+    d=2, n=5, r=3, K=2, L=3, w=4, kappa=2, kappa1=3, kappa2=2, b=4, b1=255, b2=3, t1=2, t2=3, nu=4, mu=3, **OPEN
 )
 
 # Places of one number of the opening: in element 2 of z high, in row 2 of the low digit of t_1, in the middle digit of g_13, in the
 # high digit of h_12.
 PLACES = {"z": 13, "t": 22, "g": 58, "h": 87}
 
+# The definitions' name of the constant-term constraints.
+CONSTANT_TERMS = "term"
+
 # The lists that are given, as SecondCaseNumbers names them.
 GIVEN = {
-    "whole": "whole", "term": "constant_term", "A": "A", "B": "B", "C": "C", "D": "D", "witness": "witness", "projections": "rows",
-    "ψ": "psi", "ω": "omega", "α": "alpha", "δ": "delta", "c": "c",
+    "whole": "whole", CONSTANT_TERMS: "constant_terms", "A": "a_matrix", "B": "b_matrix", "C": "c_matrix", "D": "d_matrix",
+    "witness": "witness", "projections": "projections", "ψ": "psi", "ω": "omega", "α": "alpha", "δ": "delta", "c": "c",
 }
 
 # The constraints of the next instance, in order.
@@ -54,7 +55,7 @@ RECORDS = """\
 abbrev pub statement : (bound target : ℕ) → Statement
 statement bound target =
     record {{
-      relation = record {{ d = {d}; n = {n}; r = {r}; K = {K}; L = {L}; bound = bound; whole = whole; term = term }};
+      relation = record {{ d = {d}; n = {n}; r = {r}; K = {K}; L = {L}; bound = bound; whole = whole; {terms} = {terms} }};
       w = {w};
       tz = 2;
       κ = {kappa};
@@ -117,56 +118,38 @@ def changed_definition(name, of, numbers, place, comment=None):
 
 # The case
 
-def changed(numbers, place):
-    """The list with the number at one place greater by one."""
-    return numbers[:place] + [numbers[place] + 1] + numbers[place + 1 :]
-
-
-def honest_case():
-    """Sizes with the least bounds that are accepted, the prover's lists, the verifier's lists."""
-    x = test_reference.random_lists(random.Random(SEED), SIZES, short_witness=True)
-    y = fold.honest(SIZES, x)
-    s = SIZES._replace(
-        beta_squared=sizes.rounded_up(2 * ring.squared_norm(y["p"]), SIZES.w), target_beta_squared=ring.squared_norm(y["opening"])
-    )
-    assert fold.meets(fold.statement(s, x), fold.parts(s, x["witness"]))
-    return s, x, y
-
-
-def check_verdicts(s, y, openings, u1, u2):
-    """The verdicts that SecondCase proves."""
-    assert fold.answer("verify", s, y) == ("accepted", 0)
-    assert fold.answer("verify", s._replace(beta_squared=s.beta_squared - 1), y) == ("failed", 1)
-    assert fold.answer("verify", s._replace(target_beta_squared=s.target_beta_squared - 1), y) == ("failed", 9)
+def check_verdicts(s, y, changed):
+    """The verdicts that SecondCase proves. `changed` has the lists with one number of the opening changed, by block."""
     largest = s._replace(target_beta_squared=sizes.LARGEST_BOUND)
-    for change, number in (
-        ({"second_b": changed(y["second_b"], 0)}, 2),
-        ({"opening": openings["t"]}, 3),
-        ({"opening": openings["g"]}, 3),
-        ({"opening": openings["h"]}, 4),
-        ({"opening": openings["z"]}, 5),
-        ({"opening": openings["g"], "u1": u1}, 6),
-        ({"opening": openings["h"], "u2": u2}, 7),
-        ({"second_b": changed(y["second_b"], 1)}, 8),
+    for bounds, lists, verdict in (
+        (s, y, ACCEPTED),
+        (s._replace(beta_squared=s.beta_squared - 1), y, failed(1)),
+        (s._replace(target_beta_squared=s.target_beta_squared - 1), y, failed(9)),
+        (largest, moved(y, "second_b", 0), failed(2)),
+        (largest, changed["t"], failed(3)),
+        (largest, changed["g"], failed(3)),
+        (largest, changed["h"], failed(4)),
+        (largest, changed["z"], failed(5)),
+        (largest, with_commitments(s, changed["g"]), failed(6)),
+        (largest, with_commitments(s, changed["h"]), failed(7)),
+        (largest, moved(y, "second_b", 1), failed(8)),
     ):
-        assert fold.answer("verify", largest, y | change) == ("failed", number)
+        assert fold.answer("verify", bounds, lists) == verdict
 
 
-def main():
-    s, x, y = honest_case()
-    openings = {block: changed(y["opening"], place) for block, place in PLACES.items()}
-    g_opening, h_opening = (fold.read_opening(s, {"opening": openings[block]}) for block in "gh")
-    u1 = fold.flat(fold.first_outer_commitment(s, x, g_opening.t_digits, g_opening.g_digits))
-    u2 = fold.flat(fold.second_outer_commitment(s, x, h_opening.h_digits))
-    check_verdicts(s, y, openings, u1, u2)
-
-    kind, next_whole = fold.answer("next_instance", s, y)
+def files():
+    x = random_lists(random.Random(SEED), SIZES, short_witness=True)
+    y = fold.honest(SIZES, x)
+    s = least_bounds(SIZES, y)
+    changed = {block: moved(y, "opening", place) for block, place in PLACES.items()}
+    check_verdicts(s, y, changed)
+    kind, written = fold.answer("next_instance", s, y)
     assert kind == "written" and fold.solves(fold.next_statement(s, y), fold.next_witness(s, y))
-    constraints = fold.cut(next_whole, sizes.whole_constraint_length(s.d, sizes.next_rank(s), sizes.next_multiplicity(s)))
+    constraints = fold.cut(written["next_whole"], LENGTHS["next_whole"](s) // len(NEXT))
 
     texts = [HEADER]
     texts += [list_definition(name, x[GIVEN[name]]) for name in GIVEN]
-    texts += [RECORDS.format(**s._asdict())]
+    texts += [RECORDS.format(**s._asdict(), terms=CONSTANT_TERMS)]
     texts += ["-- the honest messages and opening\n" + list_definition("u₁", y["u1"])]
     texts += [list_definition("p", y["p"]), list_definition("b″", y["second_b"]), list_definition("u₂", y["u2"])]
     texts += [list_definition("opening", y["opening"])]
@@ -176,14 +159,15 @@ def main():
     texts[-1] += "\n" + changed_definition("b″-changed-0", "b″", y["second_b"], 0)
     texts += [changed_definition("b″-changed-1", "b″", y["second_b"], 1)]
     texts += [changed_definition(f"{block}-changed", "opening", y["opening"], place) for block, place in PLACES.items()]
+    u1, u2 = with_commitments(s, changed["g"])["u1"], with_commitments(s, changed["h"])["u2"]
     texts += [list_definition("u₁-of-g-changed", u1, "the commitments to the changed g and h")]
     texts += [list_definition("u₂-of-h-changed", u2)]
     texts += [f"-- the next instance for ν = {s.nu}, μ = {s.mu}, and the padded opening"]
     texts[-1] += "\n" + list_definition(NEXT[0], constraints[0])
     texts += [list_definition(*each) for each in zip(NEXT[1:], constraints[1:], strict=True)]
     texts += [list_definition("next-witness", fold.flat(fold.flat(fold.next_witness(s, y))))]
-    print("\n".join(texts), end="")
+    yield "crates/fold/specs/Cases/SecondCaseNumbers.antt", "\n".join(texts).encode()
 
 
 if __name__ == "__main__":
-    main()
+    stored.write(files)

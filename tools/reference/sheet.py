@@ -7,7 +7,7 @@ import re
 import sys
 
 import fold
-from sizes import LENGTHS, SHEET_LISTS, Sizes, number_refusal, pair_count, size_refusal
+from sizes import LENGTHS, SHEET_LISTS, Sizes, function_length, number_refusal, size_refusal
 
 # "Each number is decimal, right-justified with blanks in 16 columns".
 COLUMNS = 16
@@ -51,13 +51,18 @@ def line_widths(s):
     widths = []
     for name in SHEET_LISTS:
         length = LENGTHS[name](s)
-        if name == "constant_term":
-            widths += ([s.d] * (pair_count(s.r) + s.r * s.n) + [1]) * s.L
+        if name == "constant_terms":
+            widths += ([s.d] * (function_length(s.d, s.n, s.r) // s.d) + [1]) * s.L
         elif name in ("p", "psi", "omega"):
             widths += [1] * length
         else:
             widths += [s.d] * (length // s.d)
     return widths
+
+
+def text_length(s):
+    """The bytes of a sheet of these sizes."""
+    return sum(COLUMNS * width + 1 for width in [len(s)] + line_widths(s))
 
 
 def write_sheet(s, x):

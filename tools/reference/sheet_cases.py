@@ -1,11 +1,10 @@
-"""Stored input and output of the programs that judge sheets: `python3 tools/reference/sheet_cases.py crates` writes
+"""Stored input and output of the programs that judge sheets:
 
     crates/verdict/stdin, stdout          document 01's whole case and its line
-    crates/verdict_cases/stdin, stdout    all cases below
+    crates/verdict_cases/stdin, stdout    all cases below, and for each the line that the program of verdicts prints
 
-The stream: a line with the count of cases, then for each a line with the count of the sheet's bytes, these bytes, a line feed. Each
-count is one field of 16 columns. The output: for each case the line that the program of verdicts prints. Both are the same every time. The script prints the count of
-cases by answer; with a second argument `names` one line a case: its number, its answer, its count of bytes, its group and name.
+The input of all cases: stored.sheets_text. With the argument `names` the script prints a line for each case: its number, its answer, its
+count of bytes, its group and name; last the count of cases by answer.
 
 Groups, in sheet_checks.py, sheet_numbers.py and sheet_faults.py; a case's name says what is changed.
 
@@ -34,13 +33,13 @@ Groups, in sheet_checks.py, sheet_numbers.py and sheet_faults.py; a case's name 
 import random
 import sys
 from collections import Counter
-from pathlib import Path
 
 import sheet
 import sheet_checks
 import sheet_faults
 import sheet_numbers
-from test_reference import whole_case_text
+import stored
+from fixtures import ACCEPTED, whole_case_text
 
 
 def all_cases():
@@ -54,22 +53,21 @@ def all_cases():
             yield group.__name__, name, answer, text
 
 
-def main():
-    crates = Path(sys.argv[1])
+def files():
     cases = list(all_cases())
-    stream = sheet.line_text([len(cases)])
-    stream += b"".join(sheet.line_text([len(text)]) + text + b"\n" for _, _, _, text in cases)
-    (crates / "verdict_cases" / "stdin").write_bytes(stream)
-    (crates / "verdict_cases" / "stdout").write_bytes(b"".join(sheet.output_line(answer) for _, _, answer, _ in cases))
-    (crates / "verdict" / "stdin").write_bytes(whole_case_text())
-    (crates / "verdict" / "stdout").write_bytes(sheet.output_line(("accepted", 0)))
-    if sys.argv[2:] == ["names"]:
-        for number, (group, name, answer, text) in enumerate(cases, start=1):
-            print(number, *answer, len(text), f"{group}: {name}")
+    yield "crates/verdict_cases/stdin", stored.sheets_text([text for _, _, _, text in cases])
+    yield "crates/verdict_cases/stdout", b"".join(sheet.output_line(answer) for _, _, answer, _ in cases)
+    yield "crates/verdict/stdin", whole_case_text()
+    yield "crates/verdict/stdout", sheet.output_line(ACCEPTED)
+
+
+def print_names():
+    cases = list(all_cases())
+    for number, (group, name, answer, text) in enumerate(cases, start=1):
+        print(number, *answer, len(text), f"{group}: {name}")
     for (kind, number), count in sorted(Counter(answer for _, _, answer, _ in cases).items()):
         print(f"{count} {kind} {number}")
-    print(f"{len(cases)} cases, {len(stream)} bytes")
 
 
 if __name__ == "__main__":
-    main()
+    print_names() if sys.argv[1:] == ["names"] else stored.write(files)

@@ -7,10 +7,28 @@ from itertools import combinations
 import fold
 import ring
 import sheet
-import sizes
-from sheet_fixtures import ACCEPTED, SMALL, failed, honest, least_bounds, moved, replaced, some_sizes, with_commitments
-from sizes import LARGEST_BOUND
-from test_reference import bounded, random_lists, whole_case_text
+from fixtures import (
+    ACCEPTED, OPEN, SMALL, block_starts, bounded, failed, honest, least_bounds, moved, random_lists, replaced, uniform, whole_case_text,
+    with_commitments, with_constraints,
+)
+from sizes import LARGEST_BOUND, Sizes, constant_term_constraint_length, whole_constraint_length
+
+# Bases and counts of digits that leave no large last digit, whatever the value.
+FULL_BASES = ((65536, 2), (65535, 2), (1626, 3), (256, 4), (255, 4), (85, 5), (41, 6), (24, 7), (16, 8))
+
+
+def some_sizes(rng, d, most_bytes):
+    """Sizes whose honest sheets can be accepted and have at most so many bytes; ν and μ are any that are not refused."""
+    while True:
+        (b1, t1), (b2, t2) = rng.choice(FULL_BASES), rng.choice(FULL_BASES)
+        nu = rng.randint(1, 7)
+        s = Sizes(
+            d=d, n=rng.randint(1, 5), r=rng.randint(1, 4), K=rng.randint(0, 3), L=rng.randint(0, 2), w=rng.randint(0, 3),
+            kappa=rng.randint(1, 3), kappa1=rng.randint(1, 3), kappa2=rng.randint(1, 3), b=rng.choice((2, 3, 4, 16, 255, 65536)),
+            b1=b1, b2=b2, t1=t1, t2=t2, nu=nu, mu=rng.randint(1, 16 - 2 * nu), **OPEN,
+        )
+        if sheet.text_length(s) <= most_bytes:
+            return s
 
 
 def whole_case(rng):
@@ -54,8 +72,7 @@ def long_witness(rng):
 
 def with_faults(s, y, checks):
     """The honest lists with faults by which exactly these checks fail. r is 2, and a_12 is zero in every constraint."""
-    t, g = 2 * s.n * s.d, (2 * s.n + s.r * s.t1 * s.kappa) * s.d
-    h = g + sizes.pair_count(s.r) * s.t2 * s.d
+    t, g, h = block_starts(s)
     if 5 in checks:
         y = with_commitments(s, moved(y, "opening", t))
     if 6 in checks:
@@ -69,7 +86,7 @@ def with_faults(s, y, checks):
     if 3 in checks:
         y = moved(y, "u1", 0)
     if 2 in checks:
-        y = moved(y, "constant_term", -1)
+        y = moved(y, "constant_terms", -1)
     s = least_bounds(s, y)
     s = s._replace(beta_squared=s.beta_squared - (1 in checks), target_beta_squared=s.target_beta_squared - (9 in checks))
     failing = [number for number, check in enumerate(fold.CHECKS, start=1) if not check(s, y)]
@@ -80,24 +97,17 @@ def with_faults(s, y, checks):
 def without_mixed_a(rng, s):
     """Random lists of a prover whose constraints have a_12 = 0."""
     x = random_lists(rng, s, True)
-    witness_parts = fold.parts(s, x["witness"])
-    for name, size in (
-        ("whole", sizes.whole_constraint_length(s.d, s.n, s.r)), ("constant_term", sizes.constant_term_constraint_length(s.d, s.n, s.r))
-    ):
-        numbers = []
-        for block in fold.cut(x[name], size):
-            constants = s.d if name == "whole" else 1
-            body = block[: s.d] + ring.zero(s.d) + block[2 * s.d : -constants]
-            numbers += body + fold.value(s.d, fold.read_function(s.d, s.n, s.r, body), witness_parts)[:constants]
-        x[name] = numbers
-    return x
+    blocks = fold.cut(x["whole"], whole_constraint_length(s.d, s.n, s.r))
+    blocks += fold.cut(x["constant_terms"], constant_term_constraint_length(s.d, s.n, s.r))
+    functions = iter([block[: s.d] + ring.zero(s.d) + block[2 * s.d :] for block in blocks])
+    return with_constraints(s, x, lambda count: next(functions)[:count])
 
 
 def failing_checks(rng):
     for d, n, counts in ((2, 1, (0, 1, 2, 3)), (4, 1, (1,))):
         s = SMALL._replace(d=d, n=n, r=2, L=1, w=d // 2, b2=256, nu=2, mu=2)
         x = without_mixed_a(rng, s)
-        y = fold.honest(s, x | {"rows": [rng.choice((-1, 1)) for _ in x["rows"]]})
+        y = fold.honest(s, x | {"projections": [rng.choice((-1, 1)) for _ in x["projections"]]})
         assert any(y["p"])
         for count in counts:
             subsets = list(combinations(range(1, 10), count))
@@ -113,9 +123,9 @@ def last_rows(rng):
     yield "honest", ACCEPTED, sheet.write_sheet(s, y)
     yield "last row of u1", failed(3), sheet.write_sheet(s, moved(y, "u1", -1))
     yield "last row of u2", failed(4), sheet.write_sheet(s, moved(y, "u2", -1))
-    yield "last row of A", failed(5), sheet.write_sheet(s, moved(y, "A", -1))
-    last_of_t = (2 * s.n + s.r * s.t1 * s.kappa) * s.d - 1
-    yield "last row of t's high digit", failed(5), sheet.write_sheet(s, with_commitments(s, moved(y, "opening", last_of_t)))
+    yield "last row of A", failed(5), sheet.write_sheet(s, moved(y, "a_matrix", -1))
+    _, g, _ = block_starts(s)
+    yield "last row of t's high digit", failed(5), sheet.write_sheet(s, with_commitments(s, moved(y, "opening", g - 1)))
     for k in range(5):
         yield f"constant term of b''_{k + 1}", failed(2), sheet.write_sheet(s, moved(y, "second_b", k * s.d))
         yield f"another coefficient of b''_{k + 1}", failed(8), sheet.write_sheet(s, moved(y, "second_b", k * s.d + 1))
@@ -149,8 +159,7 @@ def wide_digits(rng):
     for d, n, r, b, b1, b2, bases in ((2, 1, 1, 4, 65536, 4, (1, -2, 50)), (2, 1, 2, 7, 255, 16, (-1,)), (4, 1, 1, 16, 256, 5, (3,))):
         s = SMALL._replace(d=d, n=n, r=r, kappa=2 // r, b=b, b1=b1, b2=b2, t1=2 if b1 == 65536 else 4, t2=3, nu=1, mu=2)
         y = fold.honest(s, random_lists(rng, s, True))
-        t, g = 2 * n * d, (2 * n + r * s.t1 * s.kappa) * d
-        h = g + sizes.pair_count(r) * s.t2 * d
+        t, g, h = block_starts(s)
         for by in bases:
             blocks = (("z", n * d - 1, n * d, b), ("t", t, s.kappa * d, b1), ("g", g, d, b2), ("h", h + d - 1, d, b1))
             for block, place, gap, base in blocks:
@@ -187,7 +196,7 @@ def wrapped_lengths(rng):
         x = random_lists(rng, s, True) | {"omega": [0] * 40}
         y = fold.honest(s, x)
         while True:
-            p = [rng.randint(-ring.LARGEST, ring.LARGEST) for _ in range(8)]
+            p = uniform(rng, ring.LARGEST, 8)
             if 2 * ring.squared_norm(p) % 2**bits <= 8 * LARGEST_BOUND:
                 break
         bounds = s._replace(beta_squared=LARGEST_BOUND, target_beta_squared=bounded(ring.squared_norm(y["opening"])))
@@ -218,12 +227,12 @@ def changed_numbers(rng):
     for k in range(20):
         s, y = honest(rng, some_sizes(rng, 2 if k % 4 else 4, 3000 if k % 4 else 4000))
         s = s._replace(target_beta_squared=LARGEST_BOUND)
-        name = rng.choice([name for name in y if y[name] and name not in ("rows", "c")] + ["opening"] * 8)
+        name = rng.choice([name for name in y if y[name] and name not in ("projections", "c")] + ["opening"] * 8)
         place = rng.randrange(len(y[name]))
         by = rng.choice((1, -1, 2, 65536))
         yield f"{k}: {name}[{place}] moved by {by}", None, sheet.write_sheet(s, moved(y, name, place, by))
     s, y = honest(rng, SMALL._replace(n=2, r=2, w=1, L=1, nu=2, mu=1))
-    for name, values in (("rows", (-1, 0, 1)), ("c", (-2, 0, 2))):
+    for name, values in (("projections", (-1, 0, 1)), ("c", (-2, 0, 2))):
         for value in values:
             if y[name][1] != value:
                 yield f"{name}[1] = {value}", None, sheet.write_sheet(s, replaced(y, name, 1, value))

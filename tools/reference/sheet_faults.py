@@ -4,12 +4,11 @@ A field's fault keeps the field's value where a lenient reader would see one, so
 """
 
 import sheet
-import sizes
+from fixtures import ACCEPTED, failed, refused, whole_case_text
 from sheet import field_text
-from sizes import Sizes
-from test_reference import whole_case_text
+from sizes import LARGEST_BOUND, Sizes
 
-BROKEN = ("refused", 12)
+BROKEN = refused(12)
 
 # What stands in 16 columns in place of the number whose digits are `v`, right-justified unless it has 16 bytes.
 FIELD_FAULTS = {
@@ -184,7 +183,7 @@ def header_sides():
                 body_name, body = bodies[0]
                 bodies = bodies[1:] + bodies[:1]
                 header, _ = header_with(**{name: value})
-                yield f"{name} = {value}, {body_name}", ("refused", number) if number else BROKEN, header + body
+                yield f"{name} = {value}, {body_name}", refused(number) if number else BROKEN, header + body
 
 
 def header_over_a_body():
@@ -192,23 +191,23 @@ def header_over_a_body():
     for name, sides in SIZE_SIDES.items():
         number, values = max(sides.items())
         header, body = header_with(**{name: values[0]})
-        yield f"{name} = {values[0]}", ("refused", number), header + body
+        yield f"{name} = {values[0]}", refused(number), header + body
     for name in ("b", "b1", "beta_squared", "target_beta_squared"):
         for value in SIZE_SIDES[name][0]:
             header, body = header_with(**{name: value})
-            yield f"{name} = {value}", ("accepted", 0), header + body
+            yield f"{name} = {value}", ACCEPTED, header + body
     for b2 in (2, 3, 65536):
         header, body = header_with(b2=b2)
-        yield f"b2 = {b2}", ("failed", 6), header + body
+        yield f"b2 = {b2}", failed(6), header + body
     header, body = header_with(target_beta_squared=12)
-    yield "β'² = 12", ("failed", 9), header + body
+    yield "β'² = 12", failed(9), header + body
     for nu, mu in ((1, 1), (7, 2), (7, 1), (1, 14), (6, 4), (4, 8), (2, 12), (3, 3)):
         header, body = header_with(nu=nu, mu=mu)
-        yield f"ν = {nu}, μ = {mu}", ("accepted", 0), header + body
+        yield f"ν = {nu}, μ = {mu}", ACCEPTED, header + body
     big, low = 9999999999999999, -999999999999999
     for nu, mu in ((8, 1), (7, 3), (1, 15), (4, 9), (16, 16), (0, 16), (8, 0), (big, big), (1, big), (big, 1), (big, low), (9, -2)):
         header, body = header_with(nu=nu, mu=mu)
-        yield f"ν = {nu}, μ = {mu}", ("refused", 5), header + body
+        yield f"ν = {nu}, μ = {mu}", refused(5), header + body
 
 
 # One fault for each row of the header.
@@ -223,18 +222,18 @@ def header_order():
         for second, other in ROWS.items():
             if first < second:
                 header, body = header_with(**fault, **other)
-                yield f"rows {first} and {second}", ("refused", first), header + body
+                yield f"rows {first} and {second}", refused(first), header + body
     for number, fault in ROWS.items():
         header, body = header_with(**fault)
         yield f"row {number}, header without line feed", BROKEN, header[:-1]
         yield f"row {number}, last size broken", BROKEN, header[:-2] + b"a\n" + body
-        yield f"row {number}, a number out of range in the body", ("refused", number), header + field_text(2147483599) + body[16:]
+        yield f"row {number}, a number out of range in the body", refused(number), header + field_text(2147483599) + body[16:]
     header, body = header_with(d=9999999999999999, n=9999999999999999, r=9999999999999999)
-    yield "three sizes of 16 digits side by side", ("refused", 1), header + body
+    yield "three sizes of 16 digits side by side", refused(1), header + body
     header, body = header_with(n=9999999999999999, r=9999999999999999)
-    yield "two sizes of 16 digits side by side", ("refused", 2), header + body
-    header, body = header_with(beta_squared=sizes.LARGEST_BOUND + 1, target_beta_squared=sizes.LARGEST_BOUND + 1)
-    yield "both bounds one too large, side by side", ("refused", 6), header + body
+    yield "two sizes of 16 digits side by side", refused(2), header + body
+    header, body = header_with(beta_squared=LARGEST_BOUND + 1, target_beta_squared=LARGEST_BOUND + 1)
+    yield "both bounds one too large, side by side", refused(6), header + body
 
 
 GROUPS = (field_faults, line_faults, end_faults, header_sides, header_over_a_body, header_order)

@@ -6,8 +6,8 @@ import fold
 import ring
 import sheet
 import sheet_faults
-from sheet_fixtures import ACCEPTED, SMALL, honest, moved, refused, replaced
-from sizes import LARGEST_BOUND, SHEET_LISTS, Sizes
+from fixtures import ACCEPTED, OPEN, SMALL, honest, moved, refused, replaced
+from sizes import SHEET_LISTS, Sizes
 
 
 def number_base(rng, n, r):
@@ -17,7 +17,7 @@ def number_base(rng, n, r):
 
 def ends_of_the_range(rng):
     s, y = number_base(rng, 2, 1)
-    inside = {"rows": refused(9), "c": refused(10)}
+    inside = {"projections": refused(9), "c": refused(10)}
     for k, name in enumerate(SHEET_LISTS):
         first, last = (0, -1) if k % 2 else (-1, 0)
         yield f"{name}[{first}] = 2147483599", refused(8), sheet.write_sheet(s, replaced(y, name, first, 2147483599))
@@ -26,13 +26,13 @@ def ends_of_the_range(rng):
         answer = sheet.judge(sheet.write_sheet(s, replaced(y, name, last, number)))
         assert answer == inside[name] if name in inside else answer[0] in ("accepted", "failed")
         yield f"{name}[{last}] = {number}", answer, sheet.write_sheet(s, replaced(y, name, last, number))
-    for name, place in (("A", 1), ("p", 0), ("u1", -1), ("rows", 3), ("c", 1), ("opening", -1)):
+    for name, place in (("a_matrix", 1), ("p", 0), ("u1", -1), ("projections", 3), ("c", 1), ("opening", -1)):
         value = y[name][place]
         for number in (value + 2**32, value - 2**32, value + ring.Q):
             yield f"{name}[{place}] = {number} for {value}", refused(8), sheet.write_sheet(s, replaced(y, name, place, number))
     for number in (2147483647, 2147483648, -2147483648, -2147483649, 4294967296, 9999999999999999, -999999999999999):
-        yield f"B[3] = {number}", refused(8), sheet.write_sheet(s, replaced(y, "B", 3, number))
-    full = replaced(replaced(y, "D", 2, 9999999999999999), "D", 3, 9999999999999999)
+        yield f"b_matrix[3] = {number}", refused(8), sheet.write_sheet(s, replaced(y, "b_matrix", 3, number))
+    full = replaced(replaced(y, "d_matrix", 2, 9999999999999999), "d_matrix", 3, 9999999999999999)
     yield "two numbers of 16 digits side by side", refused(8), sheet.write_sheet(s, full)
     full = replaced(replaced(y, "alpha", 0, -999999999999999), "alpha", 1, 1000000000000000)
     yield "two fields without a blank", refused(8), sheet.write_sheet(s, full)
@@ -41,17 +41,18 @@ def ends_of_the_range(rng):
 def order_of_numbers(rng):
     s, y = number_base(rng, 1, 2)
     last_8 = replaced(y, "opening", -1, ring.LARGEST + 1)
-    first_8 = replaced(y, "A", 0, -ring.LARGEST - 1)
+    first_8 = replaced(y, "a_matrix", 0, -ring.LARGEST - 1)
     for name, numbers in (("early", first_8), ("late", last_8)):
-        yield f"8 {name}, 9", refused(8), sheet.write_sheet(s, replaced(numbers, "rows", 0, 2))
+        yield f"8 {name}, 9", refused(8), sheet.write_sheet(s, replaced(numbers, "projections", 0, 2))
         yield f"8 {name}, 10", refused(8), sheet.write_sheet(s, replaced(numbers, "c", 0, 3))
-        yield f"8 {name}, 9, 10", refused(8), sheet.write_sheet(s, replaced(replaced(numbers, "rows", -1, -2), "c", -1, -3))
-    yield "9, 10", refused(9), sheet.write_sheet(s, replaced(replaced(y, "rows", -1, 2), "c", 0, 3))
+        yield f"8 {name}, 9, 10", refused(8), sheet.write_sheet(s, replaced(replaced(numbers, "projections", -1, -2), "c", -1, -3))
+    yield "9, 10", refused(9), sheet.write_sheet(s, replaced(replaced(y, "projections", -1, 2), "c", 0, 3))
     yield "10 at the first part", refused(10), sheet.write_sheet(s, replaced(y, "c", 0, 3))
     yield "10 at the last part", refused(10), sheet.write_sheet(s, replaced(y, "c", -1, -3))
     for value in (2, -2, 3, 255, 65537, ring.LARGEST, -ring.LARGEST):
-        yield f"projection entry {value}", refused(9), sheet.write_sheet(s, replaced(y, "rows", rng.randrange(len(y["rows"])), value))
-    for name, numbers in (("8", first_8), ("9", replaced(y, "rows", 0, 2)), ("10", replaced(y, "c", 0, 3))):
+        place = rng.randrange(len(y["projections"]))
+        yield f"projection entry {value}", refused(9), sheet.write_sheet(s, replaced(y, "projections", place, value))
+    for name, numbers in (("8", first_8), ("9", replaced(y, "projections", 0, 2)), ("10", replaced(y, "c", 0, 3))):
         text = sheet.write_sheet(s, numbers)
         yield f"{name}, then a broken field", refused(12), text[:-2] + b"a\n"
         yield f"{name}, last line feed missing", refused(12), text[:-1]
@@ -83,8 +84,7 @@ def challenges(rng):
 # Long texts
 
 EXACT = Sizes(
-    d=2, n=5, r=16, K=0, L=1, w=1, kappa=4, kappa1=1, kappa2=2, b=16, b1=65536, b2=16, t1=2, t2=2, nu=2, mu=3,
-    beta_squared=LARGEST_BOUND, target_beta_squared=LARGEST_BOUND,
+    d=2, n=5, r=16, K=0, L=1, w=1, kappa=4, kappa1=1, kappa2=2, b=16, b1=65536, b2=16, t1=2, t2=2, nu=2, mu=3, **OPEN
 )
 ONE_MORE = EXACT._replace(d=4, n=10, r=3, K=4, L=5, w=14, kappa=3, kappa1=1, kappa2=2, t1=3, b1=1626, t2=4)
 

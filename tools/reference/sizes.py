@@ -72,27 +72,32 @@ def next_constraint_count(s):
 
 # Lengths
 
+def function_length(d, n, r):
+    """ "a (by i, then j), φ (by part)". """
+    return (pair_count(r) + r * n) * d
+
+
 def whole_constraint_length(d, n, r):
     """ "each whole constraint as a (by i, then j), φ (by part), b". """
-    return (pair_count(r) + r * n + 1) * d
+    return function_length(d, n, r) + d
 
 
 def constant_term_constraint_length(d, n, r):
     """ "each constant-term one likewise, its b a line of one field". """
-    return (pair_count(r) + r * n) * d + 1
+    return function_length(d, n, r) + 1
 
 
 # The count of numbers of each list. The lists of the sheet stand first, in its order: "A, B, C, D by rows; each whole
 # constraint ..; each constant-term one ..; u1; projection rows (by row, then part); p, ψ, ω ..; b''; α; δ; u2; c; the opening."
 LENGTHS = {
-    "A": lambda s: s.kappa * s.n * s.d,
-    "B": lambda s: s.kappa1 * LENGTHS["t_digits"](s),
-    "C": lambda s: s.kappa1 * LENGTHS["g_digits"](s),
-    "D": lambda s: s.kappa2 * LENGTHS["h_digits"](s),
+    "a_matrix": lambda s: s.kappa * s.n * s.d,
+    "b_matrix": lambda s: s.kappa1 * LENGTHS["t_digits"](s),
+    "c_matrix": lambda s: s.kappa1 * LENGTHS["g_digits"](s),
+    "d_matrix": lambda s: s.kappa2 * LENGTHS["h_digits"](s),
     "whole": lambda s: s.K * whole_constraint_length(s.d, s.n, s.r),
-    "constant_term": lambda s: s.L * constant_term_constraint_length(s.d, s.n, s.r),
+    "constant_terms": lambda s: s.L * constant_term_constraint_length(s.d, s.n, s.r),
     "u1": lambda s: s.kappa1 * s.d,
-    "rows": lambda s: s.w * s.r * s.n * s.d,
+    "projections": lambda s: s.w * s.r * s.n * s.d,
     "p": lambda s: s.w,
     "psi": lambda s: AGGREGATES * s.L,
     "omega": lambda s: AGGREGATES * s.w,
@@ -116,25 +121,25 @@ SHEET_LISTS = tuple(LENGTHS)[: tuple(LENGTHS).index("opening") + 1]
 
 # Refusals
 
-# What each call takes: sizes, lists whose numbers it reads, lists of which only the length counts (those it writes,
-# and the opening in the question of a part). "a call tests only what it takes".
+# What each call takes: sizes; lists whose numbers it reads, in the order of the library's arguments; lists of which only the length
+# counts (those it writes, and the opening in the question of a part). "a call tests only what it takes".
 Call = namedtuple("Call", "sizes reads lengths_only")
 
 CALLS = {
     "message_1": Call(
         "d n r kappa kappa1 b1 b2 t1 t2".split(),
-        "A B C witness".split(),
+        "a_matrix b_matrix c_matrix witness".split(),
         "t_digits g_digits u1".split(),
     ),
-    "message_2": Call("d n r w".split(), "rows witness".split(), ["p"]),
+    "message_2": Call("d n r w".split(), "projections witness".split(), ["p"]),
     "message_3": Call(
         "d n r L w".split(),
-        "constant_term rows psi omega witness".split(),
+        "constant_terms projections psi omega witness".split(),
         ["second_b"],
     ),
     "message_4": Call(
         "d n r K L w kappa2 b1 t1".split(),
-        "D whole constant_term rows psi omega alpha delta witness".split(),
+        "whole constant_terms projections psi omega alpha delta d_matrix witness".split(),
         "h_digits u2".split(),
     ),
     "message_5": Call("d n r b".split(), "c witness".split(), ["z_digits"]),
@@ -188,7 +193,7 @@ def number_refusal(s, lists):
     if not all(in_range(numbers) for numbers in lists.values()):
         return 8
     # 9: "projection entry not -1, 0, 1"
-    if "rows" in lists and not are_projection_entries(lists["rows"]):
+    if "projections" in lists and not are_projection_entries(lists["projections"]):
         return 9
     # 10: "challenge outside the rule"
     if "c" in lists:

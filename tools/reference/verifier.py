@@ -73,7 +73,7 @@ def check_1(s, x):
 
 def check_2(s, x):
     """ "Each b''_k has constant term Σψ b' + Σω p." """
-    constants = [b for _, b in statement(s, x).constant_term]
+    constants = [b for _, b in statement(s, x).constant_terms]
     for k, b_k in enumerate(elements(s.d, x["second_b"])):
         psi_k = x["psi"][k * s.L : (k + 1) * s.L]
         omega_k = x["omega"][k * s.w : (k + 1) * s.w]
@@ -100,7 +100,7 @@ def check_5(s, x):
     c = elements(s.d, x["c"])
     t = recomposed_t(s, x)
     right = [add_all(s.d, [multiply(c[i], t[i][k]) for i in range(s.r)]) for k in range(s.kappa)]
-    return matrix_product(s.d, matrix(s, x["A"], s.kappa), recomposed_z(s, x)) == right
+    return matrix_product(s.d, matrix(s, x["a_matrix"], s.kappa), recomposed_z(s, x)) == right
 
 
 def check_6(s, x):
@@ -120,8 +120,8 @@ def check_7(s, x):
 
 def check_8(s, x):
     """ "Σ a_ij g_ij + Σ h_ii = b." """
-    a, g, h = aggregate(s, x).a, recomposed_g(s, x), recomposed_h(s, x)
-    products = add_all(s.d, [multiply(a[pair], g[pair]) for pair in pairs(s.r)])
+    aggregate_a, g, h = aggregate(s, x).a, recomposed_g(s, x), recomposed_h(s, x)
+    products = add_all(s.d, [multiply(aggregate_a[pair], g[pair]) for pair in pairs(s.r)])
     diagonal = add_all(s.d, [h[i, i] for i in range(s.r)])
     return add(products, diagonal) == aggregate_constant(s, x)
 

@@ -99,7 +99,7 @@ typedef struct {
 
 typedef struct {
     header h;
-    list a, b, c_matrix, d_matrix, whole, term, u1, rows, p, psi, omega, b2, alpha, delta, u2, c, opening;
+    list a_matrix, b_matrix, c_matrix, d_matrix, whole, constant_terms, u1, projections, p, psi, omega, second_b, alpha, delta, u2, c, opening;
     list z, t, g, hd; /* the opening's digits of z, t, g, h */
     list witness, places, next;
     uint8_t *text;
@@ -117,18 +117,18 @@ static stored read_case(const char *folder) {
     header h = s.h;
     size_t d = h.d, pairs = h.r * (h.r + 1) / 2, function = (pairs + h.r * h.n) * d;
     size_t t = h.r * h.t1 * h.kappa * d, g = pairs * h.t2 * d, hd = pairs * h.t1 * d;
-    s.a = next_list(&at, h.kappa * h.n * d);
-    s.b = next_list(&at, h.kappa1 * t);
+    s.a_matrix = next_list(&at, h.kappa * h.n * d);
+    s.b_matrix = next_list(&at, h.kappa1 * t);
     s.c_matrix = next_list(&at, h.kappa1 * g);
     s.d_matrix = next_list(&at, h.kappa2 * hd);
     s.whole = next_list(&at, h.k * (function + d));
-    s.term = next_list(&at, h.l * (function + 1));
+    s.constant_terms = next_list(&at, h.l * (function + 1));
     s.u1 = next_list(&at, h.kappa1 * d);
-    s.rows = next_list(&at, h.w * h.r * h.n * d);
+    s.projections = next_list(&at, h.w * h.r * h.n * d);
     s.p = next_list(&at, h.w);
     s.psi = next_list(&at, 5 * h.l);
     s.omega = next_list(&at, 5 * h.w);
-    s.b2 = next_list(&at, 5 * d);
+    s.second_b = next_list(&at, 5 * d);
     s.alpha = next_list(&at, h.k * d);
     s.delta = next_list(&at, 5 * d);
     s.u2 = next_list(&at, h.kappa2 * d);
@@ -155,26 +155,32 @@ static lizkarg_sizes sizes_of(const stored *s) {
 
 /* ---- the calls */
 
+/* a list of the case; those that the verifier and the next instance both take, in order */
+#define OF(x) LIST(s->x)
+#define SHARED OF(a_matrix), OF(b_matrix), OF(c_matrix), OF(d_matrix), OF(whole), OF(constant_terms), OF(u1), OF(projections), OF(p), \
+    OF(psi), OF(omega), OF(second_b), OF(alpha), OF(delta), OF(u2), OF(c)
+
 static void messages(const stored *s) {
     header h = s->h;
     lizkarg_shape shape = {.d = h.d, .n = h.n, .r = h.r};
     lizkarg_commit_sizes first = {.d = h.d, .n = h.n, .r = h.r, .kappa = h.kappa, .kappa1 = h.kappa1, .b1 = h.b1, .b2 = h.b2, .t1 = h.t1, .t2 = h.t2};
     lizkarg_garbage_sizes fourth = {.d = h.d, .n = h.n, .r = h.r, .k = h.k, .l = h.l, .w = h.w, .kappa2 = h.kappa2, .b1 = h.b1, .t1 = h.t1};
-    list t = blank(s->t.length), g = blank(s->g.length), u1 = blank(s->u1.length), p = blank(s->p.length), b2 = blank(s->b2.length);
-    list hd = blank(s->hd.length), u2 = blank(s->u2.length), z = blank(s->z.length);
-    ANSWER(lizkarg_commit(first, LIST(s->a), LIST(s->b), LIST(s->c_matrix), LIST(s->witness), LIST(t), LIST(g), LIST(u1)), LIZKARG_WRITTEN, 0);
+    list t = blank(s->t.length), g = blank(s->g.length), u1 = blank(s->u1.length), p = blank(s->p.length);
+    list second_b = blank(s->second_b.length), hd = blank(s->hd.length), u2 = blank(s->u2.length), z = blank(s->z.length);
+    ANSWER(lizkarg_commit(first, OF(a_matrix), OF(b_matrix), OF(c_matrix), OF(witness), LIST(t), LIST(g), LIST(u1)), LIZKARG_WRITTEN, 0);
     WRITTEN(t, s->t);
     WRITTEN(g, s->g);
     WRITTEN(u1, s->u1);
-    ANSWER(lizkarg_project(shape, h.w, LIST(s->rows), LIST(s->witness), LIST(p)), LIZKARG_WRITTEN, 0);
+    ANSWER(lizkarg_project(shape, h.w, OF(projections), OF(witness), LIST(p)), LIZKARG_WRITTEN, 0);
     WRITTEN(p, s->p);
-    ANSWER(lizkarg_aggregate(shape, h.l, h.w, LIST(s->term), LIST(s->rows), LIST(s->psi), LIST(s->omega), LIST(s->witness), LIST(b2)), LIZKARG_WRITTEN, 0);
-    WRITTEN(b2, s->b2);
-    ANSWER(lizkarg_commit_garbage(fourth, LIST(s->whole), LIST(s->term), LIST(s->rows), LIST(s->psi), LIST(s->omega), LIST(s->alpha),
-        LIST(s->delta), LIST(s->d_matrix), LIST(s->witness), LIST(hd), LIST(u2)), LIZKARG_WRITTEN, 0);
+    ANSWER(lizkarg_aggregate(shape, h.l, h.w, OF(constant_terms), OF(projections), OF(psi), OF(omega), OF(witness), LIST(second_b)),
+        LIZKARG_WRITTEN, 0);
+    WRITTEN(second_b, s->second_b);
+    ANSWER(lizkarg_commit_garbage(fourth, OF(whole), OF(constant_terms), OF(projections), OF(psi), OF(omega), OF(alpha), OF(delta),
+        OF(d_matrix), OF(witness), LIST(hd), LIST(u2)), LIZKARG_WRITTEN, 0);
     WRITTEN(hd, s->hd);
     WRITTEN(u2, s->u2);
-    ANSWER(lizkarg_amortize(shape, h.b, LIST(s->c), LIST(s->witness), LIST(z)), LIZKARG_WRITTEN, 0);
+    ANSWER(lizkarg_amortize(shape, h.b, OF(c), OF(witness), LIST(z)), LIZKARG_WRITTEN, 0);
     WRITTEN(z, s->z);
 }
 
@@ -182,19 +188,15 @@ static void refused_messages(const stored *s) {
     header h = s->h;
     lizkarg_shape shape = {.d = h.d, .n = h.n, .r = h.r};
     list p = blank(s->p.length + 1), z = blank(s->z.length), none = {NULL, 0};
-    ANSWER(lizkarg_project(shape, h.w, LIST(s->rows), LIST(s->witness), LIST(p)), LIZKARG_REFUSED, 7);
+    ANSWER(lizkarg_project(shape, h.w, OF(projections), OF(witness), LIST(p)), LIZKARG_REFUSED, 7);
     UNTOUCHED(p);
-    ANSWER(lizkarg_amortize(shape, 1, LIST(s->c), LIST(s->witness), LIST(z)), LIZKARG_REFUSED, 4);
+    ANSWER(lizkarg_amortize(shape, 1, OF(c), OF(witness), LIST(z)), LIZKARG_REFUSED, 4);
     ANSWER(lizkarg_amortize(shape, h.b, LIST(none), LIST(none), LIST(none)), LIZKARG_REFUSED, 7);
     ANSWER(lizkarg_amortize((lizkarg_shape){.d = 3, .n = h.n, .r = h.r}, h.b, LIST(none), LIST(none), LIST(none)), LIZKARG_REFUSED, 1);
     UNTOUCHED(z);
 }
 
-static lizkarg_answer verify(const stored *s, lizkarg_sizes sizes) {
-    return lizkarg_verify(sizes, LIST(s->a), LIST(s->b), LIST(s->c_matrix), LIST(s->d_matrix), LIST(s->whole), LIST(s->term), LIST(s->u1),
-        LIST(s->rows), LIST(s->p), LIST(s->psi), LIST(s->omega), LIST(s->b2), LIST(s->alpha), LIST(s->delta), LIST(s->u2), LIST(s->c),
-        LIST(s->opening));
-}
+static lizkarg_answer verify(const stored *s, lizkarg_sizes sizes) { return lizkarg_verify(sizes, SHARED, OF(opening)); }
 
 static void verdicts(const stored *s) {
     lizkarg_sizes sizes = sizes_of(s), other = sizes;
@@ -206,7 +208,7 @@ static void verdicts(const stored *s) {
     other = sizes, other.b2 = 1;
     ANSWER(verify(s, other), LIZKARG_REFUSED, 4);
     /* one number more in a list, and the first check that it breaks */
-    const list *lists[] = {&s->b2, &s->u1, &s->u2};
+    const list *lists[] = {&s->second_b, &s->u1, &s->u2};
     for (int i = 0; i < 3; i++) {
         lists[i]->at[0]++;
         ANSWER(verify(s, sizes), LIZKARG_FAILED, 2 + i);
@@ -215,9 +217,7 @@ static void verdicts(const stored *s) {
 }
 
 static lizkarg_answer next_instance(const stored *s, lizkarg_sizes sizes, size_t nu, size_t mu, list out) {
-    return lizkarg_next_instance(sizes, nu, mu, LIST(s->a), LIST(s->b), LIST(s->c_matrix), LIST(s->d_matrix), LIST(s->whole), LIST(s->term),
-        LIST(s->u1), LIST(s->rows), LIST(s->p), LIST(s->psi), LIST(s->omega), LIST(s->b2), LIST(s->alpha), LIST(s->delta), LIST(s->u2),
-        LIST(s->c), LIST(out));
+    return lizkarg_next_instance(sizes, nu, mu, SHARED, LIST(out));
 }
 
 static void next(const stored *s) {
@@ -225,21 +225,21 @@ static void next(const stored *s) {
     list out = blank(s->next.length), other = blank(s->next.length), none = {NULL, 0};
     ANSWER(next_instance(s, sizes_of(s), h.nu, h.mu, out), LIZKARG_WRITTEN, 0);
     WRITTEN(out, s->next);
-    s->b2.at[0]++;
+    s->second_b.at[0]++;
     ANSWER(next_instance(s, sizes_of(s), h.nu, h.mu, other), LIZKARG_FAILED, 2);
-    s->b2.at[0]--;
+    s->second_b.at[0]--;
     ANSWER(next_instance(s, sizes_of(s), 8, 1, other), LIZKARG_REFUSED, 5);
     ANSWER(next_instance(s, sizes_of(s), h.nu, h.mu, none), LIZKARG_REFUSED, 7);
     UNTOUCHED(other);
     lizkarg_part_sizes cut = {.d = h.d, .n = h.n, .r = h.r, .kappa = h.kappa, .t1 = h.t1, .t2 = h.t2, .nu = h.nu, .mu = h.mu};
     size_t parts = 2 * h.nu + h.mu;
     for (size_t i = 1; i <= parts; i++) {
-        lizkarg_part part = lizkarg_next_part(cut, i, LIST(s->opening));
+        lizkarg_part part = lizkarg_next_part(cut, i, OF(opening));
         HOLD(part.start == (size_t)s->places.at[2 * i - 2] && part.length == (size_t)s->places.at[2 * i - 1]);
-        HOLD(lizkarg_next_part_refusal(cut, i, LIST(s->opening)) == 0);
+        HOLD(lizkarg_next_part_refusal(cut, i, OF(opening)) == 0);
     }
-    lizkarg_part past = lizkarg_next_part(cut, parts + 1, LIST(s->opening)), empty = lizkarg_next_part(cut, parts, LIST(none));
-    HOLD(past.start == 0 && past.length == 0 && lizkarg_next_part_refusal(cut, parts + 1, LIST(s->opening)) == 2);
+    lizkarg_part past = lizkarg_next_part(cut, parts + 1, OF(opening)), empty = lizkarg_next_part(cut, parts, LIST(none));
+    HOLD(past.start == 0 && past.length == 0 && lizkarg_next_part_refusal(cut, parts + 1, OF(opening)) == 2);
     HOLD(empty.start == 0 && empty.length == 0 && lizkarg_next_part_refusal(cut, parts, LIST(none)) == 7);
 }
 
@@ -259,8 +259,8 @@ static void sheets(const stored *s) {
     header found = {sheet.d, sheet.n, sheet.r, sheet.k, sheet.l, sheet.w, sheet.kappa, sheet.kappa1, sheet.kappa2, sheet.b, sheet.b1, sheet.b2,
         sheet.t1, sheet.t2, sheet.nu, sheet.mu, sheet.bound, sheet.target};
     HOLD(sheet.kind == LIZKARG_WRITTEN && sheet.number == 0 && !memcmp(&found, &s->h, sizeof found));
-    const list *lists[] = {&s->a, &s->b, &s->c_matrix, &s->d_matrix, &s->whole, &s->term, &s->u1, &s->rows, &s->p, &s->psi, &s->omega, &s->b2,
-        &s->alpha, &s->delta, &s->u2, &s->c, &s->opening};
+    const list *lists[] = {&s->a_matrix, &s->b_matrix, &s->c_matrix, &s->d_matrix, &s->whole, &s->constant_terms, &s->u1, &s->projections,
+        &s->p, &s->psi, &s->omega, &s->second_b, &s->alpha, &s->delta, &s->u2, &s->c, &s->opening};
     list rest = numbers;
     for (int i = 0; i < 17; i++) {
         HOLD(equal((list){rest.at, lists[i]->length}, *lists[i]));

@@ -1,4 +1,6 @@
 // Document 01's whole case and its first bench values, through the C interface.
+mod common;
+
 use lizkarg::*;
 use lizkarg::Answer::Judged;
 use lizkarg::Verdict::{Accepted, Failed};
@@ -37,38 +39,10 @@ fn read<T>(case: &str, then: impl Fn(Sheet, Sizes, Proof) -> T) -> Result<T, u8>
     let text = sheet(case);
     let mut numbers = vec![77; sheet_numbers(&text)];
     let h = read_sheet(&text, &mut numbers)?;
-    let mut at = 0;
-    let mut next = |count: usize| {
-        let part = &numbers[at..at + count];
-        at += count;
-        part
-    };
-    let d = h.d;
-    let sizes = Sizes {
-        d, n: h.n, r: h.r, k: h.k, l: h.l, w: h.w, kappa: h.kappa, kappa1: h.kappa1, kappa2: h.kappa2, b: h.b, b1: h.b1, b2: h.b2,
-        t1: h.t1, t2: h.t2, bound: h.bound, target: h.target,
-    };
-    let (pairs, n, r) = (h.r * (h.r + 1) / 2, h.n, h.r);
-    let proof = Proof {
-        a: next(h.kappa * n * d),
-        b: next(h.kappa1 * r * h.t1 * h.kappa * d),
-        c_matrix: next(h.kappa1 * pairs * h.t2 * d),
-        d_matrix: next(h.kappa2 * pairs * h.t1 * d),
-        whole: next(h.k * (pairs + r * n + 1) * d),
-        term: next(h.l * ((pairs + r * n) * d + 1)),
-        u1: next(h.kappa1 * d),
-        rows: next(h.w * r * n * d),
-        p: next(h.w),
-        psi: next(5 * h.l),
-        omega: next(5 * h.w),
-        b2: next(5 * d),
-        alpha: next(h.k * d),
-        delta: next(5 * d),
-        u2: next(h.kappa2 * d),
-        c: next(r * d),
-        opening: next((2 * n + r * h.t1 * h.kappa + pairs * (h.t1 + h.t2)) * d),
-    };
-    Ok(then(h, sizes, proof))
+    let sizes = [h.d, h.n, h.r, h.k, h.l, h.w, h.kappa, h.kappa1, h.kappa2, h.b, h.b1, h.b2, h.t1, h.t2, h.nu, h.mu, 0, 0];
+    let (sizes, ..) = common::sizes(sizes.map(|x| x as u64));
+    let sizes = Sizes { bound: h.bound, target: h.target, ..sizes };
+    Ok(then(h, sizes, common::proof(&sizes, &numbers)))
 }
 
 /// The verdict by the reader and the verifier, which is the judge's.
@@ -134,7 +108,7 @@ fn next_instance_of_the_whole_case() {
         // not written: a check fails, the length is not right, ν and μ are out of range
         let old = vec![77; should.len() + 1];
         let mut out = old.clone();
-        let bad = Proof { b2: &[1, 0, 0, 0, 0, 0, 0, 0, 0, 0], ..proof };
+        let bad = Proof { second_b: &[1, 0, 0, 0, 0, 0, 0, 0, 0, 0], ..proof };
         assert_eq!(next_instance(sizes, 1, 1, &bad, &mut out[1..]), Judged(Failed(2)));
         assert_eq!(next_instance(sizes, 1, 1, &proof, &mut out), Answer::Refused(7));
         assert_eq!(next_instance(sizes, 8, 1, &proof, &mut out), Answer::Refused(5));
@@ -149,10 +123,9 @@ fn parts_of_the_whole_case() {
     read(CASE, |h, _, proof| {
         let sizes = PartSizes { d: h.d, n: h.n, r: h.r, kappa: h.kappa, t1: h.t1, t2: h.t2, nu: h.nu, mu: h.mu };
         let o = proof.opening;
-        for (part, stretch) in [(1, &o[..2]), (2, &o[2..4]), (3, &o[4..])] {
+        for (part, chunk) in [(1, &o[..2]), (2, &o[2..4]), (3, &o[4..])] {
             assert_eq!(next_part_refusal(sizes, part, o), 0);
-            let found = next_part(sizes, part, o);
-            assert_eq!((found.as_ptr(), found.len()), (stretch.as_ptr(), stretch.len()));
+            assert_eq!(next_part(sizes, part, o).as_ptr_range(), chunk.as_ptr_range());
         }
         let wide = PartSizes { nu: 8, ..sizes };
         for (sizes, part, opening, number) in [(sizes, 0, o, 2), (sizes, 4, o, 2), (wide, 17, o, 5), (wide, 18, o, 2), (sizes, 1, &o[1..], 7)] {

@@ -1,4 +1,6 @@
 // The messages, the verifier and the next instance on the stored cases of bindings/c/tests: each number that a call writes is the second implementation's.
+mod common;
+
 use lizkarg::Answer::{Judged, Refused, Written};
 use lizkarg::Verdict::{Accepted, Failed};
 use lizkarg::*;
@@ -10,15 +12,8 @@ fn numbers(name: &str) -> Vec<i64> {
     text.split_whitespace().map(|word| word.parse().unwrap()).collect()
 }
 
-/// Cuts lists off the front of the numbers.
-struct Lists(std::vec::IntoIter<i64>);
-
-impl Lists {
-    fn next(&mut self, count: usize) -> Vec<i32> {
-        let list: Vec<i32> = self.0.by_ref().take(count).map(|x| x as i32).collect();
-        assert_eq!(list.len(), count);
-        list
-    }
+fn narrow(numbers: &[i64]) -> Vec<i32> {
+    numbers.iter().map(|x| *x as i32).collect()
 }
 
 /// A message answers written and writes `should`.
@@ -29,19 +24,17 @@ fn writes<const N: usize>(should: [&[i32]; N], call: impl Fn([&mut [i32]; N]) ->
 }
 
 fn run(name: &str) {
-    let mut sheet = Lists(numbers(&format!("{name}.sheet")).into_iter());
-    let mut more = Lists(numbers(&format!("{name}.more")).into_iter());
-    let [d, n, r, k, l, w, kappa, kappa1, kappa2, b, b1, b2, t1, t2, nu, mu] = [(); 16].map(|_| sheet.0.next().unwrap() as usize);
-    let [bound, target] = [(); 2].map(|_| sheet.0.next().unwrap() as u64);
-    let pairs = r * (r + 1) / 2;
-    let (t_len, g_len, h_len) = (r * t1 * kappa * d, pairs * t2 * d, pairs * t1 * d);
-    let lengths = [
-        kappa * n * d, kappa1 * t_len, kappa1 * g_len, kappa2 * h_len, k * (pairs + r * n + 1) * d, l * ((pairs + r * n) * d + 1),
-        kappa1 * d, w * r * n * d, w, 5 * l, 5 * w, 5 * d, k * d, 5 * d, kappa2 * d, r * d, 2 * n * d + t_len + g_len + h_len,
-    ];
-    let lists = lengths.map(|length| sheet.next(length));
-    let [a, b_matrix, c_matrix, d_matrix, whole, term, u1, rows, p, psi, omega, second, alpha, delta, u2, c, opening] = lists.each_ref().map(|list| &list[..]);
-    let witness = more.next(r * n * d);
+    let (sheet, more) = (numbers(&format!("{name}.sheet")), numbers(&format!("{name}.more")));
+    let (header, lists) = sheet.split_first_chunk::<18>().unwrap();
+    let (sizes, nu, mu) = common::sizes(header.map(|x| x as u64));
+    let lists = narrow(lists);
+    let proof = common::proof(&sizes, &lists);
+    let Sizes { d, n, r, k, l, w, kappa, kappa1, kappa2, b, b1, b2, t1, t2, target, .. } = sizes;
+    let Proof { constant_terms, projections, psi, omega, opening, .. } = proof;
+    let (witness, more) = more.split_at(r * n * d);
+    let (places, next) = more.split_at(2 * (2 * nu + mu));
+    let (witness, next) = (&narrow(witness)[..], narrow(next));
+    let (t_len, g_len, _) = common::digits(&sizes);
     let (z, rest) = opening.split_at(2 * n * d);
     let (t, rest) = rest.split_at(t_len);
     let (g, h) = rest.split_at(g_len);
@@ -49,25 +42,24 @@ fn run(name: &str) {
     let shape = Shape { d, n, r };
     let first = CommitSizes { d, n, r, kappa, kappa1, b1, b2, t1, t2 };
     let fourth = GarbageSizes { d, n, r, k, l, w, kappa2, b1, t1 };
-    writes([t, g, u1], |[t, g, u1]| commit(first, a, b_matrix, c_matrix, &witness, t, g, u1));
-    writes([p], |[p]| project(shape, w, rows, &witness, p));
-    writes([second], |[out]| aggregate(shape, l, w, term, rows, psi, omega, &witness, out));
-    writes([h, u2], |[h, u2]| commit_garbage(fourth, whole, term, rows, psi, omega, alpha, delta, d_matrix, &witness, h, u2));
-    writes([z], |[z]| amortize(shape, b, c, &witness, z));
+    writes([t, g, proof.u1], |[t, g, u1]| commit(first, proof.a_matrix, proof.b_matrix, proof.c_matrix, witness, t, g, u1));
+    writes([proof.p], |[p]| project(shape, w, projections, witness, p));
+    writes([proof.second_b], |[second_b]| aggregate(shape, l, w, constant_terms, projections, psi, omega, witness, second_b));
+    writes([h, proof.u2], |[h, u2]| {
+        let (alpha, delta, d_matrix) = (proof.alpha, proof.delta, proof.d_matrix);
+        commit_garbage(fourth, proof.whole, constant_terms, projections, psi, omega, alpha, delta, d_matrix, witness, h, u2)
+    });
+    writes([z], |[z]| amortize(shape, b, proof.c, witness, z));
 
-    let sizes = Sizes { d, n, r, k, l, w, kappa, kappa1, kappa2, b, b1, b2, t1, t2, bound, target };
-    let proof = Proof { a, b: b_matrix, c_matrix, d_matrix, whole, term, u1, rows, p, psi, omega, b2: second, alpha, delta, u2, c, opening };
     assert_eq!(verify(sizes, &proof), Judged(Accepted));
     assert_eq!(verify(Sizes { target: target - 1, ..sizes }, &proof), Judged(Failed(9)));
     assert_eq!(verify(Sizes { b2: 1, ..sizes }, &proof), Refused(4));
 
     let cut = PartSizes { d, n, r, kappa, t1, t2, nu, mu };
-    for part in 1..=2 * nu + mu {
-        let place = more.next(2);
+    for (part, place) in places.chunks(2).enumerate() {
         let (start, length) = (place[0] as usize, place[1] as usize);
-        assert_eq!(next_part(cut, part, opening).as_ptr_range(), opening[start..start + length].as_ptr_range());
+        assert_eq!(next_part(cut, part + 1, opening).as_ptr_range(), opening[start..start + length].as_ptr_range());
     }
-    let next: Vec<i32> = more.0.map(|x| x as i32).collect();
     writes([&next], |[out]| next_instance(sizes, nu, mu, &proof, out));
 }
 

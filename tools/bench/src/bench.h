@@ -3,11 +3,17 @@
 #define BENCH_H
 #include "../../../bindings/c/lizkarg.h"
 
+/* How many numbers each list has. */
 typedef struct {
-    const int32_t *a, *b, *c_matrix, *d_matrix, *whole, *term, *rows, *psi, *omega, *alpha, *delta, *c, *witness;
-    int32_t *u1, *p, *b2, *u2, *z, *t, *g, *h; /* z, t, g, h follow one another: the opening */
-    size_t nu, mu, next_len; /* the cut of the next instance, and how many numbers it has */
-    int32_t *next;
+    size_t a_matrix, b_matrix, c_matrix, d_matrix, whole, constant_terms, projections, psi, omega, alpha, delta, c, witness;
+    size_t u1, p, second_b, u2, z, t, g, h, opening, next;
+} lengths;
+
+typedef struct {
+    const int32_t *a_matrix, *b_matrix, *c_matrix, *d_matrix, *whole, *constant_terms, *projections, *psi, *omega, *alpha, *delta, *c, *witness;
+    int32_t *u1, *p, *second_b, *u2, *z, *t, *g, *h, *next; /* z, t, g, h follow one another: the opening */
+    size_t nu, mu; /* the cut of the next instance */
+    lengths n;
 } lists;
 
 typedef struct {
@@ -19,8 +25,22 @@ typedef struct {
     void (*garbage)(const lizkarg_sizes *s, const lists *l);
     void (*amortize)(const lizkarg_sizes *s, const lists *l);
     int (*verify)(const lizkarg_sizes *s, const lists *l); /* 256 * kind + number */
-    int (*next)(const lizkarg_sizes *s, const lists *l); /* the same; 0 where it is missing */
+    int (*next)(const lizkarg_sizes *s, const lists *l); /* the same */
 } implementation;
 
 extern const implementation ours, gcc_tuned, gcc_plain, clang_tuned, clang_tested, clang_centred, clang_plain, flint_based, rust_plain;
+
+static inline size_t pairs(size_t r) { return r * (r + 1) / 2; }
+
+/* the numbers of a and phi of a constraint */
+static inline size_t function(const lizkarg_sizes *s) { return (pairs(s->r) + s->r * s->n) * s->d; }
+
+/* the elements of the opening after z */
+static inline size_t rest(const lizkarg_sizes *s) { return s->r * s->kappa * s->t1 + pairs(s->r) * (s->t1 + s->t2); }
+
+/* n', the elements of a part of the next witness */
+static inline size_t next_rank(const lizkarg_sizes *s, const lists *l) {
+    size_t of_z = (s->n + l->nu - 1) / l->nu, of_rest = (rest(s) + l->mu - 1) / l->mu;
+    return of_z > of_rest ? of_z : of_rest;
+}
 #endif

@@ -3,6 +3,8 @@
 #include <stdlib.h>
 #include <string.h>
 
+static const int32_t MOST = 2147483598;
+
 static uint64_t state = 1;
 
 static uint64_t draw(void) {
@@ -18,11 +20,26 @@ static int32_t *filled(size_t n, int32_t most) {
     return xs;
 }
 
+/* r challenges: of 64 coefficients 10 are 2 or -2 and 31 are 1 or -1, as the paper draws them, at lower degrees as many in proportion */
+static int32_t *challenges(size_t d, size_t r) {
+    int32_t *c = calloc(r * d, sizeof *c);
+    for (size_t i = 0; i < r; i++) {
+        int32_t *x = c + i * d;
+        for (size_t k = 0; k < 41 * d / 64; k++) x[k] = (k < 10 * d / 64 ? 2 : 1) * (draw() % 2 ? 1 : -1);
+        for (size_t k = d - 1; k > 0; k--) {
+            size_t other = draw() % (k + 1);
+            int32_t kept = x[k];
+            x[k] = x[other], x[other] = kept;
+        }
+    }
+    return c;
+}
+
 static void add_to(size_t d, int32_t *sum, const int32_t *x) {
     for (size_t i = 0; i < d; i++) {
         int64_t v = ((int64_t)sum[i] + x[i]) % 4294967197;
-        if (v > 2147483598) v -= 4294967197;
-        if (v < -2147483598) v += 4294967197;
+        if (v > MOST) v -= 4294967197;
+        if (v < -MOST) v += 4294967197;
         sum[i] = (int32_t)v;
     }
 }
@@ -35,46 +52,52 @@ static void sum_products(size_t d, size_t n, const int32_t *x, const int32_t *y,
     }
 }
 
-void make_case(lizkarg_sizes *s, lists *l, int32_t largest) {
-    size_t d = s->d, n = s->n, r = s->r, pairs = r * (r + 1) / 2, size = (pairs + r * n) * d;
-    size_t t = r * s->t1 * s->kappa, g = pairs * s->t2, h = pairs * s->t1;
-    const int32_t most = 2147483598;
-    state = 1;
-    int32_t *witness = filled(r * n * d, largest), *whole = filled(s->k * (size + d), most), *term = filled(s->l * (size + 1), most);
-    int32_t *products = calloc(pairs * d, sizeof *products), *c = filled(r * d, 1);
+static lengths lengths_of(const lizkarg_sizes *s, const lists *l) {
+    size_t d = s->d, n = s->n, parts = 2 * l->nu + l->mu;
+    size_t t = s->r * s->t1 * s->kappa * d, g = pairs(s->r) * s->t2 * d, h = pairs(s->r) * s->t1 * d;
+    return (lengths){.a_matrix = s->kappa * n * d, .b_matrix = s->kappa1 * t, .c_matrix = s->kappa1 * g, .d_matrix = s->kappa2 * h,
+        .whole = s->k * (function(s) + d), .constant_terms = s->l * (function(s) + 1), .projections = s->w * s->r * n * d, .psi = 5 * s->l,
+        .omega = 5 * s->w, .alpha = s->k * d, .delta = 5 * d, .c = s->r * d, .witness = s->r * n * d, .u1 = s->kappa1 * d, .p = s->w,
+        .second_b = 5 * d, .u2 = s->kappa2 * d, .z = 2 * n * d, .t = t, .g = g, .h = h, .opening = 2 * n * d + t + g + h,
+        .next = (s->kappa + s->kappa1 + s->kappa2 + 3) * (pairs(parts) + parts * next_rank(s, l) + 1) * d};
+}
+
+/* sets the constants of the constraints to the values at the witness */
+static void solve(const lizkarg_sizes *s, const int32_t *witness, int32_t *whole, int32_t *constant_terms) {
+    size_t d = s->d, n = s->n, r = s->r, size = function(s);
+    int32_t *products = calloc(pairs(r) * d, sizeof *products);
     for (size_t i = 0, at = 0; i < r; i++)
         for (size_t j = i; j < r; j++, at++) sum_products(d, n, witness + i * n * d, witness + j * n * d, products + at * d);
     for (size_t k = 0; k < s->k + s->l; k++) {
         int32_t value[64] = {0};
-        int32_t *f = k < s->k ? whole + k * (size + d) : term + (k - s->k) * (size + 1);
-        sum_products(d, pairs, f, products, value);
-        sum_products(d, r * n, f + pairs * d, witness, value);
+        int32_t *f = k < s->k ? whole + k * (size + d) : constant_terms + (k - s->k) * (size + 1);
+        sum_products(d, pairs(r), f, products, value);
+        sum_products(d, r * n, f + pairs(r) * d, witness, value);
         memcpy(f + size, value, (k < s->k ? d : 1) * sizeof *f);
     }
     free(products);
-    *l = (lists){.a = filled(s->kappa * n * d, most), .b = filled(s->kappa1 * t * d, most), .c_matrix = filled(s->kappa1 * g * d, most),
-        .d_matrix = filled(s->kappa2 * h * d, most), .whole = whole, .term = term, .rows = filled(s->w * r * n * d, 1),
-        .psi = filled(5 * s->l, most), .omega = filled(5 * s->w, most), .alpha = filled(s->k * d, most), .delta = filled(5 * d, most),
-        .c = c, .witness = witness, .u1 = filled(s->kappa1 * d, 0), .p = filled(s->w, 0), .b2 = filled(5 * d, 0),
-        .u2 = filled(s->kappa2 * d, 0), .z = filled((2 * n + t + g + h) * d, 0)};
-    l->t = l->z + 2 * n * d;
-    l->g = l->t + t * d;
-    l->h = l->g + g * d;
+}
+
+void make_case(lizkarg_sizes *s, lists *l, int32_t most) {
+    state = 1;
     s->bound = s->target = 999999999999999;
     l->nu = 2, l->mu = 12;
-    size_t m = t + g + h, parts = 2 * l->nu + l->mu, of_z = (n + l->nu - 1) / l->nu, of_rest = (m + l->mu - 1) / l->mu;
-    size_t rank = of_z > of_rest ? of_z : of_rest;
-    l->next_len = (s->kappa + s->kappa1 + s->kappa2 + 3) * (parts * (parts + 1) / 2 + parts * rank + 1) * d;
-    l->next = malloc(l->next_len * sizeof *l->next);
+    lengths n = l->n = lengths_of(s, l);
+    int32_t *witness = filled(n.witness, most), *whole = filled(n.whole, MOST), *constant_terms = filled(n.constant_terms, MOST);
+    solve(s, witness, whole, constant_terms);
+    l->witness = witness, l->whole = whole, l->constant_terms = constant_terms;
+    l->a_matrix = filled(n.a_matrix, MOST), l->b_matrix = filled(n.b_matrix, MOST);
+    l->c_matrix = filled(n.c_matrix, MOST), l->d_matrix = filled(n.d_matrix, MOST);
+    l->projections = filled(n.projections, 1);
+    l->psi = filled(n.psi, MOST), l->omega = filled(n.omega, MOST), l->alpha = filled(n.alpha, MOST), l->delta = filled(n.delta, MOST);
+    l->c = challenges(s->d, s->r);
+    l->u1 = filled(n.u1, 0), l->p = filled(n.p, 0), l->second_b = filled(n.second_b, 0), l->u2 = filled(n.u2, 0);
+    l->z = filled(n.opening, 0), l->t = l->z + n.z, l->g = l->t + n.t, l->h = l->g + n.g;
+    l->next = malloc(n.next * sizeof *l->next);
 }
 
 void free_case(lists *l) {
-    const void *all[] = {l->a, l->b, l->c_matrix, l->d_matrix, l->whole, l->term, l->rows, l->psi, l->omega, l->alpha, l->delta, l->c,
-        l->witness, l->u1, l->p, l->b2, l->u2, l->z, l->next};
+    const void *all[] = {l->a_matrix, l->b_matrix, l->c_matrix, l->d_matrix, l->whole, l->constant_terms, l->projections, l->psi, l->omega,
+        l->alpha, l->delta, l->c, l->witness, l->u1, l->p, l->second_b, l->u2, l->z, l->next};
     for (size_t i = 0; i < sizeof all / sizeof *all; i++) free((void *)all[i]);
-}
-
-size_t opening_numbers(const lizkarg_sizes *s) {
-    size_t pairs = s->r * (s->r + 1) / 2;
-    return (2 * s->n + s->r * s->t1 * s->kappa + pairs * (s->t1 + s->t2)) * s->d;
 }

@@ -3,5 +3,4 @@
 #include "bench.h"
 void make_case(lizkarg_sizes *s, lists *l, int32_t most); /* a witness of numbers up to most; sets the bounds, too */
 void free_case(lists *l);
-size_t opening_numbers(const lizkarg_sizes *s);
 #endif

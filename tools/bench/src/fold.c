@@ -34,48 +34,48 @@ static void within_range(const int32_t *xs, size_t n, int32_t most) {
 static inline void within_range(const int32_t *xs, size_t n, int32_t most) { (void)xs, (void)n, (void)most; }
 #endif
 
-#define NUMBERS(xs, n) within_range(l->xs, n, MOST)
+#define NUMBERS(xs) within_range(l->xs, l->n.xs, MOST)
 
 /* entries of -1, 0, 1 are in coefficient range, too */
-static void test_rows(const lizkarg_sizes *s, const lists *l) { within_range(l->rows, s->w * s->r * s->n * s->d, 1); }
+static void test_projections(const lists *l) { within_range(l->projections, l->n.projections, 1); }
 
-static void test_seconds(const lizkarg_sizes *s, const lists *l) {
-    NUMBERS(term, s->l * ((pairs(s->r) + s->r * s->n) * s->d + 1));
-    NUMBERS(psi, 5 * s->l);
-    NUMBERS(omega, 5 * s->w);
-    test_rows(s, l);
+static void test_seconds(const lists *l) {
+    NUMBERS(constant_terms);
+    NUMBERS(psi);
+    NUMBERS(omega);
+    test_projections(l);
 }
 
-static void test_wholes(const lizkarg_sizes *s, const lists *l) {
-    NUMBERS(whole, s->k * (pairs(s->r) + s->r * s->n + 1) * s->d);
-    NUMBERS(alpha, s->k * s->d);
-    NUMBERS(delta, 5 * s->d);
-    NUMBERS(d_matrix, s->kappa2 * pairs(s->r) * s->t1 * s->d);
+static void test_wholes(const lists *l) {
+    NUMBERS(whole);
+    NUMBERS(alpha);
+    NUMBERS(delta);
+    NUMBERS(d_matrix);
 }
 
-static void test_commit(const lizkarg_sizes *s, const lists *l) {
-    NUMBERS(a, s->kappa * s->n * s->d);
-    NUMBERS(b, s->kappa1 * s->r * s->t1 * s->kappa * s->d);
-    NUMBERS(c_matrix, s->kappa1 * pairs(s->r) * s->t2 * s->d);
+static void test_commit(const lists *l) {
+    NUMBERS(a_matrix);
+    NUMBERS(b_matrix);
+    NUMBERS(c_matrix);
 }
 
-static void test_messages(const lizkarg_sizes *s, const lists *l) {
-    NUMBERS(u1, s->kappa1 * s->d);
-    NUMBERS(p, s->w);
-    NUMBERS(b2, 5 * s->d);
-    NUMBERS(u2, s->kappa2 * s->d);
+static void test_messages(const lists *l) {
+    NUMBERS(u1);
+    NUMBERS(p);
+    NUMBERS(second_b);
+    NUMBERS(u2);
 }
 
 static void test_challenges(const lizkarg_sizes *s, const lists *l) {
-    NUMBERS(c, s->r * s->d);
-    within_range(l->c, s->r * s->d, 2);
+    NUMBERS(c);
+    within_range(l->c, l->n.c, 2);
 #if TESTS
     for (size_t i = 0; i < s->r; i++)
         if (!within(71, l->c + i * s->d, s->d, 1)) abort();
 #endif
 }
 
-static void test_witness(const lizkarg_sizes *s, const lists *l) { NUMBERS(witness, s->r * s->n * s->d); }
+static void test_witness(const lists *l) { NUMBERS(witness); }
 
 /* ---- messages */
 
@@ -94,25 +94,25 @@ static void digits_of(size_t d, int32_t base, size_t t, size_t count, const int3
 static void commit(const lizkarg_sizes *s, const lists *l) {
     size_t d = s->d, n = s->n, m = s->r * s->t1 * s->kappa, g = pairs(s->r) * s->t2;
     int32_t products[136 * 64];
-    test_commit(s, l), test_witness(s, l);
+    test_commit(l), test_witness(l);
     for (size_t i = 0; i < s->r; i++) {
         int32_t *block = l->t + i * s->t1 * s->kappa * d;
         for (size_t k = 0; k < s->kappa; k++)
-            store(d, inner(d, n, l->a + k * n * d, l->witness + i * n * d), block + ((s->t1 - 1) * s->kappa + k) * d);
+            store(d, inner(d, n, l->a_matrix + k * n * d, l->witness + i * n * d), block + ((s->t1 - 1) * s->kappa + k) * d);
         split((int32_t)s->b1, s->t1, s->kappa * d, block);
     }
     pair_products(s, l->witness, products);
     digits_of(d, (int32_t)s->b2, s->t2, pairs(s->r), products, l->g);
     for (size_t k = 0; k < s->kappa1; k++)
-        store(d, add(d, inner(d, m, l->b + k * m * d, l->t), inner(d, g, l->c_matrix + k * g * d, l->g)), l->u1 + k * d);
+        store(d, add(d, inner(d, m, l->b_matrix + k * m * d, l->t), inner(d, g, l->c_matrix + k * g * d, l->g)), l->u1 + k * d);
 }
 
 static void project(const lizkarg_sizes *s, const lists *l) {
     size_t size = s->r * s->n * s->d;
-    test_rows(s, l), test_witness(s, l);
+    test_projections(l), test_witness(l);
     for (size_t j = 0; j < s->w; j++) {
         int64_t sum = 0;
-        for (size_t x = 0; x < size; x++) sum += (int64_t)l->rows[j * size + x] * l->witness[x];
+        for (size_t x = 0; x < size; x++) sum += (int64_t)l->projections[j * size + x] * l->witness[x];
         l->p[j] = centre(sum);
     }
 }
@@ -121,31 +121,31 @@ static void project(const lizkarg_sizes *s, const lists *l) {
 static void aggregate(const lizkarg_sizes *s, const lists *l) {
     size_t d = s->d, n = s->n;
     five quadratic = {0}, linear = {0};
-    table sums;
-    test_seconds(s, l), test_witness(s, l);
-    write_table(s, l, &sums);
+    table omega_sums;
+    test_seconds(l), test_witness(l);
+    write_table(s, l, &omega_sums);
     for (size_t i = 0, e = 0; i < s->r; i++)
         for (size_t j = i; j < s->r; j++, e++) {
             five row = second_row_a(s, l, e);
             if (!is_zero(d, &row)) quadratic = add_products(d, quadratic, &row, inner(d, n, l->witness + i * n * d, l->witness + j * n * d));
         }
     for (size_t e = 0; e < s->r * n; e++) {
-        five row = second_row_phi(s, l, &sums, e);
+        five row = second_row_phi(s, l, &omega_sums, e);
         linear = add_products(d, linear, &row, load_element(d, l->witness + e * d));
     }
-    for (size_t k = 0; k < 5; k++) store(d, add(d, quadratic.v[k], linear.v[k]), l->b2 + k * d);
+    for (size_t k = 0; k < 5; k++) store(d, add(d, quadratic.v[k], linear.v[k]), l->second_b + k * d);
 }
 #else
 static void aggregate(const lizkarg_sizes *s, const lists *l) {
     size_t d = s->d;
     int32_t products[136 * 64];
-    test_seconds(s, l), test_witness(s, l);
+    test_seconds(l), test_witness(l);
     pair_products(s, l->witness, products);
     for (size_t k = 0; k < 5; k++) {
         element sum = {{0}};
-        for (size_t e = 0; e < pairs(s->r); e++) sum = add(d, sum, mul(d, term_entry(s, l, k, e), load_element(d, products + e * d)));
+        for (size_t e = 0; e < pairs(s->r); e++) sum = add(d, sum, mul(d, constant_terms_entry(s, l, k, e), load_element(d, products + e * d)));
         for (size_t e = 0; e < s->r * s->n; e++) sum = add(d, sum, mul(d, second_phi(s, l, k, e), load_element(d, l->witness + e * d)));
-        store(d, sum, l->b2 + k * d);
+        store(d, sum, l->second_b + k * d);
     }
 }
 #endif
@@ -153,11 +153,11 @@ static void aggregate(const lizkarg_sizes *s, const lists *l) {
 static void garbage(const lizkarg_sizes *s, const lists *l) {
     size_t d = s->d, n = s->n, r = s->r, m = pairs(r) * s->t1;
     int32_t phi[256 * 64], products[256 * 64], values[136 * 64], *out = values;
-    table sums;
-    test_seconds(s, l), test_wholes(s, l), test_witness(s, l);
-    write_table(s, l, &sums);
+    table omega_sums;
+    test_seconds(l), test_wholes(l), test_witness(l);
+    write_table(s, l, &omega_sums);
     for (size_t i = 0; i < r; i++) {
-        for (size_t y = 0; y < n; y++) store(d, aggregate_phi(s, l, &sums, i * n + y), phi + y * d);
+        for (size_t y = 0; y < n; y++) store(d, aggregate_phi(s, l, &omega_sums, i * n + y), phi + y * d);
         for (size_t j = 0; j < r; j++) store(d, inner(d, n, phi, l->witness + j * n * d), products + (i * r + j) * d);
     }
     for (size_t i = 0; i < r; i++)
@@ -171,7 +171,7 @@ static void garbage(const lizkarg_sizes *s, const lists *l) {
 
 static void amortize(const lizkarg_sizes *s, const lists *l) {
     size_t d = s->d, n = s->n;
-    test_witness(s, l), test_challenges(s, l);
+    test_witness(l), test_challenges(s, l);
     for (size_t k = 0; k < n; k++) {
         element sum = {{0}};
         for (size_t i = 0; i < s->r; i++) sum = add(d, sum, mul(d, load_element(d, l->c + i * d), load_element(d, l->witness + (i * n + k) * d)));
@@ -195,14 +195,14 @@ static element mixed(const lizkarg_sizes *s, const lists *l, const int32_t *digi
 
 /* checks 1 and 2 */
 static int first_checks(const lizkarg_sizes *s, const lists *l) {
-    size_t size = (pairs(s->r) + s->r * s->n) * s->d;
+    size_t size = function(s);
     int good = 1;
     if (!within(s->w * s->bound, l->p, s->w, 2)) return 256 + 1;
     for (size_t k = 0; k < 5; k++) {
         int64_t sum = 0;
-        for (size_t j = 0; j < s->l; j++) sum = (sum + (int64_t)l->psi[k * s->l + j] * l->term[j * (size + 1) + size]) % Q;
+        for (size_t j = 0; j < s->l; j++) sum = (sum + (int64_t)l->psi[k * s->l + j] * l->constant_terms[j * (size + 1) + size]) % Q;
         for (size_t j = 0; j < s->w; j++) sum = (sum + (int64_t)l->omega[k * s->w + j] * l->p[j]) % Q;
-        good &= centre(sum) == l->b2[k * s->d];
+        good &= centre(sum) == l->second_b[k * s->d];
     }
     return good ? 0 : 256 + 2;
 }
@@ -210,13 +210,13 @@ static int first_checks(const lizkarg_sizes *s, const lists *l) {
 static int verify(const lizkarg_sizes *s, const lists *l) {
     size_t d = s->d, n = s->n, r = s->r, m = r * s->t1 * s->kappa, g = pairs(r) * s->t2, h = pairs(r) * s->t1;
     int32_t z[256 * 64];
-    table sums;
+    table omega_sums;
     int good = 1, first;
-    test_commit(s, l), test_wholes(s, l), test_seconds(s, l), test_messages(s, l), test_challenges(s, l);
-    NUMBERS(z, (2 * n + m + g + h) * d);
+    test_commit(l), test_wholes(l), test_seconds(l), test_messages(l), test_challenges(s, l);
+    within_range(l->z, l->n.opening, MOST);
     if ((first = first_checks(s, l))) return first;
     for (size_t k = 0; k < s->kappa1; k++)
-        good &= same(d, load_element(d, l->u1 + k * d), add(d, inner(d, m, l->b + k * m * d, l->t), inner(d, g, l->c_matrix + k * g * d, l->g)));
+        good &= same(d, load_element(d, l->u1 + k * d), add(d, inner(d, m, l->b_matrix + k * m * d, l->t), inner(d, g, l->c_matrix + k * g * d, l->g)));
     if (!good) return 256 + 3;
     for (size_t k = 0; k < s->kappa2; k++) good &= same(d, load_element(d, l->u2 + k * d), inner(d, h, l->d_matrix + k * h * d, l->h));
     if (!good) return 256 + 4;
@@ -225,15 +225,15 @@ static int verify(const lizkarg_sizes *s, const lists *l) {
         element sum = {{0}};
         for (size_t i = 0; i < r; i++)
             sum = add(d, sum, mul(d, load_element(d, l->c + i * d), recompose(d, (int64_t)s->b1, s->t1, l->t + (i * s->t1 * s->kappa + k) * d, s->kappa)));
-        good &= same(d, inner(d, n, l->a + k * n * d, z), sum);
+        good &= same(d, inner(d, n, l->a_matrix + k * n * d, z), sum);
     }
     if (!good) return 256 + 5;
     if (!same(d, inner(d, n, z, z), mixed(s, l, l->g, (int64_t)s->b2, s->t2))) return 256 + 6;
     element linear = {{0}};
-    write_table(s, l, &sums);
+    write_table(s, l, &omega_sums);
     for (size_t i = 0; i < r; i++) {
         element sum = {{0}};
-        for (size_t y = 0; y < n; y++) sum = add(d, sum, mul(d, aggregate_phi(s, l, &sums, i * n + y), load_element(d, z + y * d)));
+        for (size_t y = 0; y < n; y++) sum = add(d, sum, mul(d, aggregate_phi(s, l, &omega_sums, i * n + y), load_element(d, z + y * d)));
         linear = add(d, linear, mul(d, sum, load_element(d, l->c + i * d)));
     }
     if (!same(d, linear, mixed(s, l, l->h, (int64_t)s->b1, s->t1))) return 256 + 7;
@@ -244,13 +244,13 @@ static int verify(const lizkarg_sizes *s, const lists *l) {
             if (i == j) left = add(d, left, recompose(d, (int64_t)s->b1, s->t1, l->h + q * s->t1 * d, 1));
         }
     if (!same(d, left, aggregate_constant(s, l))) return 256 + 8;
-    if (!within(s->target, l->z, (2 * n + m + g + h) * d, 1)) return 256 + 9;
+    if (!within(s->target, l->z, l->n.opening, 1)) return 256 + 9;
     return 0;
 }
 
 static int next(const lizkarg_sizes *s, const lists *l) {
     int first;
-    test_commit(s, l), test_wholes(s, l), test_seconds(s, l), test_messages(s, l), test_challenges(s, l);
+    test_commit(l), test_wholes(l), test_seconds(l), test_messages(l), test_challenges(s, l);
     if ((first = first_checks(s, l))) return first;
     write_next(s, l);
     return 256 * LIZKARG_WRITTEN;

@@ -30,9 +30,7 @@ static void show(double ns) {
 static void line(const char *what, const double *ns) {
     printf("| %-26s |", what);
     show(ns[0]);
-    for (int i = 1; i < COUNT; i++)
-        if (ns[i] < 1e30) printf(" | %12.2f", ns[i] / ns[0]);
-        else printf(" | %12s", "");
+    for (int i = 1; i < COUNT; i++) printf(" | %12.2f", ns[i] / ns[0]);
     printf(" |\n");
     fflush(stdout);
 }
@@ -65,27 +63,6 @@ static void products(const char *what, int32_t most) {
     line(what, least);
 }
 
-/* Message 1 with one part and one row is two inner products of n pairs and four products more. */
-static void inner_products(const char *what, int32_t most) {
-    lizkarg_sizes s = {64, 256, 1, 0, 0, 0, 1, 1, 1, 16, 256, 256, 2, 2, 0, 0};
-    lists l;
-    double least[COUNT];
-    int32_t first[64];
-    make_case(&s, &l, most);
-    for (int i = 0; i < COUNT; i++) least[i] = 1e30;
-    for (int round = 0; round < 20; round++)
-        for (int i = 0; i < COUNT; i++) {
-            double from = now();
-            all[i]->commit(&s, &l);
-            double ns = (now() - from) / (2 * s.n + 4);
-            if (ns < least[i]) least[i] = ns;
-            if (i == 0) memcpy(first, l.u1, sizeof first);
-            else if (memcmp(first, l.u1, sizeof first)) differ("inner product", all[i]->name);
-        }
-    free_case(&l);
-    line(what, least);
-}
-
 static int step(const implementation *x, int which, const lizkarg_sizes *s, const lists *l) {
     switch (which) {
     case 0: x->commit(s, l); return 0;
@@ -103,10 +80,8 @@ enum { OUTPUTS = 6 };
 typedef struct { int32_t *numbers; size_t count; } output;
 typedef struct { output of[OUTPUTS]; } outputs;
 
-static outputs outputs_of(const lizkarg_sizes *s, const lists *l) {
-    size_t d = s->d;
-    return (outputs){{{l->z, opening_numbers(s)}, {l->u1, s->kappa1 * d}, {l->b2, 5 * d}, {l->u2, s->kappa2 * d}, {l->p, s->w},
-        {l->next, l->next_len}}};
+static outputs outputs_of(const lists *l) {
+    return (outputs){{{l->z, l->n.opening}, {l->u1, l->n.u1}, {l->second_b, l->n.second_b}, {l->u2, l->n.u2}, {l->p, l->n.p}, {l->next, l->n.next}}};
 }
 
 static void spoil(outputs x) {
@@ -122,7 +97,7 @@ static outputs kept(outputs x) {
 }
 
 static void compare(outputs x, outputs first, const implementation *who) {
-    for (int i = 0; i < (who->next ? OUTPUTS : OUTPUTS - 1); i++)
+    for (int i = 0; i < OUTPUTS; i++)
         if (memcmp(x.of[i].numbers, first.of[i].numbers, x.of[i].count * sizeof(int32_t))) differ("message or instance", who->name);
 }
 
@@ -130,63 +105,68 @@ static void release(outputs x) {
     for (int i = 0; i < OUTPUTS; i++) free(x.of[i].numbers);
 }
 
-/* all steps of one implementation; the least times are kept */
-static void steps_of(const implementation *who, const lizkarg_sizes *s, const lists *l, double *least, int stride) {
-    for (int x = 0; x < (who->next ? STEPS : STEPS - 1); x++) {
-        double from = now();
-        int code = step(who, x, s, l);
-        double ns = now() - from;
-        if (ns < least[x * stride]) least[x * stride] = ns;
-        if (code) differ("verdict", who->name);
-    }
+/* Steps `from` to `to` - 1 by some implementations in turn, what they write compared with the first's; the least times of each. */
+static void measure(const lizkarg_sizes *s, const lists *l, const implementation **who, int count, int from, int to, int repetitions,
+    double least[][STEPS]) {
+    outputs written = outputs_of(l), first = {0};
+    for (int i = 0; i < count; i++)
+        for (int x = 0; x < STEPS; x++) least[i][x] = 1e30;
+    for (int round = 0; round < repetitions; round++)
+        for (int i = 0; i < count; i++) {
+            spoil(written);
+            for (int x = from; x < to; x++) {
+                double start = now();
+                int code = step(who[i], x, s, l);
+                double ns = now() - start;
+                if (ns < least[i][x]) least[i][x] = ns;
+                if (code) differ("verdict", who[i]->name);
+            }
+            if (round == 0 && i == 0) first = kept(written);
+            compare(written, first, who[i]);
+        }
+    release(first);
+}
+
+static double prover(const double *least) { return least[0] + least[1] + least[2] + least[3] + least[4]; }
+
+/* one step of every implementation, divided by `parts` */
+static void step_line(const char *what, double least[][STEPS], int x, double parts) {
+    double ns[COUNT];
+    for (int i = 0; i < COUNT; i++) ns[i] = least[i][x] / parts;
+    line(what, ns);
+}
+
+/* Message 1 with one part and one row is two inner products of n pairs and four products more. */
+static void inner_products(const char *what, int32_t most) {
+    lizkarg_sizes s = {64, 256, 1, 0, 0, 0, 1, 1, 1, 16, 256, 256, 2, 2, 0, 0};
+    lists l;
+    double least[COUNT][STEPS];
+    make_case(&s, &l, most);
+    measure(&s, &l, all, COUNT, 0, 1, 20, least);
+    step_line(what, least, 0, 2 * s.n + 4);
+    free_case(&l);
 }
 
 static void fold(lizkarg_sizes s, int repetitions) {
     lists l;
-    static double least[STEPS][COUNT];
-    double whole[COUNT] = {0};
-    outputs first = {0};
+    double least[COUNT][STEPS], whole[COUNT];
     make_case(&s, &l, 1);
-    outputs written = outputs_of(&s, &l);
-    for (int x = 0; x < STEPS; x++)
-        for (int i = 0; i < COUNT; i++) least[x][i] = 1e30;
-    for (int round = 0; round < repetitions; round++)
-        for (int i = 0; i < COUNT; i++) {
-            spoil(written);
-            steps_of(all[i], &s, &l, &least[0][i], COUNT);
-            if (round == 0 && i == 0) first = kept(written);
-            compare(written, first, all[i]);
-        }
-    for (int x = 0; x < STEPS; x++) {
-        line(steps[x], least[x]);
-        for (int i = 0; i < COUNT && x < 5; i++) whole[i] += least[x][i];
-    }
+    measure(&s, &l, all, COUNT, 0, STEPS, repetitions, least);
+    for (int x = 0; x < STEPS; x++) step_line(steps[x], least, x, 1);
+    for (int i = 0; i < COUNT; i++) whole[i] = prover(least[i]);
     line("prover, all messages", whole);
-    release(first);
     free_case(&l);
 }
 
 /* Message 3 where the constant-term constraints are linear: all a' are zero, and no <s_i, s_j> is needed. */
 static void linear(lizkarg_sizes s, int repetitions) {
     lists l;
-    double least[COUNT];
-    int32_t first[5 * 64];
+    double least[COUNT][STEPS];
     make_case(&s, &l, 1);
-    size_t pairs = s.r * (s.r + 1) / 2;
-    for (size_t k = 0; k < s.l; k++) memset((int32_t *)l.term + k * ((pairs + s.r * s.n) * s.d + 1), 0, pairs * s.d * sizeof(int32_t));
-    for (int i = 0; i < COUNT; i++) least[i] = 1e30;
-    for (int round = 0; round < repetitions; round++)
-        for (int i = 0; i < COUNT; i++) {
-            memset(l.b2, 0x55, sizeof first);
-            double from = now();
-            all[i]->aggregate(&s, &l);
-            double ns = now() - from;
-            if (ns < least[i]) least[i] = ns;
-            if (i == 0) memcpy(first, l.b2, sizeof first);
-            else if (memcmp(first, l.b2, sizeof first)) differ("message 3", all[i]->name);
-        }
+    for (size_t k = 0; k < s.l; k++) memset((int32_t *)l.constant_terms + k * (function(&s) + 1), 0, pairs(s.r) * s.d * sizeof(int32_t));
+    measure(&s, &l, all, COUNT, 2, 3, repetitions, least);
+    step_line("message 3, linear f'", least, 2, 1);
     free_case(&l);
-    line("message 3, linear f'", least);
 }
 
 /* Ours step by step, and the whole prover, the verifier and the next instance of some others as ratios. */
@@ -197,7 +177,7 @@ static void growth_heading(void) {
     printf("|  |");
     for (int x = 0; x < STEPS; x++) printf(" %s |", steps[x]);
     printf(" prover |");
-    for (int i = 1; i < GROWN; i++) printf(" %s: prover, verifier%s |", grown[i]->name, grown[i]->next ? ", next" : "");
+    for (int i = 1; i < GROWN; i++) printf(" %s: prover, verifier, next |", grown[i]->name);
     printf("\n|---|");
     for (int x = 0; x < STEPS + GROWN; x++) printf("---|");
     printf("\n");
@@ -205,36 +185,20 @@ static void growth_heading(void) {
 
 static void growth_line(const char *what, size_t v, lizkarg_sizes s, int repetitions) {
     lists l;
-    double least[GROWN][STEPS], whole[GROWN] = {0};
-    outputs first = {0};
+    double least[GROWN][STEPS];
     make_case(&s, &l, 1);
-    outputs written = outputs_of(&s, &l);
-    for (int i = 0; i < GROWN; i++)
-        for (int x = 0; x < STEPS; x++) least[i][x] = 1e30;
-    for (int round = 0; round < repetitions; round++)
-        for (int i = 0; i < GROWN; i++) {
-            spoil(written);
-            steps_of(grown[i], &s, &l, least[i], 1);
-            if (round == 0 && i == 0) first = kept(written);
-            compare(written, first, grown[i]);
-        }
-    for (int i = 0; i < GROWN; i++)
-        for (int x = 0; x < 5; x++) whole[i] += least[i][x];
+    measure(&s, &l, grown, GROWN, 0, STEPS, repetitions, least);
     printf("| %s = %-4zu |", what, v);
     for (int x = 0; x < STEPS; x++) {
         show(least[0][x]);
         printf(" |");
     }
-    show(whole[0]);
+    show(prover(least[0]));
     printf(" |");
-    for (int i = 1; i < GROWN; i++) {
-        printf(" %.2f, %.2f", whole[i] / whole[0], least[i][5] / least[0][5]);
-        if (grown[i]->next) printf(", %.2f", least[i][6] / least[0][6]);
-        printf(" |");
-    }
+    for (int i = 1; i < GROWN; i++)
+        printf(" %.2f, %.2f, %.2f |", prover(least[i]) / prover(least[0]), least[i][5] / least[0][5], least[i][6] / least[0][6]);
     printf("\n");
     fflush(stdout);
-    release(first);
     free_case(&l);
 }
 
@@ -279,18 +243,19 @@ static size_t whole_case(char *text) {
     return at;
 }
 
+/* l is 1 */
 static size_t write_sheet(const lizkarg_sizes *s, const lists *l, char *text) {
-    size_t at = 0, d = s->d, n = s->n, r = s->r, pairs = r * (r + 1) / 2, size = (pairs + r * n) * d;
-    uint64_t header[] = {d, n, r, s->k, s->l, s->w, s->kappa, s->kappa1, s->kappa2, s->b, s->b1, s->b2, s->t1, s->t2, 1, 1, s->bound, s->target};
+    size_t at = 0, d = s->d, size = function(s);
+    uint64_t header[] = {d, s->n, s->r, s->k, s->l, s->w, s->kappa, s->kappa1, s->kappa2, s->b, s->b1, s->b2, s->t1, s->t2, 1, 1, s->bound, s->target};
     for (int i = 0; i < 18; i++) at += sprintf(text + at, "%16llu", (unsigned long long)header[i]);
     text[at++] = '\n';
-    struct { const int32_t *numbers; size_t count, width; } parts[] = {{l->a, s->kappa * n * d, d}, {l->b, s->kappa1 * r * s->t1 * s->kappa * d, d},
-        {l->c_matrix, s->kappa1 * pairs * s->t2 * d, d}, {l->d_matrix, s->kappa2 * pairs * s->t1 * d, d}, {l->whole, s->k * (size + d), d},
-        {l->term, size, d}, {l->term + size, 1, 1}, {l->u1, s->kappa1 * d, d}, {l->rows, s->w * r * n * d, d}, {l->p, s->w, 1},
-        {l->psi, 5, 1}, {l->omega, 5 * s->w, 1}, {l->b2, 5 * d, d}, {l->alpha, s->k * d, d}, {l->delta, 5 * d, d}, {l->u2, s->kappa2 * d, d},
-        {l->c, r * d, d}, {l->z, opening_numbers(s), d}};
-    for (size_t i = 0; i < sizeof parts / sizeof *parts; i++)
-        for (size_t k = 0; k < parts[i].count; k += parts[i].width) at += put_line(text + at, parts[i].numbers + k, parts[i].width);
+#define LINES(x, width) {l->x, l->n.x, width}
+    struct { const int32_t *numbers; size_t count, width; } blocks[] = {LINES(a_matrix, d), LINES(b_matrix, d), LINES(c_matrix, d),
+        LINES(d_matrix, d), LINES(whole, d), {l->constant_terms, size, d}, {l->constant_terms + size, 1, 1}, LINES(u1, d), LINES(projections, d),
+        LINES(p, 1), LINES(psi, 1), LINES(omega, 1), LINES(second_b, d), LINES(alpha, d), LINES(delta, d), LINES(u2, d), LINES(c, d),
+        {l->z, l->n.opening, d}};
+    for (size_t i = 0; i < sizeof blocks / sizeof *blocks; i++)
+        for (size_t k = 0; k < blocks[i].count; k += blocks[i].width) at += put_line(text + at, blocks[i].numbers + k, blocks[i].width);
     return at;
 }
 

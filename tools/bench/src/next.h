@@ -3,23 +3,23 @@
 #define NEXT_H
 #include "second.h"
 
-typedef struct { int32_t folded[256 * 64], products[136 * 64], relation[136 * 64], diagonal[136 * 64]; } next_lists;
+typedef struct { int32_t folded[256 * 64], products[136 * 64], aggregate_a[136 * 64], diagonal[136 * 64]; } next_lists;
 static const element zero = {{0}};
 
 static void write_next_lists(const lizkarg_sizes *s, const lists *l, next_lists *x) {
     size_t d = s->d, n = s->n, r = s->r;
-    table sums;
-    write_table(s, l, &sums);
+    table omega_sums;
+    write_table(s, l, &omega_sums);
     for (size_t k = 0; k < n; k++) {
         element sum = zero;
-        for (size_t i = 0; i < r; i++) sum = add(d, sum, mul(d, aggregate_phi(s, l, &sums, i * n + k), load_element(d, l->c + i * d)));
+        for (size_t i = 0; i < r; i++) sum = add(d, sum, mul(d, aggregate_phi(s, l, &omega_sums, i * n + k), load_element(d, l->c + i * d)));
         store(d, sum, x->folded + k * d);
     }
     for (size_t i = 0, q = 0; i < r; i++)
         for (size_t j = i; j < r; j++, q++) {
             element one = {{i == j}};
             store(d, scale(d, -1, scale(d, i == j ? 1 : 2, mul(d, load_element(d, l->c + i * d), load_element(d, l->c + j * d)))), x->products + q * d);
-            store(d, aggregate_a(s, l, q), x->relation + q * d);
+            store(d, aggregate_a(s, l, q), x->aggregate_a + q * d);
             store(d, one, x->diagonal + q * d);
         }
 }
@@ -47,18 +47,18 @@ static element t_entry(const lizkarg_sizes *s, const lists *l, size_t k, size_t 
 /* the coefficient of constraint x at place p of the opening; constraints in the order 5, 6, 7, 8, 3, 4 */
 static element coefficient(const lizkarg_sizes *s, const lists *l, const next_lists *y, size_t x, size_t p) {
     size_t d = s->d, t = 2 * s->n, tn = s->r * s->t1 * s->kappa, gn = pairs(s->r) * s->t2, g = t + tn, h = g + gn;
-    if (x < s->kappa) return p < t ? z_entry(s, l->a + x * s->n * d, p) : p < g ? t_entry(s, l, x, p - t) : zero;
+    if (x < s->kappa) return p < t ? z_entry(s, l->a_matrix + x * s->n * d, p) : p < g ? t_entry(s, l, x, p - t) : zero;
     x -= s->kappa;
     if (x == 0) return p < g || p >= h ? zero : garbage_entry(d, s->b2, s->t2, y->products, p - g);
     if (x == 1) return p < t ? z_entry(s, y->folded, p) : p < h ? zero : garbage_entry(d, s->b1, s->t1, y->products, p - h);
     if (x == 2) {
         if (p < g) return zero;
-        return p < h ? garbage_entry(d, s->b2, s->t2, y->relation, p - g) : garbage_entry(d, s->b1, s->t1, y->diagonal, p - h);
+        return p < h ? garbage_entry(d, s->b2, s->t2, y->aggregate_a, p - g) : garbage_entry(d, s->b1, s->t1, y->diagonal, p - h);
     }
     x -= 3;
     if (x < s->kappa1) {
         if (p < t || p >= h) return zero;
-        return load_element(d, p < g ? l->b + (x * tn + p - t) * d : l->c_matrix + (x * gn + p - g) * d);
+        return load_element(d, p < g ? l->b_matrix + (x * tn + p - t) * d : l->c_matrix + (x * gn + p - g) * d);
     }
     x -= s->kappa1;
     return p < h ? zero : load_element(d, l->d_matrix + (x * pairs(s->r) * s->t1 + p - h) * d);
@@ -86,8 +86,7 @@ static size_t chunk(size_t whole, size_t count, size_t i) {
 }
 
 static void write_next(const lizkarg_sizes *s, const lists *l) {
-    size_t d = s->d, n = s->n, nu = l->nu, mu = l->mu, m = s->r * s->kappa * s->t1 + pairs(s->r) * (s->t1 + s->t2);
-    size_t of_z = (n + nu - 1) / nu, of_rest = (m + mu - 1) / mu, rank = of_z <= of_rest ? of_rest : of_z, parts = 2 * nu + mu;
+    size_t d = s->d, n = s->n, nu = l->nu, mu = l->mu, m = rest(s), rank = next_rank(s, l), parts = 2 * nu + mu;
     next_lists y;
     int32_t *out = l->next;
     write_next_lists(s, l, &y);

@@ -209,6 +209,4 @@ static void split(int32_t base, size_t t, size_t width, int32_t *block) {
             rest[i] = (int32_t)((x - low) / base);
         }
 }
-
-static size_t pairs(size_t r) { return r * (r + 1) / 2; }
 #endif

@@ -4,20 +4,20 @@
 #include "ring.h"
 
 /* Σ ψ f' at place e of the second function k */
-static element term_entry(const lizkarg_sizes *s, const lists *l, size_t k, size_t e) {
-    size_t d = s->d, step = (pairs(s->r) + s->r * s->n) * d + 1;
+static element constant_terms_entry(const lizkarg_sizes *s, const lists *l, size_t k, size_t e) {
+    size_t d = s->d, step = function(s) + 1;
     element sum = {{0}};
-    for (size_t j = 0; j < s->l; j++) sum = add(d, sum, scale(d, l->psi[k * s->l + j], load_element(d, l->term + j * step + e * d)));
+    for (size_t j = 0; j < s->l; j++) sum = add(d, sum, scale(d, l->psi[k * s->l + j], load_element(d, l->constant_terms + j * step + e * d)));
     return sum;
 }
 
 /* the element whose coefficients the projection rows weigh, conjugated, and Σ ψ φ' */
-static element with_terms(const lizkarg_sizes *s, const lists *l, size_t k, size_t e, element projected) {
+static element with_constant_terms(const lizkarg_sizes *s, const lists *l, size_t k, size_t e, element projected) {
     size_t d = s->d;
     element turned = {{0}};
     turned.v[0] = projected.v[0];
     for (size_t y = 1; y < d; y++) turned.v[y] = minus(projected.v[d - y]);
-    return add(d, term_entry(s, l, k, pairs(s->r) + e), turned);
+    return add(d, constant_terms_entry(s, l, k, pairs(s->r) + e), turned);
 }
 
 #if KERNEL == 1
@@ -26,14 +26,14 @@ static element with_terms(const lizkarg_sizes *s, const lists *l, size_t k, size
 typedef struct { int64_t v[25920]; } table;
 typedef struct { element v[5]; } five;
 
-static void write_table(const lizkarg_sizes *s, const lists *l, table *sums) {
+static void write_table(const lizkarg_sizes *s, const lists *l, table *omega_sums) {
     size_t count = s->w / 4 * 405;
     for (size_t i = 0; i < count; i++) {
         size_t k = i % 5, number = i / 5, group = number / 81, c = number % 81;
         const int32_t *omega = l->omega + k * s->w + group * 4;
         int64_t sum = 0;
         for (size_t j = 0; j < 4; j++, c /= 3) sum += (int64_t)omega[j] * ((int64_t)(c % 3) - 1);
-        sums->v[i] = sum;
+        omega_sums->v[i] = sum;
     }
 }
 
@@ -47,10 +47,10 @@ static inline uint32_t code_at(const int32_t *row, size_t step) {
 static void group_codes(const lizkarg_sizes *s, const lists *l, size_t e, uint32_t codes[4096]) {
     size_t d = s->d, step = s->r * s->n * d;
     for (size_t g = 0; g < s->w / 4; g++)
-        for (size_t y = 0; y < d; y++) codes[g * 64 + y] = code_at(l->rows + g * 4 * step + e * d + y, step);
+        for (size_t y = 0; y < d; y++) codes[g * 64 + y] = code_at(l->projections + g * 4 * step + e * d + y, step);
 }
 
-static five second_row_phi(const lizkarg_sizes *s, const lists *l, const table *sums, size_t e) {
+static five second_row_phi(const lizkarg_sizes *s, const lists *l, const table *omega_sums, size_t e) {
     size_t d = s->d, w = s->w, step = s->r * s->n * d;
     uint32_t codes[4096] = {0};
     int64_t acc[320] = {0};
@@ -58,12 +58,12 @@ static five second_row_phi(const lizkarg_sizes *s, const lists *l, const table *
     group_codes(s, l, e, codes);
     for (size_t g = 0; g < w / 4; g++)
         for (size_t y = 0; y < d; y++) {
-            const int64_t *from = sums->v + (g * 81 + codes[g * 64 + y]) * 5;
+            const int64_t *from = omega_sums->v + (g * 81 + codes[g * 64 + y]) * 5;
             for (size_t k = 0; k < 5; k++) acc[y * 5 + k] += from[k];
         }
     for (size_t j = w / 4 * 4; j < w; j++)
         for (size_t y = 0; y < d; y++) {
-            int32_t x = l->rows[j * step + e * d + y];
+            int32_t x = l->projections[j * step + e * d + y];
             for (size_t k = 0; k < 5; k++) {
                 int64_t weight = l->omega[k * w + j];
                 acc[y * 5 + k] += x > 0 ? weight : x < 0 ? -weight : 0;
@@ -72,14 +72,14 @@ static five second_row_phi(const lizkarg_sizes *s, const lists *l, const table *
     for (size_t k = 0; k < 5; k++) {
         element projected = {{0}};
         for (size_t y = 0; y < d; y++) projected.v[y] = centre(acc[y * 5 + k]);
-        row.v[k] = with_terms(s, l, k, e, projected);
+        row.v[k] = with_constant_terms(s, l, k, e, projected);
     }
     return row;
 }
 
 static five second_row_a(const lizkarg_sizes *s, const lists *l, size_t e) {
     five row;
-    for (size_t k = 0; k < 5; k++) row.v[k] = term_entry(s, l, k, e);
+    for (size_t k = 0; k < 5; k++) row.v[k] = constant_terms_entry(s, l, k, e);
     return row;
 }
 
@@ -106,43 +106,43 @@ static element seconds_a(const lizkarg_sizes *s, const lists *l, size_t e) {
     return weighted_row(s->d, l, &row);
 }
 
-static element seconds_phi(const lizkarg_sizes *s, const lists *l, const table *sums, size_t e) {
-    five row = second_row_phi(s, l, sums, e);
+static element seconds_phi(const lizkarg_sizes *s, const lists *l, const table *omega_sums, size_t e) {
+    five row = second_row_phi(s, l, omega_sums, e);
     return weighted_row(s->d, l, &row);
 }
 #else
 typedef struct { char none; } table;
-static void write_table(const lizkarg_sizes *s, const lists *l, table *sums) { (void)s, (void)l, (void)sums; }
+static void write_table(const lizkarg_sizes *s, const lists *l, table *omega_sums) { (void)s, (void)l, (void)omega_sums; }
 
 static element second_phi(const lizkarg_sizes *s, const lists *l, size_t k, size_t e) {
     size_t d = s->d, step = s->r * s->n * d;
     int64_t sum[64] = {0};
     element projected = {{0}};
-    const int32_t *row = l->rows + e * d;
+    const int32_t *row = l->projections + e * d;
     for (size_t j = 0; j < s->w; j++, row += step) {
         int64_t c = l->omega[k * s->w + j];
         for (size_t y = 0; y < d; y++) sum[y] += c * row[y];
     }
     for (size_t y = 0; y < d; y++) projected.v[y] = centre(sum[y]);
-    return with_terms(s, l, k, e, projected);
+    return with_constant_terms(s, l, k, e, projected);
 }
 
 static element seconds_a(const lizkarg_sizes *s, const lists *l, size_t e) {
     element sum = {{0}};
-    for (size_t k = 0; k < 5; k++) sum = add(s->d, sum, mul(s->d, load_element(s->d, l->delta + k * s->d), term_entry(s, l, k, e)));
+    for (size_t k = 0; k < 5; k++) sum = add(s->d, sum, mul(s->d, load_element(s->d, l->delta + k * s->d), constant_terms_entry(s, l, k, e)));
     return sum;
 }
 
-static element seconds_phi(const lizkarg_sizes *s, const lists *l, const table *sums, size_t e) {
+static element seconds_phi(const lizkarg_sizes *s, const lists *l, const table *omega_sums, size_t e) {
     element sum = {{0}};
-    (void)sums;
+    (void)omega_sums;
     for (size_t k = 0; k < 5; k++) sum = add(s->d, sum, mul(s->d, load_element(s->d, l->delta + k * s->d), second_phi(s, l, k, e)));
     return sum;
 }
 #endif
 
 static element whole_entry(const lizkarg_sizes *s, const lists *l, size_t e) {
-    size_t d = s->d, step = (pairs(s->r) + s->r * s->n + 1) * d;
+    size_t d = s->d, step = function(s) + d;
     element sum = {{0}};
     for (size_t k = 0; k < s->k; k++) sum = add(d, sum, mul(d, load_element(d, l->alpha + k * d), load_element(d, l->whole + k * step + e * d)));
     return sum;
@@ -150,11 +150,11 @@ static element whole_entry(const lizkarg_sizes *s, const lists *l, size_t e) {
 
 static element aggregate_a(const lizkarg_sizes *s, const lists *l, size_t e) { return add(s->d, whole_entry(s, l, e), seconds_a(s, l, e)); }
 
-static element aggregate_phi(const lizkarg_sizes *s, const lists *l, const table *sums, size_t e) {
-    return add(s->d, whole_entry(s, l, pairs(s->r) + e), seconds_phi(s, l, sums, e));
+static element aggregate_phi(const lizkarg_sizes *s, const lists *l, const table *omega_sums, size_t e) {
+    return add(s->d, whole_entry(s, l, pairs(s->r) + e), seconds_phi(s, l, omega_sums, e));
 }
 
 static element aggregate_constant(const lizkarg_sizes *s, const lists *l) {
-    return add(s->d, whole_entry(s, l, pairs(s->r) + s->r * s->n), inner(s->d, 5, l->delta, l->b2));
+    return add(s->d, whole_entry(s, l, pairs(s->r) + s->r * s->n), inner(s->d, 5, l->delta, l->second_b));
 }
 #endif

@@ -1,14 +1,17 @@
 //! Each call of the library on a case, held to the second implementation: the answer, and every lent number afterwards.
-use crate::case::{Lists, Sz};
-use crate::plain::fold::Function;
-use crate::plain::{fold, refusals};
-use lizkarg::{Answer, CommitSizes, GarbageSizes, Proof, Shape, Sizes};
-use lizkarg::Answer::Judged;
+use crate::case::Lists;
+use lizkarg::Answer::{Judged, Refused, Written};
 use lizkarg::Verdict::{Accepted, Failed};
+use lizkarg::{Answer, CommitSizes, GarbageSizes, PartSizes, Proof, Shape};
+use plain::lists::{Room, Sizes};
+use plain::messages::{self, Function};
+use plain::refusals::{self, Refusal};
+use plain::verdict;
+use std::cell::OnceCell;
 use std::collections::BTreeMap;
 
 /// What a call's outputs hold before it.
-pub const POISON: i32 = 1234567891;
+const POISON: i32 = 1234567891;
 
 /// How often each call gave each answer.
 #[derive(Default)]
@@ -29,153 +32,149 @@ impl Tally {
     }
 }
 
-/// The lengths of the output slices.
-#[derive(Clone, Copy, Debug)]
-pub struct Room {
-    pub t: usize,
-    pub g: usize,
-    pub u1: usize,
-    pub p: usize,
-    pub b2: usize,
-    pub h: usize,
-    pub u2: usize,
-    pub z: usize,
+/// Sizes and lists, with the second functions, which are formed once.
+pub struct Case<'a> {
+    pub s: &'a Sizes,
+    pub l: &'a Lists,
+    second: OnceCell<Vec<Function>>,
 }
 
-pub fn room(s: &Sz) -> Room {
-    Room {
-        t: s.r * s.t1 * s.kappa * s.d,
-        g: s.pairs() * s.t2 * s.d,
-        u1: s.kappa1 * s.d,
-        p: s.w,
-        b2: 5 * s.d,
-        h: s.pairs() * s.t1 * s.d,
-        u2: s.kappa2 * s.d,
-        z: 2 * s.n * s.d,
+impl<'a> Case<'a> {
+    pub fn new(s: &'a Sizes, l: &'a Lists) -> Case<'a> {
+        Case { s, l, second: OnceCell::new() }
+    }
+
+    /// With the second functions, where they were formed already.
+    pub fn formed(s: &'a Sizes, l: &'a Lists, second: Vec<Function>) -> Case<'a> {
+        Case { s, l, second: OnceCell::from(second) }
+    }
+
+    pub fn second(&self) -> &[Function] {
+        self.second.get_or_init(|| messages::second(self.s, self.l))
     }
 }
 
-pub fn poison(size: usize) -> Vec<i32> {
-    vec![POISON; size]
-}
-
-/// Holds an answer and outputs to the refusal's number, or to what should be written.
-fn hold(tally: &mut Tally, call: &'static str, answer: Answer, number: u8, outs: &[&Vec<i32>], new: &dyn Fn() -> Vec<Vec<i32>>) {
-    tally.count(call, answer);
-    if number != 0 {
-        assert_eq!(answer, Answer::Refused(number), "{call}");
-        assert!(outs.iter().all(|xs| xs.iter().all(|v| *v == POISON)), "{call}: written on a refusal");
-        return;
-    }
-    assert_eq!(answer, Answer::Written, "{call}");
-    for (at, (out, should)) in outs.iter().zip(new()).enumerate() {
-        assert!(**out == should, "{call}: output {at} differs");
-    }
-}
-
-pub fn shape(s: &Sz) -> Shape {
+fn shape(s: &Sizes) -> Shape {
     Shape { d: s.d, n: s.n, r: s.r }
 }
 
-pub fn commit_sizes(s: &Sz) -> CommitSizes {
-    CommitSizes { d: s.d, n: s.n, r: s.r, kappa: s.kappa, kappa1: s.kappa1, b1: s.b1, b2: s.b2, t1: s.t1, t2: s.t2 }
+pub fn part_sizes(s: &Sizes) -> PartSizes {
+    PartSizes { d: s.d, n: s.n, r: s.r, kappa: s.kappa, t1: s.t1, t2: s.t2, nu: s.nu, mu: s.mu }
 }
 
-pub fn garbage_sizes(s: &Sz) -> GarbageSizes {
-    GarbageSizes { d: s.d, n: s.n, r: s.r, k: s.k, l: s.l, w: s.w, kappa2: s.kappa2, b1: s.b1, t1: s.t1 }
-}
-
-pub fn sizes(s: &Sz) -> Sizes {
-    Sizes {
+pub fn sizes(s: &Sizes) -> lizkarg::Sizes {
+    lizkarg::Sizes {
         d: s.d, n: s.n, r: s.r, k: s.k, l: s.l, w: s.w, kappa: s.kappa, kappa1: s.kappa1, kappa2: s.kappa2, b: s.b, b1: s.b1, b2: s.b2,
         t1: s.t1, t2: s.t2, bound: s.bound, target: s.target,
     }
 }
 
-pub fn commit(tally: &mut Tally, s: &Sz, l: &Lists, room: &Room) -> (Vec<i32>, Vec<i32>, Vec<i32>) {
-    let (mut t, mut g, mut u1) = (poison(room.t), poison(room.g), poison(room.u1));
-    let answer = lizkarg::commit(commit_sizes(s), &l.a, &l.b, &l.c_matrix, &l.witness, &mut t, &mut g, &mut u1);
-    let number = refusals::commit(s, l, t.len(), g.len(), u1.len());
-    hold(tally, "commit", answer, number, &[&t, &g, &u1], &|| {
-        let (t, g, u1) = fold::message1(s, l);
-        vec![t, g, u1]
-    });
-    (t, g, u1)
-}
-
-pub fn project(tally: &mut Tally, s: &Sz, l: &Lists, room: &Room) -> Vec<i32> {
-    let mut p = poison(room.p);
-    let answer = lizkarg::project(shape(s), s.w, &l.rows, &l.witness, &mut p);
-    hold(tally, "project", answer, refusals::project(s, l, p.len()), &[&p], &|| vec![fold::message2(s, l)]);
-    p
-}
-
-/// `second`: the five second functions, where they were formed already.
-pub fn aggregate(tally: &mut Tally, s: &Sz, l: &Lists, room: &Room, second: Option<&[Function]>) -> Vec<i32> {
-    let mut b2 = poison(room.b2);
-    let answer = lizkarg::aggregate(shape(s), s.l, s.w, &l.term, &l.rows, &l.psi, &l.omega, &l.witness, &mut b2);
-    hold(tally, "aggregate", answer, refusals::aggregate(s, l, b2.len()), &[&b2], &|| match second {
-        Some(second) => vec![fold::message3(s, l, second)],
-        None => vec![fold::message3(s, l, &fold::second(s, l))],
-    });
-    b2
-}
-
-/// `formed`: the aggregate, where it was formed already.
-pub fn commit_garbage(tally: &mut Tally, s: &Sz, l: &Lists, room: &Room, formed: Option<&Function>) -> (Vec<i32>, Vec<i32>) {
-    let (mut h, mut u2) = (poison(room.h), poison(room.u2));
-    let answer = lizkarg::commit_garbage(
-        garbage_sizes(s), &l.whole, &l.term, &l.rows, &l.psi, &l.omega, &l.alpha, &l.delta, &l.d_matrix, &l.witness, &mut h, &mut u2,
-    );
-    hold(tally, "commit_garbage", answer, refusals::garbage(s, l, h.len(), u2.len()), &[&h, &u2], &|| {
-        let mut zero = l.clone();
-        zero.b2 = vec![0; 5 * s.d];
-        let (h, u2) = match formed {
-            Some(f) => fold::message4(s, l, f),
-            None => fold::message4(s, l, &fold::aggregate(s, &zero, &fold::second(s, l))),
-        };
-        vec![h, u2]
-    });
-    (h, u2)
-}
-
-pub fn amortize(tally: &mut Tally, s: &Sz, l: &Lists, room: &Room) -> Vec<i32> {
-    let mut z = poison(room.z);
-    let answer = lizkarg::amortize(shape(s), s.b, &l.c, &l.witness, &mut z);
-    hold(tally, "amortize", answer, refusals::amortize(s, l, z.len()), &[&z], &|| vec![fold::message5(s, l)]);
-    z
-}
-
 pub fn proof(l: &Lists) -> Proof<'_> {
     Proof {
-        a: &l.a, b: &l.b, c_matrix: &l.c_matrix, d_matrix: &l.d_matrix, whole: &l.whole, term: &l.term, u1: &l.u1, rows: &l.rows,
-        p: &l.p, psi: &l.psi, omega: &l.omega, b2: &l.b2, alpha: &l.alpha, delta: &l.delta, u2: &l.u2, c: &l.c, opening: &l.opening,
+        a_matrix: &l.a_matrix, b_matrix: &l.b_matrix, c_matrix: &l.c_matrix, d_matrix: &l.d_matrix, whole: &l.whole,
+        constant_terms: &l.constant_terms, u1: &l.u1, projections: &l.projections, p: &l.p, psi: &l.psi, omega: &l.omega,
+        second_b: &l.second_b, alpha: &l.alpha, delta: &l.delta, u2: &l.u2, c: &l.c, opening: &l.opening,
     }
 }
 
-/// The library's answer, counted.
-pub fn judged(tally: &mut Tally, s: &Sz, l: &Lists) -> Answer {
+/// Makes a call on lists of the given lengths. Refused, it leaves them as they were; else it answers written and writes what it should, or
+/// answers with the check that fails.
+pub fn written<const N: usize>(
+    tally: &mut Tally, call: &'static str, refusal: Refusal, room: [usize; N], run: impl FnOnce([&mut [i32]; N]) -> Answer,
+    should: impl FnOnce() -> Result<[Vec<i32>; N], u8>,
+) -> Result<[Vec<i32>; N], Answer> {
+    let mut out = room.map(|length| vec![POISON; length]);
+    let answer = run(out.each_mut().map(|list| &mut list[..]));
+    tally.count(call, answer);
+    let should = refusal.map_err(Refused).and_then(|()| should().map_err(|check| Judged(Failed(check))));
+    match should {
+        Ok(should) => {
+            assert_eq!(answer, Written, "{call}");
+            assert!(out == should, "{call}: outputs differ");
+            Ok(out)
+        }
+        Err(should) => {
+            assert_eq!(answer, should, "{call}");
+            assert!(out.iter().flatten().all(|v| *v == POISON), "{call}: written all the same");
+            Err(answer)
+        }
+    }
+}
+
+pub fn commit(tally: &mut Tally, case: &Case, room: &Room) -> Result<[Vec<i32>; 3], Answer> {
+    let (s, l) = (case.s, case.l);
+    let sizes = CommitSizes { d: s.d, n: s.n, r: s.r, kappa: s.kappa, kappa1: s.kappa1, b1: s.b1, b2: s.b2, t1: s.t1, t2: s.t2 };
+    let run = |[t, g, u1]: [&mut [i32]; 3]| lizkarg::commit(sizes, &l.a_matrix, &l.b_matrix, &l.c_matrix, &l.witness, t, g, u1);
+    written(tally, "commit", refusals::commit(s, l, room), [room.t, room.g, room.u1], run, || Ok(messages::message1(s, l)))
+}
+
+pub fn project(tally: &mut Tally, case: &Case, room: &Room) -> Result<[Vec<i32>; 1], Answer> {
+    let (s, l) = (case.s, case.l);
+    let run = |[p]: [&mut [i32]; 1]| lizkarg::project(shape(s), s.w, &l.projections, &l.witness, p);
+    written(tally, "project", refusals::project(s, l, room), [room.p], run, || Ok(messages::message2(s, l)))
+}
+
+pub fn aggregate(tally: &mut Tally, case: &Case, room: &Room) -> Result<[Vec<i32>; 1], Answer> {
+    let (s, l) = (case.s, case.l);
+    let run = |[second_b]: [&mut [i32]; 1]| {
+        lizkarg::aggregate(shape(s), s.l, s.w, &l.constant_terms, &l.projections, &l.psi, &l.omega, &l.witness, second_b)
+    };
+    let should = || Ok(messages::message3(s, l, case.second()));
+    written(tally, "aggregate", refusals::aggregate(s, l, room), [room.second_b], run, should)
+}
+
+pub fn commit_garbage(tally: &mut Tally, case: &Case, room: &Room) -> Result<[Vec<i32>; 2], Answer> {
+    let (s, l) = (case.s, case.l);
+    let sizes = GarbageSizes { d: s.d, n: s.n, r: s.r, k: s.k, l: s.l, w: s.w, kappa2: s.kappa2, b1: s.b1, t1: s.t1 };
+    let run = |[h, u2]: [&mut [i32]; 2]| {
+        lizkarg::commit_garbage(
+            sizes, &l.whole, &l.constant_terms, &l.projections, &l.psi, &l.omega, &l.alpha, &l.delta, &l.d_matrix, &l.witness, h, u2,
+        )
+    };
+    let should = || Ok(messages::message4(s, l, &messages::aggregate(s, l, case.second())));
+    written(tally, "commit_garbage", refusals::commit_garbage(s, l, room), [room.h, room.u2], run, should)
+}
+
+pub fn amortize(tally: &mut Tally, case: &Case, room: &Room) -> Result<[Vec<i32>; 1], Answer> {
+    let (s, l) = (case.s, case.l);
+    let run = |[z]: [&mut [i32]; 1]| lizkarg::amortize(shape(s), s.b, &l.c, &l.witness, z);
+    written(tally, "amortize", refusals::amortize(s, l, room), [room.z], run, || Ok(messages::message5(s, l)))
+}
+
+/// All five messages, put into the lists; the second functions.
+pub fn fold(tally: &mut Tally, s: &Sizes, l: &mut Lists) -> Vec<Function> {
+    let (case, room) = (Case::new(s, l), s.room());
+    let [t, g, u1] = commit(tally, &case, &room).unwrap();
+    let [p] = project(tally, &case, &room).unwrap();
+    let [second_b] = aggregate(tally, &case, &room).unwrap();
+    let [h, u2] = commit_garbage(tally, &case, &room).unwrap();
+    let [z] = amortize(tally, &case, &room).unwrap();
+    let second = case.second.into_inner().unwrap();
+    (l.u1, l.p, l.second_b, l.u2, l.opening) = (u1, p, second_b, u2, [z, t, g, h].concat());
+    second
+}
+
+/// The library's verdict, counted.
+pub fn judged(tally: &mut Tally, s: &Sizes, l: &Lists) -> Answer {
     let answer = lizkarg::verify(sizes(s), &proof(l));
     tally.count("verify", answer);
     answer
 }
 
-/// The answer, held to the second implementation's.
-pub fn verify(tally: &mut Tally, s: &Sz, l: &Lists, second: Option<&[Function]>) -> Answer {
-    let answer = judged(tally, s, l);
-    assert_eq!(answer, plain_verify(s, l, second), "verify");
+/// The verdict, held to the second implementation's.
+pub fn verify(tally: &mut Tally, case: &Case) -> Answer {
+    let answer = judged(tally, case.s, case.l);
+    assert_eq!(answer, plain_verify(case), "verify");
     answer
 }
 
-/// The second implementation's answer.
-pub fn plain_verify(s: &Sz, l: &Lists, second: Option<&[Function]>) -> Answer {
-    let number = refusals::verify(s, l);
-    if number != 0 {
-        return Answer::Refused(number);
+/// The second implementation's verdict.
+pub fn plain_verify(case: &Case) -> Answer {
+    match refusals::verify(case.s, case.l) {
+        Err(number) => Refused(number),
+        Ok(()) => match verdict::verdict(case.s, case.l, case.second()) {
+            0 => Judged(Accepted),
+            check => Judged(Failed(check)),
+        },
     }
-    let check = match second {
-        Some(second) => fold::verdict(s, l, second),
-        None => fold::verdict(s, l, &fold::second(s, l)),
-    };
-    if check == 0 { Judged(Accepted) } else { Judged(Failed(check)) }
 }

@@ -3,7 +3,6 @@ mod calls;
 mod case;
 mod large;
 mod next_calls;
-mod plain;
 mod random;
 mod sides;
 mod small;

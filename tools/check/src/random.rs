@@ -16,15 +16,31 @@ impl Random {
         z ^ (z >> 31)
     }
 
-    pub fn below(&mut self, n: u64) -> u64 {
-        self.next() % n
+    pub fn below(&mut self, n: usize) -> usize {
+        (self.next() % n as u64) as usize
     }
 
-    pub fn between(&mut self, low: i64, high: i64) -> i64 {
-        low + (self.below((high - low + 1) as u64) as i64)
+    /// Once in `n` times.
+    pub fn once_in(&mut self, n: usize) -> bool {
+        self.below(n) == 0
     }
 
-    pub fn pick(&mut self, xs: &[i32]) -> i32 {
-        xs[self.below(xs.len() as u64) as usize]
+    pub fn between(&mut self, low: usize, high: usize) -> usize {
+        low + self.below(high - low + 1)
+    }
+
+    /// From -most to most.
+    pub fn signed(&mut self, most: i32) -> i32 {
+        ((self.next() % (2 * most as u64 + 1)) as i64 - most as i64) as i32
+    }
+
+    pub fn pick<T: Copy>(&mut self, xs: &[T]) -> T {
+        xs[self.below(xs.len())]
+    }
+
+    pub fn shuffle<T>(&mut self, xs: &mut [T]) {
+        for last in (1..xs.len()).rev() {
+            xs.swap(last, self.below(last + 1));
+        }
     }
 }

@@ -1,0 +1,170 @@
+//! Document 01, 'Where a call stops': whether a call is refused, and by which number. A projection entry or a challenge coefficient that is
+//! no coefficient at all is 8, the lower number.
+use crate::lists::{Lists, Numbers, Room, Sizes};
+use crate::next;
+use crate::ring::{squared_length, MOST};
+
+pub type Refusal = Result<(), u8>;
+
+/// "Lowest number first": the rows that a call tests stand in this order, and the first that fails is its answer.
+pub fn row(number: u8, passes: bool) -> Refusal {
+    if passes { Ok(()) } else { Err(number) }
+}
+
+// Rows 1 to 6
+
+fn degree(s: &Sizes) -> Refusal {
+    row(1, [2, 4, 8, 16, 32, 64].contains(&s.d))
+}
+
+fn shape(s: &Sizes) -> bool {
+    (1..=256).contains(&s.n) && (1..=16).contains(&s.r)
+}
+
+fn count(k: usize) -> bool {
+    k <= 32
+}
+
+fn rows(w: usize) -> bool {
+    w <= 256
+}
+
+fn ranks<const N: usize>(all: [usize; N]) -> Refusal {
+    row(3, all.iter().all(|k| (1..=8).contains(k)))
+}
+
+fn digits<const B: usize, const T: usize>(bases: [usize; B], counts: [usize; T]) -> Refusal {
+    row(4, bases.iter().all(|b| (2..=65536).contains(b)) && counts.iter().all(|t| (2..=8).contains(t)))
+}
+
+fn chunks(s: &Sizes) -> Refusal {
+    row(5, s.nu >= 1 && s.mu >= 1 && parts(s) <= 16)
+}
+
+/// r'
+fn parts(s: &Sizes) -> u128 {
+    2 * s.nu as u128 + s.mu as u128
+}
+
+/// The rows 1 to 6 of the verifier, and with `nu_mu` those of the next instance, which are those of a sheet.
+pub fn sizes(s: &Sizes, nu_mu: bool) -> Refusal {
+    degree(s)?;
+    row(2, shape(s) && count(s.k) && count(s.l) && rows(s.w))?;
+    ranks([s.kappa, s.kappa1, s.kappa2])?;
+    digits([s.b, s.b1, s.b2], [s.t1, s.t2])?;
+    if nu_mu {
+        chunks(s)?;
+    }
+    row(6, s.bound <= 999999999999999 && s.target <= 999999999999999)
+}
+
+// Rows 7 to 10
+
+/// Lists that a call reads, each with the length that the sizes give.
+macro_rules! reads {
+    ($s:expr, $l:expr, $($name:ident)*) => {{
+        let lengths = $s.lengths();
+        &[$((&$l.$name[..], lengths.$name)),*]
+    }};
+}
+
+/// Rows 7 and 8, for lists with the lengths that they should have, and for the lengths that a call writes.
+fn lists(reads: &[(&[i32], usize)], writes: &[(usize, usize)]) -> Refusal {
+    row(7, reads.iter().all(|(list, length)| list.len() == *length) && writes.iter().all(|(room, length)| room == length))?;
+    row(8, reads.iter().all(|(list, _)| list.iter().all(|v| (*v as i64).abs() <= MOST)))
+}
+
+fn projections(entries: &[i32]) -> Refusal {
+    row(9, entries.iter().all(|v| [-1, 0, 1].contains(v)))
+}
+
+/// "A challenge c has coefficients -2 to 2 and squared length at most 71."
+fn challenges(d: usize, c: &[i32]) -> Refusal {
+    row(10, c.chunks(d).all(|c| c.iter().all(|v| (-2..=2).contains(v)) && squared_length(c) <= 71))
+}
+
+// The calls
+
+/// Message 1.
+pub fn commit(s: &Sizes, l: &Lists<impl Numbers>, room: &Room) -> Refusal {
+    degree(s)?;
+    row(2, shape(s))?;
+    ranks([s.kappa, s.kappa1])?;
+    digits([s.b1, s.b2], [s.t1, s.t2])?;
+    let want = s.room();
+    lists(reads!(s, l, a_matrix b_matrix c_matrix witness), &[(room.t, want.t), (room.g, want.g), (room.u1, want.u1)])
+}
+
+/// Message 2.
+pub fn project(s: &Sizes, l: &Lists<impl Numbers>, room: &Room) -> Refusal {
+    degree(s)?;
+    row(2, shape(s) && rows(s.w))?;
+    lists(reads!(s, l, projections witness), &[(room.p, s.w)])?;
+    projections(&l.projections)
+}
+
+/// Message 3.
+pub fn aggregate(s: &Sizes, l: &Lists<impl Numbers>, room: &Room) -> Refusal {
+    degree(s)?;
+    row(2, shape(s) && count(s.l) && rows(s.w))?;
+    lists(reads!(s, l, constant_terms projections psi omega witness), &[(room.second_b, s.room().second_b)])?;
+    projections(&l.projections)
+}
+
+/// Message 4.
+pub fn commit_garbage(s: &Sizes, l: &Lists<impl Numbers>, room: &Room) -> Refusal {
+    degree(s)?;
+    row(2, shape(s) && count(s.k) && count(s.l) && rows(s.w))?;
+    ranks([s.kappa2])?;
+    digits([s.b1], [s.t1])?;
+    let want = s.room();
+    let reads = reads!(s, l, whole constant_terms projections psi omega alpha delta d_matrix witness);
+    lists(reads, &[(room.h, want.h), (room.u2, want.u2)])?;
+    projections(&l.projections)
+}
+
+/// Message 5.
+pub fn amortize(s: &Sizes, l: &Lists<impl Numbers>, room: &Room) -> Refusal {
+    degree(s)?;
+    row(2, shape(s))?;
+    digits([s.b], [])?;
+    lists(reads!(s, l, c witness), &[(room.z, s.room().z)])?;
+    challenges(s.d, &l.c)
+}
+
+/// The lists of the verifier but the opening, and what is beside them.
+fn judged(s: &Sizes, l: &Lists<impl Numbers>, opening: Option<&[i32]>, writes: &[(usize, usize)]) -> Refusal {
+    let shared = reads!(s, l, a_matrix b_matrix c_matrix d_matrix whole constant_terms u1 projections p psi omega second_b alpha delta u2 c);
+    let mut reads = shared.to_vec();
+    reads.extend(opening.map(|numbers| (numbers, s.lengths().opening)));
+    lists(&reads, writes)?;
+    projections(&l.projections)?;
+    challenges(s.d, &l.c)
+}
+
+/// Rows 7 to 10 of the verifier.
+pub fn numbers(s: &Sizes, l: &Lists<impl Numbers>) -> Refusal {
+    judged(s, l, Some(&l.opening), &[])
+}
+
+pub fn verify(s: &Sizes, l: &Lists<impl Numbers>) -> Refusal {
+    sizes(s, false)?;
+    numbers(s, l)
+}
+
+/// The next instance, which takes no opening; `room` is the length of the slice that it writes.
+pub fn next_instance(s: &Sizes, l: &Lists<impl Numbers>, room: usize) -> Refusal {
+    sizes(s, true)?;
+    judged(s, l, None, &[(room, next::sizes(s).lengths().whole)])?;
+    row(11, next::rank(s) <= 256)
+}
+
+/// One part of the next witness; `opening` is the length of the slice.
+pub fn next_part(s: &Sizes, part: usize, opening: usize) -> Refusal {
+    degree(s)?;
+    row(2, shape(s) && part >= 1 && part as u128 <= parts(s))?;
+    ranks([s.kappa])?;
+    digits([], [s.t1, s.t2])?;
+    chunks(s)?;
+    row(7, opening == s.lengths().opening)
+}

@@ -1,0 +1,205 @@
+"""The fold: document 01's bench values, refusals, and demand 3 on fixed random cases."""
+
+import random
+
+import fold
+import ring
+import sheet
+import sizes
+from fixtures import (
+    ACCEPTED, bounded, challenge, check_faults, failed, honest_case, random_lists, random_sizes, refused, whole_case, whole_case_text,
+)
+from sizes import LARGEST_BOUND, Sizes
+
+
+def test_bench_values_of_the_whole_case():
+    s, x = whole_case()
+    assert sheet.output_line(sheet.judge(whole_case_text())) == b"               0               0\n"
+    assert sheet.judge(whole_case_text()) == ACCEPTED
+    assert sheet.judge(whole_case_text(target_beta_squared=12)) == failed(9)
+    assert fold.recomposed_z(s, x) == [[-2, 1]]
+    assert ring.squared_norm(x["opening"]) == 13
+    assert sizes.tail_rank(s) == 6
+    assert sizes.next_rank(s) == 6
+    assert sizes.next_multiplicity(s) == 3
+    assert sizes.next_constraint_count(s) == 6
+    # "Its witness is 1+2X."
+    assert fold.honest(s, x | {"witness": [1, 2]}) == x
+    assert sheet.write_sheet(s, x) == whole_case_text()
+    assert fold.solves(fold.statement(s, x), [[[1, 2]]])
+    kind, written = fold.answer("next_instance", s, x)
+    assert kind == "written" and len(written["next_whole"]) == 6 * (6 + 3 * 6 + 1) * 2
+
+
+def test_bench_values_at_the_sides():
+    s, x = whole_case()
+    assert sizes.size_refusal(Sizes._fields, s._replace(r=16)) == 0
+    assert sizes.size_refusal(Sizes._fields, s._replace(r=17)) == 2
+    assert sizes.size_refusal(Sizes._fields, s._replace(beta_squared=999999999999999)) == 0
+    assert sizes.size_refusal(Sizes._fields, s._replace(beta_squared=1000000000000000)) == 6
+    assert 31 + 10 * 4 == 71
+    for d in (32, 64):
+        c71 = [2] * 17 + [1] * 3 + [0] * (d - 20)
+        c72 = [2] * 18 + [0] * (d - 18)
+        assert ring.squared_norm(c71) == 71 and ring.is_challenge(c71)
+        assert ring.squared_norm(c72) == 72 and not ring.is_challenge(c72)
+    fits = s._replace(r=8, kappa=7, t1=4, t2=4, mu=2)
+    above = s._replace(r=9, kappa=6, t1=2, t2=7, mu=2)
+    largest = s._replace(r=16, kappa=8, t1=8, t2=8)
+    assert sizes.next_rank(fits) == 256 and sizes.next_rank(above) == 257 and sizes.tail_rank(largest) == 3200
+    for sized, number in ((fits, 0), (above, 11), (largest, 11)):
+        lists = {name: [0] * sizes.LENGTHS[name](sized) for name in sizes.SHEET_LISTS}
+        assert sizes.refusal("next_instance", sized, lists) == number
+        assert sizes.refusal("verify", sized, lists) == 0
+
+
+def test_refusals_in_order():
+    s, x = whole_case()
+    sized = [
+        (1, {"d": 3}), (1, {"d": 128}), (2, {"n": 0}), (2, {"n": 257}), (2, {"r": 0}), (2, {"r": 17}), (2, {"K": -1}), (2, {"K": 33}),
+        (2, {"L": 33}), (2, {"w": 257}), (3, {"kappa": 0}), (3, {"kappa1": 9}), (3, {"kappa2": 0}), (4, {"b": 1}), (4, {"b1": 65537}),
+        (4, {"b2": 0}), (4, {"t1": 1}), (4, {"t2": 9}), (6, {"beta_squared": -1}), (6, {"target_beta_squared": 10**15}),
+    ]
+    for number, changed in sized:
+        for later, also in sized:
+            both = s._replace(**(also | changed))
+            expected = number if changed.keys() & also.keys() else min(number, later)
+            assert sizes.refusal("verify", both, x) == expected
+    # The verifier takes no ν, μ; message 2 takes d, n, r, w and the rows only.
+    assert sizes.refusal("verify", s._replace(nu=0, mu=-5), x) == 0
+    assert sizes.refusal("next_instance", s._replace(nu=8, mu=1), x) == 5
+    assert sizes.refusal("message_2", s._replace(K=99, b=0, kappa=0, nu=0, beta_squared=-1), x | {"witness": [1, 2]}) == 0
+    # "d = 2, n = r = 1, witness of 3 numbers"
+    assert sizes.refusal("message_2", s, x | {"witness": [1, 2, 3]}) == 7
+    assert sizes.refusal("message_1", s, x | {"witness": [1, 2], "u1": [0] * 3}) == 7
+    # Over the whole input and not by position: a number of the opening out of range comes before a challenge.
+    outside = x["opening"][:-1] + [2147483599]
+    assert sizes.refusal("verify", s, x | {"opening": outside}) == 8
+    assert sizes.refusal("verify", s, x | {"opening": outside, "c": [3, 0]}) == 8
+    assert sizes.refusal("verify", s, x | {"c": [3, 0]}) == 10
+    one_row = s._replace(w=1)
+    lists = x | {"p": [0], "omega": [0] * 5}
+    assert sizes.refusal("verify", one_row, lists | {"projections": [2, 0], "c": [3, 0]}) == 9
+    assert sizes.refusal("verify", one_row, lists | {"projections": [2, 2147483599], "c": [3, 0]}) == 8
+    assert sizes.refusal("verify", one_row, lists | {"projections": [1, -1]}) == 0
+    assert fold.answer("verify", s, x | {"c": [0, 0], "opening": outside[:-1]}) == refused(7)
+
+
+def test_honest_runs():
+    """Demand 3: failed 1 exactly when 2|p|² is above wβ²; otherwise failed 9 exactly when the digits' squared length is above
+    the target bound; otherwise accepted.
+    """
+    rng = random.Random(3)
+    seen = {}
+    for _ in range(250):
+        s, x, y = honest_case(rng)
+        if 2 * ring.squared_norm(y["p"]) > s.w * s.beta_squared:
+            expected = failed(1)
+        elif ring.squared_norm(y["opening"]) > s.target_beta_squared:
+            expected = failed(9)
+        else:
+            expected = ACCEPTED
+        assert fold.answer("verify", s, y) == expected
+        for call in ("message_1", "message_2", "message_3", "message_4", "message_5"):
+            assert sizes.refusal(call, s, x) == 0
+        seen[expected] = seen.get(expected, 0) + 1
+    assert len(seen) == 3 and min(seen.values()) >= 20, seen
+
+
+def test_degree_64():
+    rng = random.Random(4)
+    s = random_sizes(rng)._replace(
+        d=64, n=1, r=1, K=1, L=1, w=1, kappa=1, kappa1=1, kappa2=1, b=1000, b1=65536, t1=2, b2=256, t2=2, nu=1, mu=1
+    )
+    y = fold.honest(s, random_lists(rng, s, True))
+    s = s._replace(target_beta_squared=ring.squared_norm(y["opening"]))
+    assert fold.answer("verify", s, y) == ACCEPTED
+    assert fold.solves(fold.next_statement(s, y), fold.next_witness(s, y))
+    s = s._replace(target_beta_squared=s.target_beta_squared - 1)
+    assert fold.answer("verify", s, y) == failed(9)
+
+
+def test_first_failing_check():
+    """Each check fails alone, is named, and hides those after it."""
+    s, y, faults = check_faults(random.Random(5))
+    too_long = s._replace(target_beta_squared=0)
+    assert fold.answer("verify", s, y) == ACCEPTED
+    assert fold.answer("verify", too_long, y) == failed(9)
+    for first, fault in faults.items():
+        assert fold.answer("verify", s, y | fault) == failed(first)
+        assert fold.answer("verify", too_long, y | fault) == failed(first)
+        for second, other in faults.items():
+            if not fault.keys() & other.keys():
+                assert fold.answer("verify", s, y | fault | other) == failed(min(first, second))
+    for first in (1, 2):
+        assert fold.answer("next_instance", s, y | faults[first]) == failed(first)
+    assert fold.answer("next_instance", s, y | faults[3] | faults[8])[0] == "written"
+
+
+def carried(rng, base, digit_elements):
+    """The digits of one value, with a multiple of the base moved from a digit to the next: wide, but the value is the same."""
+    result = [list(element) for element in digit_elements]
+    e, k = rng.randrange(len(result) - 1), rng.randrange(len(result[0]))
+    times = rng.choice((-2, -1, 1, 2))
+    result[e][k] += times * base
+    result[e + 1][k] -= times
+    return result if ring.in_range(fold.flat(result)) else digit_elements
+
+
+def gadget_columns(s, x):
+    """Make B and C such that moving a multiple of the base from a digit to the next leaves u1 as it is."""
+    for name, count, base, gap in (("b_matrix", s.t1, s.b1, s.kappa), ("c_matrix", s.t2, s.b2, 1)):
+        rows = fold.matrix(s, x[name], s.kappa1)
+        for row in rows:
+            for block in range(0, len(row), count * gap):
+                for place in range(block + gap, block + count * gap):
+                    row[place] = ring.scale(base, row[place - gap])
+        x[name] = fold.flat(fold.flat(rows))
+
+
+def test_two_openings():
+    """Demand 3, second half: differences of t and g digits, and of z, within 4 and 4(1+b²) times the target bound."""
+    rng = random.Random(8)
+    seen = {"digits differ": 0, "digits equal": 0}
+    for _ in range(120):
+        s = random_sizes(rng)
+        x = random_lists(rng, s, True)
+        gadget_columns(s, x)
+        i = rng.randrange(s.r)
+        c = fold.cut(x["c"], s.d)
+        c[i] = challenge(rng, s.d)
+        first, second = fold.honest(s, x), fold.honest(s, x | {"c": fold.flat(c)})
+        if rng.random() < 0.5:
+            o = fold.read_opening(s, second)
+            g = fold.cut(o.g_digits, s.t2)
+            k = rng.randrange(len(g))
+            g[k] = carried(rng, s.b2, g[k])
+            t_place = rng.randrange(s.r * s.kappa)
+            part, row = divmod(t_place, s.kappa)
+            places = [(part * s.t1 + e) * s.kappa + row for e in range(s.t1)]
+            t = list(o.t_digits)
+            for place, element in zip(places, carried(rng, s.b1, [t[place] for place in places]), strict=True):
+                t[place] = element
+            second["opening"] = fold.flat(o.z_low + o.z_high + t + fold.flat(g) + o.h_digits)
+        bound = max(ring.squared_norm(y["opening"]) for y in (first, second))
+        s = s._replace(target_beta_squared=bounded(bound))
+        answers = [fold.answer("verify", s, y) for y in (first, second)]
+        if answers != [ACCEPTED] * 2:
+            assert bound > LARGEST_BOUND and failed(9) in answers
+            continue
+        assert first["u1"] == second["u1"]
+        o, p = fold.read_opening(s, first), fold.read_opening(s, second)
+        t = [ring.subtract(a, b) for a, b in zip(o.t_digits, p.t_digits, strict=True)]
+        g = [ring.subtract(a, b) for a, b in zip(o.g_digits, p.g_digits, strict=True)]
+        if any(fold.flat(t + g)):
+            assert not any(fold.flat(fold.first_outer_commitment(s, first, t, g)))
+            assert ring.squared_norm(fold.flat(t + g)) <= 4 * s.target_beta_squared
+            seen["digits differ"] += 1
+        else:
+            z = [ring.subtract(a, b) for a, b in zip(fold.recomposed_z(s, first), fold.recomposed_z(s, second), strict=True)]
+            c_i, c_i_other = (fold.elements(s.d, y["c"])[i] for y in (first, second))
+            left = fold.matrix_product(s.d, fold.matrix(s, first["a_matrix"], s.kappa), z)
+            assert left == [ring.multiply(ring.subtract(c_i, c_i_other), t_k) for t_k in fold.recomposed_t(s, first)[i]]
+            assert ring.squared_norm(fold.flat(z)) <= 4 * (1 + s.b**2) * s.target_beta_squared
+            seen["digits equal"] += 1
+    assert min(seen.values()) >= 10, seen

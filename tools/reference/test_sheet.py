@@ -1,0 +1,141 @@
+"""The sheet and the program of verdicts: document 01, "Sheet"."""
+
+import random
+import subprocess
+import sys
+from pathlib import Path
+
+import fold
+import ring
+import sheet
+import sizes
+from fixtures import honest_case, random_sizes, refused, whole_case, whole_case_text
+from sizes import Sizes
+
+EXAMPLES = Path(__file__).parents[2] / "examples"
+
+
+def test_whole_case_as_text():
+    text = whole_case_text()
+    assert [len(line) for line in text.split(b"\n")] == [288] + [32] * 32 + [0]
+    assert text[:32] == b"               2               1" and text[256:289] == b"               5              13\n"
+    assert sheet.line_text([-3, 4]) == b"              -3               4\n" and sheet.line_text([-3, 4]) in text
+    s, x = whole_case()
+    assert s == Sizes(2, 1, 1, 1, 0, 0, 1, 1, 1, 4, 8, 4, 2, 2, 1, 1, 5, 13)
+    assert [x[name] for name in "a_matrix b_matrix c_matrix d_matrix".split()] == [[1, 0], [1, 0, 0, 0], [1, 0, 0, 0], [1, 0, 1, 0]]
+    assert x["whole"] == [1, 0, 0, 0, -3, 4] and x["u1"] == [2, 2] and x["u2"] == [0, 0] and x["c"] == [0, 1]
+    assert x["opening"] == [-2, 1, 0, 0, 1, 2, 0, 0, 1, 0, -1, 1, 0, 0, 0, 0]
+    # A byte less, a byte twice, another byte in its place: broken everywhere.
+    for place in range(len(text)):
+        before, byte, after = text[:place], text[place : place + 1], text[place + 1 :]
+        for other in (b"", byte + byte, b"a", b"\t", b"\0"):
+            assert sheet.judge(before + other + after) == refused(12), (place, other)
+        if byte != b" ":
+            # "-3" and "13" without their first byte are numbers still.
+            shorter = text[place - 1 : place] == b" " and after[:1].isdigit()
+            assert (sheet.judge(before + b" " + after) == refused(12)) == (not shorter), place
+    # The program itself.
+    program = [sys.executable, sheet.__file__]
+    for given, expected in ((text, [0, 0]), (b"", [2, 12]), (whole_case_text(12), [1, 9]), (text[:-1], [2, 12])):
+        run = subprocess.run(program, input=given, capture_output=True, check=True)
+        assert run.stdout == sheet.line_text(expected) and not run.stderr
+
+
+def test_broken_sheets():
+    text = whole_case_text()
+    header, body = text[:289], text[289:]
+    field = sheet.field_text
+    assert sheet.output_line(sheet.judge(b"")) == b"               2              12\n"
+
+    def refuses(number, changed):
+        assert sheet.judge(changed) == refused(number), changed
+
+    def at(place, replacement):
+        return text[:place] + replacement + text[place + len(replacement) :]
+
+    first, last = 289, len(text) - 17
+    for place in (0, first, last):
+        for broken in (b"a", b"+1", b"-0", b"00", b"01", b"-01", b"- 1", b"1 ", b"", b"\t1", b"-", b"1-", b"\x001", b"1.0", b"1_0"):
+            refuses(12, at(place, broken.rjust(16)))
+    refuses(12, at(289 + 32, b"\r"))
+    refuses(12, text[:-1])
+    refuses(12, text + b"\n")
+    refuses(12, text + b" ")
+    refuses(12, text[:-1] + b"\r\n")
+    refuses(12, header)
+    refuses(12, header[:-1])
+    refuses(12, b"\n" + text)
+    refuses(12, text.replace(b"\n", b"\n\n", 1))
+    refuses(12, b" " * 65537)
+    # The header's sizes come before the other lines, even where these are missing; its layout comes before its sizes.
+    bad_d = field(3) + header[16:]
+    refuses(1, bad_d)
+    refuses(1, bad_d + b"a letter")
+    refuses(12, bad_d[:-1] + b" ")
+    refuses(2, at(32, field(17)))
+    refuses(5, at(14 * 16, field(9999999999999999)))
+    refuses(6, at(16 * 16, field(-999999999999999)))
+    refuses(6, at(16 * 16, field(9999999999999999)))
+    # The layout of the other lines comes before their numbers; these by row number and not by place.
+    out_of_range = at(first, field(2147483599))
+    refuses(8, out_of_range)
+    refuses(12, out_of_range[:-1])
+    refuses(8, at(first, field(9999999999999999)))
+    challenge_place = text.index(b"\n" + field(0) + field(1) + b"\n") + 1
+    refuses(10, at(challenge_place, field(3)))
+    refuses(8, at(challenge_place, field(3))[:last] + field(-2147483599) + b"\n")
+    # Two fields of 16 digits with no blank between them are well formed.
+    refuses(8, at(first, b"9" * 32))
+    assert sheet.judge(at(first, field(2147483598)))[0] == "failed"
+
+
+def test_sheet_round_trip():
+    rng = random.Random(9)
+    for _ in range(40):
+        s, _, y = honest_case(rng)
+        text = sheet.write_sheet(s, y)
+        assert sheet.read_sheet(text) == ("read", (s, y))
+        if len(text) <= sheet.LARGEST_TEXT:
+            assert sheet.judge(text) == fold.answer("verify", s, y)
+        else:
+            assert sheet.judge(text) == refused(12)
+
+
+def test_reader_slice():
+    """Row 7: a slice of another length than the sizes give is refused, after the layout (12) and before 8 to 10."""
+    rng = random.Random(13)
+    marked = lambda length: [77] * length
+    for _ in range(20):
+        s, _, y = honest_case(rng)
+        text = sheet.write_sheet(s, y)
+        numbers = [number for name in sizes.SHEET_LISTS for number in y[name]]
+        count = sheet.sheet_numbers(text)
+        assert count == len(numbers)
+        assert sheet.read_into(text, marked(count)) == (("written", 0), list(s), numbers)
+        wide = sheet.write_sheet(s, y | {"u1": [ring.LARGEST + 1] * len(y["u1"])})
+        assert sheet.read_into(wide, marked(count)) == (refused(8), [0] * 18, marked(count))
+        for length in {0, count - 1, count + 1, 2 * count}:
+            for given, number in ((text, 7), (wide, 7), (text[:-1], 12), (wide + b" ", 12)):
+                assert sheet.read_into(given, marked(length)) == (refused(number), [0] * 18, marked(length))
+        assert sheet.sheet_numbers(text[:289]) == count
+        assert sheet.sheet_numbers(text[:288]) == sheet.sheet_numbers(sheet.write_sheet(s._replace(nu=0), y)) == 0
+
+
+def test_sheet_length():
+    """The count of bytes that docs/SHEET.md gives."""
+    rng = random.Random(10)
+    for _ in range(40):
+        s = random_sizes(rng)
+        d, n, r, K, L, w, kappa, kappa1, kappa2, _, _, _, t1, t2 = s[:14]
+        P = r * (r + 1) // 2
+        lines = kappa * n + kappa1 * (r * t1 * kappa + P * t2) + kappa2 * P * t1 + K * (P + r * n + 1) + L * (P + r * n)
+        lines += kappa1 + w * r * n + 5 + K + 5 + kappa2 + r + 2 * n + r * t1 * kappa + P * (t1 + t2)
+        text = sheet.write_sheet(s, {name: [0] * sizes.LENGTHS[name](s) for name in sizes.SHEET_LISTS})
+        assert len(text) == sheet.text_length(s) == 289 + (16 * d + 1) * lines + 17 * 6 * (L + w)
+
+
+def test_examples():
+    paths = sorted(EXAMPLES.glob("*.sheet"))
+    assert len(paths) == len(list(EXAMPLES.glob("*.verdict"))) > 0
+    for path in paths:
+        assert sheet.output_line(sheet.judge(path.read_bytes())) == path.with_suffix(".verdict").read_bytes(), path
