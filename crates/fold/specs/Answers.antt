@@ -1,6 +1,6 @@
 -- Document 01: "kind (0 accepted, 1 failed, 2 refused) and number (0 when accepted)"; "the answer is "written", which is no judgement".
 -- The one definition of what each answer says.
-use mathlib.Core.Bool.{Bool, true, false, cond}
+use mathlib.Core.Bool.{Bool, true, cond}
 use mathlib.Core.List.{List, [], _∷_}
 use Prim.Native.Nat.{ℕ, zero, suc}
 use lib.Dec.{eqb}
@@ -25,12 +25,6 @@ numberOf Written = 0
 unfoldable pub firstFailing : List (ℕ × Bool) → ℕ
 firstFailing [] = 0
 firstFailing (test ∷ tests) = cond (test .1) (firstFailing tests) (test .0)
-
--- "The first check that fails is named; none means accepted." The tests are numbered from k on.
-unfoldable pub firstFailed : ℕ → List Bool → Verdict
-firstFailed k [] = Accepted
-firstFailed k (true ∷ tests) = firstFailed (suc k) tests
-firstFailed k (false ∷ tests) = Failed k
 
 -- the test with number k, the first of them; true where the list has none
 abbrev pub testOf : ℕ → List (ℕ × Bool) → Bool

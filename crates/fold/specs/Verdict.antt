@@ -2,7 +2,7 @@
 -- "Figure 3 takes z and splits it; here digits are lent and recomposed (section 5.3), with no width test."
 -- The opening is one list; x, y stand for its blocks as functions of the place, `block d o a` for the elements from place a on.
 use mathlib.Core.Bool.{Bool}
-use mathlib.Core.List.{List, [], _∷_}
+use mathlib.Core.List.{List, [], _∷_, _++_}
 use Prim.Native.Nat.{ℕ, _+_, _*_}
 use lib.Dec.{leb, eqb}
 use lib.ListN.{getD}
@@ -15,7 +15,7 @@ use Rattle.algebra.specs.DotProduct.{inner, mixed}
 use Rattle.residues.specs.Modulus.{Zq, red}
 use Rattle.ring.specs.Element.{R, el, every, same}
 use Rattle.fold.specs.declared.Verdict.{Verdict}
-use Rattle.fold.specs.Answers.{firstFailed}
+use Rattle.fold.specs.Answers.{firstFailing, judged}
 use Rattle.fold.specs.Statement.{Relation, termConstant}
 use Rattle.fold.specs.Messages.{times, outer₁, outer₂, aggregated, aggregateConstant}
 use Rattle.fold.specs.Sizes.{five}
@@ -69,11 +69,21 @@ check₉ d n r tz κ t₁ t₂ target o = leb (zLength d n tz o + tgLength d n r
 
 -- ---- the verdict
 
+-- checks 1 and 2, which need no opening
+module _ (𝓢 : Statement) (𝓓 : Draws) (𝓣 : Transcript) where
+  open Statement 𝓢 using (relation, w)
+  open Relation relation using (d, n, r, L, bound, term)
+  open Draws 𝓓 using (ψ, ω)
+  open Transcript 𝓣 using (p, b″)
+
+  abbrev pub messageChecks : List (ℕ × Bool)
+  messageChecks = (1, check₁ w bound p) ∷ (2, check₂ d n r L w term ψ ω p b″) ∷ []
+
 module _ (𝓢 : Statement) (𝓓 : Draws) (𝓣 : Transcript) (o : List ℤ) where
-  open Statement 𝓢 using (relation, w, tz, κ, κ₁, κ₂, b, b₁, b₂, t₁, t₂, target, A, B, C, D)
-  open Relation relation using (d, n, r, K, L, bound, whole, term)
-  open Draws 𝓓 using (projections, ψ, ω, α, δ, c)
-  open Transcript 𝓣 using (u₁, p, b″, u₂)
+  open Statement 𝓢 using (relation, tz, κ, κ₁, κ₂, b, b₁, b₂, t₁, t₂, target, A, B, C, D)
+  open Relation relation using (d, n, r, K, whole)
+  open Draws 𝓓 using (α, δ, c)
+  open Transcript 𝓣 using (u₁, b″, u₂)
 
   -- the blocks of the opening, and what they recompose to
   abbrev pub tBlock : ℕ → R d .Carrier
@@ -97,20 +107,23 @@ module _ (𝓢 : Statement) (𝓓 : Draws) (𝓣 : Transcript) (o : List ℤ) wh
   abbrev pub hᵒ : ℕ → ℕ → R d .Carrier
   hᵒ = garbageOf d r b₁ t₁ hBlock
 
-  -- checks 1 to 9 in order
-  abbrev pub checks : List Bool
-  checks =
-      check₁ w bound p
-      ∷ check₂ d n r L w term ψ ω p b″
-      ∷ check₃ d r κ κ₁ t₁ t₂ B C u₁ tBlock gBlock
-      ∷ check₄ d r κ₂ t₁ D u₂ hBlock
-      ∷ check₅ d n r κ A c zᵒ tᵒ
-      ∷ check₆ d n r c zᵒ gᵒ
-      ∷ check₇ d n r c (aggregated 𝓢 𝓓 .φ) zᵒ hᵒ
-      ∷ check₈ d r (aggregated 𝓢 𝓓 .a) (aggregateConstant d n r K whole α δ b″) gᵒ hᵒ
-      ∷ check₉ d n r tz κ t₁ t₂ target o
+  -- checks 3 and 4, of the outer commitments
+  abbrev pub outerChecks : List (ℕ × Bool)
+  outerChecks = (3, check₃ d r κ κ₁ t₁ t₂ B C u₁ tBlock gBlock) ∷ (4, check₄ d r κ₂ t₁ D u₂ hBlock) ∷ []
+
+  -- checks 5 to 9, of what the digits recompose to and of their length
+  abbrev pub openingChecks : List (ℕ × Bool)
+  openingChecks =
+      (5, check₅ d n r κ A c zᵒ tᵒ)
+      ∷ (6, check₆ d n r c zᵒ gᵒ)
+      ∷ (7, check₇ d n r c (aggregated 𝓢 𝓓 .φ) zᵒ hᵒ)
+      ∷ (8, check₈ d r (aggregated 𝓢 𝓓 .a) (aggregateConstant d n r K whole α δ b″) gᵒ hᵒ)
+      ∷ (9, check₉ d n r tz κ t₁ t₂ target o)
       ∷ []
+
+  abbrev pub checks : List (ℕ × Bool)
+  checks = messageChecks 𝓢 𝓓 𝓣 ++ (outerChecks ++ openingChecks)
 
   -- "The first check that fails is named; none means accepted."
   unfoldable pub verdict : Verdict
-  verdict = firstFailed 1 checks
+  verdict = judged (firstFailing checks)

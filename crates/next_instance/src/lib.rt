@@ -1,15 +1,14 @@
 // The next instance: document 01, 'Next instance'. The call has no `requires`: what it cannot take it refuses by number.
 ghost use Rattle.fold.specs.Arguments.{statementOf, drawsOf, transcriptOf};
 ghost use Rattle.next_instance.specs.Calls.{NextCalled};
-use checks::first_checks;
-use checks::is_accepted;
 use chunks::refusals::next_refusal;
 use fold::Answer;
 use fold::Sizes;
+use fold::Verdict;
+use verifier::judgement::message_checks;
 use writer::write_instance;
 
 pub mod a_part;
-pub mod checks;
 pub mod cut;
 pub mod phi_part;
 pub mod writer;
@@ -69,9 +68,9 @@ pub fn next_instance(
     if refusal != 0 {
         return Answer::Refused(refusal);
     }
-    let verdict = first_checks(sizes, term, p, psi, omega, b2);
-    if !is_accepted(verdict) {
-        return Answer::Judged(verdict);
+    let failed = message_checks(sizes, term, p, psi, omega, b2);
+    if failed != 0 {
+        return Answer::Judged(Verdict::Failed(failed));
     }
     write_instance(
         sizes,

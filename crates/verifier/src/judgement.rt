@@ -1,10 +1,11 @@
-// The verdict: the first check that fails, by number, or acceptance.
+// The number of the first check that fails, 0 where none does. A check is asked only where those before it pass.
 ghost use mathlib.Core.Path.{_≡_};
-ghost use Rattle.fold.specs.Answers.{firstFailed};
-ghost use Rattle.fold.specs.Verdict.{verdict};
-ghost use Rattle.fold.specs.Arguments.{statementOf, drawsOf, transcriptOf};
+ghost use Rattle.fold.specs.Answers.{firstFailing, judged};
+ghost use Rattle.fold.specs.Verdict.{checks};
+ghost use Rattle.fold.specs.Arguments.{VerifySized, statementOf, drawsOf, transcriptOf};
 ghost use Rattle.fold.specs.Known.CallFacts.{VerifyFacts};
-ghost use Rattle.verifier.specs.Judgement.{OpeningFacts, Recomposed, openingChecks};
+ghost use Rattle.verifier.specs.ConstantTerms.{Terms};
+ghost use Rattle.verifier.specs.Judgement.{messageChecksOf, outerChecksOf, openingChecksOf, OuterFacts, OpeningFacts, Recomposed};
 use crate::amortized;
 use crate::linear;
 use crate::norms;
@@ -14,9 +15,56 @@ use crate::relation;
 use crate::terms;
 use fold::Sizes;
 use fold::Verdict;
+use limits::rows::first;
+
+// Checks 1 and 2, which need no opening.
+pub fn message_checks(
+    sizes: Sizes,
+    term: &[i32],
+    p: &[i32],
+    psi: &[i32],
+    omega: &[i32],
+    b2: &[i32],
+) -> u8
+    requires { ⌜ VerifySized sizes ⌝ }
+    requires { ⌜ Terms sizes (now term) (now psi) (now omega) (now p) (now b2) ⌝ }
+    ensures { λ x.
+        ⌜ x ≡ firstFailing (messageChecksOf sizes (now (term .entry)) (now (p .entry)) (now (psi .entry)) (now (omega .entry))
+        (now (b2 .entry))) ⌝ }
+{
+    let one = norms::short_projection(sizes.w, sizes.bound, p);
+    if !one {
+        return 1;
+    }
+    let two = terms::constant_terms(sizes, term, psi, omega, p, b2);
+    first(two, 2, 0)
+}
+
+// Checks 3 and 4.
+fn outer_checks(
+    sizes: Sizes,
+    b: &[i32],
+    c_matrix: &[i32],
+    d_matrix: &[i32],
+    u1: &[i32],
+    u2: &[i32],
+    opening: &[i32],
+) -> u8
+    requires { ⌜ OuterFacts sizes (now b) (now «c_matrix») (now «d_matrix») (now u1) (now u2) (now opening) ⌝ }
+    ensures { λ x.
+        ⌜ x ≡ firstFailing (outerChecksOf sizes (now (b .entry)) (now («c_matrix» .entry)) (now («d_matrix» .entry))
+        (now (u1 .entry)) (now (u2 .entry)) (now (opening .entry))) ⌝ }
+{
+    let three = outer::first_outer(sizes, b, c_matrix, u1, opening);
+    if !three {
+        return 3;
+    }
+    let four = outer::second_outer(sizes, d_matrix, u2, opening);
+    first(four, 4, 0)
+}
 
 // Checks 5 to 9, with the recomposed z at the start of a slice.
-fn judge_opening(
+fn recomposed_checks(
     sizes: Sizes,
     a: &[i32],
     whole: &[i32],
@@ -30,22 +78,22 @@ fn judge_opening(
     c: &[i32],
     opening: &[i32],
     z: &[i32],
-) -> Verdict
+) -> u8
     requires { ⌜ OpeningFacts sizes (now a) (now whole) (now term) (now rows) (now psi) (now omega) (now b2) (now alpha) (now delta)
         (now c) (now opening) ⌝ }
     requires { ⌜ Recomposed sizes (now opening) (now z) ⌝ }
-    ensures { λ v.
-        ⌜ v ≡ firstFailed 5 (openingChecks sizes (now (a .entry)) (now (whole .entry)) (now (term .entry)) (now (rows .entry))
+    ensures { λ x.
+        ⌜ x ≡ firstFailing (openingChecksOf sizes (now (a .entry)) (now (whole .entry)) (now (term .entry)) (now (rows .entry))
         (now (psi .entry)) (now (omega .entry)) (now (b2 .entry)) (now (alpha .entry)) (now (delta .entry)) (now (c .entry))
         (now (opening .entry))) ⌝ }
 {
     let five = amortized::amortized(sizes, a, c, z, opening);
     if !five {
-        return Verdict::Failed(5);
+        return 5;
     }
     let six = amortized::self_product(sizes, c, z, opening);
     if !six {
-        return Verdict::Failed(6);
+        return 6;
     }
     let seven = linear::linear_part(
         sizes,
@@ -61,21 +109,18 @@ fn judge_opening(
         opening,
     );
     if !seven {
-        return Verdict::Failed(7);
+        return 7;
     }
     let eight = relation::relation_holds(sizes, whole, term, psi, alpha, delta, b2, opening);
     if !eight {
-        return Verdict::Failed(8);
+        return 8;
     }
     let nine = norms::short_opening(sizes, opening);
-    if !nine {
-        return Verdict::Failed(9);
-    }
-    Verdict::Accepted
+    first(nine, 9, 0)
 }
 
 // The same, with z recomposed here.
-fn judge_recomposed(
+fn opening_checks(
     sizes: Sizes,
     a: &[i32],
     whole: &[i32],
@@ -88,17 +133,17 @@ fn judge_recomposed(
     delta: &[i32],
     c: &[i32],
     opening: &[i32],
-) -> Verdict
+) -> u8
     requires { ⌜ OpeningFacts sizes (now a) (now whole) (now term) (now rows) (now psi) (now omega) (now b2) (now alpha) (now delta)
         (now c) (now opening) ⌝ }
-    ensures { λ v.
-        ⌜ v ≡ firstFailed 5 (openingChecks sizes (now (a .entry)) (now (whole .entry)) (now (term .entry)) (now (rows .entry))
+    ensures { λ x.
+        ⌜ x ≡ firstFailing (openingChecksOf sizes (now (a .entry)) (now (whole .entry)) (now (term .entry)) (now (rows .entry))
         (now (psi .entry)) (now (omega .entry)) (now (b2 .entry)) (now (alpha .entry)) (now (delta .entry)) (now (c .entry))
         (now (opening .entry))) ⌝ }
 {
     let mut z = [0i32; 16384];
     recomposed::write_z(sizes.d, sizes.n, sizes.b, opening, &mut z);
-    judge_opening(
+    recomposed_checks(
         sizes,
         a,
         whole,
@@ -115,8 +160,8 @@ fn judge_recomposed(
     )
 }
 
-// Checks 1 to 9 in order, for a call that is not refused.
-pub fn judge(
+// Checks 1 to 9, for a call that is not refused.
+pub fn first_failing(
     sizes: Sizes,
     a: &[i32],
     b: &[i32],
@@ -135,33 +180,25 @@ pub fn judge(
     u2: &[i32],
     c: &[i32],
     opening: &[i32],
-) -> Verdict
+) -> u8
     requires { ⌜ VerifyFacts (statementOf sizes (now a) (now b) (now «c_matrix») (now «d_matrix») (now whole) (now term)) (drawsOf
         (now rows) (now psi) (now omega) (now alpha) (now delta) (now c)) (transcriptOf (now u1) (now p) (now b2) (now u2))
         (now opening) ⌝ }
-    ensures { λ v.
-        ⌜ v ≡ verdict (statementOf sizes (now (a .entry)) (now (b .entry)) (now («c_matrix» .entry)) (now («d_matrix» .entry))
-        (now (whole .entry)) (now (term .entry))) (drawsOf (now (rows .entry)) (now (psi .entry)) (now (omega .entry))
-        (now (alpha .entry)) (now (delta .entry)) (now (c .entry))) (transcriptOf (now (u1 .entry)) (now (p .entry))
-        (now (b2 .entry)) (now (u2 .entry))) (now (opening .entry)) ⌝ }
+    ensures { λ x.
+        ⌜ x ≡ firstFailing (checks (statementOf sizes (now (a .entry)) (now (b .entry)) (now («c_matrix» .entry))
+        (now («d_matrix» .entry)) (now (whole .entry)) (now (term .entry))) (drawsOf (now (rows .entry)) (now (psi .entry))
+        (now (omega .entry)) (now (alpha .entry)) (now (delta .entry)) (now (c .entry))) (transcriptOf (now (u1 .entry))
+        (now (p .entry)) (now (b2 .entry)) (now (u2 .entry))) (now (opening .entry))) ⌝ }
 {
-    let one = norms::short_projection(sizes.w, sizes.bound, p);
-    if !one {
-        return Verdict::Failed(1);
+    let message = message_checks(sizes, term, p, psi, omega, b2);
+    if message != 0 {
+        return message;
     }
-    let two = terms::constant_terms(sizes, term, psi, omega, p, b2);
-    if !two {
-        return Verdict::Failed(2);
+    let outer = outer_checks(sizes, b, c_matrix, d_matrix, u1, u2, opening);
+    if outer != 0 {
+        return outer;
     }
-    let three = outer::first_outer(sizes, b, c_matrix, u1, opening);
-    if !three {
-        return Verdict::Failed(3);
-    }
-    let four = outer::second_outer(sizes, d_matrix, u2, opening);
-    if !four {
-        return Verdict::Failed(4);
-    }
-    judge_recomposed(
+    opening_checks(
         sizes,
         a,
         whole,
@@ -175,4 +212,14 @@ pub fn judge(
         c,
         opening,
     )
+}
+
+// The verdict that names a check, or accepts.
+pub fn verdict(number: u8) -> Verdict
+    ensures { λ v. ⌜ v ≡ judged number ⌝ }
+{
+    if number == 0 {
+        return Verdict::Accepted;
+    }
+    Verdict::Failed(number)
 }

@@ -66,7 +66,7 @@ pub fn verify(
     if 0 < refusal {
         return Answer::Refused(refusal);
     }
-    let verdict = judgement::judge(
+    let number = judgement::first_failing(
         sizes,
         a,
         b,
@@ -86,5 +86,5 @@ pub fn verify(
         c,
         opening,
     );
-    Answer::Judged(verdict)
+    Answer::Judged(judgement::verdict(number))
 }

@@ -1,6 +1,6 @@
 -- A name for the `unfolding` line of a closed case that opens all definitions of the fold and of the ring: see the ring's Computing.
 use Rattle.ring.specs.Cases.Computing.{ring-computes}
-use Rattle.fold.specs.Answers.{firstFailed, firstFailing}
+use Rattle.fold.specs.Answers.{firstFailing, judged}
 use Rattle.fold.specs.Sizes.{pairs, functionSize, tSize, garbageSize, restSize, openingSize, ceiling, nextRank, nextParts, nextCount}
 use Rattle.fold.specs.Statement.{part, wholeAt, wholeConstant, termAt, termConstant}
 use Rattle.fold.specs.Messages.{elements, times, garbageDigits, t, g, tDigits, gDigits, outer₁, u₁, p, b″}
@@ -33,7 +33,7 @@ unfolding block tPlace gPlace hPlace zOf tOf garbageOf zLength tgLength hLength
 opening-computes = tt
 
 unfoldable pub verdict-computes : Unit {0}
-unfolding opening-computes check₁ check₂ check₃ check₄ check₅ check₆ check₇ check₈ check₉ verdict firstFailed
+unfolding opening-computes check₁ check₂ check₃ check₄ check₅ check₆ check₇ check₈ check₉ verdict judged firstFailing
 verdict-computes = tt
 
 unfoldable pub ranges-compute : Unit {0}

@@ -1,10 +1,10 @@
--- Accepted, check by check: the verdict is Accepted exactly when the nine facts of document 01's 'Verdict' hold.
-use mathlib.Core.Path.{_≡_, refl, sym, ap, subst}
+-- The verdict, check by check: it is Accepted exactly when the nine facts of document 01's 'Verdict' hold, and Failed k exactly when check k is
+-- the first that fails.
+use mathlib.Core.Path.{_≡_, refl, sym, ap}
 use mathlib.Core.Logic.{_↔_}
-use mathlib.Core.Bool.{Bool, true, false, cond}
-use mathlib.Core.List.{List, [], _∷_}
-use Prim.Native.Nat.{ℕ, suc, _+_, _*_, _<_, _≤_}
-use native.Mathlib.Omega.{arith}
+use mathlib.Core.Bool.{true}
+use mathlib.Core.List.{List}
+use Prim.Native.Nat.{ℕ, _+_, _*_, _<_, _≤_}
 use lib.ListN.{getD}
 use lib.IntN.{ℤ, pos}
 use borrow.Author.Tests.{leb-true, le-leb, eqb-true, eq-eqb}
@@ -18,15 +18,16 @@ use Rattle.residues.specs.Modulus.{Zq, red}
 use Rattle.ring.specs.Element.{R, el, same}
 use Rattle.ring.specs.Laws.ElementEquality.{every-true, true-every, same-true, same-refl}
 use Rattle.fold.specs.declared.Verdict.the-variants.{Accepted, Failed}
-use Rattle.fold.specs.Answers.{firstFailed}
+use Rattle.fold.specs.Answers.{judged}
 use Rattle.fold.specs.Statement.{Relation, termConstant}
 use Rattle.fold.specs.Messages.{times, outer₁, outer₂, aggregateConstant, aggregated}
 use Rattle.fold.specs.Sizes.{five}
 use Rattle.fold.specs.Statement.{Statement, Draws, Transcript}
-use Rattle.fold.specs.Verdict.{verdict}
+use Rattle.fold.specs.Verdict.{verdict, checks}
 use Rattle.fold.specs.Opening.{zLength, tgLength, hLength}
 use Rattle.fold.specs.Verdict.{tBlock, gBlock, hBlock, zᵒ, tᵒ, gᵒ, hᵒ}
 use Rattle.fold.specs.Verdict.{check₁, check₂, check₃, check₄, check₅, check₆, check₇, check₈, check₉}
+use Rattle.fold.specs.Laws.TestLaws.{passing, none-fails, holds, First, first-iff, accepted-none, failed-number, number-failed}
 
 module _ (𝓢 : Statement) (𝓓 : Draws) (𝓣 : Transcript) (o : List ℤ) where
   open Statement 𝓢 using (relation, w, tz, κ, κ₁, κ₂, b, b₁, b₂, t₁, t₂, target, A, B, C, D)
@@ -63,27 +64,6 @@ module _ (𝓢 : Statement) (𝓓 : Draws) (𝓣 : Transcript) (o : List ℤ) wh
     -- "All digits' squared length ≤ β'²"
     pub short : zLength d n tz o + tgLength d n r tz κ t₁ t₂ o + hLength d n r tz κ t₁ t₂ o ≤ target
 
--- ---- the first failed test
-
-failed-accepted : {X : Type 0} {k : ℕ} → Failed k ≡ Accepted → X
-failed-accepted e = let z : _≡_ {A = ℕ} 0 1 = cc in absurd (omega arith)
-
-pub accepted-end : (k : ℕ) → firstFailed k [] ≡ Accepted
-unfolding firstFailed
-accepted-end k = refl
-
-pub accepted-step : (k : ℕ) (test : Bool) (tests : List Bool) → firstFailed k (test ∷ tests) ≡ Accepted
-    → (test ≡ true) × (firstFailed (suc k) tests ≡ Accepted)
-unfolding firstFailed
-accepted-step k true tests e = (refl, e)
-accepted-step k false tests e = failed-accepted e
-
-pub step-accepted : (k : ℕ) (test : Bool) (tests : List Bool) → test ≡ true → firstFailed (suc k) tests ≡ Accepted
-    → firstFailed k (test ∷ tests) ≡ Accepted
-unfolding firstFailed
-step-accepted k true tests e f = f
-step-accepted k false tests e f = absurd (subst (λ (t : Bool). cond t ⊥ Unit) e tt)
-
 true-same : (d : ℕ) {u v : R d .Carrier} → u ≡ v → same d u v ≡ true
 true-same d {v} e = rw e (same-refl d v)
 
@@ -93,40 +73,40 @@ module _ (𝓢 : Statement) (𝓓 : Draws) (𝓣 : Transcript) (o : List ℤ) wh
 
   pub accepts : verdict 𝓢 𝓓 𝓣 o ≡ Accepted → Accepts 𝓢 𝓓 𝓣 o
   unfolding verdict check₁ check₂ check₃ check₄ check₅ check₆ check₇ check₈ check₉
-  accepts e₁ =
-      let e₂ = accepted-step 1 _ _ e₁ in
-      let e₃ = accepted-step 2 _ _ (e₂ .1) in
-      let e₄ = accepted-step 3 _ _ (e₃ .1) in
-      let e₅ = accepted-step 4 _ _ (e₄ .1) in
-      let e₆ = accepted-step 5 _ _ (e₅ .1) in
-      let e₇ = accepted-step 6 _ _ (e₆ .1) in
-      let e₈ = accepted-step 7 _ _ (e₇ .1) in
-      let e₉ = accepted-step 8 _ _ (e₈ .1) in
-      let e₁₀ = accepted-step 9 _ _ (e₉ .1) in
+  accepts e =
+      let check = holds (checks 𝓢 𝓓 𝓣 o) refl (accepted-none _ e) in
       record {
-        projected = leb-true _ _ (e₂ .0);
-        constant-term = λ k l. residue-eq (eqb-true _ _ (every-true five _ (e₃ .0) k l));
-        first-outer = λ k l. sym (same-true d _ _ (every-true κ₁ _ (e₄ .0) k l));
-        second-outer = λ k l. sym (same-true d _ _ (every-true κ₂ _ (e₅ .0) k l));
-        amortized = λ k l. same-true d _ _ (every-true κ _ (e₆ .0) k l);
-        self-product = same-true d _ _ (e₇ .0);
-        linear-part = same-true d _ _ (e₈ .0);
-        relation-holds = same-true d _ _ (e₉ .0);
-        short = leb-true _ _ (e₁₀ .0);
+        projected = leb-true _ _ (check 1);
+        constant-term = λ k l. residue-eq (eqb-true _ _ (every-true five _ (check 2) k l));
+        first-outer = λ k l. sym (same-true d _ _ (every-true κ₁ _ (check 3) k l));
+        second-outer = λ k l. sym (same-true d _ _ (every-true κ₂ _ (check 4) k l));
+        amortized = λ k l. same-true d _ _ (every-true κ _ (check 5) k l);
+        self-product = same-true d _ _ (check 6);
+        linear-part = same-true d _ _ (check 7);
+        relation-holds = same-true d _ _ (check 8);
+        short = leb-true _ _ (check 9);
       }
 
   pub accepted : Accepts 𝓢 𝓓 𝓣 o → verdict 𝓢 𝓓 𝓣 o ≡ Accepted
-  unfolding verdict check₁ check₂ check₃ check₄ check₅ check₆ check₇ check₈ check₉
+  unfolding verdict judged check₁ check₂ check₃ check₄ check₅ check₆ check₇ check₈ check₉
   accepted h =
-      step-accepted 1 _ _ (le-leb _ _ (h .projected))
-      (step-accepted 2 _ _ (true-every five _ (λ k l. eq-eqb _ _ (ap (λ x. x .val) (h .constant-term k l))))
-      (step-accepted 3 _ _ (true-every κ₁ _ (λ k l. true-same d (sym (h .first-outer k l))))
-      (step-accepted 4 _ _ (true-every κ₂ _ (λ k l. true-same d (sym (h .second-outer k l))))
-      (step-accepted 5 _ _ (true-every κ _ (λ k l. true-same d (h .amortized k l)))
-      (step-accepted 6 _ _ (true-same d (h .self-product))
-      (step-accepted 7 _ _ (true-same d (h .linear-part))
-      (step-accepted 8 _ _ (true-same d (h .relation-holds))
-      (step-accepted 9 _ _ (le-leb _ _ (h .short)) (accepted-end 10)))))))))
+      ap judged (sym
+      (passing 1 _ (le-leb _ _ (h .projected))
+      (passing 2 _ (true-every five _ (λ k l. eq-eqb _ _ (ap (λ x. x .val) (h .constant-term k l))))
+      (passing 3 _ (true-every κ₁ _ (λ k l. true-same d (sym (h .first-outer k l))))
+      (passing 4 _ (true-every κ₂ _ (λ k l. true-same d (sym (h .second-outer k l))))
+      (passing 5 _ (true-every κ _ (λ k l. true-same d (h .amortized k l)))
+      (passing 6 _ (true-same d (h .self-product))
+      (passing 7 _ (true-same d (h .linear-part))
+      (passing 8 _ (true-same d (h .relation-holds))
+      (passing 9 _ (le-leb _ _ (h .short)) none-fails))))))))))
 
   pub accepted-iff : (verdict 𝓢 𝓓 𝓣 o ≡ Accepted) ↔ Accepts 𝓢 𝓓 𝓣 o
   accepted-iff = (accepts, accepted)
+
+  -- "The first check that fails is named": its test fails, and those of lower numbers hold
+  pub failed-iff : (k : ℕ) → 0 < k → (verdict 𝓢 𝓓 𝓣 o ≡ Failed k) ↔ First (checks 𝓢 𝓓 𝓣 o) k
+  unfolding verdict
+  failed-iff k some =
+      let by-number = first-iff (checks 𝓢 𝓓 𝓣 o) refl k some in
+      (λ e. by-number .0 (failed-number _ k e), λ h. number-failed _ k some (by-number .1 h))

@@ -1,47 +1,40 @@
 -- The calls of the next instance: when everything is written, and what the part that is handed back is.
 use mathlib.Core.Path.{_≡_, refl, sym, _∙_}
 use mathlib.Core.Logic.{_↔_}
-use mathlib.Core.Bool.{Bool, true}
-use mathlib.Core.List.{List, [], _∷_, _++_}
+use mathlib.Core.List.{List, _++_}
 use Prim.Native.Nat.{ℕ, zero, suc, _-_, _*_}
 use native.Mathlib.Omega.{arith}
 use lib.ListN.{length, take, drop, replicate}
 use lib.IntN.{ℤ, pos}
-use Rattle.fold.specs.declared.Verdict.{Verdict}
-use Rattle.fold.specs.declared.Verdict.the-variants.{Accepted, Failed}
+use Rattle.fold.specs.declared.Verdict.the-variants.{Accepted}
 use Rattle.fold.specs.declared.Answer.the-variants.{Judged, Written}
-use Rattle.fold.specs.Answers.{firstFailed, firstFailing, answered, written}
+use Rattle.fold.specs.Answers.{firstFailing, answered, checked, written}
 use Rattle.fold.specs.Sizes.{restSize, openingSize, nextRank, nextParts, nextCount}
 use Rattle.fold.specs.Statement.{Statement, Draws, Transcript}
 use Rattle.fold.specs.Verification.{verification}
 use Rattle.fold.specs.Statement.{Solves}
-use Rattle.fold.specs.Laws.Accepted.{accepted-step, step-accepted}
+use Rattle.fold.specs.Verdict.{messageChecks}
 use Rattle.fold.specs.Refusals.{nextTests, partTests, wholeLength}
-use Rattle.fold.specs.Laws.RefusalLaws.{refusal-passes, allOf-all, between-iff, chunks-iff, sized-iff}
+use Rattle.fold.specs.Laws.RefusalLaws.{passes-refusal, allOf-all, between-iff, chunks-iff, sized-iff}
+use Rattle.fold.specs.Laws.TestLaws.{holds}
 use Rattle.fold.specs.Chunks.{width, padded, unpadded, ZeroPadding}
 use Rattle.fold.specs.Laws.PaddingLaws.{chunk-padded}
 use Rattle.fold.specs.NextInstance.{nextWhole, nextWitness, relationOf, m, n′, r′, constraint}
 use Rattle.fold.specs.Laws.NextSolves.{FirstChecks}
 use Rattle.fold.specs.Theorems.NextInstanceTheorem.{next-instance-judged, solution-accepted}
-use Rattle.fold.specs.NextCall.{orWritten, unlessFailed, firstChecks, nextAnswer, nextOut, partRefusal, nextPart}
+use Rattle.fold.specs.NextCall.{firstChecks, nextAnswer, nextOut, partRefusal, nextPart}
 use Rattle.fold.specs.Laws.LaidOut.{length-written}
 
-both-accepted : (k : ℕ) (v : Verdict) → answered k (orWritten v) ≡ Written → (k ≡ 0) × (v ≡ Accepted)
-unfolding answered orWritten
-both-accepted zero Accepted e = (refl, refl)
-both-accepted zero (Failed k) e = let z : _≡_ {A = ℕ} 0 1 = cc in absurd (omega arith)
-both-accepted (suc k) v e = let z : _≡_ {A = ℕ} 0 1 = cc in absurd (omega arith)
+-- no refusal and no failed check
+both-none : (k j : ℕ) → answered k (checked j Written) ≡ Written → (k ≡ 0) × (j ≡ 0)
+unfolding answered checked
+both-none zero zero e = (refl, refl)
+both-none zero (suc j) e = let z : _≡_ {A = ℕ} 0 1 = cc in absurd (omega arith)
+both-none (suc k) j e = let z : _≡_ {A = ℕ} 0 1 = cc in absurd (omega arith)
 
-accepted-both : {k : ℕ} {v : Verdict} → k ≡ 0 → v ≡ Accepted → answered k (orWritten v) ≡ Written
-unfolding answered orWritten
-accepted-both e h = rw (e, h)
-
-two-pass : (s t : Bool) → (firstFailed 1 (s ∷ t ∷ []) ≡ Accepted) ↔ ((s ≡ true) × (t ≡ true))
-unfolding firstFailed
-two-pass s t = (
-  λ e. let from₂ = accepted-step 1 s (t ∷ []) e in (from₂ .0, accepted-step 2 t [] (from₂ .1) .0),
-  λ h. step-accepted 1 s (t ∷ []) (h .0) (step-accepted 2 t [] (h .1) refl),
-)
+none-both : {k j : ℕ} → k ≡ 0 → j ≡ 0 → answered k (checked j Written) ≡ Written
+unfolding answered checked
+none-both e h = rw (e, h)
 
 module _ (𝓢 : Statement) (𝓓 : Draws) (𝓣 : Transcript) (ν μ : ℕ) (out : List ℤ) where
   -- "Otherwise all K' are written": no refusal applies and checks 1 and 2 pass
@@ -49,17 +42,15 @@ module _ (𝓢 : Statement) (𝓓 : Draws) (𝓣 : Transcript) (ν μ : ℕ) (ou
   unfolding nextAnswer firstChecks
   written-iff = (
     λ e.
-        let (none, accepted) = both-accepted (firstFailing (nextTests 𝓢 𝓓 𝓣 ν μ out)) (firstChecks 𝓢 𝓓 𝓣 ν μ out) e in
-        let (one, two) = two-pass _ _ .0 accepted in
-        (none, record { projection = one; constant-terms = two }),
-    λ h. accepted-both (h .0) (two-pass _ _ .1 (h .1 .projection, h .1 .constant-terms)),
+        let (none, pass) = both-none (firstFailing (nextTests 𝓢 𝓓 𝓣 ν μ out)) (firstChecks 𝓢 𝓓 𝓣) e in
+        let check = holds (messageChecks 𝓢 𝓓 𝓣) refl pass in
+        (none, record { projection = check 1; constant-terms = check 2 }),
+    λ h. none-both (h .0) (passes-refusal (messageChecks 𝓢 𝓓 𝓣) (h .1 .projection, (h .1 .constant-terms, tt))),
   )
 
   pub written-out : nextAnswer 𝓢 𝓓 𝓣 ν μ out ≡ Written → nextOut 𝓢 𝓓 𝓣 ν μ out ≡ nextWhole 𝓢 𝓓 𝓣 ν μ
-  unfolding nextAnswer nextOut written unlessFailed
-  written-out e =
-      let (none, checks) = both-accepted (firstFailing (nextTests 𝓢 𝓓 𝓣 ν μ out)) (firstChecks 𝓢 𝓓 𝓣 ν μ out) e in
-      rw (none, checks)
+  unfolding nextAnswer nextOut written
+  written-out e = let (none, pass) = both-none (firstFailing (nextTests 𝓢 𝓓 𝓣 ν μ out)) (firstChecks 𝓢 𝓓 𝓣) e in rw (none, pass)
 
   -- the list written is as long as the one lent must be
   pub length-nextWhole : length (nextWhole 𝓢 𝓓 𝓣 ν μ)
@@ -92,8 +83,8 @@ pub part-of-padded : (d n r κ t₁ t₂ tz ν μ i : ℕ) (o : List ℤ) → pa
     (drop ((i - 1) * (nextRank n ν (restSize r κ t₁ t₂) μ * d)) (padded d tz n ν (restSize r κ t₁ t₂) μ o))
 unfolding partRefusal nextPart partTests openingSize written
 part-of-padded d n r κ t₁ t₂ tz ν μ i o e =
-    let tests = refusal-passes (partTests d n r κ t₁ t₂ tz ν μ i o) refl e in
-    let inside = between-iff 1 (nextParts tz ν μ) i .0 (allOf-all _ (tests .1 .0) .1 .1 .0) in
-    let chunks = chunks-iff tz ν μ .0 (tests .1 .1 .1 .1 .0) in
-    let size = sized-iff o _ .0 (tests .1 .1 .1 .1 .1 .0) in
+    let row = holds (partTests d n r κ t₁ t₂ tz ν μ i o) refl e in
+    let inside = between-iff 1 (nextParts tz ν μ) i .0 (allOf-all _ (row 2) .1 .1 .0) in
+    let chunks = chunks-iff tz ν μ .0 (row 5) in
+    let size = sized-iff o _ .0 (row 7) in
     rw e (sym (chunk-padded d tz n ν (restSize r κ t₁ t₂) μ (chunks .0) (chunks .1 .0) o size (i - 1) (omega (arith, inside))))

@@ -1,18 +1,21 @@
 -- Laws of a list of numbered tests: the refusals of a call, the checks of the verdict.
 --     rising                    the numbers rise; computes on the lists that are written out
+--     passing, failing          one test more; passes, fails: where code asks
 --     holds, holds-iff          where none fails, each number's test holds
 --     First, first-iff          k is the first exactly when its test fails and those of lower numbers hold
 --     first-after               the same by place: those before it hold
 --     stops, goes-on            a list in two parts
-use mathlib.Core.Path.{_≡_, refl, sym, subst, _∙_}
-use mathlib.Core.Bool.{Bool, true, false, cond}
+--     accepted-none, failed-number, number-failed     the verdict by its number
+use mathlib.Core.Path.{_≡_, refl, sym, ap, subst, _∙_}
+use mathlib.Core.Bool.{Bool, true, false, cond, not}
 use mathlib.Core.Logic.{_↔_}
 use mathlib.Core.List.{List, [], _∷_, _++_}
 use Prim.Native.Nat.{ℕ, zero, suc, _≤_, _<_}
 use native.Mathlib.Omega.{arith}
 use lib.Dec.{T, eqb, ltb}
-use borrow.Author.Tests.{ltb-true, ltb-false, lt-ltb, eqb-true, eqb-false, eq-eqb, ne-eqb}
-use Rattle.fold.specs.Answers.{firstFailing, testOf}
+use borrow.Author.Tests.{ltb-true, ltb-false, lt-ltb, eqb-true, eqb-false, eq-eqb, ne-eqb, not-true, not-false}
+use Rattle.fold.specs.declared.Verdict.the-variants.{Accepted, Failed}
+use Rattle.fold.specs.Answers.{firstFailing, testOf, judged}
 use Rattle.fold.specs.Laws.RefusalLaws.{both-left, both-right, Passes, numbered, refusal-passes}
 
 -- the numbers rise, from above k
@@ -32,10 +35,6 @@ rising-numbered k (test ∷ tests) e =
     rw (lt-ltb 0 (test .0) (omega (arith, rising-head k test tests e))) (rising-numbered (test .0) tests (rising-tail k test tests e))
 
 -- ---- the first test of a list
-
-none-fails : firstFailing [] ≡ 0
-unfolding firstFailing
-none-fails = refl
 
 either : {P : Type 0} (t : Bool) → (t ≡ true → P) → (t ≡ false → P) → P
 either true f g = f refl
@@ -58,6 +57,25 @@ module _ (test : ℕ × Bool) (tests : List (ℕ × Bool)) where
 
   past-number : (k : ℕ) → (test .0 ≡ k → ⊥) → testOf k (test ∷ tests) ≡ testOf k tests
   past-number k e = rw (ne-eqb (test .0) k e)
+
+-- one test more: x is the first of the list then
+pub failing : (k : ℕ) (tests : List (ℕ × Bool)) {t : Bool} → t ≡ false → k ≡ firstFailing ((k, t) ∷ tests)
+failing k tests {t} e = sym (failed (k, t) tests e)
+
+pub passing : (k : ℕ) (tests : List (ℕ × Bool)) {t : Bool} {x : ℕ} → t ≡ true → x ≡ firstFailing tests → x ≡ firstFailing ((k, t) ∷ tests)
+passing k tests {t} e h = h ∙ sym (passed (k, t) tests e)
+
+pub none-fails : 0 ≡ firstFailing []
+unfolding firstFailing
+none-fails = refl
+
+-- the same where code has computed the test, as r, and asks whether it fails
+pub fails : (k : ℕ) (tests : List (ℕ × Bool)) {r t : Bool} → r ≡ t → not r ≡ true → k ≡ firstFailing ((k, t) ∷ tests)
+fails k tests {r} e f = failing k tests (sym e ∙ not-true r f)
+
+pub passes : (k : ℕ) (tests : List (ℕ × Bool)) {r t : Bool} {x : ℕ} → r ≡ t → not r ≡ false → x ≡ firstFailing tests
+    → x ≡ firstFailing ((k, t) ∷ tests)
+passes k tests {r} e f h = passing k tests (sym e ∙ not-false r f) h
 
 -- ---- none fails
 
@@ -152,15 +170,19 @@ holds-iff tests e = (holds tests (rising-numbered 0 tests e), none (firstFailing
 -- ---- a list in two parts
 
 pub stops : (early later : List (ℕ × Bool)) {x : ℕ} → x ≡ firstFailing early → (x ≡ 0 → ⊥) → x ≡ firstFailing (early ++ later)
-stops [] later e h = absurd (h (e ∙ none-fails))
+stops [] later e h = absurd (h (e ∙ sym none-fails))
 stops (test ∷ tests) later {x} e h =
     either (test .1)
     (λ t. stops tests later (e ∙ passed test tests t) h ∙ sym (passed test (tests ++ later) t))
     (λ f. e ∙ failed test tests f ∙ sym (failed test (tests ++ later) f))
 
-pub goes-on : (early later : List (ℕ × Bool)) → Passes early → firstFailing (early ++ later) ≡ firstFailing later
-goes-on [] later p = refl
-goes-on (test ∷ tests) later p = passed test (tests ++ later) (p .0) ∙ goes-on tests later (p .1)
+after-passes : (early later : List (ℕ × Bool)) → Passes early → firstFailing (early ++ later) ≡ firstFailing later
+after-passes [] later p = refl
+after-passes (test ∷ tests) later p = passed test (tests ++ later) (p .0) ∙ after-passes tests later (p .1)
+
+pub goes-on : (early later : List (ℕ × Bool)) → numbered early ≡ true → {x y : ℕ} → x ≡ firstFailing early → x ≡ 0 → y ≡ firstFailing later
+    → y ≡ firstFailing (early ++ later)
+goes-on early later l e z h = h ∙ sym (after-passes early later (refusal-passes early l (sym e ∙ z)))
 
 -- the test after `early` is the first that fails
 module _ (k : ℕ) (t : Bool) (later : List (ℕ × Bool)) where
@@ -190,4 +212,21 @@ module _ (k : ℕ) (t : Bool) (later : List (ℕ × Bool)) where
 
   pub first-after : (early : List (ℕ × Bool)) → rising 0 (early ++ ((k, t) ∷ later)) ≡ true
       → (firstFailing (early ++ ((k, t) ∷ later)) ≡ k) ↔ (Passes early × (t ≡ false))
-  first-after early e = (after-holds early 0 e, λ h. goes-on early ((k, t) ∷ later) (h .0) ∙ failed (k, t) later (h .1))
+  first-after early e = (after-holds early 0 e, λ h. after-passes early ((k, t) ∷ later) (h .0) ∙ failed (k, t) later (h .1))
+
+-- ---- the verdict by its number
+
+pub accepted-none : (k : ℕ) → judged k ≡ Accepted → k ≡ 0
+unfolding judged
+accepted-none zero e = refl
+accepted-none (suc k) e = let no : _≡_ {A = ℕ} 0 1 = cc in absurd (omega arith)
+
+pub failed-number : (k j : ℕ) → judged k ≡ Failed j → k ≡ j
+unfolding judged
+failed-number zero j e = let no : _≡_ {A = ℕ} 0 1 = cc in absurd (omega arith)
+failed-number (suc k) j e = cc
+
+pub number-failed : (k j : ℕ) → 0 < j → k ≡ j → judged k ≡ Failed j
+unfolding judged
+number-failed zero j some e = absurd (omega (arith, some, e))
+number-failed (suc k) j some e = ap Failed e

@@ -15,8 +15,7 @@ use Rattle.fold.specs.declared.Answer.{Answer}
 use Rattle.fold.specs.declared.Answer.the-variants.{Refused, Judged, Written}
 use Rattle.fold.specs.declared.Verdict.{Verdict}
 use Rattle.fold.specs.declared.Verdict.the-variants.{Accepted, Failed}
-use Rattle.fold.specs.Answers.{kindOf, numberOf, firstFailing, answered, written}
-use Rattle.fold.specs.NextCall.{orWritten}
+use Rattle.fold.specs.Answers.{kindOf, numberOf, firstFailing, answered, checked, written}
 use Rattle.fold.specs.Laws.RefusalLaws.{numbered}
 
 -- the test of row k is the first that fails: those before it hold
@@ -83,10 +82,10 @@ judged-no-refusal : (v : Verdict) → kindOf (Judged v) ≡ 2 → ⊥
 judged-no-refusal Accepted e = omega arith
 judged-no-refusal (Failed k) e = omega arith
 
-next-no-refusal : (v : Verdict) → kindOf (orWritten v) ≡ 2 → ⊥
-unfolding orWritten
-next-no-refusal Accepted e = omega arith
-next-no-refusal (Failed k) e = omega arith
+checked-no-refusal : (k : ℕ) → kindOf (checked k Written) ≡ 2 → ⊥
+unfolding checked
+checked-no-refusal zero e = omega arith
+checked-no-refusal (suc k) e = omega arith
 
 module _ (tests : List (ℕ × Bool)) (l : numbered tests ≡ true) {answer : Answer} where
   -- a call that answers `Written`
@@ -98,10 +97,10 @@ module _ (tests : List (ℕ × Bool)) (l : numbered tests ≡ true) {answer : An
   pub judgement-refuses : (v : Verdict) → answer ≡ answered (firstFailing tests) (Judged v) → Refuses tests answer Unit
   judgement-refuses v is = refuses tests l (Judged v) (judged-no-refusal v) is (λ kept. tt)
 
-  -- the next instance
-  pub next-call-refuses : (v : Verdict) {same : Type 0} → answer ≡ answered (firstFailing tests) (orWritten v)
+  -- the next instance, whose check k may fail
+  pub next-call-refuses : (k : ℕ) {same : Type 0} → answer ≡ answered (firstFailing tests) (checked k Written)
       → (((new old : List ℤ) → written (firstFailing tests) new old ≡ old) → same) → Refuses tests answer same
-  next-call-refuses v is unchanged = refuses tests l (orWritten v) (next-no-refusal v) is unchanged
+  next-call-refuses k is unchanged = refuses tests l (checked k Written) (checked-no-refusal k) is unchanged
 
 -- a call that answers the number itself and hands back a list, empty where it is refused
 pub number-refuses : (tests : List (ℕ × Bool)) (new : List ℤ) {number : ℕ} {part : List ℤ} → number ≡ firstFailing tests

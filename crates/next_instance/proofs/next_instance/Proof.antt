@@ -9,8 +9,8 @@ returns c =
     let a = c .before .before .before .args in
     next-refused (a .sizes) _ _ _ _ _ _ _ _ _ _ _ _ _ _ _ _ _ _ _ (c .before .next-refusal .ensures) (c .if1 .taken)
 
-first-checks-requires : tie.Need-first-checks-requires
-first-checks-requires c κs =
+message-checks-requires : tie.Need-message-checks-requires
+message-checks-requires c κs =
     let a = c .before .before .before .args in
     let number = c .before .next-refusal .ensures in (
       call-facts (a .sizes) _ _ _ _ _ _ _ _ _ _ _ _ _ _ _ _ _ _ _ number (c .if1 .left) .limits,
@@ -22,20 +22,16 @@ returns-2 c =
     let c1 = c .before in
     let c2 = c1 .before in
     let c3 = c2 .before in
-    let c4 = c3 .before in
-    let a = c4 .before .before .args in
-    next-judged (a .sizes) _ _ _ _ _ _ _ _ _ _ _ _ _ _ _ _ _ _ _ (c4 .next-refusal .ensures) (c3 .if1 .left) (c2 .first-checks .ensures)
-    (c1 .is-accepted .ensures) (c .if2 .taken)
+    let a = c3 .before .before .args in
+    next-judged (a .sizes) _ _ _ _ _ _ _ _ _ _ _ _ _ _ _ _ _ _ _ (c3 .next-refusal .ensures) (c2 .if1 .left) (c1 .message-checks .ensures)
+    (c .if2 .taken)
 
 write-instance-requires : tie.Need-write-instance-requires
 write-instance-requires c κs =
-    let c1 = c .before in
-    let c2 = c1 .before in
-    let c3 = c2 .before in
+    let c3 = c .before .before .before in
     let c4 = c3 .before in
-    let c5 = c4 .before in
-    let a = c5 .before .before .args in
-    call-facts (a .sizes) _ _ _ _ _ _ _ _ _ _ _ _ _ _ _ _ _ _ _ (c5 .next-refusal .ensures) (c4 .if1 .left)
+    let a = c4 .before .before .args in
+    call-facts (a .sizes) _ _ _ _ _ _ _ _ _ _ _ _ _ _ _ _ _ _ _ (c4 .next-refusal .ensures) (c3 .if1 .left)
 
 returns-3 : tie.Need-returns-3
 returns-3 c =
@@ -45,10 +41,9 @@ returns-3 c =
     let c4 = c3 .before in
     let c5 = c4 .before in
     let c6 = c5 .before in
-    let c7 = c6 .before in
-    let a = c7 .before .before .args in
-    next-written (a .sizes) _ _ _ _ _ _ _ _ _ _ _ _ _ _ _ _ _ _ _ (c7 .next-refusal .ensures) (c6 .if1 .left) (c5 .first-checks .ensures)
-    (c4 .is-accepted .ensures) (c3 .if2 .left) (c1 .write-instance .ensures)
+    let a = c6 .before .before .args in
+    next-written (a .sizes) _ _ _ _ _ _ _ _ _ _ _ _ _ _ _ _ _ _ _ (c6 .next-refusal .ensures) (c5 .if1 .left) (c4 .message-checks .ensures)
+    (c3 .if2 .left) (c1 .write-instance .ensures)
 
 pub next-instance-spec : {M : Type 1} → statement M
 next-instance-spec =
@@ -57,8 +52,7 @@ next-instance-spec =
     (λ c κs. tt)
     (λ c. search needs)
     returns
-    first-checks-requires
-    (λ c κs. tt)
+    message-checks-requires
     (λ c. search needs)
     returns-2
     write-instance-requires

@@ -2,8 +2,10 @@
 use mathlib.Core.Path.{_≡_, sym, ap, _∙_}
 use native.Mathlib.Omega.{arith}
 use Rattle.fold.specs.declared.Answer.the-variants.{Judged}
+use Rattle.fold.specs.Answers.{judged}
+use Rattle.fold.specs.Verdict.{verdict}
 use Rattle.fold.specs.Known.CallFacts.{verify-facts}
-use Rattle.verifier.specs.Laws.JudgementLaws.{refused, judged}
+use Rattle.verifier.specs.Laws.JudgementLaws.{refused, unrefused}
 use borrow.Author.Needs.{needs}
 use Rattle.verifier.proofs.verify.Statement.{statement}
 use Rattle.verifier.proofs.verify.Tie as tie
@@ -14,15 +16,18 @@ verify-refusal-requires c κs = search needs
 returns : tie.Need-returns
 returns c = refused _ _ _ (c .before .verify-refusal .ensures) (c .if1 .taken)
 
-judge-requires : tie.Need-judge-requires
-judge-requires c κs =
+first-failing-requires : tie.Need-first-failing-requires
+first-failing-requires c κs =
     let none : c .before .verify-refusal .result ≡ 0 = omega (arith, c .if1 .left) in
     verify-facts _ _ _ _ (sym (c .before .verify-refusal .ensures) ∙ none)
 
 returns-2 : tie.Need-returns-2
+unfolding verdict
 returns-2 c =
-    let l = c .before in
-    judged _ _ (l .before .verify-refusal .ensures) (l .if1 .left) (ap Judged (c .judge .ensures))
+    let a = c .before in
+    let l = a .before in
+    unrefused _ _ (l .before .verify-refusal .ensures) (l .if1 .left)
+    (ap Judged (c .verdict .ensures ∙ ap judged (a .first-failing .ensures)))
 
 pub verify-spec : {M : Type 1} → statement M
-verify-spec = tie.close (tie.spec verify-refusal-requires returns judge-requires returns-2)
+verify-spec = tie.close (tie.spec verify-refusal-requires returns first-failing-requires (λ c κs. search needs) returns-2)

@@ -1,43 +1,26 @@
 -- Laws of what Judgement.antt defines.
-use mathlib.Core.Path.{_≡_, refl, ap, subst}
-use mathlib.Core.Bool.{Bool, true, false, not, cond}
-use mathlib.Core.List.{List, [], _∷_}
+use mathlib.Core.Path.{_≡_, refl, ap}
+use mathlib.Core.List.{List, _++_}
 use Prim.Native.Nat.{ℕ, zero, suc, _≤_, _<_}
 use native.Mathlib.Nat.{mul-le-mul}
 use native.Mathlib.Omega.{arith}
 use lib.IntN.{ℤ}
 use lib.ListN.{length}
 use Rattle.integers.specs.Over.{over}
-use Rattle.fold.specs.declared.Verdict.{Verdict}
 use Rattle.fold.specs.declared.Verdict.the-variants.{Accepted, Failed}
 use Rattle.fold.specs.declared.Answer.{Answer}
 use Rattle.fold.specs.declared.Answer.the-variants.{Refused}
 use Rattle.fold.specs.declared.Sizes.{Sizes}
-use Rattle.fold.specs.Answers.{firstFailed, answered}
+use Rattle.fold.specs.Answers.{firstFailing, judged, answered}
 use Rattle.fold.specs.Messages.{elements}
-use Rattle.fold.specs.Verdict.{verdict, check₁, check₂, check₃, check₄}
+use Rattle.fold.specs.Verdict.{checks}
 use Rattle.fold.specs.Arguments.{statementOf, drawsOf, transcriptOf}
 use Rattle.fold.specs.Known.CallFacts.{VerifyFacts}
-use Rattle.verifier.specs.Known.Facts.{Fits, tBlockOf, gBlockOf, hBlockOf, zValue}
+use Rattle.verifier.specs.Known.Facts.{Fits, zValue}
 use Rattle.verifier.specs.ConstantTerms.{Terms}
 use Rattle.verifier.specs.Known.ListFacts.{terms-known, aggregate-known}
 use Rattle.verifier.specs.Laws.PlaceLaws.{el-written}
-use Rattle.verifier.specs.Judgement.{Recomposed, openingChecks, OpeningFacts}
-
-pub fails : (k : ℕ) (r test : Bool) (tests : List Bool) → r ≡ test → not r ≡ true → Failed k ≡ firstFailed k (test ∷ tests)
-unfolding firstFailed
-fails k false test tests e f = rw (← e) refl
-fails k true test tests e f = absurd (subst (λ (t : Bool). cond t ⊥ Unit) f tt)
-
-pub passes : (k : ℕ) (r test : Bool) (tests : List Bool) {v : Verdict} → r ≡ test → not r ≡ false → v ≡ firstFailed (suc k) tests
-    → v ≡ firstFailed k (test ∷ tests)
-unfolding firstFailed
-passes k true test tests e f h = rw (← e) h
-passes k false test tests e f h = absurd (subst (λ (t : Bool). cond t Unit ⊥) f tt)
-
-pub none-fails : (k : ℕ) → Accepted ≡ firstFailed k []
-unfolding firstFailed
-none-fails k = refl
+use Rattle.verifier.specs.Judgement.{Recomposed, messageChecksOf, outerChecksOf, openingChecksOf, OuterFacts, OpeningFacts}
 
 pub recomposed : (s : Sizes) → Fits s → (o old z : List ℤ) → length z ≡ 16384 → z ≡ over old 0 (elements (s .d) (s .n)
     (zValue s o)) → Recomposed s o z
@@ -47,19 +30,27 @@ recomposed s fits o old z room e = record {
 }
 
 module _ (s : Sizes) (A B C D whole term projections ψ ω α δ c u₁ p b″ u₂ o : List ℤ) where
-  pub verdict-parts : firstFailed 1
-      (check₁ (s .w) (s .bound) p
-      ∷ check₂ (s .d) (s .n) (s .r) (s .l) (s .w) term ψ ω p b″
-      ∷ check₃ (s .d) (s .r) (s .kappa) (s .kappa1) (s .t1) (s .t2) B C u₁ (tBlockOf s o) (gBlockOf s o)
-      ∷ check₄ (s .d) (s .r) (s .kappa2) (s .t1) D u₂ (hBlockOf s o)
-      ∷ openingChecks s A whole term projections ψ ω b″ α δ c o)
-      ≡ verdict (statementOf s A B C D whole term) (drawsOf projections ψ ω α δ c) (transcriptOf u₁ p b″ u₂) o
-  unfolding verdict
-  verdict-parts = refl
+  -- the three parts are the checks
+  pub parts : firstFailing
+      (messageChecksOf s term p ψ ω b″
+      ++ (outerChecksOf s B C D u₁ u₂ o ++ openingChecksOf s A whole term projections ψ ω b″ α δ c o))
+      ≡ firstFailing (checks (statementOf s A B C D whole term) (drawsOf projections ψ ω α δ c) (transcriptOf u₁ p b″ u₂) o)
+  parts = refl
 
   module _ (facts : VerifyFacts (statementOf s A B C D whole term) (drawsOf projections ψ ω α δ c) (transcriptOf u₁ p b″ u₂) o) where
     pub term-facts : Terms s term ψ ω p b″
     term-facts = terms-known s A B C D whole term projections ψ ω α δ c u₁ p b″ u₂ (facts .lists)
+
+    pub outer-facts : OuterFacts s B C D u₁ u₂ o
+    outer-facts = record {
+      fits = facts .limits;
+      first-matrix = record { sized = facts .lists .B-length };
+      second-matrix = record { sized = facts .lists .C-length };
+      third-matrix = record { sized = facts .lists .D-length };
+      first = record { sized = facts .lists .u₁-length };
+      second = record { sized = facts .lists .u₂-length };
+      opening = record { sized = facts .o-length };
+    }
 
     pub opening-facts : OpeningFacts s A whole term projections ψ ω b″ α δ c o
     opening-facts = record {
@@ -78,7 +69,16 @@ unfolding answered
 refused k zero a e h = let no : ⊥ = omega arith in absurd no
 refused k (suc n) a e h = ap Refused e
 
-pub judged : (k n : ℕ) {a b : Answer} → k ≡ n → k ≤ 0 → a ≡ b → a ≡ answered n b
+pub unrefused : (k n : ℕ) {a b : Answer} → k ≡ n → k ≤ 0 → a ≡ b → a ≡ answered n b
 unfolding answered
-judged k zero e h f = f
-judged k (suc n) e h f = let no : ⊥ = omega arith in absurd no
+unrefused k zero e h f = f
+unrefused k (suc n) e h f = let no : ⊥ = omega arith in absurd no
+
+pub accepted-at : (k : ℕ) → k ≡ 0 → Accepted ≡ judged k
+unfolding judged
+accepted-at k e = rw e refl
+
+pub failed-at : (k : ℕ) → (k ≡ 0 → ⊥) → Failed k ≡ judged k
+unfolding judged
+failed-at zero some = absurd (some refl)
+failed-at (suc k) some = refl

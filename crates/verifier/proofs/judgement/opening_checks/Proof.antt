@@ -1,10 +1,10 @@
--- `verifier::judgement::judge_recomposed` meets its contract.
+-- `verifier::judgement::opening_checks` meets its contract.
 use native.Mathlib.Nat.{mul-le-mul}
 use Rattle.verifier.specs.Laws.SizeLaws.{z-within}
 use Rattle.verifier.specs.Laws.JudgementLaws.{recomposed}
 use borrow.Author.Needs.{needs}
-use Rattle.verifier.proofs.judgement.judge_recomposed.Statement.{statement}
-use Rattle.verifier.proofs.judgement.judge_recomposed.Tie as tie
+use Rattle.verifier.proofs.judgement.opening_checks.Statement.{statement}
+use Rattle.verifier.proofs.judgement.opening_checks.Tie as tie
 
 write-z-requires : tie.Need-write-z-requires
 write-z-requires c κs =
@@ -21,17 +21,17 @@ write-z-requires c κs =
       ),
     )
 
-judge-opening-requires : tie.Need-judge-opening-requires
-judge-opening-requires c κs =
+recomposed-checks-requires : tie.Need-recomposed-checks-requires
+recomposed-checks-requires c κs =
     let s = c .before .before .before .before in
     (s .pre, recomposed (s .args .sizes) (s .pre .fits) _ _ _ (search needs) (c .before .before .write-z .ensures))
 
-pub judge-recomposed-spec : {M : Type 1} → statement M
-judge-recomposed-spec =
+pub opening-checks-spec : {M : Type 1} → statement M
+opening-checks-spec =
     tie.close
     (tie.spec
     (λ c. search needs)
     write-z-requires
     (λ c. search needs)
-    judge-opening-requires
+    recomposed-checks-requires
     (λ c. search needs))

@@ -1,0 +1,28 @@
+-- `verifier::judgement::outer_checks` meets its contract: check 3 fails, or check 4 says.
+use Rattle.fold.specs.Laws.TestLaws.{fails, passes}
+use Rattle.limits.specs.Laws.StageLaws.{single, none}
+use borrow.Author.Needs.{needs}
+use Rattle.verifier.proofs.judgement.outer_checks.Statement.{statement}
+use Rattle.verifier.proofs.judgement.outer_checks.Tie as tie
+
+first-outer-requires : tie.Need-first-outer-requires
+first-outer-requires c κs =
+    let f = c .pre in (f .fits, (f .first-matrix, (f .second-matrix, (f .first, f .opening))))
+
+returns : tie.Need-returns
+returns c = fails 3 _ (c .before .first-outer .ensures) (c .if1 .taken)
+
+second-outer-requires : tie.Need-second-outer-requires
+second-outer-requires c κs = let f = c .before .before .pre in (f .fits, (f .third-matrix, (f .second, f .opening)))
+
+returns-2 : tie.Need-returns-2
+returns-2 c =
+    let a2 = c .before in
+    let e1 = a2 .before in
+    passes 3 _ (e1 .before .first-outer .ensures) (e1 .if1 .left)
+    (single 4 _ (a2 .second-outer .ensures) (c .first .ensures) none)
+
+pub outer-checks-spec : {M : Type 1} → statement M
+outer-checks-spec =
+    tie.close
+    (tie.spec first-outer-requires returns second-outer-requires (λ c κs. search needs) returns-2)
