@@ -82,10 +82,10 @@ judged-no-refusal : (v : Verdict) → kindOf (Judged v) ≡ 2 → ⊥
 judged-no-refusal Accepted e = omega arith
 judged-no-refusal (Failed k) e = omega arith
 
-next-no-refusal : (j : ℕ) → kindOf (checked j Written) ≡ 2 → ⊥
+checked-no-refusal : (k : ℕ) → kindOf (checked k Written) ≡ 2 → ⊥
 unfolding checked
-next-no-refusal zero e = omega arith
-next-no-refusal (suc j) e = omega arith
+checked-no-refusal zero e = omega arith
+checked-no-refusal (suc k) e = omega arith
 
 module _ (tests : List (ℕ × Bool)) (l : numbered tests ≡ true) {answer : Answer} where
   -- a call that answers `Written`
@@ -97,10 +97,10 @@ module _ (tests : List (ℕ × Bool)) (l : numbered tests ≡ true) {answer : An
   pub judgement-refuses : (v : Verdict) → answer ≡ answered (firstFailing tests) (Judged v) → Refuses tests answer Unit
   judgement-refuses v is = refuses tests l (Judged v) (judged-no-refusal v) is (λ kept. tt)
 
-  -- the next instance
-  pub next-call-refuses : (j : ℕ) {same : Type 0} → answer ≡ answered (firstFailing tests) (checked j Written)
+  -- the next instance, whose check k may fail
+  pub next-call-refuses : (k : ℕ) {same : Type 0} → answer ≡ answered (firstFailing tests) (checked k Written)
       → (((new old : List ℤ) → written (firstFailing tests) new old ≡ old) → same) → Refuses tests answer same
-  next-call-refuses j is unchanged = refuses tests l (checked j Written) (next-no-refusal j) is unchanged
+  next-call-refuses k is unchanged = refuses tests l (checked k Written) (checked-no-refusal k) is unchanged
 
 -- a call that answers the number itself and hands back a list, empty where it is refused
 pub number-refuses : (tests : List (ℕ × Bool)) (new : List ℤ) {number : ℕ} {part : List ℤ} → number ≡ firstFailing tests
