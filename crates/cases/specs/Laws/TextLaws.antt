@@ -190,23 +190,37 @@ line-some (byte ∷ bytes) h = step (eqb byte 10)
     step true = omega arith
     step false = omega arith
 
--- the place after one more line, of which the slice from `at` on tells the length
-module _ (text : List ℕ) (at : ℕ) {k : ℕ} (e : k ≡ lineLength (take (length text - at) (drop at text))) where
+-- `at` is the place after `count` lines
+pub record LinesPast (text : List ℕ) (at count : ℕ) : Type 0 where
+  pub counted : count ≤ at
+  pub inside : at ≤ length text
+  pub is : drop at text ≡ pastLines count text
+
+pub lines-start : {text : List ℕ} → LinesPast text 0 0
+unfolding pastLines
+lines-start = record { counted = omega arith; inside = omega arith; is = refl }
+
+-- one line more, of which the slice from `at` on tells the length
+module _ {text : List ℕ} {at count : ℕ} (p : LinesPast text at count) {k : ℕ} (e : k ≡ lineLength (take (length text - at) (drop at text))) where
   line-is : k ≡ lineLength (drop at text)
   line-is = e ∙ ap lineLength (take-all (length text - at) (drop at text) (omega (arith, length-drop at text)))
 
-  pub line-fits : at ≤ length text → at + k ≤ length text
-  line-fits h = omega (arith, line-is, line-inside (drop at text), length-drop at text)
+  pub line-fits : at + k ≤ length text
+  line-fits = omega (arith, p .inside, line-is, line-inside (drop at text), length-drop at text)
 
-  pub line-ahead : at < length text → 0 < k
-  line-ahead h = omega (arith, line-is, line-some (drop at text) (omega (arith, length-drop at text)))
+  pub line-ahead : at < length text → length text - (at + k) < length text - at
+  line-ahead h = omega (arith, line-fits, line-is, line-some (drop at text) (omega (arith, length-drop at text)))
 
-  pub lines-next : (count : ℕ) → drop at text ≡ pastLines count text → drop (at + k) text ≡ pastLines (count + 1) text
+  pub lines-next : at < length text → LinesPast text (at + k) (count + 1)
   unfolding pastLines pastLine
-  lines-next count f = rw (add-one count, ← f, line-is) (sym (drop-drop (lineLength (drop at text)) at text))
+  lines-next h = record {
+    counted = omega (arith, p .counted, line-ahead h);
+    inside = line-fits;
+    is = rw (add-one count, ← p .is, line-is) (sym (drop-drop (lineLength (drop at text)) at text));
+  }
 
-pub lines-end : (text : List ℕ) (count at : ℕ) → drop at text ≡ pastLines count text → length text ≤ at → pastLines count text ≡ []
-lines-end text count at e h = sym e ∙ drop-of-length-le text h
+pub lines-end : {text : List ℕ} {at count : ℕ} → LinesPast text at count → length text ≤ at → pastLines count text ≡ []
+lines-end {text} p h = sym (p .is) ∙ drop-of-length-le text h
 
 -- ---- a line's numbers in arrays of zeros, whose length is any n, so that they are not written out
 

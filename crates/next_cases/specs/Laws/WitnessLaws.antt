@@ -86,52 +86,51 @@ writing-start m parts width o out = record {
   new = sym (rw (take-nil {A = ℤ} (length out)) (over-nil out 0));
 }
 
-module _ (m : PartSizes) (parts width : ℕ) (o out₀ : List ℤ) where
-  length-witness : (i : ℕ) → length (nextWitness m i width o) ≡ i * width
-  unfolding nextWitness padded
-  length-witness i = length-flat i width _ (λ j h. length-tab width (λ k. getD (nextPartOf m (suc j) o) k (pos 0)))
+length-witness : (m : PartSizes) (width : ℕ) (o : List ℤ) (i : ℕ) → length (nextWitness m i width o) ≡ i * width
+unfolding nextWitness padded
+length-witness m width o i = length-flat i width _ (λ j h. length-tab width (λ k. getD (nextPartOf m (suc j) o) k (pos 0)))
 
-  module _ {out : List ℤ} {at i : ℕ} (w : Writing m parts width o out₀ out at i) where
-    before : List ℤ
-    before = take (length out₀) (nextWitness m i width o)
+module _ {m : PartSizes} {parts width : ℕ} {o out₀ out : List ℤ} {at i : ℕ} (w : Writing m parts width o out₀ out at i) where
+  before : List ℤ
+  before = take (length out₀) (nextWitness m i width o)
 
-    long : length before ≡ at
-    unfolding before
-    long = length-take (length out₀) (nextWitness m i width o) ∙ ap (min (length out₀)) (length-witness i) ∙ sym (w .place)
+  long : length before ≡ at
+  unfolding before
+  long = length-take (length out₀) (nextWitness m i width o) ∙ ap (min (length out₀)) (length-witness m width o i) ∙ sym (w .place)
 
-    pub writing-length : length out ≡ length out₀
-    unfolding before
-    writing-length =
-        ap (λ (l : List ℤ). length l) (w .new)
-        ∙ length-over out₀ 0 (take (length out₀) (nextWitness m i width o)) (omega (arith, long, w .place))
+  pub writing-length : length out ≡ length out₀
+  unfolding before
+  writing-length =
+      ap (λ (l : List ℤ). length l) (w .new)
+      ∙ length-over out₀ 0 (take (length out₀) (nextWitness m i width o)) (omega (arith, long, w .place))
 
-    pub place-inside : at ≤ length out
-    place-inside = omega (arith, writing-length, w .place)
+  pub place-inside : at ≤ length out
+  place-inside = omega (arith, writing-length, w .place)
 
-    next : {part : List ℤ} → part ≡ nextPartOf m (i + 1) o
-        → take (length out₀) (nextWitness m (i + 1) width o) ≡ before ++ padded (min width (length out₀ - at)) part
-    unfolding before nextWitness
-    next {part} e =
-        let room : length out₀ - length (nextWitness m i width o) ≡ length out₀ - at = omega (arith, length-witness i, w .place) in
-        rw (add-one i, flat-suc, take-append, room, take-padded, e, add-one i) refl
+  next : {part : List ℤ} → part ≡ nextPartOf m (i + 1) o
+      → take (length out₀) (nextWitness m (i + 1) width o) ≡ before ++ padded (min width (length out₀ - at)) part
+  unfolding before nextWitness
+  next {part} e =
+      let room : length out₀ - length (nextWitness m i width o) ≡ length out₀ - at = omega (arith, length-witness m width o i, w .place) in
+      rw (add-one i, flat-suc, take-append, room, take-padded, e, add-one i) refl
 
-    pub writing-next : i < parts → {part out′ : List ℤ} {at′ : ℕ} → part ≡ nextPartOf m (i + 1) o → at′ ≡ at + min width (length out - at)
-        → out′ ≡ over out at (padded (min width (length out - at)) part) → Writing m parts width o out₀ out′ at′ (i + 1)
-    unfolding before
-    writing-next h {part} {out′} {at′} e place-is new-is =
-        let k = length out₀ - at in
-        let start : at ≡ 0 + length before = omega (arith, long) in
-        record {
-          within = omega arith;
-          place = omega (arith, place-is, writing-length, w .place);
-          new =
-              new-is
-              ∙ rw (writing-length, w .new) (ap (λ (a : ℕ). over (over out₀ 0 before) a (padded (min width k) part)) start
-              ∙ over-over out₀ 0 before (padded (min width k) part) (omega arith)
-              ∙ ap (λ (l : List ℤ). over out₀ 0 l) (sym (next e)));
-        }
+  pub writing-next : i < parts → {part out′ : List ℤ} {at′ : ℕ} → part ≡ nextPartOf m (i + 1) o → at′ ≡ at + min width (length out - at)
+      → out′ ≡ over out at (padded (min width (length out - at)) part) → Writing m parts width o out₀ out′ at′ (i + 1)
+  unfolding before
+  writing-next h {part} {out′} {at′} e place-is new-is =
+      let k = length out₀ - at in
+      let start : at ≡ 0 + length before = omega (arith, long) in
+      record {
+        within = omega arith;
+        place = omega (arith, place-is, writing-length, w .place);
+        new =
+            new-is
+            ∙ rw (writing-length, w .new) (ap (λ (a : ℕ). over (over out₀ 0 before) a (padded (min width k) part)) start
+            ∙ over-over out₀ 0 before (padded (min width k) part) (omega arith)
+            ∙ ap (λ (l : List ℤ). over out₀ 0 l) (sym (next e)));
+      }
 
-    pub writing-end : parts ≤ i → out ≡ over out₀ 0 (take (length out₀) (nextWitness m parts width o))
-    writing-end h =
-        let e : i ≡ parts = omega (arith, w .within) in
-        w .new ∙ ap (λ (k : ℕ). over out₀ 0 (take (length out₀) (nextWitness m k width o))) e
+  pub writing-end : parts ≤ i → out ≡ over out₀ 0 (take (length out₀) (nextWitness m parts width o))
+  writing-end h =
+      let e : i ≡ parts = omega (arith, w .within) in
+      w .new ∙ ap (λ (k : ℕ). over out₀ 0 (take (length out₀) (nextWitness m k width o))) e

@@ -13,34 +13,11 @@ Inv-loop part₀ tries₀ part tries = length part ≡ length part₀
 abbrev μ-loop : tie.MeasureT-loop
 μ-loop part₀ tries₀ part tries = tries
 
-same-length : tie.Need-same-length Inv-loop μ-loop
-same-length c =
-    let read = c .before .before .before .before .before in
-    read .read .kept .1 .0 ∙ read .before .before .before .loop .inv
-
 returns : tie.Need-returns Inv-loop μ-loop
 returns c =
     let read = c .before .before .before .before .before in
     let moved : Moved (length (read .before .before .before .loop .part)) (read .read .result) = read .read .ensures in
     rw (toZ-ofZ (record { sfits = read .read .ok }), ← (read .before .before .before .loop .inv)) moved
-
-sub-tries : tie.Need-sub-tries Inv-loop μ-loop
-sub-tries c =
-    let turn = c .before .before .before .before .before .before .before in
-    omega (arith, turn .loop-test .taken)
-
-loop-less : tie.Need-loop-less Inv-loop μ-loop
-loop-less c =
-    let turn = c .before .before .before .before .before .before .before in
-    omega (arith, turn .loop-test .taken)
-
-loop-again : tie.Need-loop-again Inv-loop μ-loop
-loop-again c =
-    let read = c .before .before .before .before .before in
-    read .read .kept .1 .0 ∙ read .before .before .before .loop .inv
-
-same-length-2 : tie.Need-same-length-2 Inv-loop μ-loop
-same-length-2 c = c .before .loop .inv
 
 pub read-once-spec : {M : Type 1} → statement M
 read-once-spec =
@@ -52,10 +29,10 @@ read-once-spec =
     (λ c κs. tt)
     (λ c κs. tt)
     (λ c κs. tt)
-    same-length
+    (λ c. let read = c .before .before .before .before .before in read .read .kept .1 .0 ∙ read .before .before .before .loop .inv)
     returns
-    sub-tries
-    loop-less
-    loop-again
-    same-length-2
+    (λ c. omega (arith, c .before .before .before .before .before .before .before .loop-test .taken))
+    (λ c. omega (arith, c .before .before .before .before .before .before .before .loop-test .taken))
+    (λ c. let read = c .before .before .before .before .before in read .read .kept .1 .0 ∙ read .before .before .before .loop .inv)
+    (λ c. c .before .loop .inv)
     (λ c. refl))

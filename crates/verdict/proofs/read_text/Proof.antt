@@ -13,28 +13,12 @@ Inv-loop text₀ done₀ text done = (done ≤ length text) × (length text ≡ 
 abbrev μ-loop : tie.MeasureT-loop
 μ-loop text₀ done₀ text done = length text - done
 
-loop-holds : tie.Need-loop-holds Inv-loop μ-loop
-loop-holds c = (omega arith, refl)
-
-read-more-requires : tie.Need-read-more-requires Inv-loop μ-loop
-read-more-requires c κs = c .before .before .loop .inv .0
-
-same-length : tie.Need-same-length Inv-loop μ-loop
-same-length c =
-    let read = c .before .before .before in
-    read .read-more .kept .0 ∙ read .before .before .before .loop .inv .1
-
 returns : tie.Need-returns Inv-loop μ-loop
 returns c =
     let read = c .before .before .before in
     let done = read .before .before .before .loop in
     let inside : done .done ≤ length (read .read-more .last .0) = omega (arith, read .before .before .before .loop .inv .0, read .read-more .kept .0) in
     (inside, sym (length-take-le (done .done) (read .read-more .last .0) inside))
-
-loop-less : tie.Need-loop-less Inv-loop μ-loop
-loop-less c =
-    let read = c .before .before .before in
-    omega (arith, read .read-more .ensures .0 .0, read .read-more .ensures .0 .1, read .read-more .kept .0)
 
 loop-again : tie.Need-loop-again Inv-loop μ-loop
 loop-again c =
@@ -43,25 +27,17 @@ loop-again c =
       read .read-more .kept .0 ∙ read .before .before .before .loop .inv .1,
     )
 
-same-length-2 : tie.Need-same-length-2 Inv-loop μ-loop
-same-length-2 c = c .before .loop .inv .1
-
-returns-2 : tie.Need-returns-2 Inv-loop μ-loop
-returns-2 c =
-    let l = c .before .loop in
-    (c .before .loop .inv .0, sym (length-take-le (l .done) (l .text) (c .before .loop .inv .0)))
-
 pub read-text-spec : {M : Type 1} → statement M
 read-text-spec =
     tie.close
     (tie.spec
     Inv-loop
     μ-loop
-    loop-holds
-    read-more-requires
-    same-length
+    (λ c. (omega arith, refl))
+    (λ c κs. c .before .before .loop .inv .0)
+    (λ c. let read = c .before .before .before in read .read-more .kept .0 ∙ read .before .before .before .loop .inv .1)
     returns
-    loop-less
+    (λ c. let read = c .before .before .before .read-more in omega (arith, read .ensures .0 .0, read .ensures .0 .1, read .kept .0))
     loop-again
-    same-length-2
-    returns-2)
+    (λ c. c .before .loop .inv .1)
+    (λ c. (c .before .loop .inv .0, sym (length-take-le _ _ (c .before .loop .inv .0)))))

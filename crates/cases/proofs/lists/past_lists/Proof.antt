@@ -19,11 +19,6 @@ loop-holds : tie.Need-loop-holds Inv-loop μ-loop
 unfolding pastLists
 loop-holds c = (omega arith, omega arith, refl)
 
-add-at : tie.Need-add-at Inv-loop μ-loop
-add-at c =
-    let l = c .before .before .before in
-    omega (arith, width-fits (l .before .args .xs .now) (l .loop .at) (l .loop .inv .1) (c .first-width .ensures))
-
 loop-again : tie.Need-loop-again Inv-loop μ-loop
 loop-again c =
     let l = c .before .before .before in
@@ -36,9 +31,8 @@ loop-again c =
 returns : tie.Need-returns Inv-loop μ-loop
 returns c =
     let l = c .before .before in
-    let xs = l .before .args .xs .now in
     let all : l .loop .i ≡ l .before .args .count = omega arith in
-    past-some (l .loop .at) xs ∙ l .loop .inv .2 ∙ ap (λ (k : ℕ). pastLists k xs) all
+    past-some (l .loop .at) _ ∙ l .loop .inv .2 ∙ ap (λ (k : ℕ). pastLists k (l .before .args .xs .now)) all
 
 pub past-lists-spec : {M : Type 1} → statement M
 past-lists-spec =
@@ -52,7 +46,7 @@ past-lists-spec =
     (λ c. search needs)
     (λ c. search needs)
     (λ c κs. tt)
-    add-at
+    (λ c. let l = c .before .before .before in omega (arith, width-fits (l .before .args .xs .now) (l .loop .at) (l .loop .inv .1) (c .first-width .ensures)))
     (λ c. omega arith)
     (λ c. omega arith)
     loop-again

@@ -36,10 +36,8 @@ loop-again c =
 returns : tie.Need-returns Inv-loop μ-loop
 returns c =
     let l = c .before in
-    let s = l .before .before in (
-      omega arith,
-      put-end (s .args .out .now) (l .loop .out) (s .args .part .now) (s .args .at) (l .loop .i) (l .loop .inv .1) (omega arith),
-    )
+    let s = l .before .before in
+    (omega arith, put-end (s .args .out .now) (l .loop .out) (s .args .part .now) (s .args .at) (l .loop .i) (l .loop .inv .1) (omega arith))
 
 pub put-spec : {M : Type 1} → statement M
 put-spec =

@@ -39,8 +39,7 @@ loop-again c =
 returns : tie.Need-returns Inv-loop μ-loop
 returns c =
     let l = c .before in
-    let s = l .before in
-    narrow-end (s .args .wides .now) (s .args .words .now) (l .loop .words) (l .loop .i) (l .loop .inv .1) (omega arith) (s .pre)
+    narrow-end (l .before .args .wides .now) _ (l .loop .words) (l .loop .i) (l .loop .inv .1) (omega arith) (l .before .pre)
 
 pub narrow-spec : {M : Type 1} → statement M
 narrow-spec =

@@ -15,14 +15,6 @@ Inv-loop line numbers₀ minus₀ magnitude₀ count₀ i₀ numbers minus magni
 abbrev μ-loop : tie.MeasureT-loop
 μ-loop line numbers₀ minus₀ magnitude₀ count₀ i₀ numbers minus magnitude count i = length line - i
 
-loop-holds : tie.Need-loop-holds Inv-loop μ-loop
-loop-holds c =
-    let s = c .before in
-    (scan-start (s .args .line .now) _ (s .args .numbers .now) (s .pre), refl)
-
-with-digit-requires : tie.Need-with-digit-requires Inv-loop μ-loop
-with-digit-requires c κs = c .before .before .before .loop .inv .0 .small
-
 loop-again : tie.Need-loop-again Inv-loop μ-loop
 loop-again c =
     let l = c .before .before .before .before in (
@@ -30,16 +22,10 @@ loop-again c =
       l .loop .inv .1,
     )
 
-same-length : tie.Need-same-length Inv-loop μ-loop
-same-length c = c .before .before .before .before .loop .inv .1
-
 returns : tie.Need-returns Inv-loop μ-loop
 returns c =
     let l = c .before .before .before .before in
     scan-full (l .loop .inv .0) (omega (arith, l .loop .inv .1, c .if2 .taken))
-
-with-sign-requires : tie.Need-with-sign-requires Inv-loop μ-loop
-with-sign-requires c κs = c .before .before .before .before .loop .inv .0 .small
 
 loop-again-2 : tie.Need-loop-again-2 Inv-loop μ-loop
 loop-again-2 c =
@@ -50,31 +36,25 @@ loop-again-2 c =
       simp length-set (l .loop .inv .1),
     )
 
-same-length-2 : tie.Need-same-length-2 Inv-loop μ-loop
-same-length-2 c = c .before .loop .inv .1
-
-returns-2 : tie.Need-returns-2 Inv-loop μ-loop
-returns-2 c = scan-end (c .before .loop .inv .0) (c .loop-test .left)
-
 pub scan-spec : {M : Type 1} → statement M
 scan-spec =
     tie.close
     (tie.spec
     Inv-loop
     μ-loop
-    loop-holds
+    (λ c. (scan-start (c .before .args .line .now) _ (c .before .args .numbers .now) (c .before .pre), refl))
     (λ c. omega arith)
     (λ c. omega arith)
-    with-digit-requires
+    (λ c κs. c .before .before .before .loop .inv .0 .small)
     (λ c. omega arith)
     loop-again
-    same-length
+    (λ c. c .before .before .before .before .loop .inv .1)
     returns
-    with-sign-requires
+    (λ c κs. c .before .before .before .before .loop .inv .0 .small)
     (λ c. omega arith)
     (λ c. omega arith)
     (λ c. omega arith)
     (λ c. omega arith)
     loop-again-2
-    same-length-2
-    returns-2)
+    (λ c. c .before .loop .inv .1)
+    (λ c. scan-end (c .before .loop .inv .0) (c .loop-test .left)))

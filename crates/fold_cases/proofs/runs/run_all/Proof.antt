@@ -1,61 +1,27 @@
 -- `fold_cases::runs::run_all` meets its contract. The loop's invariant: `at` is the place after `count` lines. Assumes nothing.
-use mathlib.Core.Path.{_≡_, refl}
-use Prim.Native.Nat.{_-_, _≤_}
+use Prim.Native.Nat.{_-_}
 use native.Mathlib.Omega.{arith}
-use lib.ListN.{length, drop}
+use lib.ListN.{length}
 use borrow.Author.Needs.{needs}
-use Rattle.cases.specs.Text.{pastLines}
-use Rattle.cases.specs.Laws.TextLaws.{line-fits, line-ahead, lines-next, lines-end}
+use Rattle.cases.specs.Laws.TextLaws.{LinesPast, lines-start, line-fits, line-ahead, lines-next, lines-end}
 use Rattle.fold_cases.proofs.runs.run_all.Statement.{statement}
 use Rattle.fold_cases.proofs.runs.run_all.Tie as tie
 
 abbrev Inv-loop : tie.InvT-loop
-Inv-loop lines at₀ count₀ at count = (count ≤ at) × (at ≤ length lines) × (drop at lines ≡ pastLines count lines)
+Inv-loop lines at₀ count₀ at count = LinesPast lines at count
 
 abbrev μ-loop : tie.MeasureT-loop
 μ-loop lines at₀ count₀ at count = length lines - at
 
-loop-holds : tie.Need-loop-holds Inv-loop μ-loop
-unfolding pastLines
-loop-holds c = (omega arith, omega arith, refl)
-
-add-end : tie.Need-add-end Inv-loop μ-loop
-add-end c =
-    let l = c .before .before .before in
-    let lines = l .before .before .args .lines .now in
-    omega (arith, line-fits lines (l .loop .at) (c .line-length .ensures) (l .loop .inv .1))
-
-part-run-line-end : tie.Need-part-run-line-end Inv-loop μ-loop
-part-run-line-end c =
-    let l = c .before .before .before in
-    let lines = l .before .before .args .lines .now in
-    line-fits lines (l .loop .at) (c .line-length .ensures) (l .loop .inv .1)
-
 loop-less : tie.Need-loop-less Inv-loop μ-loop
 loop-less c =
     let found = c .before .before .before in
-    let l = found .before .before .before in
-    let lines = l .before .before .args .lines .now in
-    omega (
-      arith,
-      line-ahead lines (l .loop .at) (found .line-length .ensures) (found .before .before .loop-test .taken),
-      line-fits lines (l .loop .at) (found .line-length .ensures) (l .loop .inv .1),
-    )
+    line-ahead (found .before .before .before .loop .inv) (found .line-length .ensures) (found .before .before .loop-test .taken)
 
 loop-again : tie.Need-loop-again Inv-loop μ-loop
 loop-again c =
     let found = c .before .before .before in
-    let l = found .before .before .before in
-    let lines = l .before .before .args .lines .now in (
-      omega (arith, l .loop .inv .0, line-ahead lines (l .loop .at) (found .line-length .ensures) (found .before .before .loop-test .taken)),
-      line-fits lines (l .loop .at) (found .line-length .ensures) (l .loop .inv .1),
-      lines-next lines (l .loop .at) (found .line-length .ensures) (l .loop .count) (l .loop .inv .2),
-    )
-
-returns : tie.Need-returns Inv-loop μ-loop
-returns c =
-    let l = c .before in
-    lines-end (l .before .before .args .lines .now) (l .loop .count) (l .loop .at) (l .loop .inv .2) (c .loop-test .left)
+    lines-next (found .before .before .before .loop .inv) (found .line-length .ensures) (found .before .before .loop-test .taken)
 
 pub run-all-spec : {M : Type 1} → statement M
 run-all-spec =
@@ -63,18 +29,18 @@ run-all-spec =
     (tie.spec
     Inv-loop
     μ-loop
-    loop-holds
+    (λ c. lines-start)
     (λ c. omega arith)
     (λ c. search needs)
     (λ c. search needs)
     (λ c κs. tt)
-    add-end
+    (λ c. omega (arith, line-fits (c .before .before .before .loop .inv) (c .line-length .ensures)))
     (λ c. omega arith)
     (λ c. search needs)
-    part-run-line-end
+    (λ c. line-fits (c .before .before .before .loop .inv) (c .line-length .ensures))
     (λ c κs. tt)
     (λ c κs. tt)
     (λ c. omega arith)
     loop-less
     loop-again
-    returns)
+    (λ c. lines-end (c .before .loop .inv) (c .loop-test .left)))

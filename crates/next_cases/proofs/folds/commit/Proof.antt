@@ -5,24 +5,6 @@ use borrow.Author.Needs.{needs}
 use Rattle.next_cases.proofs.folds.commit.Statement.{statement}
 use Rattle.next_cases.proofs.folds.commit.Tie as tie
 
-array-borrow-prefix-t-room : tie.Need-array-borrow-prefix-t-room
-array-borrow-prefix-t-room c = blank-inside 32768 _ 1 (c .before .before .size .ensures)
-
-slice-aggregate-t : tie.Need-slice-aggregate-t
-slice-aggregate-t c = blank-fits 32768 _ 1 (c .before .before .before .size .ensures)
-
-array-borrow-prefix-g-room : tie.Need-array-borrow-prefix-g-room
-array-borrow-prefix-g-room c = blank-inside 32768 _ 2 (c .before .before .size2 .ensures)
-
-slice-aggregate-g : tie.Need-slice-aggregate-g
-slice-aggregate-g c = blank-fits 32768 _ 2 (c .before .before .before .size2 .ensures)
-
-array-borrow-prefix-u1-room : tie.Need-array-borrow-prefix-u1-room
-array-borrow-prefix-u1-room c = blank-inside 32768 _ 4 (c .before .before .size3 .ensures)
-
-slice-aggregate-u1 : tie.Need-slice-aggregate-u1
-slice-aggregate-u1 c = blank-fits 32768 _ 4 (c .before .before .before .size3 .ensures)
-
 returns : tie.Need-returns
 returns c =
     let keep3 = c .before .before in
@@ -51,12 +33,12 @@ commit-spec =
     (λ c κs. tt)
     (λ c κs. tt)
     (λ c κs. tt)
-    array-borrow-prefix-t-room
-    slice-aggregate-t
-    array-borrow-prefix-g-room
-    slice-aggregate-g
-    array-borrow-prefix-u1-room
-    slice-aggregate-u1
+    (λ c. blank-inside 32768 _ 1 (c .before .before .size .ensures))
+    (λ c. blank-fits 32768 _ 1 (c .before .before .before .size .ensures))
+    (λ c. blank-inside 32768 _ 2 (c .before .before .size2 .ensures))
+    (λ c. blank-fits 32768 _ 2 (c .before .before .before .size2 .ensures))
+    (λ c. blank-inside 32768 _ 4 (c .before .before .size3 .ensures))
+    (λ c. blank-fits 32768 _ 4 (c .before .before .before .size3 .ensures))
     (λ c κs. tt)
     (λ c κs. tt)
     (λ c κs. tt)

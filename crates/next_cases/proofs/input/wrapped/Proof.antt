@@ -37,41 +37,19 @@ itself : (x : ℤ) → T (nonNeg x) → natAbs x ≡ ofZ w64 x
 itself (pos n) t = refl
 itself (negsuc n) t = absurd t
 
-sub-below : tie.Need-sub-below
-sub-below c =
-    let f = c .before .fits .x in
-    rw (toZ-ofZ f) (below (c .before .args .x) (rw (toZ-ofZ f) at (c .if1 .taken)) f)
+less : (c : tie.Then1) → ltZ (c .before .args .x) (pos 0) ≡ true
+less c = rw (toZ-ofZ (c .before .fits .x)) at (c .if1 .taken)
 
-cast-result : tie.Need-cast-result
-cast-result c =
-    let f = c .before .fits .x in
-    let t = rw (toZ-ofZ f) at (c .if1 .taken) in
-    let x = c .before .args .x in
-    rw (toZ-ofZ f) (rw (toZ-ofZ (below x t f)) (below-nonNeg x t, fits-natAbs tt (below x t f)))
-
-sub-result : tie.Need-sub-result
-sub-result c =
-    let f = c .before .fits .x in
-    let t = rw (toZ-ofZ f) at (c .if1 .taken) in
-    let x = c .before .args .x in
-    rw (toZ-ofZ f) (rw (toZ-ofZ (below x t f)) (below-small x t f))
-
-returns : tie.Need-returns
-returns c =
-    let f = c .before .fits .x in
-    let t = rw (toZ-ofZ f) at (c .if1 .taken) in
-    let x = c .before .args .x in
-    rw (toZ-ofZ f) (rw (toZ-ofZ (below x t f)) (negative x t))
-
-cast-result-2 : tie.Need-cast-result-2
-cast-result-2 c =
-    let f = c .before .fits .x in
-    rw (toZ-ofZ f) (itself-nonNeg (c .before .args .x) (rw (toZ-ofZ f) at (c .if1 .left)), fits-natAbs tt f)
-
-returns-2 : tie.Need-returns-2
-returns-2 c =
-    let f = c .before .fits .x in
-    rw (toZ-ofZ f) (itself (c .before .args .x) (itself-nonNeg (c .before .args .x) (rw (toZ-ofZ f) at (c .if1 .left))))
+no-less : (c : tie.Else1) → T (nonNeg (c .before .args .x))
+no-less c = itself-nonNeg (c .before .args .x) (rw (toZ-ofZ (c .before .fits .x)) at (c .if1 .left))
 
 pub wrapped-spec : {M : Type 1} → statement M
-wrapped-spec = tie.close (tie.spec sub-below cast-result sub-result returns cast-result-2 returns-2)
+wrapped-spec =
+    tie.close
+    (tie.spec
+    (λ c. let f = c .before .fits .x in rw (toZ-ofZ f) (below _ (less c) f))
+    (λ c. let f = c .before .fits .x in rw (toZ-ofZ f) (rw (toZ-ofZ (below _ (less c) f)) (below-nonNeg _ (less c), fits-natAbs tt (below _ (less c) f))))
+    (λ c. let f = c .before .fits .x in rw (toZ-ofZ f) (rw (toZ-ofZ (below _ (less c) f)) (below-small _ (less c) f)))
+    (λ c. let f = c .before .fits .x in rw (toZ-ofZ f) (rw (toZ-ofZ (below _ (less c) f)) (negative _ (less c))))
+    (λ c. let f = c .before .fits .x in rw (toZ-ofZ f) (no-less c, fits-natAbs tt f))
+    (λ c. rw (toZ-ofZ (c .before .fits .x)) (itself _ (no-less c))))

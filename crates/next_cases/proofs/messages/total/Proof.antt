@@ -13,9 +13,6 @@ Inv-loop lengths lists room sum₀ i₀ sum i = (i ≤ lists) × (sum ≡ startO
 abbrev μ-loop : tie.MeasureT-loop
 μ-loop lengths lists room sum₀ i₀ sum i = lists - i
 
-loop-holds : tie.Need-loop-holds Inv-loop μ-loop
-loop-holds c = (omega arith, start-none _ _)
-
 sub-size : tie.Need-sub-size Inv-loop μ-loop
 sub-size c =
     let round = c .before in
@@ -52,7 +49,7 @@ total-spec =
     (tie.spec
     Inv-loop
     μ-loop
-    loop-holds
+    (λ c. (omega arith, start-none _ _))
     sub-size
     (λ c κs. tt)
     add-sum

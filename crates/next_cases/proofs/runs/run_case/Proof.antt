@@ -10,8 +10,7 @@ returns c =
     let size-at = size-at2 .before in
     let read-sizes = size-at .before in
     let past-wides = read-sizes .before in
-    let start = past-wides .before in
-    case-instance (start .args .wides .now) (past-wides .past-wides .ensures) (read-sizes .read-sizes .ensures) (size-at .size-at .ensures)
+    case-instance (past-wides .before .args .wides .now) (past-wides .past-wides .ensures) (read-sizes .read-sizes .ensures) (size-at .size-at .ensures)
     (size-at2 .size-at2 .ensures) (then1 .if1 .taken) (c .run-instance .ensures)
 
 returns-2 : tie.Need-returns-2
@@ -22,8 +21,7 @@ returns-2 c =
     let size-at = size-at2 .before in
     let read-sizes = size-at .before in
     let past-wides = read-sizes .before in
-    let start = past-wides .before in
-    case-part (start .args .wides .now) (past-wides .past-wides .ensures) (read-sizes .read-sizes .ensures) (size-at .size-at .ensures)
+    case-part (past-wides .before .args .wides .now) (past-wides .past-wides .ensures) (read-sizes .read-sizes .ensures) (size-at .size-at .ensures)
     (size-at2 .size-at2 .ensures) (then2 .if2 .taken) (size-at3 .size-at3 .ensures) (c .run-part .ensures)
 
 returns-3 : tie.Need-returns-3
@@ -33,15 +31,8 @@ returns-3 c =
     let size-at = size-at2 .before in
     let read-sizes = size-at .before in
     let past-wides = read-sizes .before in
-    let start = past-wides .before in
-    case-twice (start .args .wides .now) (past-wides .past-wides .ensures) (read-sizes .read-sizes .ensures) (size-at .size-at .ensures)
+    case-twice (past-wides .before .args .wides .now) (past-wides .past-wides .ensures) (read-sizes .read-sizes .ensures) (size-at .size-at .ensures)
     (size-at2 .size-at2 .ensures) (then3 .if3 .taken) (c .run-twice .ensures)
-
-returns-4 : tie.Need-returns-4
-returns-4 c =
-    let else2 = c .before in
-    let else1 = else2 .before in
-    case-none (else1 .if1 .left) (else2 .if2 .left) (c .if3 .left)
 
 pub run-case-spec : {M : Type 1} → statement M
 run-case-spec =
@@ -58,4 +49,4 @@ run-case-spec =
     returns-2
     (λ c κs. tt)
     returns-3
-    returns-4)
+    (λ c. case-none (c .before .before .if1 .left) (c .before .if2 .left) (c .if3 .left)))

@@ -12,18 +12,6 @@ sub-past-wides c =
     let start = past-numbers .before in
     second-inside (start .args .xs .now) (past-numbers .past-numbers .ensures) (past-lists .past-lists .ensures) (c .past-numbers2 .ensures)
 
-array-borrow-prefix-room : tie.Need-array-borrow-prefix-room
-array-borrow-prefix-room c = blank-inside 32768 _ 8 (c .before .before .before .size .ensures)
-
-slice-aggregate-whole : tie.Need-slice-aggregate-whole
-slice-aggregate-whole c = blank-fits 32768 _ 8 (c .before .before .before .before .size .ensures)
-
-slice-aggregate-run-first : tie.Need-slice-aggregate-run-first
-slice-aggregate-run-first c = array-long 32768
-
-slice-aggregate-opening : tie.Need-slice-aggregate-opening
-slice-aggregate-opening c = array-long 32768 ∙ sym (c .before .before .before .before .run-first .kept .1 .1 .1 .1 .1 .0)
-
 returns : tie.Need-returns
 returns c =
     let with-witness = c .before in
@@ -55,12 +43,12 @@ run-twice-spec =
     sub-past-wides
     (λ c κs. tt)
     (λ c κs. tt)
-    array-borrow-prefix-room
-    slice-aggregate-whole
-    slice-aggregate-run-first
+    (λ c. blank-inside 32768 _ 8 (c .before .before .before .size .ensures))
+    (λ c. blank-fits 32768 _ 8 (c .before .before .before .before .size .ensures))
+    (λ c. array-long 32768)
     (λ c κs. tt)
     (λ c κs. tt)
-    slice-aggregate-opening
+    (λ c. array-long 32768 ∙ sym (c .before .before .before .before .run-first .kept .1 .1 .1 .1 .1 .0))
     (λ c κs. tt)
     (λ c κs. tt)
     (λ c κs. tt)

@@ -11,39 +11,11 @@ Inv-loop sizes parts width opening out₀ at₀ i₀ out at i = Writing sizes pa
 abbrev μ-loop : tie.MeasureT-loop
 μ-loop sizes parts width opening out₀ at₀ i₀ out at i = parts - i
 
-loop-holds : tie.Need-loop-holds Inv-loop μ-loop
-loop-holds c = writing-start _ _ _ _ _
-
-put-requires : tie.Need-put-requires Inv-loop μ-loop
-put-requires c κs =
-    let round = c .before .before .before in
-    let start = round .before in
-    let a = start .args in
-    place-inside (a .sizes) (a .parts) (a .width) (a .opening .now) (a .out .now) (round .loop .inv)
-
 loop-again : tie.Need-loop-again Inv-loop μ-loop
 loop-again c =
-    let put = c .before in
-    let next-part = put .before .before in
-    let round = next-part .before .before in
-    let start = round .before in
-    let a = start .args in
-    writing-next (a .sizes) (a .parts) (a .width) (a .opening .now) (a .out .now) (round .loop .inv) (omega arith)
-    (next-part .next-part .ensures) (put .put .ensures .0) (put .put .ensures .1)
-
-same-length : tie.Need-same-length Inv-loop μ-loop
-same-length c =
-    let round = c .before in
-    let start = round .before in
-    let a = start .args in
-    writing-length (a .sizes) (a .parts) (a .width) (a .opening .now) (a .out .now) (round .loop .inv)
-
-returns : tie.Need-returns Inv-loop μ-loop
-returns c =
-    let round = c .before in
-    let start = round .before in
-    let a = start .args in
-    writing-end (a .sizes) (a .parts) (a .width) (a .opening .now) (a .out .now) (round .loop .inv) (omega arith)
+    let next-part = c .before .before .before in
+    writing-next (next-part .before .before .loop .inv) (omega arith) (next-part .next-part .ensures) (c .before .put .ensures .0)
+    (c .before .put .ensures .1)
 
 pub write-witness-spec : {M : Type 1} → statement M
 write-witness-spec =
@@ -51,11 +23,11 @@ write-witness-spec =
     (tie.spec
     Inv-loop
     μ-loop
-    loop-holds
+    (λ c. writing-start _ _ _ _ _)
     (λ c. omega arith)
     (λ c κs. tt)
-    put-requires
+    (λ c κs. place-inside (c .before .before .before .loop .inv))
     (λ c. omega arith)
     loop-again
-    same-length
-    returns)
+    (λ c. writing-length (c .before .loop .inv))
+    (λ c. writing-end (c .before .loop .inv) (omega arith)))

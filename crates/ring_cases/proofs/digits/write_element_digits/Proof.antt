@@ -8,62 +8,38 @@ use Rattle.ring_cases.specs.Laws.ResultLaws.{degree-fits, base-fits, cou
 use Rattle.ring_cases.proofs.digits.write_element_digits.Statement.{statement}
 use Rattle.ring_cases.proofs.digits.write_element_digits.Tie as tie
 
-mul-all : tie.Need-mul-all
-mul-all c =
-    let s = c .before .before .before in
-    let xs = s .args .xs .now in
-    omega (arith, block-fits _ _ (count-fits xs 3 (c .count-at .ensures) .1) (degree-fits xs (c .before .before .degree-at .ensures) .small))
+room : (c : tie.After-count-at) → c .count-at .result * c .before .before .degree-at .result ≤ 512
+room c = block-fits _ _ (count-fits _ 3 (c .count-at .ensures) .1) (degree-fits _ (c .before .before .degree-at .ensures) .small)
 
 from-slice-requires : tie.Need-from-slice-requires
 from-slice-requires c κs =
-    let s = c .before .before .before .before in
-    let degree = degree-fits (s .args .xs .now) (c .before .before .before .degree-at .ensures) in
-    (degree, omega (arith, degree .small, rest-length (s .args .xs .now) 4 (s .pre .0) (c .past-numbers .ensures)))
-
-sub-store : tie.Need-sub-store
-sub-store c = count-fits _ 3 (c .before .before .before .count-at .ensures) .0
+    let degree = degree-fits _ (c .before .before .before .degree-at .ensures) in
+    (degree, omega (arith, degree .small, rest-length (c .before .before .before .before .args .xs .now) 4 (c .before .before .before .before .pre .0) (c .past-numbers .ensures)))
 
 store-requires : tie.Need-store-requires
 store-requires c κs =
     let count = c .before .before .before in
-    let s = count .before .before .before in
-    let degree = degree-fits (s .args .xs .now) (count .before .before .degree-at .ensures) in
-    let range = count-fits (s .args .xs .now) 3 (count .count-at .ensures) in
-    let last = last-fits (count .count-at .result) (count .before .before .degree-at .result) (range .0) in
-    (degree, omega (arith, last, block-fits _ _ (range .1) (degree .small), s .pre .1))
+    let last = last-fits (count .count-at .result) (count .before .before .degree-at .result) (count-fits _ 3 (count .count-at .ensures) .0) in
+    (degree-fits _ (count .before .before .degree-at .ensures), omega (arith, last, room count, count .before .before .before .pre .1))
 
-part-split-digits-end : tie.Need-part-split-digits-end
-part-split-digits-end c =
-    let count = c .before .before .before .before .before in
-    let s = count .before .before .before in
-    let degree = degree-fits (s .args .xs .now) (count .before .before .degree-at .ensures) in
-    let range = count-fits (s .args .xs .now) 3 (count .count-at .ensures) in
-    omega (arith, block-fits _ _ (range .1) (degree .small), s .pre .1, c .before .store .kept)
+inside : (c : tie.After-store) → let count = c .before .before .before .before in
+    count .count-at .result * count .before .before .degree-at .result ≤ length (c .store .last .1 .1 .0)
+inside c = let count = c .before .before .before .before in omega (arith, room count, count .before .before .before .pre .1, c .store .kept)
 
 split-digits-requires : tie.Need-split-digits-requires
 split-digits-requires c κs =
-    let stored = c .before .before in
-    let count = stored .before .before .before .before in
-    let s = count .before .before .before in
-    let degree = degree-fits (s .args .xs .now) (count .before .before .degree-at .ensures) in
-    let range = count-fits (s .args .xs .now) 3 (count .count-at .ensures) in
-    let fits : count .count-at .result * count .before .before .degree-at .result ≤ length (stored .store .last .1 .1 .0) =
-    omega (arith, block-fits _ _ (range .1) (degree .small), s .pre .1, stored .store .kept) in
-    (base-fits (s .args .xs .now) 2 (count .before .base-at .ensures), (range .0, block-length _ _ fits))
+    let count = c .before .before .before .before .before .before in
+    (base-fits _ 2 (count .before .base-at .ensures), (count-fits _ 3 (count .count-at .ensures) .0, block-length _ _ (inside (c .before .before))))
 
 returns : tie.Need-returns
 returns c =
-    let split = c .before in
-    let stored = split .before .before .before in
+    let stored = c .before .before .before .before in
     let element = stored .before .before in
-    let past = element .before in
-    let count = past .before in
-    let base = count .before in
-    let degree = base .before in
-    let s = degree .before in
-    element-digits-out (s .args .xs .now) (s .args .out .now) _ _ _ _ (s .pre .1) (degree .degree-at .ensures)
-    (base .base-at .ensures) (count .count-at .ensures)
-    (past .past-numbers .ensures) (element .from-slice .ensures) (stored .store .ensures) (split .split-digits .ensures)
+    let count = element .before .before in
+    let degree = count .before .before in
+    element-digits-out (degree .before .args .xs .now) _ _ _ _ _ (degree .before .pre .1) (degree .degree-at .ensures)
+    (count .before .base-at .ensures) (count .count-at .ensures) (element .before .past-numbers .ensures) (element .from-slice .ensures)
+    (stored .store .ensures) (c .before .split-digits .ensures)
 
 pub write-element-digits-spec : {M : Type 1} → statement M
 write-element-digits-spec =
@@ -72,14 +48,14 @@ write-element-digits-spec =
     (λ c κs. search needs)
     (λ c κs. search needs)
     (λ c κs. search needs)
-    mul-all
+    (λ c. omega (arith, room c))
     (λ c κs. search needs)
     from-slice-requires
-    sub-store
+    (λ c. count-fits _ 3 (c .before .before .before .count-at .ensures) .0)
     store-requires
     (λ c. search needs)
     (λ c. search needs)
-    part-split-digits-end
+    (λ c. omega (arith, inside (c .before)))
     split-digits-requires
     (λ c. search needs)
     returns)

@@ -1,5 +1,7 @@
 -- `ring_cases::runs::run` meets its contract. Assumes nothing.
-use mathlib.Core.Path.{sym, _∙_}
+use mathlib.Core.Path.{_≡_, sym, _∙_}
+use mathlib.Core.Bool.{false}
+use lib.Dec.{eqb}
 use borrow.Author.Tests.{ne-eqb}
 use borrow.Author.Needs.{needs}
 use Rattle.ring_cases.specs.Results.{resultsOf}
@@ -18,31 +20,23 @@ returns-3 : tie.Need-returns-3
 unfolding resultsOf
 returns-3 c = rw (c .before .before .before .if3 .taken) (c .before .write-product .ensures)
 
+-- none of the three operations with functions of their own
+other : (c : tie.Else3)
+    → let op = c .before .before .before .args .operation in
+    (eqb op 9 ≡ false) × (eqb op 10 ≡ false) × (eqb op 19 ≡ false)
+other c = (ne-eqb _ 9 (c .before .before .if1 .left), ne-eqb _ 10 (c .before .if2 .left), ne-eqb _ 19 (c .if3 .left))
+
 returns-4 : tie.Need-returns-4
 unfolding resultsOf
 returns-4 c =
     let tested = c .before .before .before .before in
-    let op = tested .before .before .before .before .args .operation in
-    rw (
-      ne-eqb op 9 (tested .before .before .before .if1 .left),
-      ne-eqb op 10 (tested .before .before .if2 .left),
-      ne-eqb op 19 (tested .before .if3 .left),
-      sym (tested .is-element .ensures) ∙ c .before .before .before .if4 .taken,
-    )
-    (c .before .write-element .ensures)
+    rw (other (tested .before) .0, other (tested .before) .1, other (tested .before) .2, sym (tested .is-element .ensures) ∙ c .before .before .before .if4 .taken) (c .before .write-element .ensures)
 
 returns-5 : tie.Need-returns-5
 unfolding resultsOf
 returns-5 c =
     let tested = c .before .before .before .before in
-    let op = tested .before .before .before .before .args .operation in
-    rw (
-      ne-eqb op 9 (tested .before .before .before .if1 .left),
-      ne-eqb op 10 (tested .before .before .if2 .left),
-      ne-eqb op 19 (tested .before .if3 .left),
-      sym (tested .is-element .ensures) ∙ c .before .before .before .if4 .left,
-    )
-    (c .before .write-value .ensures)
+    rw (other (tested .before) .0, other (tested .before) .1, other (tested .before) .2, sym (tested .is-element .ensures) ∙ c .before .before .before .if4 .left) (c .before .write-value .ensures)
 
 pub run-spec : {M : Type 1} → statement M
 run-spec =
