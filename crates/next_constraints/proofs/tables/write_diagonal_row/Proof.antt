@@ -19,8 +19,6 @@ abbrev μ-loop : tie.MeasureT-loop
 loop-again : tie.Need-loop-again Inv-loop μ-loop
 loop-again c =
     let l = c .before .before .before .before .before in
-    let s = l .before in
-    let a = s .args in
     elements-turn (l .loop .inv) (l .before .pre .0) refl (c .before .before .before .before .loop-test .taken)
     (c .before .before .before .diagonal-entry .ensures _ (l .before .pre .0 .positive)) (c .before .store .ensures)
 
