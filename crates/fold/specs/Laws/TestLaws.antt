@@ -4,7 +4,7 @@
 --     holds, holds-iff          where none fails, each number's test holds
 --     First, first-iff          k is the first exactly when its test fails and those of lower numbers hold
 --     first-after               the same by place: those before it hold
---     stops, goes-on            a list in two parts
+--     stops, goes-on, after-passes     a list in two parts
 --     accepted-none, failed-number, number-failed     the verdict by its number
 use mathlib.Core.Path.{_≡_, refl, sym, ap, subst, _∙_}
 use mathlib.Core.Bool.{Bool, true, false, cond, not}
@@ -176,7 +176,7 @@ stops (test ∷ tests) later {x} e h =
     (λ t. stops tests later (e ∙ passed test tests t) h ∙ sym (passed test (tests ++ later) t))
     (λ f. e ∙ failed test tests f ∙ sym (failed test (tests ++ later) f))
 
-after-passes : (early later : List (ℕ × Bool)) → Passes early → firstFailing (early ++ later) ≡ firstFailing later
+pub after-passes : (early later : List (ℕ × Bool)) → Passes early → firstFailing (early ++ later) ≡ firstFailing later
 after-passes [] later p = refl
 after-passes (test ∷ tests) later p = passed test (tests ++ later) (p .0) ∙ after-passes tests later (p .1)
 

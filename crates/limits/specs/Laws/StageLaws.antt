@@ -13,7 +13,7 @@ use borrow.Author.Tests.{not-true, not-false, eqb-true, eqb-false}
 use Rattle.fold.specs.Answers.{firstFailing}
 use Rattle.fold.specs.Refusals.{allOf}
 use Rattle.fold.specs.Laws.RefusalLaws.{numbered, refusal-passes, All, allOf-all}
-use Rattle.fold.specs.Laws.TestLaws.{stops, goes-on}
+use Rattle.fold.specs.Laws.TestLaws.{stops, after-passes}
 use Rattle.limits.specs.Laws.RowLaws.{joined, Alike, joined-row, allOf-append}
 
 -- a row of one test, then the later ones
@@ -40,13 +40,13 @@ pub after-rows : (early later : List (ℕ × Bool)) {x y z : ℕ} → numbered e
 after-rows early later {x} {y} {z} l e f g = by (eqb x 0) refl
   where
     by : (t : Bool) → eqb x 0 ≡ t → z ≡ firstFailing (early ++ later)
-    by true h = (rw h at g) ∙ f ∙ sym (goes-on early later (refusal-passes early l (sym e ∙ eqb-true x 0 h)))
+    by true h = (rw h at g) ∙ f ∙ sym (after-passes early later (refusal-passes early l (sym e ∙ eqb-true x 0 h)))
     by false h = (rw h at g) ∙ stops early later e (eqb-false x 0 h)
 
 module _ (early : List (ℕ × Bool)) (m : ℕ) (t : Bool) (later : List (ℕ × Bool)) {x : ℕ} {s : Bool}
     (l : numbered early ≡ true) (e : x ≡ firstFailing early) (z : x ≡ 0) (q : s ≡ t) where
   after : firstFailing (early ++ ((m, t) ∷ later)) ≡ firstFailing ((m, t) ∷ later)
-  after = goes-on early ((m, t) ∷ later) (refusal-passes early l (sym e ∙ z))
+  after = after-passes early ((m, t) ∷ later) (refusal-passes early l (sym e ∙ z))
 
   pub unfit : not s ≡ true → m ≡ firstFailing (early ++ ((m, t) ∷ later))
   unfolding firstFailing
