@@ -17,7 +17,7 @@ use Rattle.fold.specs.Answers.{firstFailing, testOf}
 use Rattle.fold.specs.Refusals.{between, degree, rank, parts, constraintCount, projectionCount, commitmentRank, base, digitCount, lengthBound}
 use Rattle.fold.specs.Refusals.{allOf, sized, ranges, verifyTests}
 use Rattle.fold.specs.Laws.RefusalLaws.{Passes, passes-refusal, allOf-all, all-allOf, sized-iff}
-use Rattle.fold.specs.Laws.TestLaws.{goes-on}
+use Rattle.fold.specs.Laws.TestLaws.{after-passes}
 use Rattle.sheet.specs.declared.sizes.SheetSizes.{SheetSizes}
 use Rattle.sheet.specs.Lists.{listLengths, listAt}
 use Rattle.sheet.specs.Sections.{total}
@@ -167,7 +167,7 @@ module _ (h xs : List ℤ) (header : Passes (headerTests h)) (count : length xs 
   pub same-refusal : firstFailing tests ≡ firstFailing (numberTests (sizesOf h) xs)
   unfolding verifyTests numberTests rowsIn challengesIn foldSizes
   same-refusal =
-      goes-on (take 6 tests) (drop 6 tests) early
+      after-passes (take 6 tests) (drop 6 tests) early
       ∙ ap (λ (t : Bool). firstFailing ((8, t) ∷ drop 1 (numberTests (sizesOf h) xs))) same-range
 
   pub unrefused : Passes (numberTests (sizesOf h) xs) → firstFailing tests ≡ 0
