@@ -19,38 +19,6 @@ Inv-loop base width block₀ to from i₀ block i = Peeled base to from i block�
 abbrev μ-loop : tie.MeasureT-loop
 μ-loop base width block₀ to from i₀ block i = width - i
 
-loop-holds : tie.Need-loop-holds Inv-loop μ-loop
-loop-holds c = (peel-start (c .args .base) (c .args .to) (c .args .from) (c .args .block .now), omega arith)
-
-add-place : tie.Need-add-place Inv-loop μ-loop
-add-place c = omega (arith, c .before .before .pre .1)
-
-mul-x : tie.Need-mul-x Inv-loop μ-loop
-mul-x c = omega (arith, c .before .before .pre .1)
-
-slice-copy-out-x : tie.Need-slice-copy-out-x Inv-loop μ-loop
-slice-copy-out-x c = omega (arith, c .before .before .pre .1, c .before .loop .inv .0 .same)
-
-low-digit-requires : tie.Need-low-digit-requires Inv-loop μ-loop
-low-digit-requires c κs = c .before .before .before .pre .0
-
-quotient-requires : tie.Need-quotient-requires Inv-loop μ-loop
-quotient-requires c κs = c .before .before .before .before .pre .0
-
-add-low : tie.Need-add-low Inv-loop μ-loop
-add-low c = omega (arith, c .before .before .before .before .before .pre .1)
-
-mul-low : tie.Need-mul-low Inv-loop μ-loop
-mul-low c = omega (arith, c .before .before .before .before .before .pre .1)
-
-slice-set-from-low : tie.Need-slice-set-from-low Inv-loop μ-loop
-slice-set-from-low c =
-    let at = c .before .before .before .before in
-    omega (arith, at .before .pre .1, at .loop .inv .0 .same)
-
-mul-left : tie.Need-mul-left Inv-loop μ-loop
-mul-left c = omega (arith, c .before .before .before .before .before .pre .1)
-
 slice-set-from-left : tie.Need-slice-set-from-left Inv-loop μ-loop
 slice-set-from-left c =
     let at = c .before .before .before .before in
@@ -69,31 +37,15 @@ loop-again c =
       omega arith,
     )
 
-same-length : tie.Need-same-length Inv-loop μ-loop
-same-length c = c .before .loop .inv .0 .same
-
-returns : tie.Need-returns Inv-loop μ-loop
-returns c = let done : c .before .loop .i ≡ c .before .before .args .width = omega arith in rw done at (c .before .loop .inv .0)
-
 pub peel-spec : {M : Type 1} → statement M
 peel-spec =
     tie.close
-    (tie.spec
-    Inv-loop
-    μ-loop
-    loop-holds
-    add-place
-    mul-x
-    slice-copy-out-x
-    low-digit-requires
-    quotient-requires
-    add-low
-    mul-low
-    slice-set-from-low
-    mul-left
-    slice-set-from-left
-    (λ c. omega arith)
-    (λ c. omega arith)
-    loop-again
-    same-length
-    returns)
+    (tie.spec Inv-loop μ-loop (λ c. (peel-start (c .args .base) (c .args .to) (c .args .from) (c .args .block .now), omega arith))
+    (λ c. omega (arith, c .before .before .pre .1)) (λ c. omega (arith, c .before .before .pre .1))
+    (λ c. omega (arith, c .before .before .pre .1, c .before .loop .inv .0 .same)) (λ c κs. c .before .before .before .pre .0)
+    (λ c κs. c .before .before .before .before .pre .0) (λ c. omega (arith, c .before .before .before .before .before .pre .1))
+    (λ c. omega (arith, c .before .before .before .before .before .pre .1))
+    (λ c. let at = c .before .before .before .before in omega (arith, at .before .pre .1, at .loop .inv .0 .same))
+    (λ c. omega (arith, c .before .before .before .before .before .pre .1)) slice-set-from-left (λ c. omega arith)
+    (λ c. omega arith) loop-again (λ c. c .before .loop .inv .0 .same)
+    (λ c. let done : c .before .loop .i ≡ c .before .before .args .width = omega arith in rw done at (c .before .loop .inv .0)))

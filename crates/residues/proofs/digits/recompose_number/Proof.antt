@@ -44,9 +44,6 @@ shared-slice-copy-out-fold-digit c =
     let start = c .before .before in
     omega (arith, place-fits (start .args .count) (start .args .width) (c .before .loop .left - 1) (omega arith), start .pre .1)
 
-fold-digit-requires : tie.Need-fold-digit-requires Inv-loop μ-loop
-fold-digit-requires c κs = c .before .before .before .pre .0
-
 loop-again : tie.Need-loop-again Inv-loop μ-loop
 loop-again c =
     let start = c .before .before .before .before in
@@ -67,16 +64,5 @@ returns c =
 pub recompose-number-spec : {M : Type 1} → statement M
 recompose-number-spec =
     tie.close
-    (tie.spec
-    Inv-loop
-    μ-loop
-    loop-holds
-    (λ c. omega arith)
-    mul-fold-digit
-    add-fold-digit
-    mul-fold-digit-2
-    shared-slice-copy-out-fold-digit
-    fold-digit-requires
-    (λ c. omega arith)
-    loop-again
-    returns)
+    (tie.spec Inv-loop μ-loop loop-holds (λ c. omega arith) mul-fold-digit add-fold-digit mul-fold-digit-2
+    shared-slice-copy-out-fold-digit (λ c κs. c .before .before .before .pre .0) (λ c. omega arith) loop-again returns)

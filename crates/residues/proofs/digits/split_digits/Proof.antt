@@ -12,12 +12,6 @@ Inv-loop base count width block₀ last k₀ block k = Splitting base count widt
 abbrev μ-loop : tie.MeasureT-loop
 μ-loop base count width block₀ last k₀ block k = count - k
 
-sub-last : tie.Need-sub-last Inv-loop μ-loop
-sub-last c = omega (arith, c .pre .1)
-
-mul-last : tie.Need-mul-last Inv-loop μ-loop
-mul-last c = omega (arith, last-fits (c .args .count) (c .args .width) (c .pre .1 .0), c .pre .1)
-
 loop-holds : tie.Need-loop-holds Inv-loop μ-loop
 loop-holds c = (split-start (c .args .base) (c .args .count) (c .args .width) (c .args .block .now) (c .pre .1 .1), omega (arith, c .pre .1))
 
@@ -51,9 +45,6 @@ loop-again c =
       omega arith,
     )
 
-same-length : tie.Need-same-length Inv-loop μ-loop
-same-length c = c .before .loop .inv .0 .same ∙ sym (c .before .before .pre .1 .1)
-
 returns : tie.Need-returns Inv-loop μ-loop
 returns c =
     let start = c .before .before in
@@ -64,17 +55,7 @@ returns c =
 pub split-digits-spec : {M : Type 1} → statement M
 split-digits-spec =
     tie.close
-    (tie.spec
-    Inv-loop
-    μ-loop
-    sub-last
-    mul-last
-    loop-holds
-    (λ c. omega arith)
-    mul-peel
-    peel-requires
-    (λ c. omega arith)
-    (λ c. omega arith)
-    loop-again
-    same-length
-    returns)
+    (tie.spec Inv-loop μ-loop (λ c. omega (arith, c .pre .1))
+    (λ c. omega (arith, last-fits (c .args .count) (c .args .width) (c .pre .1 .0), c .pre .1)) loop-holds (λ c. omega arith)
+    mul-peel peel-requires (λ c. omega arith) (λ c. omega arith) loop-again
+    (λ c. c .before .loop .inv .0 .same ∙ sym (c .before .before .pre .1 .1)) returns)

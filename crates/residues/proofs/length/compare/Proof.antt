@@ -25,9 +25,6 @@ Inv-loop bound xs rest₀ i₀ rest i = Compared bound xs rest i
 abbrev μ-loop : tie.MeasureT-loop
 μ-loop bound xs rest₀ i₀ rest i = length xs - i
 
-loop-holds : tie.Need-loop-holds Inv-loop μ-loop
-loop-holds c = compared-start _ _
-
 returns : tie.Need-returns Inv-loop μ-loop
 returns c =
     compared-above _ _ _ _ _
@@ -44,21 +41,8 @@ loop-again c =
     (squared _ (c .before .before .square-arg .given) (c .before .square .ensures))
     (omega arith)
 
-returns-2 : tie.Need-returns-2 Inv-loop μ-loop
-returns-2 c = compared-end _ _ _ _ (c .before .loop .inv) (c .loop-test .left)
-
 pub compare-spec : {M : Type 1} → statement M
 compare-spec =
     tie.close
-    (tie.spec
-    Inv-loop
-    μ-loop
-    loop-holds
-    (λ c. omega arith)
-    (λ c. omega arith)
-    (λ c κs. tt)
-    returns
-    (λ c. omega arith)
-    (λ c. omega arith)
-    loop-again
-    returns-2)
+    (tie.spec Inv-loop μ-loop (λ c. compared-start _ _) (λ c. omega arith) (λ c. omega arith) (λ c κs. tt) returns
+    (λ c. omega arith) (λ c. omega arith) loop-again (λ c. compared-end _ _ _ _ (c .before .loop .inv) (c .loop-test .left)))
