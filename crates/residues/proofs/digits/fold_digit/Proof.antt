@@ -7,15 +7,6 @@ use borrow.Author.Needs.{needs}
 use Rattle.residues.proofs.digits.fold_digit.Statement.{statement}
 use Rattle.residues.proofs.digits.fold_digit.Tie as tie
 
-cast-product : tie.Need-cast-product
-cast-product c = rw (toZ-ofZ (c .fits .acc)) (widen (c .fits .acc))
-
-mul-product : tie.Need-mul-product
-mul-product c = rw (wide (c .fits .acc), base-held (c .pre)) (base-product-fits (c .pre) (c .fits .acc))
-
-cast-digit : tie.Need-cast-digit
-cast-digit c = rw (toZ-ofZ (c .fits .x)) (widen (c .fits .x))
-
 add-centre : tie.Need-add-centre
 add-centre c =
     let product = base-product-fits (c .pre) (c .fits .acc) in
@@ -32,11 +23,6 @@ returns c =
 pub fold-digit-spec : {M : Type 1} → statement M
 fold-digit-spec =
     tie.close
-    (tie.spec
-    cast-product
-    (λ c. search needs)
-    mul-product
-    cast-digit
-    add-centre
-    (λ c κs. search needs)
-    returns)
+    (tie.spec (λ c. rw (toZ-ofZ (c .fits .acc)) (widen (c .fits .acc))) (λ c. search needs)
+    (λ c. rw (wide (c .fits .acc), base-held (c .pre)) (base-product-fits (c .pre) (c .fits .acc)))
+    (λ c. rw (toZ-ofZ (c .fits .x)) (widen (c .fits .x))) add-centre (λ c κs. search needs) returns)

@@ -9,36 +9,18 @@ use borrow.Author.Needs.{needs}
 use Rattle.residues.proofs.digits.quotient.Statement.{statement}
 use Rattle.residues.proofs.digits.quotient.Tie as tie
 
-cast-difference : tie.Need-cast-difference
-cast-difference c = let x = c .before .fits .x in rw (toZ-ofZ x) (widen x)
-
-cast-difference-2 : tie.Need-cast-difference-2
-cast-difference-2 c = let r : SFits w32 (c .low-digit .result) = record { sfits = c .low-digit .ok } in rw (toZ-ofZ r) (widen r)
-
-sub-difference : tie.Need-sub-difference
-sub-difference c = sub-low-fits (c .before .pre) (c .before .fits .x) (record { sfits = c .low-digit .ok }) (c .low-digit .ensures)
-
 div-result : tie.Need-div-result
 div-result c = (
   omega (arith, c .before .pre .least),
   rest-quotient-fits (c .before .pre) (c .before .fits .x) (record { sfits = c .low-digit .ok }) (c .low-digit .ensures),
 )
 
-cast-result-2 : tie.Need-cast-result-2
-cast-result-2 c = rest-narrow-fits (c .before .pre) (c .before .fits .x) (record { sfits = c .low-digit .ok }) (c .low-digit .ensures)
-
-returns : tie.Need-returns
-returns c = rest-held (c .before .pre) (c .before .fits .x) (record { sfits = c .low-digit .ok }) (c .low-digit .ensures)
-
 pub quotient-spec : {M : Type 1} → statement M
 quotient-spec =
     tie.close
-    (tie.spec
-    (λ c κs. search needs)
-    cast-difference
-    cast-difference-2
-    sub-difference
-    (λ c. search needs)
-    div-result
-    cast-result-2
-    returns)
+    (tie.spec (λ c κs. search needs) (λ c. let x = c .before .fits .x in rw (toZ-ofZ x) (widen x))
+    (λ c. let r : SFits w32 (c .low-digit .result) = record { sfits = c .low-digit .ok } in rw (toZ-ofZ r) (widen r))
+    (λ c. sub-low-fits (c .before .pre) (c .before .fits .x) (record { sfits = c .low-digit .ok }) (c .low-digit .ensures))
+    (λ c. search needs) div-result
+    (λ c. rest-narrow-fits (c .before .pre) (c .before .fits .x) (record { sfits = c .low-digit .ok }) (c .low-digit .ensures))
+    (λ c. rest-held (c .before .pre) (c .before .fits .x) (record { sfits = c .low-digit .ok }) (c .low-digit .ensures)))

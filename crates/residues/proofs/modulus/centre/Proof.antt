@@ -7,12 +7,6 @@ use Rattle.residues.specs.Laws.Centring.{quotZ-fits, shifted-fits, centr
 use Rattle.residues.proofs.modulus.centre.Statement.{statement}
 use Rattle.residues.proofs.modulus.centre.Tie as tie
 
-rem-remainder : tie.Need-rem-remainder
-rem-remainder c = rw (toZ-ofZ (c .fits .x)) (omega arith, quotZ-fits 4294967197 (c .args .x) (c .fits .x))
-
-add-shifted : tie.Need-add-shifted
-add-shifted c = search needs
-
 add-shifted-2 : tie.Need-add-shifted-2
 add-shifted-2 c =
     rw (remainder-held 4294967197 (omega arith) (omega arith) (c .args .x) (c .fits .x))
@@ -48,4 +42,5 @@ returns c =
 pub centre-spec : {M : Type 1} → statement M
 centre-spec =
     tie.close
-    (tie.spec rem-remainder add-shifted add-shifted-2 rem-low sub-result cast-result returns)
+    (tie.spec (λ c. rw (toZ-ofZ (c .fits .x)) (omega arith, quotZ-fits 4294967197 (c .args .x) (c .fits .x))) (λ c. search needs)
+    add-shifted-2 rem-low sub-result cast-result returns)

@@ -19,9 +19,6 @@ Inv-loop low high xs all₀ i₀ all i = Tested (toZ w32 low) (toZ w32 high) xs 
 abbrev μ-loop : tie.MeasureT-loop
 μ-loop low high xs all₀ i₀ all i = length xs - i
 
-loop-holds : tie.Need-loop-holds Inv-loop μ-loop
-loop-holds c = tested-start _ _ _
-
 loop-again : tie.Need-loop-again Inv-loop μ-loop
 loop-again c =
     let l = c .before .before .before in
@@ -38,14 +35,5 @@ returns c =
 pub all-between-spec : {M : Type 1} → statement M
 all-between-spec =
     tie.close
-    (tie.spec
-    Inv-loop
-    μ-loop
-    loop-holds
-    (λ c. omega arith)
-    (λ c. omega arith)
-    (λ c κs. tt)
-    (λ c. omega arith)
-    (λ c. omega arith)
-    loop-again
-    returns)
+    (tie.spec Inv-loop μ-loop (λ c. tested-start _ _ _) (λ c. omega arith) (λ c. omega arith) (λ c κs. tt) (λ c. omega arith)
+    (λ c. omega arith) loop-again returns)
