@@ -14,6 +14,7 @@ import lizkarg
 import ring
 import sheet
 import sizes as reference
+from fixtures import challenges, random_sizes, uniform
 from lizkarg import Accepted, Failed, Proof, Refused, Sizes
 
 
@@ -61,13 +62,9 @@ def test_class():
 def test_random(count=40):
     rng = random.Random(11)
     for _ in range(count):
-        s = reference.Sizes(
-            rng.choice([2, 4, 8]), rng.randint(1, 3), rng.randint(1, 3), rng.randint(0, 2), rng.randint(0, 2), rng.randint(0, 3), rng.randint(1, 2), rng.randint(1, 2),
-            rng.randint(1, 2), rng.randint(2, 20), rng.randint(2, 20), rng.randint(2, 20), rng.randint(2, 3), rng.randint(2, 3), 1, 2, rng.randint(0, 400), rng.randint(0, 10**15 - 1))
-        x = {name: [rng.randint(-ring.LARGEST, ring.LARGEST) for _ in range(length(s))] for name, length in reference.LENGTHS.items()}
-        x["projections"] = [rng.randint(-1, 1) for _ in x["projections"]]
-        x["c"] = [rng.randint(-1, 1) for _ in x["c"]]
-        x["witness"] = [rng.randint(-3, 3) for _ in x["witness"]]
+        s = random_sizes(rng)._replace(beta_squared=rng.randint(0, 400), target_beta_squared=rng.randint(0, 10**15 - 1))
+        x = {name: uniform(rng, ring.LARGEST, length(s)) for name, length in reference.LENGTHS.items()}
+        x |= {"projections": uniform(rng, 1, len(x["projections"])), "c": challenges(rng, s), "witness": uniform(rng, 3, len(x["witness"]))}
         z, proof = made(s, x)
         y = fold.honest(s, x)
         assert proof == Proof(**y)

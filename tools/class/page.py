@@ -1,12 +1,9 @@
 #!/usr/bin/env python3
-"""Writes docs/CLASS.md and the class's sheets: python3 tools/class/page.py DIR writes DIR/docs/CLASS.md, DIR/docs/pictures/class.svg and
-DIR/examples/class*.
+"""The class's page and sheets: python3 tools/class/page.py ROOT writes ROOT/docs/CLASS.md, ROOT/docs/pictures/class.svg and
+ROOT/examples/class*.
 
 Every number of the page is computed here, by the second implementation, so that the page cannot go stale: tools/all writes it anew and compares.
 """
-
-import sys
-from pathlib import Path
 
 import case
 from case import pair
@@ -16,6 +13,7 @@ import fold
 import ring
 import sheet
 import sizes
+import stored
 import verifier
 from sizes import pairs
 
@@ -267,15 +265,14 @@ def program_line(wanted):
     raise KeyError(wanted)
 
 
-def main():
-    folder = Path(sys.argv[1])
-    (folder / "docs/CLASS.md").write_text(page())
-    (folder / "docs/pictures/class.svg").write_text(picture().svg())
+def files():
+    yield "docs/CLASS.md", page().encode()
+    yield "docs/pictures/class.svg", picture().svg().encode()
     for known, verdict, text in sheets():
         assert sheet.judge(text) == verdict, (known, sheet.judge(text))
-        (folder / "examples" / f"{known}.sheet").write_bytes(text)
-        (folder / "examples" / f"{known}.verdict").write_bytes(sheet.output_line(verdict))
+        yield f"examples/{known}.sheet", text
+        yield f"examples/{known}.verdict", sheet.output_line(verdict)
 
 
 if __name__ == "__main__":
-    main()
+    stored.write(files)

@@ -1,5 +1,5 @@
 #!/usr/bin/env python3
-"""Writes the drawings of docs/pictures: python3 tools/pictures/draw.py DIR. Standard library only; the same bytes every time."""
+"""Writes the drawings of ROOT/docs/pictures: python3 tools/pictures/draw.py ROOT. Standard library only; the same bytes every time."""
 
 import sys
 from pathlib import Path
@@ -118,7 +118,8 @@ def opening():
 
 
 def main():
-    folder = Path(sys.argv[1])
+    folder = Path(sys.argv[1]) / "docs/pictures"
+    folder.mkdir(parents=True, exist_ok=True)
     for draw in (layers, fold, opening):
         (folder / f"{draw.__name__}.svg").write_text(draw().svg())
 
