@@ -7,9 +7,11 @@ use Rattle.fold.specs.declared.Shape.{Shape}
 use Rattle.fold.specs.declared.CommitSizes.{CommitSizes}
 use Rattle.fold.specs.declared.GarbageSizes.{GarbageSizes}
 use Rattle.fold.specs.declared.Sizes.{Sizes}
+use Rattle.fold.specs.declared.PartSizes.{PartSizes}
 use Rattle.fold.specs.Answers.{firstFailing}
 use Rattle.fold.specs.Statement.{Statement, Draws, Transcript}
-pub use Rattle.fold.specs.Known.CallLimits.{CommitSized, GarbageSized, VerifySized}
+use Rattle.fold.specs.NextCall.{partRefusal, nextPart}
+pub use Rattle.fold.specs.Known.CallLimits.{CommitSized, GarbageSized, VerifySized, PartSized}
 use Rattle.fold.specs.Refusals.{commitTests, projectTests, aggregateTests, garbageTests, amortizeTests, verifyTests, productTests}
 
 abbrev pub statementOf : Sizes → (A B C D whole term : List ℤ) → Statement
@@ -77,3 +79,11 @@ verifyRefusal 𝓢 𝓓 𝓣 o = firstFailing (verifyTests 𝓢 𝓓 𝓣 o)
 
 abbrev pub productRefusal : ℕ → (x y : List ℤ) → ℕ
 productRefusal d x y = firstFailing (productTests d x y)
+
+-- ---- a part of the next witness: its refusal, and the chunk handed back
+
+abbrev pub partRefusalOf : PartSizes → (i : ℕ) → List ℤ → ℕ
+partRefusalOf m i o = partRefusal (m .d) (m .n) (m .r) (m .kappa) (m .t1) (m .t2) 2 (m .nu) (m .mu) i o
+
+abbrev pub nextPartOf : PartSizes → (i : ℕ) → List ℤ → List ℤ
+nextPartOf m i o = nextPart (m .d) (m .n) (m .r) (m .kappa) (m .t1) (m .t2) 2 (m .nu) (m .mu) i o

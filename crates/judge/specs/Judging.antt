@@ -1,5 +1,5 @@
 -- Document 01, 'Sheet': the answer to a text, and the line that says it.
---     foldSizes, sheetStatement, sheetDraws, sheetTranscript, sheetOpening    what the verifier takes from a sheet
+--     sheetStatement, sheetDraws, sheetTranscript, sheetOpening    what the verifier takes from a sheet
 --     judgedText text           the answer to a text
 --     verdictLine answer        the line that the program prints
 use mathlib.Core.Bool.{cond}
@@ -8,7 +8,6 @@ use Prim.Native.Nat.{ℕ}
 use lib.Dec.{leb}
 use lib.ListN.{length}
 use lib.IntN.{ℤ, pos}
-use Rattle.fold.specs.declared.Sizes.{Sizes}
 use Rattle.fold.specs.declared.Answer.{Answer}
 use Rattle.fold.specs.declared.Answer.the-variants as answer
 use Rattle.fold.specs.Statement.{Statement, Draws, Transcript}
@@ -19,29 +18,8 @@ use Rattle.sheet.specs.declared.sizes.SheetSizes.{SheetSizes}
 use Rattle.sheet.specs.declared.reader.SheetAnswer.{SheetAnswer}
 use Rattle.sheet.specs.Sections.{total}
 use Rattle.sheet.specs.Lists.{listLengths, listAt}
-use Rattle.sheet.specs.Reading.{headerNumbers, sizesOf, bodyNumbers, reading, answerOf, headerOf}
+use Rattle.sheet.specs.Reading.{headerNumbers, sizesOf, foldSizes, bodyNumbers, reading, answerOf, headerOf}
 use Rattle.sheet.specs.Layout.{lineText}
-
--- the verifier takes no ν and μ
-unfoldable pub foldSizes : SheetSizes → Sizes
-foldSizes s = record {
-  d = s .d;
-  n = s .n;
-  r = s .r;
-  k = s .k;
-  l = s .l;
-  w = s .w;
-  kappa = s .kappa;
-  kappa1 = s .kappa1;
-  kappa2 = s .kappa2;
-  b = s .b;
-  b1 = s .b1;
-  b2 = s .b2;
-  t1 = s .t1;
-  t2 = s .t2;
-  bound = s .bound;
-  target = s .target;
-}
 
 module _ (s : SheetSizes) (xs : List ℤ) where
   abbrev pub list : ℕ → List ℤ

@@ -6,7 +6,7 @@ use lib.IntN.{ℤ, pos}
 use mir.Syntax.{w64}
 use mir.Val.{ofZ}
 use Rattle.fold.specs.declared.Sizes.{Sizes}
-use Rattle.chunks.specs.declared.part.PartSizes.{PartSizes}
+use Rattle.fold.specs.declared.PartSizes.{PartSizes}
 
 -- The number at a place, 0 where there is none, modulo 2^64: -k stands for 2^64 - k.
 abbrev pub wideSize : List ℤ → ℕ → ℕ

@@ -1,7 +1,7 @@
 // The next instance: document 01, 'Next instance'. The call has no `requires`: what it cannot take it refuses by number.
 ghost use Rattle.fold.specs.Arguments.{statementOf, drawsOf, transcriptOf};
 ghost use Rattle.next_instance.specs.Calls.{NextCalled};
-use chunks::refusals::next_refusal;
+use limits::next::next_refusal;
 use fold::Answer;
 use fold::Sizes;
 use fold::Verdict;
@@ -10,6 +10,7 @@ use writer::write_instance;
 
 pub mod a_part;
 pub mod cut;
+pub mod part;
 pub mod phi_part;
 pub mod writer;
 

@@ -17,7 +17,7 @@ ghost use Rattle.next_constraints.specs.Tables.{TableRoom, Tables};
 ghost use Rattle.next_instance.specs.Known.Facts.{CutFacts};
 ghost use Rattle.next_instance.specs.Written.{tableOf, chunkEntry};
 use crate::cut::Cut;
-use chunks::sizes::chunk_width;
+use fold::chunks::chunk_width;
 use fold::Sizes;
 use next_constraints::coefficients::coefficient;
 use ring::element::Element;

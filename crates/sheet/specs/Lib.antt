@@ -5,7 +5,6 @@ pub mod Lists
 pub mod Sections
 pub mod Place
 pub mod Reading
-pub mod HeaderTests
 pub mod Layout
 -- What a call that is not refused knows
 pub mod Known

@@ -8,13 +8,12 @@ use mathlib.Core.List.{List, _∷_}
 use Prim.Native.Nat.{ℕ, _<_}
 use native.Mathlib.Omega.{arith}
 use lib.ListN.{length, getD, take, drop}
-use lib.IntN.{ℤ, pos, negsuc, natAbs}
+use lib.IntN.{ℤ}
 use Rattle.integers.specs.Lists.{tab, all}
 use Rattle.residues.specs.Range.{coefficients}
 use Rattle.ring.specs.Element.{every}
 use Rattle.ring.specs.Laws.ElementEquality.{every-true}
 use Rattle.fold.specs.Answers.{firstFailing, testOf}
-use Rattle.fold.specs.Refusals.{between, degree, rank, parts, constraintCount, projectionCount, commitmentRank, base, digitCount, lengthBound}
 use Rattle.fold.specs.Refusals.{allOf, sized, ranges, verifyTests}
 use Rattle.fold.specs.Laws.RefusalLaws.{Passes, passes-refusal, allOf-all, all-allOf, sized-iff}
 use Rattle.fold.specs.Laws.TestLaws.{after-passes}
@@ -22,20 +21,9 @@ use Rattle.sheet.specs.declared.sizes.SheetSizes.{SheetSizes}
 use Rattle.sheet.specs.Lists.{listLengths, listAt}
 use Rattle.sheet.specs.Sections.{total}
 use Rattle.sheet.specs.Laws.ListLaws.{length-list, coefficients-list, list-coefficients, lengths-total}
-use Rattle.sheet.specs.Laws.PlaceLaws.{contradiction}
-use Rattle.sheet.specs.Reading.{headerTests, sizesOf, rowsIn, challengesIn, numberTests}
-use Rattle.judge.specs.Judging.{foldSizes, sheetStatement, sheetDraws, sheetTranscript, sheetOpening}
-
--- a number in a range that starts at 0 or above is its absolute value
-between-size : (low high : ℕ) (z : ℤ) → between low high z ≡ true → between low high (pos (natAbs z)) ≡ true
-unfolding between
-between-size low high (pos n) e = e
-between-size low high (negsuc n) e = contradiction e refl
-
-degree-size : (z : ℤ) → degree z ≡ true → degree (pos (natAbs z)) ≡ true
-unfolding degree
-degree-size (pos n) e = e
-degree-size (negsuc n) e = contradiction e refl
+use Rattle.sheet.specs.Laws.HeaderLaws.{header-passes}
+use Rattle.sheet.specs.Reading.{headerTests, sizesOf, foldSizes, rowsIn, challengesIn, numberTests}
+use Rattle.judge.specs.Judging.{sheetStatement, sheetDraws, sheetTranscript, sheetOpening}
 
 -- facts of a list's tests, one after another
 infixr 4 _&_
@@ -57,48 +45,22 @@ same-test false true to back = back refl
 same-test false false to back = refl
 
 module _ (h xs : List ℤ) (header : Passes (headerTests h)) (count : length xs ≡ total (sizesOf h)) where
-  at : ℕ → ℤ
-  at k = getD h k (pos 0)
-
   -- what the verifier tests of a sheet
   abbrev tests : List (ℕ × Bool)
   tests = verifyTests (sheetStatement (sizesOf h) xs) (sheetDraws (sizesOf h) xs) (sheetTranscript (sizesOf h) xs) (sheetOpening (sizesOf h) xs)
 
   -- rows 1 to 7 pass
   early : Passes (take 6 tests)
-  unfolding verifyTests headerTests sizesOf foldSizes listLengths
-      rank parts constraintCount projectionCount commitmentRank base digitCount lengthBound at
+  unfolding verifyTests foldSizes listLengths
   early =
-      let counts = allOf-all _ (header .1 .0) in
-      let ranks = allOf-all _ (header .1 .1 .0) in
-      let bases = allOf-all _ (header .1 .1 .1 .0) in
-      let bounds = allOf-all _ (header .1 .1 .1 .1 .1 .0) in
+      let sizes = header-passes h header in
       let size : (k : ℕ) → k < 17 → sized (listAt (listLengths (sizesOf h)) xs k) (getD (listLengths (sizesOf h)) k 0) ≡ true =
       sized-list (sizesOf h) xs count in
-      degree-size (at 0) (header .0)
-      & all-allOf _ (
-      between-size 1 256 (at 1) (counts .0)
-      & between-size 1 16 (at 2) (counts .1 .0)
-      & between-size 0 32 (at 3) (counts .1 .1 .0)
-      & between-size 0 32 (at 4) (counts .1 .1 .1 .0)
-      & between-size 0 256 (at 5) (counts .1 .1 .1 .1 .0)
-      & tt)
-      & all-allOf _ (
-      between-size 1 8 (at 6) (ranks .0)
-      & between-size 1 8 (at 7) (ranks .1 .0)
-      & between-size 1 8 (at 8) (ranks .1 .1 .0)
-      & tt)
-      & all-allOf _ (
-      between-size 2 65536 (at 9) (bases .0)
-      & between-size 2 65536 (at 10) (bases .1 .0)
-      & between-size 2 65536 (at 11) (bases .1 .1 .0)
-      & between-size 2 8 (at 12) (bases .1 .1 .1 .0)
-      & between-size 2 8 (at 13) (bases .1 .1 .1 .1 .0)
-      & tt)
-      & all-allOf _ (
-      between-size 0 999999999999999 (at 16) (bounds .0)
-      & between-size 0 999999999999999 (at 17) (bounds .1 .0)
-      & tt)
+      sizes .0
+      & sizes .1 .0
+      & sizes .1 .1 .0
+      & sizes .1 .1 .1 .0
+      & sizes .1 .1 .1 .1 .1 .0
       & all-allOf _ (
       size 16 (omega arith)
       & size 6 (omega arith)

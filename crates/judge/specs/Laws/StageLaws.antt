@@ -12,7 +12,8 @@ use Rattle.fold.specs.Arguments.{statementOf, drawsOf, transcriptOf}
 use Rattle.fold.specs.Verification.{verification}
 use Rattle.sheet.specs.declared.sizes.SheetSizes.{SheetSizes}
 use Rattle.sheet.specs.Lists.{listLengths, listAt}
-use Rattle.judge.specs.Judging.{foldSizes, judgedNumbers}
+use Rattle.sheet.specs.Reading.{foldSizes}
+use Rattle.judge.specs.Judging.{judgedNumbers}
 use Rattle.judge.specs.Stages.{lastStage, numberStage, constraintStage}
 
 module _ (s : SheetSizes) where

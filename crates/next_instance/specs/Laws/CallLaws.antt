@@ -14,7 +14,7 @@ use Rattle.fold.specs.NextInstance.{nextWhole}
 use Rattle.fold.specs.NextCall.{firstChecks, nextAnswer, nextOut}
 use Rattle.verifier.specs.ConstantTerms.{Terms}
 use Rattle.verifier.specs.Known.ListFacts.{terms-known}
-use Rattle.chunks.specs.Known.NextFacts.{NextFacts, next-facts}
+use Rattle.fold.specs.Known.NextFacts.{NextFacts, next-facts}
 use Rattle.verifier.specs.Judgement.{messageChecksOf}
 use Rattle.next_instance.specs.Calls.{NextCalled}
 

@@ -15,13 +15,17 @@ place-after-requires c κs =
       front-span (start .pre) lines _ (omega (arith, c .rows-from .ensures, rows-end (start .args .s))),
     )
 
+projection-length-requires : tie.Need-projection-length-requires
+projection-length-requires c κs =
+    let b = c .before .before .before .before .pre .bounded in (b .degree, b .rank, b .parts, b .projections)
+
 all-within-requires : tie.Need-all-within-requires
 all-within-requires c κs =
     let from = c .before .before in
     let start = from .before .before .before in
     let lines = from .before .sections-of .ensures in (
       lines-positive (start .pre .bounded) lines,
-      later-span (start .pre) lines _ _ (omega (arith, from .rows-from .ensures, c .row-numbers .ensures, rows-end (start .args .s)))
+      later-span (start .pre) lines _ _ (omega (arith, from .rows-from .ensures, c .projection-length .ensures, rows-end (start .args .s)))
           (c .before .place-after .ensures),
     )
 
@@ -32,7 +36,7 @@ returns c =
     let start = from .before .before .before in
     c .all-within .ensures
     ∙ ap (allWithin 1)
-    (rw (from .rows-from .ensures, c .before .row-numbers .ensures)
+    (rw (from .rows-from .ensures, c .before .projection-length .ensures)
     (sym (rows-part (start .args .s) _ ∙ body-part (start .pre) (from .before .sections-of .ensures) _ _ (rows-end (start .args .s)))))
 
 pub rows-ok-spec : {M : Type 1} → statement M
@@ -42,6 +46,6 @@ rows-ok-spec =
     (λ c κs. c .before .pre .bounded)
     (λ c κs. c .before .before .pre .bounded)
     place-after-requires
-    (λ c κs. c .before .before .before .before .pre .bounded)
+    projection-length-requires
     all-within-requires
     returns)
