@@ -1,8 +1,7 @@
 -- `limits::part::next_part_refusal` meets its contract: the sizes, then the length of the opening. Assumes nothing.
-use mathlib.Core.Path.{refl, sym, _∙_}
+use mathlib.Core.Path.{refl}
 use Rattle.fold.specs.Refusals.{partTests}
 use Rattle.fold.specs.NextCall.{partRefusal}
-use Rattle.fold.specs.Laws.RefusalLaws.{refusal-passes}
 use Rattle.fold.specs.Laws.TestLaws.{stops, goes-on}
 use Rattle.limits.specs.Stages.{partBoundsOf}
 use Rattle.limits.specs.Laws.StageLaws.{single, none}
@@ -28,8 +27,8 @@ returns-2 c =
     let c2 = c1 .before in
     let c3 = c2 .before in
     let a = c3 .before .args in
-    let bounds = refusal-passes (partBoundsOf (a .sizes) (a .part)) refl (sym (c3 .part-bounds .ensures) ∙ c2 .if1 .left) in
-    single 7 _ (c1 .opening-fits .ensures) (c .first .ensures) none ∙ sym (goes-on (partBoundsOf (a .sizes) (a .part)) _ bounds)
+    goes-on (partBoundsOf (a .sizes) (a .part)) _ refl (c3 .part-bounds .ensures) (c2 .if1 .left)
+    (single 7 _ (c1 .opening-fits .ensures) (c .first .ensures) none)
 
 pub next-part-refusal-spec : {M : Type 1} → statement M
 next-part-refusal-spec =
