@@ -47,7 +47,8 @@ def all_cases():
     rng = random.Random(12)
     groups = [(group, rng) for group in sheet_checks.GROUPS + sheet_numbers.GROUPS] + [(group,) for group in sheet_faults.GROUPS]
     for group, *arguments in groups:
-        for name, stated, text in group(*arguments):
+        for name, stated, given in group(*arguments):
+            text = given if isinstance(given, bytes) else sheet.write_sheet(*given)
             answer = sheet.judge(text)
             assert stated in (None, answer), (group, name, stated, answer)
             yield group.__name__, name, answer, text

@@ -1,5 +1,5 @@
-"""Judged sheets for sheet_cases.py: honest ones at many sizes, and every check failing. Each is (name, answer, text); the answer is
-None where the script does not state it.
+"""Judged sheets for sheet_cases.py: honest ones at many sizes, and every check failing. Each is (name, answer, text or sizes and lists); the
+answer is None where the script does not state it.
 """
 
 from itertools import combinations
@@ -40,12 +40,12 @@ def every_degree(rng):
     for d, count, most_bytes in ((2, 7, 3600), (4, 4, 5000), (8, 2, 8000), (16, 1, 11000), (32, 1, 18000)):
         for k in range(count):
             s, y = honest(rng, some_sizes(rng, d, most_bytes))
-            yield f"d = {d}, honest {k}", ACCEPTED, sheet.write_sheet(s, y)
+            yield f"d = {d}, honest {k}", ACCEPTED, (s, y)
             if d < 8 and s.beta_squared:
-                yield f"d = {d}, honest {k}, β² one less", failed(1), sheet.write_sheet(s._replace(beta_squared=s.beta_squared - 1), y)
+                yield f"d = {d}, honest {k}, β² one less", failed(1), (s._replace(beta_squared=s.beta_squared - 1), y)
             elif d < 16:
                 less = s._replace(target_beta_squared=s.target_beta_squared - 1)
-                yield f"d = {d}, honest {k}, β'² one less", failed(9), sheet.write_sheet(less, y)
+                yield f"d = {d}, honest {k}, β'² one less", failed(9), (less, y)
 
 
 def largest_sizes(rng):
@@ -56,7 +56,7 @@ def largest_sizes(rng):
     ):
         name = ", ".join(f"{size} = {value}" for size, value in changes.items())
         s, y = honest(rng, SMALL._replace(**changes))
-        yield name, ACCEPTED, sheet.write_sheet(s, y)
+        yield name, ACCEPTED, (s, y)
 
 
 def long_witness(rng):
@@ -65,7 +65,7 @@ def long_witness(rng):
             s = SMALL._replace(d=d, n=n, r=r, L=1, b=b, b1=65536, b2=65535, nu=2, mu=3)
             y = fold.honest(s, random_lists(rng, s, False))
             s = least_bounds(s, y)
-            yield f"d = {d}, n = {n}, r = {r}, b = {b}", ACCEPTED, sheet.write_sheet(s, y)
+            yield f"d = {d}, n = {n}, r = {r}, b = {b}", ACCEPTED, (s, y)
 
 
 # Faults of the checks
@@ -113,23 +113,23 @@ def failing_checks(rng):
             subsets = list(combinations(range(1, 10), count))
             for checks in subsets if count < 3 else rng.sample(subsets, 6):
                 answer = failed(checks[0]) if checks else ACCEPTED
-                yield f"d = {d}, checks {checks}", answer, sheet.write_sheet(*with_faults(s, y, checks))
+                yield f"d = {d}, checks {checks}", answer, with_faults(s, y, checks)
 
 
 def last_rows(rng):
     """Faults in the last row of a matrix or the last entry of a message only."""
     s, y = honest(rng, SMALL._replace(r=2, L=1, w=2, kappa=2, kappa1=2, kappa2=2, nu=1, mu=3))
     s = s._replace(beta_squared=LARGEST_BOUND, target_beta_squared=LARGEST_BOUND)
-    yield "honest", ACCEPTED, sheet.write_sheet(s, y)
-    yield "last row of u1", failed(3), sheet.write_sheet(s, moved(y, "u1", -1))
-    yield "last row of u2", failed(4), sheet.write_sheet(s, moved(y, "u2", -1))
-    yield "last row of A", failed(5), sheet.write_sheet(s, moved(y, "a_matrix", -1))
+    yield "honest", ACCEPTED, (s, y)
+    yield "last row of u1", failed(3), (s, moved(y, "u1", -1))
+    yield "last row of u2", failed(4), (s, moved(y, "u2", -1))
+    yield "last row of A", failed(5), (s, moved(y, "a_matrix", -1))
     _, g, _ = block_starts(s)
-    yield "last row of t's high digit", failed(5), sheet.write_sheet(s, with_commitments(s, moved(y, "opening", g - 1)))
+    yield "last row of t's high digit", failed(5), (s, with_commitments(s, moved(y, "opening", g - 1)))
     for k in range(5):
-        yield f"constant term of b''_{k + 1}", failed(2), sheet.write_sheet(s, moved(y, "second_b", k * s.d))
-        yield f"another coefficient of b''_{k + 1}", failed(8), sheet.write_sheet(s, moved(y, "second_b", k * s.d + 1))
-    yield "last p", failed(2), sheet.write_sheet(s, moved(y, "p", -1))
+        yield f"constant term of b''_{k + 1}", failed(2), (s, moved(y, "second_b", k * s.d))
+        yield f"another coefficient of b''_{k + 1}", failed(8), (s, moved(y, "second_b", k * s.d + 1))
+    yield "last p", failed(2), (s, moved(y, "p", -1))
 
 
 def fifth_aggregate(rng):
@@ -138,12 +138,12 @@ def fifth_aggregate(rng):
     x |= {"psi": [0] * 4 + [1], "omega": [0] * 4 + [1], "delta": [0] * 8 + [2, 1]}
     y = fold.honest(s, x)
     s = least_bounds(s, y)
-    yield "honest", ACCEPTED, sheet.write_sheet(s, y)
-    yield "constant term of b''_5 moved", failed(2), sheet.write_sheet(s, moved(y, "second_b", 8))
-    yield "another coefficient of b''_5 moved", failed(8), sheet.write_sheet(s, moved(y, "second_b", 9))
-    yield "ψ_5 moved", None, sheet.write_sheet(s, moved(y, "psi", 4))
-    yield "ω_5 moved", None, sheet.write_sheet(s, moved(y, "omega", 4))
-    yield "δ_5 moved", None, sheet.write_sheet(s, moved(y, "delta", 9))
+    yield "honest", ACCEPTED, (s, y)
+    yield "constant term of b''_5 moved", failed(2), (s, moved(y, "second_b", 8))
+    yield "another coefficient of b''_5 moved", failed(8), (s, moved(y, "second_b", 9))
+    yield "ψ_5 moved", None, (s, moved(y, "psi", 4))
+    yield "ω_5 moved", None, (s, moved(y, "omega", 4))
+    yield "δ_5 moved", None, (s, moved(y, "delta", 9))
 
 
 def carried(s, y, places, base, by):
@@ -164,15 +164,14 @@ def wide_digits(rng):
             blocks = (("z", n * d - 1, n * d, b), ("t", t, s.kappa * d, b1), ("g", g, d, b2), ("h", h + d - 1, d, b1))
             for block, place, gap, base in blocks:
                 wide = carried(s, y, [(place, gap)], base, by)
-                yield f"d = {d}, {by} bases of a low digit of {block}", ACCEPTED, sheet.write_sheet(least_bounds(s, wide), wide)
+                yield f"d = {d}, {by} bases of a low digit of {block}", ACCEPTED, (least_bounds(s, wide), wide)
         far = carried(s, y, [(place, d * n) for place in range(n * d)], b, 99999)
-        yield f"d = {d}, 99999 bases of all of z", ACCEPTED, sheet.write_sheet(least_bounds(s, far), far)
+        yield f"d = {d}, 99999 bases of all of z", ACCEPTED, (least_bounds(s, far), far)
         bounds = least_bounds(s, far)
         bounds = bounds._replace(target_beta_squared=bounds.target_beta_squared - 1)
-        yield f"d = {d}, 99999 bases of all of z, β'² one less", failed(9), sheet.write_sheet(bounds, far)
-        yield f"d = {d}, 99999 bases of all of z, u1 kept, t low digit too", failed(3), sheet.write_sheet(
-            bounds, carried(s, far, [(t, s.kappa * d)], b1, 1) | {"u1": far["u1"]}
-        )
+        yield f"d = {d}, 99999 bases of all of z, β'² one less", failed(9), (bounds, far)
+        wrong = carried(s, far, [(t, s.kappa * d)], b1, 1) | {"u1": far["u1"]}
+        yield f"d = {d}, 99999 bases of all of z, u1 kept, t low digit too", failed(3), (bounds, wrong)
     # the same value modulo q only: 65437 + 65535·65536 = q
     s = SMALL._replace(b=65536, b1=65536)
     y = fold.honest(s, random_lists(rng, s, True))
@@ -180,12 +179,12 @@ def wide_digits(rng):
     numbers[0] += 65437
     numbers[2] += 65535
     wide = y | {"opening": numbers}
-    yield "z greater by q", ACCEPTED, sheet.write_sheet(least_bounds(s, wide), wide)
+    yield "z greater by q", ACCEPTED, (least_bounds(s, wide), wide)
     numbers = list(y["opening"])
     numbers[4] -= 65437
     numbers[6] -= 65535
     wide = with_commitments(s, y | {"opening": numbers})
-    yield "t less by q", ACCEPTED, sheet.write_sheet(least_bounds(s, wide), wide)
+    yield "t less by q", ACCEPTED, (least_bounds(s, wide), wide)
 
 
 def wrapped_lengths(rng):
@@ -200,7 +199,7 @@ def wrapped_lengths(rng):
             if 2 * ring.squared_norm(p) % 2**bits <= 8 * LARGEST_BOUND:
                 break
         bounds = s._replace(beta_squared=LARGEST_BOUND, target_beta_squared=bounded(ring.squared_norm(y["opening"])))
-        yield f"2|p|² modulo 2^{bits}", failed(1), sheet.write_sheet(bounds, y | {"p": p})
+        yield f"2|p|² modulo 2^{bits}", failed(1), (bounds, y | {"p": p})
         # check 9: low is set so that z is the same modulo q
         s = SMALL._replace(n=4, b=65536)
         y = fold.honest(s, random_lists(rng, s, True))
@@ -213,14 +212,14 @@ def wrapped_lengths(rng):
             if ring.squared_norm(numbers) % 2**bits <= LARGEST_BOUND:
                 break
         wide = y | {"opening": numbers}
-        yield f"squared length of the digits modulo 2^{bits}", failed(9), sheet.write_sheet(s, wide)
+        yield f"squared length of the digits modulo 2^{bits}", failed(9), (s, wide)
     p = [ring.LARGEST] * 8
     s = SMALL._replace(n=2, w=8)
     y = fold.honest(s, random_lists(rng, s, True) | {"omega": [0] * 40})
-    yield "p at the end of the range", failed(1), sheet.write_sheet(s, y | {"p": p})
+    yield "p at the end of the range", failed(1), (s, y | {"p": p})
     p = [22360679, 22360679, 22360679, 22360679, 0, 0, 0, 0]
     large = y | {"p": p}
-    yield "p large, its bound just holds", ACCEPTED, sheet.write_sheet(least_bounds(s, large), large)
+    yield "p large, its bound just holds", ACCEPTED, (least_bounds(s, large), large)
 
 
 def changed_numbers(rng):
@@ -230,12 +229,12 @@ def changed_numbers(rng):
         name = rng.choice([name for name in y if y[name] and name not in ("projections", "c")] + ["opening"] * 8)
         place = rng.randrange(len(y[name]))
         by = rng.choice((1, -1, 2, 65536))
-        yield f"{k}: {name}[{place}] moved by {by}", None, sheet.write_sheet(s, moved(y, name, place, by))
+        yield f"{k}: {name}[{place}] moved by {by}", None, (s, moved(y, name, place, by))
     s, y = honest(rng, SMALL._replace(n=2, r=2, w=1, L=1, nu=2, mu=1))
     for name, values in (("projections", (-1, 0, 1)), ("c", (-2, 0, 2))):
         for value in values:
             if y[name][1] != value:
-                yield f"{name}[1] = {value}", None, sheet.write_sheet(s, replaced(y, name, 1, value))
+                yield f"{name}[1] = {value}", None, (s, replaced(y, name, 1, value))
 
 
 GROUPS = (

@@ -1,5 +1,5 @@
 """Sheets for sheet_cases.py whose numbers are refused by 8, 9 or 10, or just not, and texts of 65536 and 65537 bytes. Each is (name,
-answer, text).
+answer, text or sizes and lists).
 """
 
 import fold
@@ -20,22 +20,22 @@ def ends_of_the_range(rng):
     inside = {"projections": refused(9), "c": refused(10)}
     for k, name in enumerate(SHEET_LISTS):
         first, last = (0, -1) if k % 2 else (-1, 0)
-        yield f"{name}[{first}] = 2147483599", refused(8), sheet.write_sheet(s, replaced(y, name, first, 2147483599))
-        yield f"{name}[{last}] = -2147483599", refused(8), sheet.write_sheet(s, replaced(y, name, last, -2147483599))
+        yield f"{name}[{first}] = 2147483599", refused(8), (s, replaced(y, name, first, 2147483599))
+        yield f"{name}[{last}] = -2147483599", refused(8), (s, replaced(y, name, last, -2147483599))
         number = ring.LARGEST * (-1) ** k
         answer = sheet.judge(sheet.write_sheet(s, replaced(y, name, last, number)))
         assert answer == inside[name] if name in inside else answer[0] in ("accepted", "failed")
-        yield f"{name}[{last}] = {number}", answer, sheet.write_sheet(s, replaced(y, name, last, number))
+        yield f"{name}[{last}] = {number}", answer, (s, replaced(y, name, last, number))
     for name, place in (("a_matrix", 1), ("p", 0), ("u1", -1), ("projections", 3), ("c", 1), ("opening", -1)):
         value = y[name][place]
         for number in (value + 2**32, value - 2**32, value + ring.Q):
-            yield f"{name}[{place}] = {number} for {value}", refused(8), sheet.write_sheet(s, replaced(y, name, place, number))
+            yield f"{name}[{place}] = {number} for {value}", refused(8), (s, replaced(y, name, place, number))
     for number in (2147483647, 2147483648, -2147483648, -2147483649, 4294967296, 9999999999999999, -999999999999999):
-        yield f"b_matrix[3] = {number}", refused(8), sheet.write_sheet(s, replaced(y, "b_matrix", 3, number))
+        yield f"b_matrix[3] = {number}", refused(8), (s, replaced(y, "b_matrix", 3, number))
     full = replaced(replaced(y, "d_matrix", 2, 9999999999999999), "d_matrix", 3, 9999999999999999)
-    yield "two numbers of 16 digits side by side", refused(8), sheet.write_sheet(s, full)
+    yield "two numbers of 16 digits side by side", refused(8), (s, full)
     full = replaced(replaced(y, "alpha", 0, -999999999999999), "alpha", 1, 1000000000000000)
-    yield "two fields without a blank", refused(8), sheet.write_sheet(s, full)
+    yield "two fields without a blank", refused(8), (s, full)
 
 
 def order_of_numbers(rng):
@@ -43,42 +43,42 @@ def order_of_numbers(rng):
     last_8 = replaced(y, "opening", -1, ring.LARGEST + 1)
     first_8 = replaced(y, "a_matrix", 0, -ring.LARGEST - 1)
     for name, numbers in (("early", first_8), ("late", last_8)):
-        yield f"8 {name}, 9", refused(8), sheet.write_sheet(s, replaced(numbers, "projections", 0, 2))
-        yield f"8 {name}, 10", refused(8), sheet.write_sheet(s, replaced(numbers, "c", 0, 3))
-        yield f"8 {name}, 9, 10", refused(8), sheet.write_sheet(s, replaced(replaced(numbers, "projections", -1, -2), "c", -1, -3))
-    yield "9, 10", refused(9), sheet.write_sheet(s, replaced(replaced(y, "projections", -1, 2), "c", 0, 3))
-    yield "10 at the first part", refused(10), sheet.write_sheet(s, replaced(y, "c", 0, 3))
-    yield "10 at the last part", refused(10), sheet.write_sheet(s, replaced(y, "c", -1, -3))
+        yield f"8 {name}, 9", refused(8), (s, replaced(numbers, "projections", 0, 2))
+        yield f"8 {name}, 10", refused(8), (s, replaced(numbers, "c", 0, 3))
+        yield f"8 {name}, 9, 10", refused(8), (s, replaced(replaced(numbers, "projections", -1, -2), "c", -1, -3))
+    yield "9, 10", refused(9), (s, replaced(replaced(y, "projections", -1, 2), "c", 0, 3))
+    yield "10 at the first part", refused(10), (s, replaced(y, "c", 0, 3))
+    yield "10 at the last part", refused(10), (s, replaced(y, "c", -1, -3))
     for value in (2, -2, 3, 255, 65537, ring.LARGEST, -ring.LARGEST):
         place = rng.randrange(len(y["projections"]))
-        yield f"projection entry {value}", refused(9), sheet.write_sheet(s, replaced(y, "projections", place, value))
+        yield f"projection entry {value}", refused(9), (s, replaced(y, "projections", place, value))
     for name, numbers in (("8", first_8), ("9", replaced(y, "projections", 0, 2)), ("10", replaced(y, "c", 0, 3))):
         text = sheet.write_sheet(s, numbers)
         yield f"{name}, then a broken field", refused(12), text[:-2] + b"a\n"
         yield f"{name}, last line feed missing", refused(12), text[:-1]
         yield f"{name}, a byte more", refused(12), text + b" "
-        yield f"{name}, and check 3 fails", refused(int(name)), sheet.write_sheet(s, moved(numbers, "u1", 0))
+        yield f"{name}, and check 3 fails", refused(int(name)), (s, moved(numbers, "u1", 0))
         less = s._replace(beta_squared=0, target_beta_squared=0)
-        yield f"{name}, and checks 1 and 9 fail", refused(int(name)), sheet.write_sheet(less, numbers)
+        yield f"{name}, and checks 1 and 9 fail", refused(int(name)), (less, numbers)
 
 
 def challenges(rng):
     s, y = number_base(rng, 1, 2)
     for value in (3, -3, 4, 255, 258, -254, 65538, 1000000000, ring.LARGEST, -ring.LARGEST):
-        yield f"coefficient {value}", refused(10), sheet.write_sheet(s, replaced(y, "c", 1, value))
+        yield f"coefficient {value}", refused(10), (s, replaced(y, "c", 1, value))
     s = SMALL._replace(r=2)
     for c in ([0, 0, 0, 0], [2, -2, -2, 2], [0, 0, 1, 0], [-2, 0, 0, -2]):
         bounds, y = honest(rng, s, c=c)
-        yield f"c = {c}", ACCEPTED, sheet.write_sheet(bounds, y)
+        yield f"c = {c}", ACCEPTED, (bounds, y)
     c71 = [2, -2] * 8 + [2, 1, -1, 1] + [0] * 12
     c72 = [-2, 2] * 9 + [0] * 14
     bounds, y = honest(rng, SMALL._replace(d=32), c=c71)
-    yield "d = 32, squared length 71", ACCEPTED, sheet.write_sheet(bounds, y)
-    yield "d = 32, squared length 72", refused(10), sheet.write_sheet(bounds, y | {"c": c72})
+    yield "d = 32, squared length 71", ACCEPTED, (bounds, y)
+    yield "d = 32, squared length 72", refused(10), (bounds, y | {"c": c72})
     bounds, y = honest(rng, SMALL._replace(d=64, K=0), c=[2, 1, 0, -1] * 10 + [1, 0, -2, 0] * 2 + [1] + [0] * 15)
     assert ring.squared_norm(y["c"]) == 71
-    yield "d = 64, squared length 71", ACCEPTED, sheet.write_sheet(bounds, y)
-    yield "d = 64, squared length 72", refused(10), sheet.write_sheet(bounds, moved(y, "c", -1))
+    yield "d = 64, squared length 71", ACCEPTED, (bounds, y)
+    yield "d = 64, squared length 72", refused(10), (bounds, moved(y, "c", -1))
 
 
 # Long texts
