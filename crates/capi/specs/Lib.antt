@@ -1,5 +1,2 @@
 -- Definitions
 pub mod Codes
-pub mod Places
--- Laws
-pub mod Laws

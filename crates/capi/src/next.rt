@@ -1,19 +1,17 @@
 // The next instance for C: its constraints, and the parts of its witness.
 ghost use mathlib.Core.Path.{_≡_};
 ghost use Rattle.fold.specs.Arguments.{statementOf, drawsOf, transcriptOf};
-ghost use Rattle.chunks.specs.Parts.{partRefusalOf};
+ghost use Rattle.fold.specs.Arguments.{partRefusalOf};
 ghost use Rattle.next_instance.specs.Calls.{NextCalled};
+ghost use Rattle.next_instance.specs.Parts.{Placed};
 ghost use Rattle.capi.specs.Codes.{Coded};
-ghost use Rattle.capi.specs.Places.{Placed};
 use crate::types;
 use crate::types::CAnswer;
-use crate::types::CPart;
-use chunks::part::PartSizes;
-use chunks::sizes::chunk_start;
-use chunks::sizes::chunk_width;
-use chunks::sizes::rest_size;
+use fold::PartSizes;
 use fold::Sizes;
 use lizkarg::next_part_refusal;
+use next_instance::part::Place;
+use next_instance::part::next_place;
 
 // The next instance: `lizkarg::next_instance`.
 #[no_mangle]
@@ -81,24 +79,8 @@ pub extern "C" fn lizkarg_next_part_refusal(sizes: PartSizes, part: usize, openi
 
 // The place in the opening of what `lizkarg::next_part` hands back.
 #[no_mangle]
-pub extern "C" fn lizkarg_next_part(sizes: PartSizes, part: usize, opening: &[i32]) -> CPart
+pub extern "C" fn lizkarg_next_part(sizes: PartSizes, part: usize, opening: &[i32]) -> Place
     ensures { λ x. ⌜ Placed sizes part (now (opening .entry)) x ⌝ }
 {
-    let refusal = next_part_refusal(sizes, part, opening);
-    if refusal != 0 {
-        return CPart {
-            start: 0,
-            length: 0,
-        };
-    }
-    let m = rest_size(sizes.r, sizes.kappa, sizes.t1, sizes.t2);
-    let s = part - 1;
-    let at = chunk_start(sizes.n, sizes.nu, m, sizes.mu, s);
-    let width = chunk_width(sizes.n, sizes.nu, m, sizes.mu, s);
-    let start = at * sizes.d;
-    let length = width * sizes.d;
-    CPart {
-        start: start,
-        length: length,
-    }
+    next_place(sizes, part, opening)
 }

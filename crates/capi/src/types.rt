@@ -14,13 +14,6 @@ pub struct CAnswer {
     pub number: u8,
 }
 
-// Where a part of the next witness stands in the caller's opening: its first number and how many there are; 0 and 0 where it is refused.
-#[repr(C)]
-pub struct CPart {
-    pub start: usize,
-    pub length: usize,
-}
-
 // An answer and a sheet's header, whose numbers are all 0 where the sheet is refused.
 #[repr(C)]
 pub struct CSheet {

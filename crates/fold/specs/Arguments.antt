@@ -7,9 +7,11 @@ use Rattle.fold.specs.declared.Shape.{Shape}
 use Rattle.fold.specs.declared.CommitSizes.{CommitSizes}
 use Rattle.fold.specs.declared.GarbageSizes.{GarbageSizes}
 use Rattle.fold.specs.declared.Sizes.{Sizes}
+use Rattle.fold.specs.declared.PartSizes.{PartSizes}
 use Rattle.fold.specs.Answers.{firstFailing}
 use Rattle.fold.specs.Statement.{Statement, Draws, Transcript}
-use Rattle.fold.specs.Known.CallLimits.{CommitLimits, GarbageLimits, VerifyLimits}
+use Rattle.fold.specs.NextCall.{partRefusal, nextPart}
+use Rattle.fold.specs.Known.CallLimits.{CommitLimits, GarbageLimits, VerifyLimits, PartLimits}
 use Rattle.fold.specs.Refusals.{commitTests, projectTests, aggregateTests, garbageTests, amortizeTests, verifyTests, productTests}
 
 abbrev pub statementOf : Sizes → (A B C D whole term : List ℤ) → Statement
@@ -76,6 +78,14 @@ verifyRefusal 𝓢 𝓓 𝓣 o = firstFailing (verifyTests 𝓢 𝓓 𝓣 o)
 abbrev pub productRefusal : ℕ → (x y : List ℤ) → ℕ
 productRefusal d x y = firstFailing (productTests d x y)
 
+-- ---- a part of the next witness: its refusal, and the chunk handed back
+
+abbrev pub partRefusalOf : PartSizes → (i : ℕ) → List ℤ → ℕ
+partRefusalOf m i o = partRefusal (m .d) (m .n) (m .r) (m .kappa) (m .t1) (m .t2) 2 (m .nu) (m .mu) i o
+
+abbrev pub nextPartOf : PartSizes → (i : ℕ) → List ℤ → List ℤ
+nextPartOf m i o = nextPart (m .d) (m .n) (m .r) (m .kappa) (m .t1) (m .t2) 2 (m .nu) (m .mu) i o
+
 -- ---- the limits of sizes that stand in a struct
 
 abbrev pub CommitSized : CommitSizes → Type 0
@@ -88,3 +98,6 @@ abbrev pub VerifySized : Sizes → Type 0
 VerifySized m =
     VerifyLimits (m .d) (m .n) (m .r) (m .k) (m .l) (m .w) (m .kappa) (m .kappa1) (m .kappa2) (m .b) (m .b1) (m .b2) (m .t1) (m .t2)
     (m .bound) (m .target)
+
+abbrev pub PartSized : PartSizes → (i : ℕ) → Type 0
+PartSized m i = PartLimits (m .d) (m .n) (m .r) (m .kappa) (m .t1) (m .t2) 2 (m .nu) (m .mu) i

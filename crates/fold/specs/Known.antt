@@ -1,3 +1,5 @@
 pub mod Facts
 pub mod CallFacts
 pub mod CallLimits
+pub mod CutSizes
+pub mod NextFacts

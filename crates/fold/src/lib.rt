@@ -1,5 +1,6 @@
 // The answers of every call of the fold: document 01, 'Verdict' and 'Where a call stops'.
 // Structs of sizes are laid out as C lays them out: crates/capi takes them as they are.
+pub mod chunks;
 pub mod counts;
 pub mod places;
 
@@ -74,6 +75,19 @@ pub struct Sizes {
     pub t2: usize,
     pub bound: u64,
     pub target: u64,
+}
+
+// The sizes of an opening and of its cut into ν and μ chunks.
+#[repr(C)]
+pub struct PartSizes {
+    pub d: usize,
+    pub n: usize,
+    pub r: usize,
+    pub kappa: usize,
+    pub t1: usize,
+    pub t2: usize,
+    pub nu: usize,
+    pub mu: usize,
 }
 
 impl Answer {

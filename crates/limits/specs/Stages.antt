@@ -6,9 +6,11 @@ use lib.IntN.{ℤ, pos}
 use Rattle.fold.specs.declared.CommitSizes.{CommitSizes}
 use Rattle.fold.specs.declared.GarbageSizes.{GarbageSizes}
 use Rattle.fold.specs.declared.Sizes.{Sizes}
+use Rattle.fold.specs.declared.PartSizes.{PartSizes}
+use Rattle.fold.specs.Sizes.{restSize, nextRank, nextParts, nextCount}
 use Rattle.fold.specs.Known.Facts.{Shaped}
-use Rattle.fold.specs.Refusals.{commitBounds, garbageBounds, sizeRows, boundRows}
-use Rattle.fold.specs.Refusals.{sized, commitLengths, constraintLengths, garbageLengths, matrixLengths, messageLengths}
+use Rattle.fold.specs.Refusals.{commitBounds, garbageBounds, sizeRows, boundRows, partBounds, chunks}
+use Rattle.fold.specs.Refusals.{sized, wholeLength, commitLengths, constraintLengths, garbageLengths, matrixLengths, messageLengths}
 
 -- ---- rows 1 to 6
 
@@ -29,6 +31,12 @@ boundRowsOf m = boundRows (pos (m .bound)) (pos (m .target))
 abbrev pub verifyBoundsOf : Sizes → List (ℕ × Bool)
 verifyBoundsOf m = sizeRowsOf m ++ boundRowsOf m
 
+abbrev pub nextBoundsOf : Sizes → (ν μ : ℕ) → List (ℕ × Bool)
+nextBoundsOf m ν μ = sizeRowsOf m ++ ((5, chunks 2 (pos ν) (pos μ)) ∷ boundRowsOf m)
+
+abbrev pub partBoundsOf : PartSizes → ℕ → List (ℕ × Bool)
+partBoundsOf m i = partBounds (m .d) (m .n) (m .r) (m .kappa) (m .t1) (m .t2) 2 (m .nu) (m .mu) i
+
 -- ---- row 7
 
 abbrev pub commitLengthsOf : CommitSizes → (A B C s ts gs u₁ : List ℤ) → List Bool
@@ -47,6 +55,13 @@ matrixLengthsOf m A B C D = matrixLengths (m .d) (m .n) (m .r) (m .kappa) (m .ka
 abbrev pub drawLengthsOf : Sizes → (whole term rows ψ ω α δ c : List ℤ) → List Bool
 drawLengthsOf m whole term rows ψ ω α δ c =
     constraintLengths (m .d) (m .n) (m .r) (m .k) (m .l) (m .w) whole term rows ψ ω α δ ++ (sized c (m .r * m .d) ∷ [])
+
+-- the rank of the next instance, and the length of its constraints
+abbrev pub rankOf : Sizes → (ν μ : ℕ) → ℕ
+rankOf m ν μ = nextRank (m .n) ν (restSize (m .r) (m .kappa) (m .t1) (m .t2)) μ
+
+abbrev pub outLengthOf : Sizes → (ν μ : ℕ) → ℕ
+outLengthOf m ν μ = wholeLength (m .d) (rankOf m ν μ) (nextParts 2 ν μ) (nextCount (m .kappa) (m .kappa1) (m .kappa2))
 
 -- the limits of the sizes of both kinds of constraints
 pub record ConstraintLimits (d n r K L w : ℕ) : Type 0 where

@@ -4,6 +4,8 @@ pub mod bounds;
 pub mod draws;
 pub mod groups;
 pub mod lengths;
+pub mod next;
+pub mod part;
 pub mod ranges;
 pub mod rows;
 pub mod sizes;

@@ -59,6 +59,20 @@ pub fn digit_count(t: usize) -> bool
     (2 <= t) & (t <= 8)
 }
 
+// Row 5. Each count is tested alone first, so that 2ν+μ never wraps.
+pub fn chunk_counts(nu: usize, mu: usize) -> bool
+    ensures { λ x. ⌜ x ≡ spec.chunks 2 (pos nu) (pos mu) ⌝ }
+{
+    if 8 < nu {
+        return false;
+    }
+    if 16 < mu {
+        return false;
+    }
+    let together = 2 * nu + mu;
+    (1 <= nu) & (1 <= mu) & (together <= 16)
+}
+
 // Row 6: β² or β'².
 pub fn length_bound(x: u64) -> bool
     ensures { λ r. ⌜ r ≡ spec.lengthBound (pos x) ⌝ }

@@ -2,14 +2,14 @@
 // cannot take it refuses by number.
 ghost use mathlib.Core.Path.{_≡_};
 ghost use Rattle.lizkarg.specs.Calls.{productOf, Committed, Projected, Aggregated, GarbageCommitted, Amortized};
-pub use chunks::part::next_part;
-pub use chunks::part::next_part_refusal;
 use fold::Answer;
 use fold::CommitSizes;
 use fold::GarbageSizes;
 use fold::Shape;
 pub use judge::judge_sheet;
+pub use limits::part::next_part_refusal;
 pub use next_instance::next_instance;
+pub use next_instance::part::next_part;
 use ring::element::Element;
 pub use sheet::reader::read_sheet;
 pub use sheet::reader::sheet_numbers;

@@ -9,7 +9,7 @@ use Rattle.fold.specs.declared.Shape.{Shape}
 use Rattle.fold.specs.declared.CommitSizes.{CommitSizes}
 use Rattle.fold.specs.declared.GarbageSizes.{GarbageSizes}
 use Rattle.fold.specs.declared.Sizes.{Sizes}
-use Rattle.chunks.specs.declared.part.PartSizes.{PartSizes}
+use Rattle.fold.specs.declared.PartSizes.{PartSizes}
 
 -- The number at a place, 0 where there is none, modulo 2^64: -k stands for 2^64 - k.
 abbrev pub wideSize : List ℤ → ℕ → ℕ

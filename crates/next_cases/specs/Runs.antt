@@ -10,7 +10,7 @@ use Rattle.fold.specs.Arguments.{statementOf, drawsOf, transcriptOf}
 use Rattle.fold.specs.Statement.{Statement, Draws, Transcript}
 use Rattle.fold.specs.Verification.{verification}
 use Rattle.lizkarg.specs.Calls.{Committed, Projected, Aggregated, GarbageCommitted, Amortized}
-use Rattle.chunks.specs.Parts.{partRefusalOf}
+use Rattle.fold.specs.Arguments.{partRefusalOf}
 use Rattle.next_instance.specs.Calls.{NextCalled}
 use Rattle.capi.specs.declared.types.CAnswer.{CAnswer}
 use Rattle.capi.specs.Codes.{Coded, codeOf}

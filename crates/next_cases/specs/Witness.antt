@@ -6,8 +6,8 @@ use lib.ListN.{take}
 use Rattle.integers.specs.Flat.{flat}
 use Rattle.integers.specs.Over.{over}
 use Rattle.fold.specs.declared.Sizes.{Sizes}
-use Rattle.chunks.specs.declared.part.PartSizes.{PartSizes}
-use Rattle.chunks.specs.Parts.{nextPartOf}
+use Rattle.fold.specs.declared.PartSizes.{PartSizes}
+use Rattle.fold.specs.Arguments.{nextPartOf}
 use Rattle.cases.specs.Numbers.{padded, sizeOf}
 use Rattle.next_cases.specs.Messages.{filled}
 

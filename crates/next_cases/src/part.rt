@@ -2,17 +2,17 @@
 ghost use mathlib.Core.Path.{_≡_};
 ghost use Prim.Native.Nat.{_+_, _≤_};
 ghost use lib.ListN.{length, take, drop};
-ghost use Rattle.chunks.specs.Parts.{partRefusalOf, nextPartOf};
+ghost use Rattle.fold.specs.Arguments.{partRefusalOf, nextPartOf};
 ghost use Rattle.cases.specs.Lists.{nthList};
 ghost use Rattle.next_cases.specs.Input.{partSizesOf};
 use capi::next::lizkarg_next_part;
 use capi::next::lizkarg_next_part_refusal;
-use capi::types::CPart;
 use cases::lists::nth_list;
 use cases::lists::past_numbers;
 use cases::sums::print_shown;
-use chunks::part::PartSizes;
+use fold::PartSizes;
 use fold::Sizes;
+use next_instance::part::Place;
 
 // Where the opening stands, after the part's number.
 const OPENING: usize = 20;
@@ -34,7 +34,7 @@ pub fn part_sizes(sizes: Sizes, nu: usize, mu: usize) -> PartSizes
 }
 
 // The numbers of the opening at a place.
-fn at_place(opening: &[i32], place: CPart) -> &[i32]
+fn at_place(opening: &[i32], place: Place) -> &[i32]
     requires { ⌜ place .start + place .length ≤ length (now opening) ⌝ }
     ensures { λ r. ⌜ now r ≡ take (place .length) (drop (place .start) (now (opening .entry))) ⌝ }
 {

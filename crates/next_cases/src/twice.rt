@@ -29,7 +29,7 @@ use cases::lists::past_numbers;
 use cases::lists::past_wides;
 use cases::numbers::size;
 use cases::sums::print_sum;
-use chunks::part::PartSizes;
+use fold::PartSizes;
 use fold::Sizes;
 
 // The next instance after a fold, whose parameters are those of module folds.

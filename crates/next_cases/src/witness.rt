@@ -5,7 +5,7 @@ ghost use Rattle.integers.specs.Over.{over};
 ghost use Rattle.next_cases.specs.Witness.{nextWitness};
 use crate::part::next_part;
 use cases::lists::put;
-use chunks::part::PartSizes;
+use fold::PartSizes;
 
 // The next witness: each part of the opening with zeros after it, `width` numbers in all.
 pub fn write_witness(sizes: PartSizes, parts: usize, width: usize, opening: &[i32], out: &mut [i32])

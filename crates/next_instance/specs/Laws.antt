@@ -3,3 +3,4 @@ pub mod Instance
 pub mod Places
 pub mod WrittenLaws
 pub mod CallLaws
+pub mod PartLaws

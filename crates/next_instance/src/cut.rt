@@ -3,11 +3,11 @@ ghost use mathlib.Core.Path.{_≡_};
 ghost use Prim.Native.Nat.{_≤_};
 ghost use Rattle.fold.specs.Arguments.{VerifySized};
 ghost use Rattle.fold.specs.Sizes.{restSize, nextRank};
-ghost use Rattle.chunks.specs.Known.NextFacts.{ChunkLimits};
+ghost use Rattle.fold.specs.Known.CallLimits.{ChunkLimits};
 ghost use Rattle.next_instance.specs.Known.Facts.{CutFacts};
-use chunks::sizes::next_rank;
-use chunks::sizes::rest_size;
 use fold::Sizes;
+use fold::chunks::next_rank;
+use fold::chunks::rest_size;
 use fold::counts::function_size;
 use fold::counts::pair_count;
 

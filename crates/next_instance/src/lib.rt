@@ -3,14 +3,15 @@ ghost use Rattle.fold.specs.Arguments.{statementOf, drawsOf, transcriptOf};
 ghost use Rattle.next_instance.specs.Calls.{NextCalled};
 use checks::first_checks;
 use checks::is_accepted;
-use chunks::refusals::next_refusal;
 use fold::Answer;
 use fold::Sizes;
+use limits::next::next_refusal;
 use writer::write_instance;
 
 pub mod a_part;
 pub mod checks;
 pub mod cut;
+pub mod part;
 pub mod phi_part;
 pub mod writer;
 

@@ -17,8 +17,8 @@ ghost use Rattle.next_constraints.specs.Tables.{TableRoom, Tables};
 ghost use Rattle.next_instance.specs.Known.Facts.{CutFacts};
 ghost use Rattle.next_instance.specs.Written.{tableOf, chunkEntry};
 use crate::cut::Cut;
-use chunks::sizes::chunk_width;
 use fold::Sizes;
+use fold::chunks::chunk_width;
 use next_constraints::coefficients::coefficient;
 use ring::element::Element;
 

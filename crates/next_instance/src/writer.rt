@@ -11,7 +11,7 @@ ghost use Rattle.fold.specs.Chunks.{width};
 ghost use Rattle.fold.specs.Refusals.{wholeLength};
 ghost use Rattle.fold.specs.Constraint.{laidOut};
 ghost use Rattle.fold.specs.NextInstance.{nextWhole};
-ghost use Rattle.chunks.specs.Known.NextFacts.{NextFacts};
+ghost use Rattle.fold.specs.Known.NextFacts.{NextFacts};
 ghost use Rattle.next_constraints.specs.Known.Facts.{EntryFacts};
 ghost use Rattle.next_constraints.specs.Tables.{TableRoom, Tables};
 ghost use Rattle.next_constraints.specs.Coefficients.{ConstantFacts};

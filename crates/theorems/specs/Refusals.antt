@@ -20,8 +20,8 @@ use Rattle.fold.specs.Refusals.{productTests, commitTests, projectTests, aggreg
 use Rattle.fold.specs.Verdict.{verdict}
 use Rattle.fold.specs.Verification.{verification}
 use Rattle.fold.specs.NextCall.{orWritten, firstChecks, nextAnswer, nextOut, partRefusal, nextPart}
-use Rattle.chunks.specs.declared.part.PartSizes.{PartSizes}
-use Rattle.chunks.specs.Parts.{partRefusalOf, nextPartOf}
+use Rattle.fold.specs.declared.PartSizes.{PartSizes}
+use Rattle.fold.specs.Arguments.{partRefusalOf, nextPartOf}
 use Rattle.sheet.specs.declared.reader.SheetAnswer.{SheetAnswer}
 use Rattle.sheet.specs.Reading.{headerTests, numberTests, bodyTests, readingTests, answerOf, SheetRead}
 use Rattle.lizkarg.specs.Calls.{productOf, Committed, Projected, Aggregated, GarbageCommitted, Amortized}

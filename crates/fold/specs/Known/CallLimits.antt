@@ -1,15 +1,16 @@
 -- What rows 1 to 6 leave known of the sizes of each call, as plain bounds. Each law takes a call's tests of those rows.
---     CommitLimits, ProjectLimits, AggregateLimits, GarbageLimits, AmortizeLimits, VerifyLimits
+--     CommitLimits, ProjectLimits, AggregateLimits, GarbageLimits, AmortizeLimits, VerifyLimits, ChunkLimits, PartLimits
 use mathlib.Core.Path.{_≡_}
 use mathlib.Core.Bool.{true}
-use Prim.Native.Nat.{ℕ, _≤_}
+use Prim.Native.Nat.{ℕ, _+_, _*_, _≤_, _<_}
 use lib.IntN.{pos}
 use Rattle.residues.specs.Digits.{Base}
+use Rattle.fold.specs.Sizes.{nextParts}
 use Rattle.fold.specs.Known.Facts.{Shaped}
 use Rattle.fold.specs.Refusals.{degree, rank, parts, commitBounds, projectBounds, aggregateBounds, garbageBounds, amortizeBounds}
-use Rattle.fold.specs.Refusals.{sizeRows, boundRows}
+use Rattle.fold.specs.Refusals.{sizeRows, boundRows, partBounds, chunks}
 use Rattle.fold.specs.Laws.RefusalLaws.{Passes, allOf-all, degree-fits, rank-iff, parts-iff, constraintCount-iff, projectionCount-iff}
-use Rattle.fold.specs.Laws.RefusalLaws.{commitmentRank-iff, base-fits, digitCount-iff, lengthBound-iff}
+use Rattle.fold.specs.Laws.RefusalLaws.{commitmentRank-iff, base-fits, digitCount-iff, lengthBound-iff, between-iff, chunks-iff}
 
 pub record CommitLimits (d n r κ κ₁ b₁ b₂ t₁ t₂ : ℕ) : Type 0 where
   pub shaped : Shaped d n r
@@ -68,6 +69,22 @@ pub record VerifyLimits (d n r K L w κ κ₁ κ₂ b b₁ b₂ t₁ t₂ bound 
   pub t₂-most : t₂ ≤ 8
   pub bound-small : bound ≤ 999999999999999
   pub target-small : target ≤ 999999999999999
+
+-- row 5
+pub record ChunkLimits (tz ν μ : ℕ) : Type 0 where
+  pub ν-positive : 0 < ν
+  pub μ-positive : 0 < μ
+  pub parts-small : tz * ν + μ ≤ 16
+
+-- the question for part i of the next witness
+pub record PartLimits (d n r κ t₁ t₂ tz ν μ i : ℕ) : Type 0 where
+  pub shaped : Shaped d n r
+  pub κ-small : κ ≤ 8
+  pub t₁-most : t₁ ≤ 8
+  pub t₂-most : t₂ ≤ 8
+  pub cut : ChunkLimits tz ν μ
+  pub from-one : 1 ≤ i
+  pub up-to-parts : i ≤ nextParts tz ν μ
 
 -- ---- from the tests
 
@@ -178,4 +195,23 @@ verify-limits d n r K L w κ κ₁ κ₂ b b₁ b₂ t₁ t₂ bound target (e�
       t₂-most = c₂ .1;
       bound-small = lengthBound-iff bound .0 (h₆ .0) .1;
       target-small = lengthBound-iff target .0 (h₆ .1 .0) .1;
+    }
+
+pub chunk-limits : (tz ν μ : ℕ) → chunks tz (pos ν) (pos μ) ≡ true → ChunkLimits tz ν μ
+chunk-limits tz ν μ e =
+    let h = chunks-iff tz ν μ .0 e in record { ν-positive = h .0; μ-positive = h .1 .0; parts-small = h .1 .1 }
+
+pub part-limits : (d n r κ t₁ t₂ tz ν μ i : ℕ) → Passes (partBounds d n r κ t₁ t₂ tz ν μ i) → PartLimits d n r κ t₁ t₂ tz ν μ i
+part-limits d n r κ t₁ t₂ tz ν μ i (e₁, (e₂, (e₃, (e₄, (e₅, _))))) =
+    let h₂ = allOf-all _ e₂ in
+    let h₄ = allOf-all _ e₄ in
+    let inside = between-iff 1 (nextParts tz ν μ) i .0 (h₂ .1 .1 .0) in
+    record {
+      shaped = shaped-of d n r e₁ (h₂ .0) (h₂ .1 .0);
+      κ-small = commitmentRank-iff κ .0 e₃ .1;
+      t₁-most = digitCount-iff t₁ .0 (h₄ .0) .1;
+      t₂-most = digitCount-iff t₂ .0 (h₄ .1 .0) .1;
+      cut = chunk-limits tz ν μ e₅;
+      from-one = inside .0;
+      up-to-parts = inside .1;
     }

@@ -1,16 +1,20 @@
 -- The limits of a call's sizes, once its first rows have not refused.
 use mathlib.Core.Path.{_≡_, refl, sym, _∙_}
+use mathlib.Core.List.{_∷_}
 use Prim.Native.Nat.{ℕ}
+use lib.IntN.{pos}
 use Rattle.fold.specs.declared.CommitSizes.{CommitSizes}
 use Rattle.fold.specs.declared.GarbageSizes.{GarbageSizes}
 use Rattle.fold.specs.declared.Sizes.{Sizes}
+use Rattle.fold.specs.declared.PartSizes.{PartSizes}
 use Rattle.fold.specs.Answers.{firstFailing}
-use Rattle.fold.specs.Laws.RefusalLaws.{refusal-passes, passes-front, passes-back}
-use Rattle.fold.specs.Known.CallLimits.{ProjectLimits, AggregateLimits, AmortizeLimits}
+use Rattle.fold.specs.Laws.RefusalLaws.{Passes, refusal-passes, passes-front, passes-back}
+use Rattle.fold.specs.Known.CallLimits.{ProjectLimits, AggregateLimits, AmortizeLimits, ChunkLimits, chunk-limits, part-limits}
 use Rattle.fold.specs.Known.CallLimits.{commit-limits, project-limits, aggregate-limits, garbage-limits, amortize-limits, verify-limits}
-use Rattle.fold.specs.Arguments.{CommitSized, GarbageSized, VerifySized}
-use Rattle.fold.specs.Refusals.{projectBounds, aggregateBounds, amortizeBounds}
-use Rattle.limits.specs.Stages.{commitBoundsOf, garbageBoundsOf, verifyBoundsOf, sizeRowsOf, boundRowsOf, ConstraintLimits}
+use Rattle.fold.specs.Arguments.{CommitSized, GarbageSized, VerifySized, PartSized}
+use Rattle.fold.specs.Refusals.{projectBounds, aggregateBounds, amortizeBounds, chunks}
+use Rattle.limits.specs.Stages.{commitBoundsOf, garbageBoundsOf, verifyBoundsOf, sizeRowsOf, boundRowsOf, nextBoundsOf, partBoundsOf}
+use Rattle.limits.specs.Stages.{ConstraintLimits}
 
 pub commit-sized : (m : CommitSizes) {x : ℕ} → x ≡ firstFailing (commitBoundsOf m) → x ≡ 0 → CommitSized m
 commit-sized m e z = commit-limits _ _ _ _ _ _ _ _ _ (refusal-passes (commitBoundsOf m) refl (sym e ∙ z))
@@ -31,6 +35,21 @@ pub verify-sized : (m : Sizes) {x : ℕ} → x ≡ firstFailing (verifyBoundsOf 
 verify-sized m e z =
     let p = refusal-passes (verifyBoundsOf m) refl (sym e ∙ z) in
     verify-limits _ _ _ _ _ _ _ _ _ _ _ _ _ _ _ _ (passes-front (sizeRowsOf m) (boundRowsOf m) p) (passes-back (sizeRowsOf m) (boundRowsOf m) p)
+
+module _ (m : Sizes) (ν μ : ℕ) {x : ℕ} (e : x ≡ firstFailing (nextBoundsOf m ν μ)) (z : x ≡ 0) where
+  passed : Passes (nextBoundsOf m ν μ)
+  passed = refusal-passes (nextBoundsOf m ν μ) refl (sym e ∙ z)
+
+  pub next-sized : VerifySized m
+  next-sized =
+      verify-limits _ _ _ _ _ _ _ _ _ _ _ _ _ _ _ _
+      (passes-front (sizeRowsOf m) ((5, chunks 2 (pos ν) (pos μ)) ∷ boundRowsOf m) passed) (passed .1 .1 .1 .1 .1)
+
+  pub next-cut : ChunkLimits 2 ν μ
+  next-cut = chunk-limits 2 ν μ (passed .1 .1 .1 .1 .0)
+
+pub part-sized : (m : PartSizes) (i : ℕ) {x : ℕ} → x ≡ firstFailing (partBoundsOf m i) → x ≡ 0 → PartSized m i
+part-sized m i e z = part-limits _ _ _ _ _ _ _ _ _ _ (refusal-passes (partBoundsOf m i) refl (sym e ∙ z))
 
 -- the sizes of the constraints alone
 pub garbage-constraints : (m : GarbageSizes) → GarbageSized m → ConstraintLimits (m .d) (m .n) (m .r) (m .k) (m .l) (m .w)

@@ -11,8 +11,8 @@ use Rattle.fold.specs.declared.Sizes.{Sizes}
 use Rattle.fold.specs.Arguments.{statementOf, drawsOf, transcriptOf}
 use Rattle.fold.specs.Verification.{verification}
 use Rattle.lizkarg.specs.Calls.{Committed, Projected, Aggregated, GarbageCommitted, Amortized}
-use Rattle.chunks.specs.declared.part.PartSizes.{PartSizes}
-use Rattle.chunks.specs.Parts.{partRefusalOf}
+use Rattle.fold.specs.declared.PartSizes.{PartSizes}
+use Rattle.fold.specs.Arguments.{partRefusalOf}
 use Rattle.next_instance.specs.Calls.{NextCalled}
 use Rattle.capi.specs.declared.types.CAnswer.{CAnswer}
 use Rattle.capi.specs.Codes.{Coded, codeOf}

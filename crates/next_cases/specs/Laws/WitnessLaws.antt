@@ -17,8 +17,8 @@ use Rattle.integers.specs.Flat.{flat}
 use Rattle.integers.specs.Laws.FlatLaws.{flat-suc, length-flat}
 use Rattle.integers.specs.Over.{over}
 use Rattle.integers.specs.Laws.OverLaws.{over-nil, over-over, length-over}
-use Rattle.chunks.specs.declared.part.PartSizes.{PartSizes}
-use Rattle.chunks.specs.Parts.{nextPartOf}
+use Rattle.fold.specs.declared.PartSizes.{PartSizes}
+use Rattle.fold.specs.Arguments.{nextPartOf}
 use Rattle.cases.specs.Numbers.{padded, sizeOf}
 use Rattle.next_cases.specs.Laws.MessageLaws.{take-min}
 use Rattle.next_cases.specs.Witness.{nextWitness}

@@ -18,7 +18,7 @@ use Rattle.fold.specs.NextInstance.{nextWhole}
 use Rattle.fold.specs.NextCall.{orWritten, unlessFailed, firstChecks, nextAnswer, nextOut}
 use Rattle.verifier.specs.ConstantTerms.{Terms}
 use Rattle.verifier.specs.Known.ListFacts.{terms-known}
-use Rattle.chunks.specs.Known.NextFacts.{NextFacts, next-facts}
+use Rattle.fold.specs.Known.NextFacts.{NextFacts, next-facts}
 use Rattle.next_instance.specs.Calls.{NextCalled, firstChecksOf, accepts}
 
 module _ (𝓢 : Statement) (𝓓 : Draws) (𝓣 : Transcript) (ν μ : ℕ) (out : List ℤ) where

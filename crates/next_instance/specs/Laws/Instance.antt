@@ -19,7 +19,7 @@ use Rattle.fold.specs.NextInstance.{nextWhole}
 use Rattle.fold.specs.Laws.SizeBounds.{pairs-bound}
 use Rattle.constraints.specs.Known.Facts.{AggregateFacts}
 use Rattle.verifier.specs.Known.ListFacts.{wholes-known, aggregate-known}
-use Rattle.chunks.specs.Known.NextFacts.{NextFacts}
+use Rattle.fold.specs.Known.NextFacts.{NextFacts}
 use Rattle.next_constraints.specs.Known.Facts.{EntryFacts}
 use Rattle.next_constraints.specs.Tables.{TableRoom}
 use Rattle.next_instance.specs.declared.cut.Cut.{Cut}

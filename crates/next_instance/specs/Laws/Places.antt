@@ -13,7 +13,7 @@ use Rattle.fold.specs.Chunks.{width}
 use Rattle.fold.specs.Laws.ChunkLaws.{width-bound, widths-cover}
 use Rattle.fold.specs.Laws.PlaceBounds.{t-size-bound, g-size-bound, h-size-bound}
 use Rattle.next_instance.specs.declared.cut.Cut.{Cut}
-use Rattle.chunks.specs.Known.CutSizes.{CutSizes}
+use Rattle.fold.specs.Known.CutSizes.{CutSizes}
 use Rattle.next_instance.specs.Known.Facts.{CutFacts}
 
 -- an element's place is no greater than that of its numbers

@@ -1,2 +1,0 @@
-pub mod CutSizes
-pub mod NextFacts

@@ -1,3 +1,0 @@
-pub mod StageLaws
-pub mod CountLaws
-pub mod PartLaws

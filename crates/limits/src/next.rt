@@ -1,0 +1,121 @@
+// The number with which the next instance refuses, 0 where it does not: document 01, 'Where a call stops'.
+ghost use mathlib.Core.Path.{_≡_};
+ghost use Prim.Native.Nat.{_≤_};
+ghost use Rattle.fold.specs.Answers.{firstFailing};
+ghost use Rattle.fold.specs.Refusals.{nextTests};
+ghost use Rattle.fold.specs.Refusals as table;
+ghost use Rattle.fold.specs.Arguments.{VerifySized, statementOf, drawsOf, transcriptOf};
+ghost use Rattle.fold.specs.Known.CallLimits.{ChunkLimits};
+ghost use Rattle.limits.specs.Stages as spec;
+use crate::bounds::size_rows;
+use crate::draws::draw_lengths;
+use crate::groups::length_bounds;
+use crate::lengths::matrix_lengths;
+use crate::lengths::message_lengths;
+use crate::ranges::constraint_ranges;
+use crate::ranges::message_ranges;
+use crate::rows::challenges;
+use crate::rows::chunk_counts;
+use crate::rows::first;
+use crate::rows::sized;
+use fold::Sizes;
+use fold::chunks::next_rank;
+use fold::chunks::rest_size;
+use residues::range::are_coefficients;
+use residues::range::are_projection_entries;
+
+// Rows 1 to 6: the sizes.
+pub fn next_bounds(sizes: Sizes, nu: usize, mu: usize) -> u8
+    ensures { λ x. ⌜ x ≡ firstFailing (spec.nextBoundsOf sizes nu mu) ⌝ }
+{
+    let size = size_rows(sizes);
+    let five = chunk_counts(nu, mu);
+    let six = length_bounds(sizes.bound, sizes.target);
+    first(size == 0, size, first(five, 5, first(six, 6, 0)))
+}
+
+// n' for these sizes.
+pub fn rank_of(sizes: Sizes, nu: usize, mu: usize) -> usize
+    requires { ⌜ VerifySized sizes ⌝ }
+    requires { ⌜ ChunkLimits 2 nu mu ⌝ }
+    ensures { λ x. ⌜ x ≡ spec.rankOf sizes nu mu ⌝ }
+{
+    let m = rest_size(sizes.r, sizes.kappa, sizes.t1, sizes.t2);
+    next_rank(sizes.n, nu, m, mu)
+}
+
+// Row 7: numbers of `count` whole constraints on `parts` parts of `rank` elements. The rank may be above 256 here, which row 11 tells.
+pub fn next_fits(out: &[i32], d: usize, rank: usize, parts: usize, count: usize) -> bool
+    requires { ⌜ (d ≤ 64) × (rank ≤ 8192) × (parts ≤ 16) × (count ≤ 32) ⌝ }
+    ensures { λ x. ⌜ x ≡ table.sized (now (out .entry)) (table.wholeLength d rank parts count) ⌝ }
+{
+    let function = fold::counts::pair_count(parts) + parts * rank;
+    let length = count * ((function + 1) * d);
+    sized(out, length)
+}
+
+// Row 7: the list written.
+pub fn out_fits(sizes: Sizes, nu: usize, mu: usize, rank: usize, out: &[i32]) -> bool
+    requires { ⌜ VerifySized sizes ⌝ }
+    requires { ⌜ ChunkLimits 2 nu mu ⌝ }
+    requires { ⌜ rank ≡ spec.rankOf sizes nu mu ⌝ }
+    ensures { λ x. ⌜ x ≡ table.sized (now (out .entry)) (spec.outLengthOf sizes nu mu) ⌝ }
+{
+    let parts = 2 * nu + mu;
+    let count = sizes.kappa + sizes.kappa1 + sizes.kappa2 + 3;
+    next_fits(out, sizes.d, rank, parts, count)
+}
+
+// The next instance: the statement, the draws, the messages; the list written for its length.
+pub fn next_refusal(
+    sizes: Sizes,
+    nu: usize,
+    mu: usize,
+    a: &[i32],
+    b: &[i32],
+    c_matrix: &[i32],
+    d_matrix: &[i32],
+    whole: &[i32],
+    term: &[i32],
+    u1: &[i32],
+    rows: &[i32],
+    p: &[i32],
+    psi: &[i32],
+    omega: &[i32],
+    b2: &[i32],
+    alpha: &[i32],
+    delta: &[i32],
+    u2: &[i32],
+    c: &[i32],
+    out: &[i32],
+) -> u8
+    ensures { λ x.
+        ⌜ x ≡ firstFailing (nextTests (statementOf sizes (now (a .entry)) (now (b .entry)) (now («c_matrix» .entry))
+        (now («d_matrix» .entry)) (now (whole .entry)) (now (term .entry))) (drawsOf (now (rows .entry))
+        (now (psi .entry)) (now (omega .entry)) (now (alpha .entry)) (now (delta .entry)) (now (c .entry)))
+        (transcriptOf (now (u1 .entry)) (now (p .entry)) (now (b2 .entry)) (now (u2 .entry))) nu mu (now (out .entry))) ⌝ }
+{
+    let size = next_bounds(sizes, nu, mu);
+    if size != 0 {
+        return size;
+    }
+    let rank = rank_of(sizes, nu, mu);
+    let fits = out_fits(sizes, nu, mu, rank, out)
+        & message_lengths(sizes, u1, p, b2, u2)
+        & matrix_lengths(sizes, a, b, c_matrix, d_matrix)
+        & draw_lengths(sizes, whole, term, rows, psi, omega, alpha, delta, c);
+    if !fits {
+        return 7;
+    }
+    let entries = are_projection_entries(rows);
+    let ranges = message_ranges(u1, p, b2, u2, a, b, c_matrix, d_matrix)
+        & constraint_ranges(whole, term, rows, entries, psi, omega, alpha, delta)
+        & are_coefficients(c);
+    let rule = challenges(sizes.d, sizes.r, c);
+    let small = rank <= 256;
+    first(
+        ranges,
+        8,
+        first(entries, 9, first(rule, 10, first(small, 11, 0))),
+    )
+}

@@ -1,0 +1,38 @@
+-- Where a part of the next witness stands in the caller's opening. What is handed back is that chunk, or for C, which has no slices, its place:
+-- document 01, 'Next instance', "the library hands back that stretch of the caller's own slice; .. the stretch is empty".
+use mathlib.Core.Path.{_≡_}
+use mathlib.Core.List.{List}
+use Prim.Native.Nat.{ℕ, zero, suc, _+_, _*_, _-_, _≤_}
+use lib.ListN.{length, take, drop}
+use lib.IntN.{ℤ}
+use Rattle.algebra.specs.Triangle.{start}
+use Rattle.fold.specs.declared.PartSizes.{PartSizes}
+use Rattle.fold.specs.Sizes.{restSize, nextRank}
+use Rattle.fold.specs.Chunks.{width}
+use Rattle.fold.specs.Arguments.{partRefusalOf, nextPartOf}
+use Rattle.next_instance.specs.declared.part.Place.{Place}
+
+-- m and n' for these sizes
+abbrev pub restOf : PartSizes → ℕ
+restOf m = restSize (m .r) (m .kappa) (m .t1) (m .t2)
+
+abbrev pub rankOf : PartSizes → ℕ
+rankOf m = nextRank (m .n) (m .nu) (restOf m) (m .mu)
+
+-- how many elements each part has, the first being part 0 here
+abbrev pub widthOf : PartSizes → ℕ → ℕ
+widthOf m = width 2 (m .n) (m .nu) (restOf m) (m .mu)
+
+-- refused: 0 and 0
+unfoldable pub placeIf : ℕ → (first count : ℕ) → Place
+placeIf zero first count = record { start = first; length = count }
+placeIf (suc n) first count = record { start = 0; length = 0 }
+
+unfoldable pub placeOf : PartSizes → (i : ℕ) → List ℤ → Place
+placeOf m i o = placeIf (partRefusalOf m i o) (start (widthOf m) (i - 1) * m .d) (widthOf m (i - 1) * m .d)
+
+-- the place is the definition's, it is inside the opening, and what stands there is the part
+pub record Placed (m : PartSizes) (i : ℕ) (o : List ℤ) (place : Place) : Type 0 where
+  pub place-is : place ≡ placeOf m i o
+  pub inside : place .start + place .length ≤ length o
+  pub part-is : take (place .length) (drop (place .start) o) ≡ nextPartOf m i o

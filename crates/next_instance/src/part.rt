@@ -1,0 +1,49 @@
+// One part of the next witness: where it stands in the caller's own opening, and that chunk handed back.
+ghost use mathlib.Core.Path.{_≡_};
+ghost use Rattle.fold.specs.Arguments.{nextPartOf};
+ghost use Rattle.next_instance.specs.Parts.{Placed};
+use fold::PartSizes;
+use fold::chunks::chunk_start;
+use fold::chunks::chunk_width;
+use fold::chunks::rest_size;
+use limits::part::next_part_refusal;
+
+// The first number of a part in the opening, and how many there are; 0 and 0 where it is refused. Laid out as C lays it out.
+#[repr(C)]
+pub struct Place {
+    pub start: usize,
+    pub length: usize,
+}
+
+// The place of part `part`, from 1, of the next witness without its padding.
+pub fn next_place(sizes: PartSizes, part: usize, opening: &[i32]) -> Place
+    ensures { λ x. ⌜ Placed sizes part (now (opening .entry)) x ⌝ }
+{
+    let refusal = next_part_refusal(sizes, part, opening);
+    if refusal != 0 {
+        return Place {
+            start: 0,
+            length: 0,
+        };
+    }
+    let m = rest_size(sizes.r, sizes.kappa, sizes.t1, sizes.t2);
+    let s = part - 1;
+    let at = chunk_start(sizes.n, sizes.nu, m, sizes.mu, s);
+    let width = chunk_width(sizes.n, sizes.nu, m, sizes.mu, s);
+    let start = at * sizes.d;
+    let length = width * sizes.d;
+    Place {
+        start: start,
+        length: length,
+    }
+}
+
+// Part `part`, from 1, of the next witness without its padding; empty where it is refused.
+pub fn next_part(sizes: PartSizes, part: usize, opening: &[i32]) -> &[i32]
+    ensures { λ x. ⌜ now x ≡ nextPartOf sizes part (now (opening .entry)) ⌝ }
+{
+    let place = next_place(sizes, part, opening);
+    let start = place.start;
+    let end = start + place.length;
+    &opening[start..end]
+}
