@@ -1,6 +1,6 @@
 -- Document 01, 'Sheet': the answer to a text, and the line that says it.
 --     listLengths s, listAt     the lists of a sheet, one after another, and list k of them
---     foldSizes, sheetStatement, sheetDraws, sheetTranscript, sheetOpening    what the verifier takes from a sheet
+--     sheetStatement, sheetDraws, sheetTranscript, sheetOpening    what the verifier takes from a sheet
 --     judgedText text           the answer to a text
 --     verdictLine answer        the line that the program prints
 use mathlib.Core.Bool.{cond}
@@ -9,7 +9,6 @@ use Prim.Native.Nat.{ℕ, zero, suc, _*_}
 use lib.Dec.{leb}
 use lib.ListN.{length, take, drop}
 use lib.IntN.{ℤ, pos}
-use Rattle.fold.specs.declared.Sizes.{Sizes}
 use Rattle.fold.specs.declared.Answer.{Answer}
 use Rattle.fold.specs.declared.Answer.the-variants as answer
 use Rattle.fold.specs.Sizes.{five, tSize, garbageSize, openingSize}
@@ -21,7 +20,7 @@ use Rattle.fold.specs.Verification.{verification}
 use Rattle.sheet.specs.declared.sizes.SheetSizes.{SheetSizes}
 use Rattle.sheet.specs.declared.reader.SheetAnswer.{SheetAnswer}
 use Rattle.sheet.specs.Sections.{total}
-use Rattle.sheet.specs.Reading.{headerNumbers, sizesOf, bodyNumbers, reading, answerOf, headerOf}
+use Rattle.sheet.specs.Reading.{headerNumbers, sizesOf, foldSizes, bodyNumbers, reading, answerOf, headerOf}
 use Rattle.sheet.specs.Layout.{lineText}
 
 -- ---- the lists of a sheet
@@ -54,27 +53,6 @@ unfoldable pub listAt : List ℕ → List ℤ → ℕ → List ℤ
 listAt [] xs k = []
 listAt (m ∷ ms) xs zero = take m xs
 listAt (m ∷ ms) xs (suc k) = listAt ms (drop m xs) k
-
--- the verifier takes no ν and μ
-unfoldable pub foldSizes : SheetSizes → Sizes
-foldSizes s = record {
-  d = s .d;
-  n = s .n;
-  r = s .r;
-  k = s .k;
-  l = s .l;
-  w = s .w;
-  kappa = s .kappa;
-  kappa1 = s .kappa1;
-  kappa2 = s .kappa2;
-  b = s .b;
-  b1 = s .b1;
-  b2 = s .b2;
-  t1 = s .t1;
-  t2 = s .t2;
-  bound = s .bound;
-  target = s .target;
-}
 
 module _ (s : SheetSizes) (xs : List ℤ) where
   abbrev pub list : ℕ → List ℤ

@@ -14,7 +14,7 @@ use Rattle.fold.specs.Refusals.{wholeLength, termLength, projectionLength}
 use Rattle.fold.specs.Arguments.{statementOf, drawsOf, transcriptOf}
 use Rattle.fold.specs.Verification.{verification}
 use Rattle.sheet.specs.declared.sizes.SheetSizes.{SheetSizes}
-use Rattle.judge.specs.Judging.{foldSizes}
+use Rattle.sheet.specs.Reading.{foldSizes}
 
 module _ (s : SheetSizes) where
   unfoldable pub lastStage : (A B C D whole term u₁ rows p ψ ω b″ xs : List ℤ) → Answer

@@ -2,39 +2,15 @@
 // cuts, and seventeen in one are too many. Each stage is handed the lists cut so far and the numbers that are left.
 ghost use mathlib.Core.Path.{_≡_};
 ghost use Rattle.sheet.specs.Sections.{Bounded};
-ghost use Rattle.judge.specs.Judging.{foldSizes, judgedNumbers};
+ghost use Rattle.judge.specs.Judging.{judgedNumbers};
 ghost use Rattle.judge.specs.Stages.{lastStage, numberStage, constraintStage};
 use crate::lengths;
 use crate::lists::front;
 use crate::lists::rest;
 use fold::Answer;
-use fold::Sizes;
 use limits::sizes::list_length;
 use sheet::sizes::SheetSizes;
-
-// The verifier takes no ν and μ.
-fn fold_sizes(s: SheetSizes) -> Sizes
-    ensures { λ r. ⌜ r ≡ foldSizes s ⌝ }
-{
-    Sizes {
-        d: s.d,
-        n: s.n,
-        r: s.r,
-        k: s.k,
-        l: s.l,
-        w: s.w,
-        kappa: s.kappa,
-        kappa1: s.kappa1,
-        kappa2: s.kappa2,
-        b: s.b,
-        b1: s.b1,
-        b2: s.b2,
-        t1: s.t1,
-        t2: s.t2,
-        bound: s.bound,
-        target: s.target,
-    }
-}
+use sheet::sizes::fold_sizes;
 
 // α, δ, u2, c and the opening.
 fn judge_last(

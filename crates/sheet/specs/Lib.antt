@@ -4,7 +4,6 @@ pub mod Fields
 pub mod Sections
 pub mod Place
 pub mod Reading
-pub mod HeaderTests
 pub mod Layout
 -- What a call that is not refused knows
 pub mod Known

@@ -2,6 +2,7 @@
 -- Row 7 stands before 8: "a slice's length is not what the sizes give", of the slice that takes the numbers. No limit on the text's length
 -- here: it is the program's.
 --     headerNumbers, sizesOf      the header's numbers, and the sizes that they are
+--     foldSizes                   those that the fold takes
 --     numberCount                 how many numbers the sizes give
 --     bodyNumbers                 the numbers after the header
 --     readingTests, reading       the tests in their order, and the answer
@@ -13,14 +14,14 @@ use mathlib.Core.List.{List, [], _∷_, _++_}
 use Prim.Native.Nat.{ℕ, zero, suc, _*_}
 use lib.Dec.{eqb}
 use lib.ListN.{length, getD, take, drop}
-use lib.IntN.{ℤ, pos, natAbs}
+use lib.IntN.{ℤ, pos, negsuc}
 use Rattle.integers.specs.Lists.{tab}
 use Rattle.residues.specs.Range.{coefficients, projections}
 use Rattle.fold.specs.declared.Answer.{Answer}
 use Rattle.fold.specs.declared.Answer.the-variants as answer
 use Rattle.fold.specs.Answers.{firstFailing, answered, written}
-use Rattle.fold.specs.Refusals.{allOf, degree, rank, parts, constraintCount, projectionCount, commitmentRank, base, digitCount, chunks}
-use Rattle.fold.specs.Refusals.{lengthBound, challenges, projectionLength}
+use Rattle.fold.specs.declared.Sizes.{Sizes}
+use Rattle.fold.specs.Refusals.{sizeRows, boundRows, chunks, challenges, projectionLength}
 use Rattle.sheet.specs.declared.sizes.SheetSizes.{SheetSizes}
 use Rattle.sheet.specs.declared.sizes.Sections.{Sections}
 use Rattle.sheet.specs.declared.reader.SheetAnswer.{SheetAnswer}
@@ -42,16 +43,16 @@ headerNumbers text = tab 18 (λ k. numberAt text (16 * k))
 -- rows 1 to 6
 unfoldable pub headerTests : List ℤ → List (ℕ × Bool)
 headerTests h =
-    (1, degree (at 0))
-    ∷ (2, allOf (rank (at 1) ∷ parts (at 2) ∷ constraintCount (at 3) ∷ constraintCount (at 4) ∷ projectionCount (at 5) ∷ []))
-    ∷ (3, allOf (commitmentRank (at 6) ∷ commitmentRank (at 7) ∷ commitmentRank (at 8) ∷ []))
-    ∷ (4, allOf (base (at 9) ∷ base (at 10) ∷ base (at 11) ∷ digitCount (at 12) ∷ digitCount (at 13) ∷ []))
-    ∷ (5, chunks 2 (at 14) (at 15))
-    ∷ (6, allOf (lengthBound (at 16) ∷ lengthBound (at 17) ∷ []))
-    ∷ []
+    sizeRows (at 0) (at 1) (at 2) (at 3) (at 4) (at 5) (at 6) (at 7) (at 8) (at 9) (at 10) (at 11) (at 12) (at 13)
+    ++ ((5, chunks 2 (at 14) (at 15)) ∷ boundRows (at 16) (at 17))
   where
     at : ℕ → ℤ
     at k = getD h k (pos 0)
+
+-- a number as a size: one below zero, which is no size, as one past every limit
+unfoldable pub size : ℤ → ℕ
+size (pos n) = n
+size (negsuc n) = 18446744073709551615
 
 unfoldable pub sizesOf : List ℤ → SheetSizes
 sizesOf h = record {
@@ -76,7 +77,28 @@ sizesOf h = record {
 }
   where
     at : ℕ → ℕ
-    at k = natAbs (getD h k (pos 0))
+    at k = size (getD h k (pos 0))
+
+-- the sizes that the fold takes; ν and μ stand beside them
+unfoldable pub foldSizes : SheetSizes → Sizes
+foldSizes s = record {
+  d = s .d;
+  n = s .n;
+  r = s .r;
+  k = s .k;
+  l = s .l;
+  w = s .w;
+  kappa = s .kappa;
+  kappa1 = s .kappa1;
+  kappa2 = s .kappa2;
+  b = s .b;
+  b1 = s .b1;
+  b2 = s .b2;
+  t1 = s .t1;
+  t2 = s .t2;
+  bound = s .bound;
+  target = s .target;
+}
 
 -- "The header's layout is read first (12), then 1 to 6"
 abbrev pub frontTests : List ℕ → List (ℕ × Bool)

@@ -4,12 +4,11 @@ ghost use mathlib.Core.Bool.{true};
 ghost use lib.ListN.{length};
 ghost use Rattle.residues.specs.Range.{coefficients, projections};
 ghost use Rattle.fold.specs.Answers.{firstFailing};
-ghost use Rattle.fold.specs.Refusals.{challenges, projectionLength};
+ghost use Rattle.fold.specs.Refusals.{challenges};
 ghost use Rattle.sheet.specs.Sections.{Bounded, sectionsOf, total, endsLine};
 ghost use Rattle.sheet.specs.Place.{place};
 ghost use Rattle.sheet.specs.Reading.{numberCount, bodyNumbers, rowsIn, challengesIn, numberTests, bodyTests, readingTests, SheetRead};
 ghost use Rattle.sheet.specs.Known.Reading.{endsAt, Inside};
-use crate::header::first;
 use crate::header::header_refusal;
 use crate::header::sheet_sizes;
 use crate::sizes::SheetSizes;
@@ -23,21 +22,13 @@ use crate::walk::are_challenges;
 use crate::walk::fill;
 use crate::walk::laid_end;
 use crate::walk::place_after;
+use limits::rows::first;
+use limits::sizes::projection_length;
 
 // A sheet's sizes, or the number of the refusal.
 pub enum SheetAnswer {
     Sheet(SheetSizes),
     Refused(u8),
-}
-
-// Numbers of the projection rows.
-fn row_numbers(s: SheetSizes) -> usize
-    requires { ⌜ Bounded s ⌝ }
-    ensures { λ p. ⌜ p ≡ projectionLength (s .d) (s .n) (s .r) (s .w) ⌝ }
-{
-    let a = s.r * s.n;
-    let b = a * s.d;
-    s.w * b
 }
 
 // Row 9.
@@ -48,7 +39,7 @@ fn rows_ok(s: SheetSizes, text: &[u8]) -> bool
     let q = sections_of(s);
     let from = rows_from(s);
     let start = place_after(q, text, 0, 289, from);
-    let count = row_numbers(s);
+    let count = projection_length(s.d, s.n, s.r, s.w);
     all_within(q, text, from, start, count, 1)
 }
 

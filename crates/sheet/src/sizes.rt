@@ -1,8 +1,10 @@
 // The sizes on a sheet's header, and how many numbers each part of the sheet has.
 ghost use mathlib.Core.Path.{_≡_};
 ghost use Prim.Native.Nat.{_+_, _*_, _≤_, _<_};
+ghost use Rattle.sheet.specs.Reading.{foldSizes};
 ghost use Rattle.sheet.specs.Sections.{Bounded, Sectioned, matrixCount, wholeCount, rowCount, lastCount, termSize};
 ghost use Rattle.sheet.specs.Sections.{total, rowsFrom, challengesFrom, endsElement, endsTerm, endsLine};
+use fold::Sizes;
 use fold::counts::function_size;
 use fold::counts::garbage_size;
 use fold::counts::t_size;
@@ -28,6 +30,30 @@ pub struct SheetSizes {
     pub mu: usize,
     pub bound: u64,
     pub target: u64,
+}
+
+// The sizes that the fold takes; ν and μ stand beside them.
+pub fn fold_sizes(s: SheetSizes) -> Sizes
+    ensures { λ r. ⌜ r ≡ foldSizes s ⌝ }
+{
+    Sizes {
+        d: s.d,
+        n: s.n,
+        r: s.r,
+        k: s.k,
+        l: s.l,
+        w: s.w,
+        kappa: s.kappa,
+        kappa1: s.kappa1,
+        kappa2: s.kappa2,
+        b: s.b,
+        b1: s.b1,
+        b2: s.b2,
+        t1: s.t1,
+        t2: s.t2,
+        bound: s.bound,
+        target: s.target,
+    }
 }
 
 // Where lines end: `head` numbers on lines of d, then `terms` numbers of constant-term constraints of `period` numbers each (lines of

@@ -11,23 +11,23 @@ use Rattle.fold.specs.declared.Answer.the-variants.{Judged}
 use Rattle.fold.specs.Sizes.{pairs, functionSize, tSize, garbageSize, restSize, openingSize}
 use Rattle.fold.specs.Refusals.{wholeLength, termLength, projectionLength}
 use Rattle.fold.specs.Cases.WholeCase.{whole-case}
-use Rattle.sheet.specs.Reading.{sizesOf}
+use Rattle.sheet.specs.Reading.{size, sizesOf, foldSizes}
 use Rattle.sheet.specs.Field.{fieldText, signedText, columns, columnByte, minusDue}
 use Rattle.sheet.specs.Layout.{copies, elements, matrixLines, wholeLines, termLines, rowLines, numberLines, lastLines, bodyLines}
 use Rattle.sheet.specs.Layout.{lineText, textOf, sheetText}
 use Rattle.sheet.specs.Cases.WholeSheet.{header, numbers, whole-numbers}
-use Rattle.judge.specs.Judging.{listLengths, listAt, foldSizes, judgedText, verdictLine}
+use Rattle.judge.specs.Judging.{listLengths, listAt, judgedText, verdictLine}
 use Rattle.judge.specs.Theorems.JudgeTheorem.{sheetVerdict, sheet-judged}
 
 -- the lists of the sheet are those of the case
 whole-verdict : sheetVerdict (sizesOf header) numbers ≡ Accepted
-unfolding sizesOf foldSizes listAt listLengths pairs pairs-count start functionSize tSize garbageSize restSize openingSize
+unfolding size sizesOf foldSizes listAt listLengths pairs pairs-count start functionSize tSize garbageSize restSize openingSize
     wholeLength termLength projectionLength
 whole-verdict = whole-case .accepted
 
 whole-length : length (sheetText header numbers) ≡ 1345
 unfolding sheetText bodyLines matrixLines wholeLines termLines rowLines numberLines lastLines elements copies textOf lineText flat
-    fieldText signedText columns columnByte minusDue sizesOf pairs pairs-count start tSize garbageSize restSize openingSize
+    fieldText signedText columns columnByte minusDue size sizesOf pairs pairs-count start tSize garbageSize restSize openingSize
 whole-length = refl
 
 pub whole-judged : judgedText (sheetText header numbers) ≡ Judged Accepted

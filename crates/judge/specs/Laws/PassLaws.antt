@@ -7,29 +7,17 @@ use mathlib.Core.List.{List}
 use Prim.Native.Nat.{ℕ, _<_}
 use native.Mathlib.Omega.{arith}
 use lib.ListN.{length, getD}
-use lib.IntN.{ℤ, pos, negsuc, natAbs}
+use lib.IntN.{ℤ}
 use Rattle.residues.specs.Range.{coefficients, projections}
 use Rattle.fold.specs.Answers.{firstFailing}
-use Rattle.fold.specs.Refusals.{between, degree, rank, parts, constraintCount, projectionCount, commitmentRank, base, digitCount, lengthBound}
 use Rattle.fold.specs.Refusals.{sized, challenges, verifyTests}
-use Rattle.fold.specs.Laws.RefusalLaws.{Passes, passes-refusal, allOf-all, all-allOf, sized-iff}
+use Rattle.fold.specs.Laws.RefusalLaws.{Passes, passes-refusal, all-allOf, sized-iff}
 use Rattle.sheet.specs.declared.sizes.SheetSizes.{SheetSizes}
 use Rattle.sheet.specs.Sections.{total}
-use Rattle.sheet.specs.Laws.PlaceLaws.{contradiction}
-use Rattle.sheet.specs.Reading.{headerTests, sizesOf, numberTests}
-use Rattle.judge.specs.Judging.{listLengths, listAt, foldSizes, sheetStatement, sheetDraws, sheetTranscript, sheetOpening}
+use Rattle.sheet.specs.Laws.HeaderLaws.{header-passes}
+use Rattle.sheet.specs.Reading.{headerTests, sizesOf, foldSizes, numberTests}
+use Rattle.judge.specs.Judging.{listLengths, listAt, sheetStatement, sheetDraws, sheetTranscript, sheetOpening}
 use Rattle.judge.specs.Laws.ListLaws.{length-list, coefficients-list, lengths-total, rows-list, challenges-list}
-
--- a number in a range that starts at 0 or above is its absolute value
-between-size : (low high : ℕ) (z : ℤ) → between low high z ≡ true → between low high (pos (natAbs z)) ≡ true
-unfolding between
-between-size low high (pos n) e = e
-between-size low high (negsuc n) e = contradiction e refl
-
-degree-size : (z : ℤ) → degree z ≡ true → degree (pos (natAbs z)) ≡ true
-unfolding degree
-degree-size (pos n) e = e
-degree-size (negsuc n) e = contradiction e refl
 
 -- facts of a list's tests, one after another
 infixr 4 _&_
@@ -49,49 +37,23 @@ module _ (h xs : List ℤ) (header : Passes (headerTests h)) (numbers : Passes (
   s : SheetSizes
   s = sizesOf h
 
-  at : ℕ → ℤ
-  at k = getD h k (pos 0)
-
   within : (k : ℕ) → coefficients (listAt (listLengths (sizesOf h)) xs k) ≡ true
   unfolding numberTests
   within k = coefficients-list (listLengths (sizesOf h)) xs k (numbers .0)
 
   pub unrefused : firstFailing (verifyTests (sheetStatement (sizesOf h) xs) (sheetDraws (sizesOf h) xs) (sheetTranscript (sizesOf h) xs)
       (sheetOpening (sizesOf h) xs)) ≡ 0
-  unfolding verifyTests headerTests sizesOf numberTests foldSizes listLengths
-      rank parts constraintCount projectionCount commitmentRank base digitCount lengthBound at
+  unfolding verifyTests numberTests foldSizes listLengths
   unrefused =
-      let counts = allOf-all _ (header .1 .0) in
-      let ranks = allOf-all _ (header .1 .1 .0) in
-      let bases = allOf-all _ (header .1 .1 .1 .0) in
-      let bounds = allOf-all _ (header .1 .1 .1 .1 .1 .0) in
+      let sizes = header-passes h header in
       let size : (k : ℕ) → k < 17 → sized (listAt (listLengths (sizesOf h)) xs k) (getD (listLengths (sizesOf h)) k 0) ≡ true =
       sized-list (sizesOf h) xs count in
       passes-refusal _ (
-      degree-size (at 0) (header .0)
-      & all-allOf _ (
-      between-size 1 256 (at 1) (counts .0)
-      & between-size 1 16 (at 2) (counts .1 .0)
-      & between-size 0 32 (at 3) (counts .1 .1 .0)
-      & between-size 0 32 (at 4) (counts .1 .1 .1 .0)
-      & between-size 0 256 (at 5) (counts .1 .1 .1 .1 .0)
-      & tt)
-      & all-allOf _ (
-      between-size 1 8 (at 6) (ranks .0)
-      & between-size 1 8 (at 7) (ranks .1 .0)
-      & between-size 1 8 (at 8) (ranks .1 .1 .0)
-      & tt)
-      & all-allOf _ (
-      between-size 2 65536 (at 9) (bases .0)
-      & between-size 2 65536 (at 10) (bases .1 .0)
-      & between-size 2 65536 (at 11) (bases .1 .1 .0)
-      & between-size 2 8 (at 12) (bases .1 .1 .1 .0)
-      & between-size 2 8 (at 13) (bases .1 .1 .1 .1 .0)
-      & tt)
-      & all-allOf _ (
-      between-size 0 999999999999999 (at 16) (bounds .0)
-      & between-size 0 999999999999999 (at 17) (bounds .1 .0)
-      & tt)
+      sizes .0
+      & sizes .1 .0
+      & sizes .1 .1 .0
+      & sizes .1 .1 .1 .0
+      & sizes .1 .1 .1 .1 .1 .0
       & all-allOf _ (
       size 16 (omega arith)
       & size 6 (omega arith)

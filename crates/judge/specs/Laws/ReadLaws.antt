@@ -12,7 +12,8 @@ use Rattle.fold.specs.Answers.{written}
 use Rattle.sheet.specs.declared.reader.SheetAnswer.{SheetAnswer}
 use Rattle.sheet.specs.declared.reader.SheetAnswer.the-variants.{Refused}
 use Rattle.sheet.specs.Reading.{headerNumbers, sizesOf, sheetIf, reading, readingRefusal, SheetRead}
-use Rattle.sheet.specs.Laws.AnswerLaws.{header-bounded, reading-passed, read-is}
+use Rattle.sheet.specs.Laws.AnswerLaws.{reading-passed, read-is}
+use Rattle.sheet.specs.Laws.HeaderLaws.{header-bounded}
 use Rattle.judge.specs.Judging.{judgedBy, judged, judgedText}
 use Rattle.judge.specs.Room.{lentCount}
 use Rattle.judge.specs.Laws.RoomLaws.{same-reading}

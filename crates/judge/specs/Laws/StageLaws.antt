@@ -11,7 +11,8 @@ use Rattle.fold.specs.Refusals.{wholeLength, termLength, projectionLength}
 use Rattle.fold.specs.Arguments.{statementOf, drawsOf, transcriptOf}
 use Rattle.fold.specs.Verification.{verification}
 use Rattle.sheet.specs.declared.sizes.SheetSizes.{SheetSizes}
-use Rattle.judge.specs.Judging.{listLengths, listAt, foldSizes, judgedNumbers}
+use Rattle.judge.specs.Judging.{listLengths, listAt, judgedNumbers}
+use Rattle.sheet.specs.Reading.{foldSizes}
 use Rattle.judge.specs.Stages.{lastStage, numberStage, constraintStage}
 
 module _ (s : SheetSizes) where

@@ -26,7 +26,8 @@ use Rattle.sheet.specs.Sections.{total}
 use Rattle.sheet.specs.Reading.{headerNumbers, headerTests, sizesOf, bodyNumbers, numberTests, bodyTests}
 use Rattle.sheet.specs.Reading.{readingTests, sheetIf, reading}
 use Rattle.sheet.specs.Laws.PlaceLaws.{contradiction}
-use Rattle.sheet.specs.Laws.AnswerLaws.{header-bounded, reading-passed}
+use Rattle.sheet.specs.Laws.AnswerLaws.{reading-passed}
+use Rattle.sheet.specs.Laws.HeaderLaws.{header-bounded}
 use Rattle.sheet.specs.Laws.BodyLaws.{body-total}
 use Rattle.sheet.specs.Laws.SheetLaws.{length-body}
 use Rattle.sheet.specs.Layout.{sheetText, SheetNumbers}

@@ -13,7 +13,7 @@ use Rattle.fold.specs.Refusals.{allOf, anyOf, between, degree, rank, parts, con
 use Rattle.fold.specs.Refusals.{chunks, lengthBound, challenges, projectionLength}
 use Rattle.sheet.specs.declared.sizes.SheetSizes.{SheetSizes}
 use Rattle.sheet.specs.Sections.{matrixCount, wholeCount, rowCount, termSize, onesCount, rowsFrom, challengesFrom}
-use Rattle.sheet.specs.Reading.{headerTests, sizesOf, rowsIn, challengesIn, numberTests}
+use Rattle.sheet.specs.Reading.{headerTests, size, sizesOf, rowsIn, challengesIn, numberTests}
 use Rattle.sheet.specs.Layout.{copies, elements, fields, matrixLines, wholeLines, termLines, rowLines, numberLines, lastLines, bodyLines}
 use Rattle.sheet.specs.Layout.{sheetText, SheetNumbers}
 use Rattle.sheet.specs.Laws.SheetLaws.{coefficients-fit}
@@ -53,12 +53,12 @@ numbers =
 
 -- 32 lines of two fields
 whole-lines : bodyLines (sizesOf header) ≡ copies 32 (2 ∷ [])
-unfolding bodyLines matrixLines wholeLines termLines rowLines numberLines lastLines elements copies sizesOf
+unfolding bodyLines matrixLines wholeLines termLines rowLines numberLines lastLines elements copies size sizesOf
     pairs pairs-count start tSize garbageSize restSize openingSize
 whole-lines = refl
 
 pub whole-numbers : SheetNumbers header numbers
-unfolding headerTests numberTests firstFailing sizesOf allOf anyOf between degree rank parts constraintCount projectionCount commitmentRank base
+unfolding headerTests numberTests firstFailing size sizesOf allOf anyOf between degree rank parts constraintCount projectionCount commitmentRank base
     digitCount chunks lengthBound coefficients projections allWithin challenges challenge every normSq sq rowsIn challengesIn projectionLength
     rowsFrom challengesFrom matrixCount wholeCount rowCount termSize onesCount functionSize fields copies pairs pairs-count start tSize garbageSize
 whole-numbers = record {

@@ -1,5 +1,5 @@
 -- Where the lines of a text end, and what is known of a text whose lines are laid out.
-use mathlib.Core.Bool.{Bool, false}
+use mathlib.Core.Bool.{Bool, true, false}
 use mathlib.Core.List.{List}
 use Prim.Native.Nat.{ℕ, _≤_}
 use lib.Dec.{eqb}
@@ -14,6 +14,11 @@ use Rattle.sheet.specs.Place.{place}
 abbrev pub endsAt : End → ℕ → Bool
 endsAt (At at) n = eqb at n
 endsAt Broken n = false
+
+-- fields that end somewhere are not broken
+abbrev pub hasEnd : End → Bool
+hasEnd (At at) = true
+hasEnd Broken = false
 
 -- sizes whose lines lie within the text
 pub record Inside (s : SheetSizes) (text : List ℕ) : Type 0 where

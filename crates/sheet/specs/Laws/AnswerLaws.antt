@@ -1,6 +1,5 @@
 -- Laws of the reader's answer.
 --     refusal-first, refusal-rest    tests in two lists, one after the other
---     header-bounded                 what rows 1 to 4 leave known of the sizes
 --     Passed                         what a text that is not refused is known to be
 --     count-refused, count-good      how many numbers a header gives
 --     read-refused, read-sheet       the reader's promise, refused or not
@@ -10,25 +9,22 @@ use mathlib.Core.Bool.{Bool, true, false, cond}
 use mathlib.Core.List.{List, [], _∷_, _++_}
 use Prim.Native.Nat.{ℕ, zero, suc, _≤_, _<_}
 use native.Mathlib.Omega.{arith}
-use lib.ListN.{length, getD}
-use lib.IntN.{ℤ, pos, negsuc, natAbs}
+use lib.ListN.{length}
+use lib.IntN.{ℤ}
 use borrow.Author.Tests.{eqb-true, eq-eqb, ne-eqb}
-use Rattle.ring.specs.Element.{Degree}
 use Rattle.integers.specs.Over.{over}
 use Rattle.integers.specs.Laws.OverLaws.{over-all}
 use Rattle.residues.specs.Range.{coefficients, projections}
 use Rattle.fold.specs.declared.Answer.the-variants as answer
 use Rattle.fold.specs.Answers.{kindOf, numberOf, firstFailing, answered, written}
-use Rattle.fold.specs.Refusals.{degree, rank, parts, constraintCount, projectionCount, commitmentRank, digitCount}
-use Rattle.fold.specs.Laws.RefusalLaws.{Passes, refusal-passes, passes-refusal, passes-front, passes-back, passes-join, allOf-all, degree-fits}
+use Rattle.fold.specs.Laws.RefusalLaws.{Passes, refusal-passes, passes-refusal, passes-front, passes-back, passes-join}
 use Rattle.sheet.specs.declared.sizes.SheetSizes.{SheetSizes}
 use Rattle.sheet.specs.declared.reader.SheetAnswer.{SheetAnswer}
 use Rattle.sheet.specs.declared.reader.SheetAnswer.the-variants.{Sheet, Refused}
 use Rattle.sheet.specs.declared.sizes.Sections.{Sections}
 use Rattle.sheet.specs.Sections.{Bounded, Sectioned, total, endsLine}
 use Rattle.sheet.specs.Place.{numbersFrom}
-use Rattle.sheet.specs.Laws.PlaceLaws.{contradiction}
-use Rattle.sheet.specs.Laws.HeaderLaws.{between-size}
+use Rattle.sheet.specs.Laws.HeaderLaws.{header-bounded}
 use Rattle.sheet.specs.Reading.{headerLaid, headerNumbers, headerTests, sizesOf, bodyLaid, bodyNumbers}
 use Rattle.sheet.specs.Reading.{frontTests, numberCount, numberTests, bodyTests, readingTests, sheetIf, reading}
 use Rattle.sheet.specs.Reading.{answerOf, headerOf, headerIf, readingRefusal, SheetRead}
@@ -53,35 +49,6 @@ pub refusal-rest : (xs ys : List (ℕ × Bool)) → Passes xs → firstFailing (
 unfolding firstFailing
 refusal-rest [] ys p = refl
 refusal-rest (test ∷ tests) ys p = rw (p .0) (refusal-rest tests ys (p .1))
-
--- ---- the sizes that the header's tests leave
-
-degree-size : (z : ℤ) → degree z ≡ true → Degree (natAbs z)
-unfolding degree
-degree-size (pos n) e = degree-fits n e
-degree-size (negsuc n) e = contradiction e refl
-
-pub header-bounded : (h : List ℤ) → Passes (headerTests h) → Bounded (sizesOf h)
-unfolding headerTests sizesOf rank parts constraintCount projectionCount commitmentRank digitCount
-header-bounded h p =
-    let d = degree-size (getD h 0 (pos 0)) (p .0) in
-    let counts = allOf-all _ (p .1 .0) in
-    let ranks = allOf-all _ (p .1 .1 .0) in
-    let bases = allOf-all _ (p .1 .1 .1 .0) in
-    record {
-      degree-positive = d .positive;
-      degree = d .small;
-      rank = between-size 1 256 (getD h 1 (pos 0)) (counts .0);
-      parts = between-size 1 16 (getD h 2 (pos 0)) (counts .1 .0);
-      whole = between-size 0 32 (getD h 3 (pos 0)) (counts .1 .1 .0);
-      term = between-size 0 32 (getD h 4 (pos 0)) (counts .1 .1 .1 .0);
-      projections = between-size 0 256 (getD h 5 (pos 0)) (counts .1 .1 .1 .1 .0);
-      κ = between-size 1 8 (getD h 6 (pos 0)) (ranks .0);
-      κ₁ = between-size 1 8 (getD h 7 (pos 0)) (ranks .1 .0);
-      κ₂ = between-size 1 8 (getD h 8 (pos 0)) (ranks .1 .1 .0);
-      t₁ = between-size 2 8 (getD h 12 (pos 0)) (bases .1 .1 .1 .0);
-      t₂ = between-size 2 8 (getD h 13 (pos 0)) (bases .1 .1 .1 .1 .0);
-    }
 
 -- ---- the whole text
 

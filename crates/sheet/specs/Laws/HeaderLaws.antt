@@ -1,153 +1,155 @@
--- Laws of the header's tests, as the reader's functions form them.
-use mathlib.Core.Path.{_≡_, refl, sym, ap, _∙_}
-use mathlib.Core.Bool.{Bool, true, false, cond, not, _&&_, _||_}
-use mathlib.Core.List.{List, [], _∷_}
-use Prim.Native.Nat.{ℕ, _+_, _*_, _≤_}
+-- Laws of the header: its tests are those that the library makes of its sizes, since a number below zero fails each test that it stands in, and
+-- so does the size that it is read as.
+--     size-test, chunks-size       one test of one number, and of ν and μ
+--     header-sizes                 all tests
+--     header-passes, header-known, header-bounded     what a header that is not refused says of its sizes
+use mathlib.Core.Path.{_≡_, refl, sym, subst, _∙_}
+use mathlib.Core.Bool.{Bool, true, false}
+use mathlib.Core.List.{List}
+use Prim.Native.Nat.{ℕ}
 use native.Mathlib.Omega.{arith}
-use lib.Dec.{T, leb, eqb}
+use lib.Dec.{T}
+use lib.ListN.{getD}
 use lib.IntN.{ℤ, pos, negsuc, natAbs}
 use lib.Signed.{nonNeg, ltZ}
-use borrow.Author.Tests.{le-leb, ltb-true}
-use Rattle.integers.specs.Lists.{tab}
-use Rattle.fold.specs.Answers.{firstFailing}
-use Rattle.fold.specs.Refusals.{allOf, anyOf, between, degree, chunks}
-use Rattle.fold.specs.Laws.RefusalLaws.{between-iff, chunks-iff, both-left, both-right}
-use Rattle.sheet.specs.Place.{numberAt, endIf}
+use borrow.Author.Tests.{ltb-true}
+use Rattle.fold.specs.Arguments.{VerifySized}
+use Rattle.fold.specs.Refusals.{anyOf, between, degree, rank, parts, constraintCount, projectionCount, commitmentRank, base, digitCount}
+use Rattle.fold.specs.Refusals.{lengthBound, chunks}
+use Rattle.fold.specs.Laws.RefusalLaws.{Passes, passes-refusal}
+use Rattle.limits.specs.Stages.{nextBoundsOf}
+use Rattle.limits.specs.Laws.CountLaws.{many-ν, many-μ}
+use Rattle.limits.specs.Known.StageLimits.{next-sized}
+use Rattle.sheet.specs.Sections.{Bounded}
+use Rattle.sheet.specs.Place.{endIf}
 use Rattle.sheet.specs.Laws.PlaceLaws.{contradiction}
-use Rattle.sheet.specs.Reading.{headerLaid, headerNumbers, headerTests}
-use Rattle.sheet.specs.HeaderTests.{countsTest, ranksTest, basesTest, boundsTest, hasEnd}
+use Rattle.sheet.specs.Reading.{headerTests, size, sizesOf, foldSizes}
+use Rattle.sheet.specs.Known.Reading.{hasEnd}
 
--- ---- conjunctions and alternatives
-
-pub and-is : (s t : Bool) → s && t ≡ cond s t false
-and-is true t = refl
-and-is false t = refl
-
-pub and-all : {s t r : Bool} (ts : List Bool) → s ≡ t → r ≡ allOf ts → s && r ≡ allOf (t ∷ ts)
-unfolding allOf
-and-all {s} {r} ts e f = and-is s r ∙ rw (e, f) refl
-
-pub and-one : {s t : Bool} → s ≡ t → s ≡ allOf (t ∷ [])
-unfolding allOf
-and-one {t} e = e ∙ whole t
-  where
-    whole : (t : Bool) → t ≡ cond t true false
-    whole true = refl
-    whole false = refl
-
-or-any : (s r : Bool) (ts : List Bool) → r ≡ anyOf ts → s || r ≡ anyOf (s ∷ ts)
-unfolding anyOf
-or-any true r ts e = refl
-or-any false r ts e = e
-
-one-any : (s : Bool) → s ≡ anyOf (s ∷ [])
-unfolding anyOf
-one-any true = refl
-one-any false = refl
-
--- ---- one number
+-- ---- a number as the reader forms its size
 
 pub nonNeg-sign : (x : ℤ) → ltZ x (pos 0) ≡ false → T (nonNeg x)
 nonNeg-sign (pos n) e = tt
 nonNeg-sign (negsuc n) e = contradiction refl e
 
-module _ (low high : ℕ) where
-  pub between-negative : (x : ℤ) → ltZ x (pos 0) ≡ true → false ≡ between low high x
-  unfolding between
-  between-negative (pos n) e = let never : ⊥ = omega (arith, ltb-true n 0 e) in absurd never
-  between-negative (negsuc n) e = refl
+pub size-negative : (x : ℤ) → ltZ x (pos 0) ≡ true → 18446744073709551615 ≡ size x
+unfolding size
+size-negative (pos n) e = let never : ⊥ = omega (arith, ltb-true n 0 e) in absurd never
+size-negative (negsuc n) e = refl
 
-  pub between-positive : (x : ℤ) → ltZ x (pos 0) ≡ false → leb low (natAbs x) && leb (natAbs x) high ≡ between low high x
-  unfolding between
-  between-positive (pos n) e = and-is (leb low n) (leb n high)
-  between-positive (negsuc n) e = contradiction refl e
+pub size-positive : (x : ℤ) → ltZ x (pos 0) ≡ false → natAbs x ≡ size x
+unfolding size
+size-positive (pos n) e = refl
+size-positive (negsuc n) e = contradiction refl e
 
-  pub between-nonNeg : (x : ℤ) → between low high x ≡ true → T (nonNeg x)
-  unfolding between
-  between-nonNeg (pos n) e = tt
-  between-nonNeg (negsuc n) e = contradiction e refl
+-- ---- the tests
 
-  pub between-size : (x : ℤ) → between low high x ≡ true → natAbs x ≤ high
-  between-size (pos n) e = between-iff low high n .0 e .1
-  between-size (negsuc n) e = absurd (between-nonNeg (negsuc n) e)
+size-test : (test : ℤ → Bool) → ((n : ℕ) → test (negsuc n) ≡ false) → test (pos 18446744073709551615) ≡ false
+    → (x : ℤ) → test (pos (size x)) ≡ test x
+unfolding size
+size-test test below past (pos n) = refl
+size-test test below past (negsuc n) = past ∙ sym (below n)
 
-pub degree-negative : (x : ℤ) → ltZ x (pos 0) ≡ true → false ≡ degree x
-unfolding degree
-degree-negative (pos n) e = let never : ⊥ = omega (arith, ltb-true n 0 e) in absurd never
-degree-negative (negsuc n) e = refl
+degree-size : (x : ℤ) → degree (pos (size x)) ≡ degree x
+unfolding degree anyOf
+degree-size = size-test degree (λ n. refl) refl
 
-pub degree-positive : (x : ℤ) → ltZ x (pos 0) ≡ false
-    → eqb (natAbs x) 2 ||
-    (eqb (natAbs x) 4 || (eqb (natAbs x) 8 || (eqb (natAbs x) 16 || (eqb (natAbs x) 32 || eqb (natAbs x) 64)))) ≡ degree x
-unfolding degree
-degree-positive (pos n) e =
-    or-any (eqb n 2) _ _ (or-any (eqb n 4) _ _ (or-any (eqb n 8) _ _ (or-any (eqb n 16) _ _ (or-any (eqb n 32) _ _ (one-any (eqb n 64))))))
-degree-positive (negsuc n) e = contradiction refl e
+rank-size : (x : ℤ) → rank (pos (size x)) ≡ rank x
+unfolding rank between
+rank-size = size-test rank (λ n. refl) refl
 
--- ---- ν and μ
+parts-size : (x : ℤ) → parts (pos (size x)) ≡ parts x
+unfolding parts between
+parts-size = size-test parts (λ n. refl) refl
 
-module _ (ν μ : ℤ) {a b : Bool} (e : a ≡ between 1 16 ν) (f : b ≡ between 1 16 μ) where
-  pub chunks-left : not (a && b) ≡ false → between 1 16 ν ≡ true
-  chunks-left t = sym e ∙ both-left a b (sym (and-is a b) ∙ kept (a && b) t)
-    where
-      kept : (s : Bool) → not s ≡ false → s ≡ true
-      kept true q = refl
-      kept false q = contradiction refl q
+constraintCount-size : (x : ℤ) → constraintCount (pos (size x)) ≡ constraintCount x
+unfolding constraintCount between
+constraintCount-size = size-test constraintCount (λ n. refl) refl
 
-  pub chunks-right : not (a && b) ≡ false → between 1 16 μ ≡ true
-  chunks-right t = sym f ∙ both-right a b (sym (and-is a b) ∙ kept (a && b) t)
-    where
-      kept : (s : Bool) → not s ≡ false → s ≡ true
-      kept true q = refl
-      kept false q = contradiction refl q
+projectionCount-size : (x : ℤ) → projectionCount (pos (size x)) ≡ projectionCount x
+unfolding projectionCount between
+projectionCount-size = size-test projectionCount (λ n. refl) refl
 
-chunks-large : (ν μ : ℤ) → between 1 16 ν && between 1 16 μ ≡ false → false ≡ chunks 2 ν μ
-unfolding chunks
-chunks-large (negsuc n) μ e = refl
-chunks-large (pos n) (negsuc m) e = refl
-chunks-large (pos n) (pos m) e = step (chunks 2 (pos n) (pos m)) refl
-  where
-    step : (t : Bool) → chunks 2 (pos n) (pos m) ≡ t → false ≡ t
-    step true q =
-        let facts = chunks-iff 2 n m .0 q in
-        let first : between 1 16 (pos n) ≡ true = between-iff 1 16 n .1 (facts .0, omega (arith, facts .1 .0, facts .1 .1)) in
-        let second : between 1 16 (pos m) ≡ true = between-iff 1 16 m .1 (facts .1 .0, omega (arith, facts .0, facts .1 .1)) in
-        contradiction refl (sym (ap (λ (t : Bool). t && between 1 16 (pos m)) first ∙ second) ∙ e)
-    step false q = refl
+commitmentRank-size : (x : ℤ) → commitmentRank (pos (size x)) ≡ commitmentRank x
+unfolding commitmentRank between
+commitmentRank-size = size-test commitmentRank (λ n. refl) refl
 
-pub chunks-refused : (ν μ : ℤ) {a b : Bool} → a ≡ between 1 16 ν → b ≡ between 1 16 μ → not (a && b) ≡ true → false ≡ chunks 2 ν μ
-chunks-refused ν μ {a} {b} e f t = chunks-large ν μ (rw (← e, ← f) (refused (a && b) t))
-  where
-    refused : (s : Bool) → not s ≡ true → s ≡ false
-    refused true q = contradiction q refl
-    refused false q = refl
+base-size : (x : ℤ) → base (pos (size x)) ≡ base x
+unfolding base between
+base-size = size-test base (λ n. refl) refl
 
-pub chunks-tested : (ν μ : ℤ) → between 1 16 ν ≡ true → between 1 16 μ ≡ true → leb (2 * natAbs ν + natAbs μ) 16 ≡ chunks 2 ν μ
-unfolding chunks allOf
-chunks-tested (negsuc n) μ e f = absurd (between-nonNeg 1 16 (negsuc n) e)
-chunks-tested (pos n) (negsuc m) e f = absurd (between-nonNeg 1 16 (negsuc m) f)
-chunks-tested (pos n) (pos m) e f =
-    rw (le-leb 1 n (between-iff 1 16 n .0 e .0), le-leb 1 m (between-iff 1 16 m .0 f .0)) (whole (leb (2 * n + m) 16))
-  where
-    whole : (t : Bool) → t ≡ cond t true false
-    whole true = refl
-    whole false = refl
+digitCount-size : (x : ℤ) → digitCount (pos (size x)) ≡ digitCount x
+unfolding digitCount between
+digitCount-size = size-test digitCount (λ n. refl) refl
 
--- ---- the whole header
+lengthBound-size : (x : ℤ) → lengthBound (pos (size x)) ≡ lengthBound x
+unfolding lengthBound between
+lengthBound-size = size-test lengthBound (λ n. refl) refl
+
+chunks-size : (ν μ : ℤ) → chunks 2 (pos (size ν)) (pos (size μ)) ≡ chunks 2 ν μ
+unfolding chunks size
+chunks-size (pos ν) (pos μ) = refl
+chunks-size (pos ν) (negsuc μ) = sym (many-μ ν 18446744073709551615 (omega arith))
+chunks-size (negsuc ν) μ = sym (many-ν 18446744073709551615 (size μ) (omega arith))
+
+module _ (h : List ℤ) where
+  at : ℕ → ℤ
+  at k = getD h k (pos 0)
+
+  pub header-sizes : nextBoundsOf (foldSizes (sizesOf h)) (sizesOf h .nu) (sizesOf h .mu) ≡ headerTests h
+  unfolding headerTests sizesOf foldSizes at
+  header-sizes =
+      rw (
+        degree-size (at 0),
+        rank-size (at 1),
+        parts-size (at 2),
+        constraintCount-size (at 3),
+        constraintCount-size (at 4),
+        projectionCount-size (at 5),
+        commitmentRank-size (at 6),
+        commitmentRank-size (at 7),
+        commitmentRank-size (at 8),
+        base-size (at 9),
+        base-size (at 10),
+        base-size (at 11),
+        digitCount-size (at 12),
+        digitCount-size (at 13),
+        chunks-size (at 14) (at 15),
+        lengthBound-size (at 16),
+        lengthBound-size (at 17),
+      )
+      refl
+
+  -- ---- a header that is not refused
+
+  module _ (p : Passes (headerTests h)) where
+    pub header-passes : Passes (nextBoundsOf (foldSizes (sizesOf h)) (sizesOf h .nu) (sizesOf h .mu))
+    header-passes = subst Passes (sym header-sizes) p
+
+    header-known : VerifySized (foldSizes (sizesOf h))
+    header-known = next-sized (foldSizes (sizesOf h)) (sizesOf h .nu) (sizesOf h .mu) refl (passes-refusal _ header-passes)
+
+    pub header-bounded : Bounded (sizesOf h)
+    unfolding foldSizes
+    header-bounded =
+        let l = header-known in
+        record {
+          degree-positive = l .shaped .degree .positive;
+          degree = l .shaped .degree .small;
+          rank = l .shaped .rank-small;
+          parts = l .shaped .parts-small;
+          whole = l .K-small;
+          term = l .L-small;
+          projections = l .w-small;
+          κ = l .κ-small;
+          κ₁ = l .κ₁-small;
+          κ₂ = l .κ₂-small;
+          t₁ = l .t₁-most;
+          t₂ = l .t₂-most;
+        }
+
+-- ---- the layout
 
 pub has-end-is : (t : Bool) (at : ℕ) → hasEnd (endIf t at) ≡ t
 has-end-is true at = refl
 has-end-is false at = refl
-
-pub header-nest : (text : List ℕ) {r₁₂ r₁ r₂ r₃ r₄ r₅ r₆ : ℕ} {t₁₂ t₁ t₂ t₃ t₄ t₅ t₆ : Bool}
-    → r₁₂ ≡ cond t₁₂ r₁ 12 → t₁₂ ≡ headerLaid text
-    → r₁ ≡ cond t₁ r₂ 1 → t₁ ≡ degree (numberAt text 0)
-    → r₂ ≡ cond t₂ r₃ 2 → t₂ ≡ countsTest text
-    → r₃ ≡ cond t₃ r₄ 3 → t₃ ≡ ranksTest text
-    → r₄ ≡ cond t₄ r₅ 4 → t₄ ≡ basesTest text
-    → r₅ ≡ cond t₅ r₆ 5 → t₅ ≡ chunks 2 (numberAt text 224) (numberAt text 240)
-    → r₆ ≡ cond t₆ 0 6 → t₆ ≡ boundsTest text
-    → r₁₂ ≡ firstFailing ((12, headerLaid text) ∷ headerTests (headerNumbers text))
-unfolding firstFailing headerTests headerNumbers tab countsTest ranksTest basesTest boundsTest
-header-nest text e₁₂ f₁₂ e₁ f₁ e₂ f₂ e₃ f₃ e₄ f₄ e₅ f₅ e₆ f₆ =
-    rw (e₁₂, f₁₂, e₁, f₁, e₂, f₂, e₃, f₃, e₄, f₄, e₅, f₅, e₆, f₆) refl

@@ -22,7 +22,8 @@ use Rattle.sheet.specs.Sections.{total}
 use Rattle.sheet.specs.Reading.{headerLaid, headerNumbers, headerTests, sizesOf, bodyLaid, bodyNumbers, numberTests, bodyTests}
 use Rattle.sheet.specs.Reading.{frontTests, numberCount, readingTests, sheetIf, reading}
 use Rattle.sheet.specs.Laws.AnswerLaws.{front-passes, refusal-first, refusal-rest}
-use Rattle.sheet.specs.Laws.AnswerLaws.{header-bounded, Passed, reading-passed, passed-reading, count-refused, count-good}
+use Rattle.sheet.specs.Laws.HeaderLaws.{header-bounded}
+use Rattle.sheet.specs.Laws.AnswerLaws.{Passed, reading-passed, passed-reading, count-refused, count-good}
 use Rattle.sheet.specs.Layout.{fields, bodyLines, lineText, textOf, sheetText, AllFit, SheetNumbers}
 use Rattle.sheet.specs.Laws.BodyLaws.{body-total}
 use Rattle.sheet.specs.Laws.SheetLaws.{length-header, header-text, header-fit, HeaderRead, header-read}

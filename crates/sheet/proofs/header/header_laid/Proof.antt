@@ -1,6 +1,6 @@
 -- `sheet::header::header_laid` meets its contract.
 use mathlib.Core.Path.{ap, _∙_}
-use Rattle.sheet.specs.HeaderTests.{hasEnd}
+use Rattle.sheet.specs.Known.Reading.{hasEnd}
 use Rattle.sheet.specs.Reading.{headerLaid}
 use Rattle.sheet.specs.Laws.HeaderLaws.{has-end-is}
 use borrow.Author.Needs.{needs}

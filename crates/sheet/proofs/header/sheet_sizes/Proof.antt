@@ -29,8 +29,8 @@ returns c =
       c .before .before .before .before .size-at14 .ensures,
       c .before .before .before .size-at15 .ensures,
       c .before .before .size-at16 .ensures,
-      c .before .number-size .ensures,
-      c .number-size2 .ensures,
+      c .before .bound-at .ensures,
+      c .bound-at2 .ensures,
     )
     refl
 

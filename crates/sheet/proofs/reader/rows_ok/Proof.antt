@@ -22,8 +22,9 @@ place-after-requires c κs =
           (omega (arith, c .rows-from .ensures, rows-end (start .args .s))),
     )
 
-row-numbers-requires : tie.Need-row-numbers-requires
-row-numbers-requires c κs = c .before .before .before .before .pre .bounded
+projection-length-requires : tie.Need-projection-length-requires
+projection-length-requires c κs =
+    let b = c .before .before .before .before .pre .bounded in (b .degree, b .rank, b .parts, b .projections)
 
 all-within-requires : tie.Need-all-within-requires
 all-within-requires c κs =
@@ -31,9 +32,9 @@ all-within-requires c κs =
       lines-positive _ _ (start .pre .bounded) (c .before .before .before .sections-of .ensures),
       later-span (start .args .s)
           (start .args .text .now) (c .before .before .before .sections-of .result) (start .pre)
-          (c .before .before .before .sections-of .ensures) (c .before .before .rows-from .result) (c .row-numbers .result)
+          (c .before .before .before .sections-of .ensures) (c .before .before .rows-from .result) (c .projection-length .result)
           (c .before .place-after .result)
-          (omega (arith, c .before .before .rows-from .ensures, c .row-numbers .ensures, rows-end (start .args .s)))
+          (omega (arith, c .before .before .rows-from .ensures, c .projection-length .ensures, rows-end (start .args .s)))
           (c .before .place-after .ensures),
     )
 
@@ -41,7 +42,7 @@ returns : tie.Need-returns
 unfolding projections rowsIn
 returns c =
     let from = c .before .before .before .rows-from .ensures in
-    let count = c .before .row-numbers .ensures in
+    let count = c .before .projection-length .ensures in
     c .all-within .ensures
     ∙ ap (allWithin 1)
     (rw (from, count)
@@ -57,6 +58,6 @@ rows-ok-spec =
     sections-of-requires
     rows-from-requires
     place-after-requires
-    row-numbers-requires
+    projection-length-requires
     all-within-requires
     returns)
