@@ -14,8 +14,8 @@ use Rattle.fold.specs.Statement.{part}
 use Rattle.fold.specs.Messages.{elements, half}
 use Rattle.fold.specs.Entries.{aggregateΦ}
 
-unfoldable pub aggregatePart : (d n r K L w : ℕ) (whole term rows ψ ω α δ : List ℤ) → ℕ → ℕ → R d .Carrier
-aggregatePart d n r K L w whole term rows ψ ω α δ i y = aggregateΦ d n r K L w whole term rows ψ ω α δ (i * n + y)
+unfoldable pub aggregatePart : (d n r K L w : ℕ) (whole constantTerms projections ψ ω α δ : List ℤ) → ℕ → ℕ → R d .Carrier
+aggregatePart d n r K L w whole constantTerms projections ψ ω α δ i y = aggregateΦ d n r K L w whole constantTerms projections ψ ω α δ (i * n + y)
 
 -- <φ_i, s_j>, and the same where a list holds φ_i
 unfoldable pub cross : (d n : ℕ) → (ℕ → ℕ → R d .Carrier) → List ℤ → ℕ → ℕ → R d .Carrier

@@ -1,7 +1,7 @@
 -- Rows of five elements by value, and sums that such rows hold.
 --     added, plusProduct     the entries that the calls of src/rows.rt give
 --     Canonical              the entries of a row are ring elements: centred, and zero past d
---     Sums                   a loop that adds the terms of five sums; entry k holds the sum of the first e terms F k
+--     Sums                   a loop that adds the summands of five sums; entry k holds the sum of the first e summands F k
 use mathlib.Core.Path.{_≡_}
 use mathlib.Core.List.{List, []}
 use Prim.Native.Nat.{ℕ}

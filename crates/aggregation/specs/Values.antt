@@ -1,6 +1,6 @@
 -- The values of the second functions as the loops of message 3 form them: one sum over the pairs and one over the witness.
 --     pairProduct                the products <s_i, s_j>, by place
---     pairTerm, witnessTerm      the terms of the two sums
+--     pairSummand, witnessSummand      the summands of the two sums
 --     secondValue                the value of f''_k
 use mathlib.Core.List.{List}
 use Prim.Native.Nat.{ℕ, _+_, _-_}
@@ -13,8 +13,8 @@ use Rattle.fold.specs.Entries.{secondA, secondΦ}
 unfoldable pub pairProduct : (d n r : ℕ) → List ℤ → ℕ → R d .Carrier
 pairProduct d n r s = el d (flat r (λ i. elements d (r - i) (λ k. g d n s i (i + k))))
 
-unfoldable pub pairTerm : (d n r L : ℕ) (term ψ s : List ℤ) (k : ℕ) → ℕ → R d .Carrier
-pairTerm d n r L term ψ s k e = R d .mul (secondA d n r L term ψ k e) (pairProduct d n r s e)
+unfoldable pub pairSummand : (d n r L : ℕ) (constantTerms ψ s : List ℤ) (k : ℕ) → ℕ → R d .Carrier
+pairSummand d n r L constantTerms ψ s k e = R d .mul (secondA d n r L constantTerms ψ k e) (pairProduct d n r s e)
 
-unfoldable pub witnessTerm : (d n r L w : ℕ) (term rows ψ ω s : List ℤ) (k : ℕ) → ℕ → R d .Carrier
-witnessTerm d n r L w term rows ψ ω s k e = R d .mul (secondΦ d n r L w term rows ψ ω k e) (el d s e)
+unfoldable pub witnessSummand : (d n r L w : ℕ) (constantTerms projections ψ ω s : List ℤ) (k : ℕ) → ℕ → R d .Carrier
+witnessSummand d n r L w constantTerms projections ψ ω s k e = R d .mul (secondΦ d n r L w constantTerms projections ψ ω k e) (el d s e)

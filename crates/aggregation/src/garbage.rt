@@ -66,8 +66,8 @@ fn write_half_sums(d: usize, r: usize, products: &[i32], out: &mut [i32])
 pub fn write_h(
     sizes: GarbageSizes,
     whole: &[i32],
-    term: &[i32],
-    rows: &[i32],
+    constant_terms: &[i32],
+    projections: &[i32],
     psi: &[i32],
     omega: &[i32],
     alpha: &[i32],
@@ -75,8 +75,8 @@ pub fn write_h(
     witness: &[i32],
     out: &mut [i32],
 )
-    requires { ⌜ HFacts (sizes .d) (sizes .n) (sizes .r) (sizes .k) (sizes .l) (sizes .w) (sizes .b1) (sizes .t1) (now whole) (now term) (now rows) (now psi) (now omega) (now alpha) (now delta) (now witness) (now out) ⌝ }
-    ensures { λ _. ⌜ now (out .exit) ≡ hDigits (sizes .d) (sizes .n) (sizes .r) (sizes .b1) (sizes .t1) (aggregate (sizes .d) (sizes .n) (sizes .r) (sizes .k) (sizes .l) (sizes .w) (now (whole .entry)) (now (term .entry)) (now (rows .entry)) (now (psi .entry)) (now (omega .entry)) (now (alpha .entry)) (now (delta .entry)) .φ) (now (witness .entry)) ⌝ }
+    requires { ⌜ HFacts (sizes .d) (sizes .n) (sizes .r) (sizes .k) (sizes .l) (sizes .w) (sizes .b1) (sizes .t1) (now whole) (now «constant_terms») (now projections) (now psi) (now omega) (now alpha) (now delta) (now witness) (now out) ⌝ }
+    ensures { λ _. ⌜ now (out .exit) ≡ hDigits (sizes .d) (sizes .n) (sizes .r) (sizes .b1) (sizes .t1) (aggregate (sizes .d) (sizes .n) (sizes .r) (sizes .k) (sizes .l) (sizes .w) (now (whole .entry)) (now («constant_terms» .entry)) (now (projections .entry)) (now (psi .entry)) (now (omega .entry)) (now (alpha .entry)) (now (delta .entry)) .φ) (now (witness .entry)) ⌝ }
 {
     let d = sizes.d;
     let n = sizes.n;
@@ -94,8 +94,8 @@ pub fn write_h(
         l,
         w,
         whole,
-        term,
-        rows,
+        constant_terms,
+        projections,
         psi,
         omega,
         alpha,
@@ -127,10 +127,10 @@ fn write_rows(d: usize, rows: usize, m: usize, matrix: &[i32], x: &[i32], out: &
 }
 
 // u2 = D·(h digits).
-pub fn write_u2(sizes: GarbageSizes, matrix: &[i32], digits: &[i32], out: &mut [i32])
-    requires { ⌜ OuterFacts (sizes .d) (sizes .r) (sizes .kappa2) (sizes .t1) (now matrix) (now digits) (now out) ⌝ }
-    ensures { λ _. ⌜ now (out .exit) ≡ u₂ (sizes .d) (sizes .r) (sizes .kappa2) (sizes .t1) (now (matrix .entry)) (now (digits .entry)) ⌝ }
+pub fn write_u2(sizes: GarbageSizes, d_matrix: &[i32], digits: &[i32], out: &mut [i32])
+    requires { ⌜ OuterFacts (sizes .d) (sizes .r) (sizes .kappa2) (sizes .t1) (now «d_matrix») (now digits) (now out) ⌝ }
+    ensures { λ _. ⌜ now (out .exit) ≡ u₂ (sizes .d) (sizes .r) (sizes .kappa2) (sizes .t1) (now («d_matrix» .entry)) (now (digits .entry)) ⌝ }
 {
     let m = garbage_size(sizes.r, sizes.t1);
-    write_rows(sizes.d, sizes.kappa2, m, matrix, digits, out);
+    write_rows(sizes.d, sizes.kappa2, m, d_matrix, digits, out);
 }

@@ -6,7 +6,7 @@ ghost use Rattle.integers.specs.Over.{over};
 ghost use Rattle.ring.specs.Element.{Degree};
 ghost use Rattle.fold.specs.Messages.{elements};
 ghost use Rattle.constraints.specs.Known.Facts.{AggregateFacts};
-ghost use Rattle.constraints.specs.RowGroups.{SumsOf};
+ghost use Rattle.constraints.specs.RowGroups.{OmegaSums};
 ghost use Rattle.aggregation.specs.Garbage.{aggregatePart, partProduct, cross, squareElements};
 use constraints::aggregated::aggregate_phi;
 use constraints::row_groups;
@@ -14,27 +14,27 @@ use fold::Shape;
 use ring::element::Element;
 use ring::product::inner;
 
-// The φ_i of the aggregate for part i, as the first elements of `out`. `table` is the table of omega.
+// The φ_i of the aggregate for part i, as the first elements of `out`. `omega_sums` are the sums of ω.
 fn write_phi_part(
     shape: Shape,
     kc: usize,
     l: usize,
     w: usize,
     whole: &[i32],
-    term: &[i32],
-    rows: &[i32],
+    constant_terms: &[i32],
+    projections: &[i32],
     psi: &[i32],
     omega: &[i32],
-    table: &[i64; 25920],
+    omega_sums: &[i64; 25920],
     alpha: &[i32],
     delta: &[i32],
     i: usize,
     out: &mut [i32],
 )
-    requires { ⌜ AggregateFacts (shape .d) (shape .n) (shape .r) kc l w (now whole) (now term) (now rows) (now psi) (now omega) (now alpha) (now delta) ⌝ }
-    requires { ⌜ SumsOf w (now omega) (now table) ⌝ }
+    requires { ⌜ AggregateFacts (shape .d) (shape .n) (shape .r) kc l w (now whole) (now «constant_terms») (now projections) (now psi) (now omega) (now alpha) (now delta) ⌝ }
+    requires { ⌜ OmegaSums w (now omega) (now «omega_sums») ⌝ }
     requires { ⌜ (i < shape .r) × (shape .n * shape .d ≤ length (now out)) ⌝ }
-    ensures { λ _. ⌜ now (out .exit) ≡ over (now (out .entry)) 0 (elements (shape .d) (shape .n) (aggregatePart (shape .d) (shape .n) (shape .r) kc l w (now (whole .entry)) (now (term .entry)) (now (rows .entry)) (now (psi .entry)) (now (omega .entry)) (now (alpha .entry)) (now (delta .entry)) i)) ⌝ }
+    ensures { λ _. ⌜ now (out .exit) ≡ over (now (out .entry)) 0 (elements (shape .d) (shape .n) (aggregatePart (shape .d) (shape .n) (shape .r) kc l w (now (whole .entry)) (now («constant_terms» .entry)) (now (projections .entry)) (now (psi .entry)) (now (omega .entry)) (now (alpha .entry)) (now (delta .entry)) i)) ⌝ }
 {
     let d = shape.d;
     let rank = shape.n;
@@ -48,11 +48,11 @@ fn write_phi_part(
             l,
             w,
             whole,
-            term,
-            rows,
+            constant_terms,
+            projections,
             psi,
             omega,
-            table,
+            omega_sums,
             alpha,
             delta,
             place,
@@ -94,21 +94,21 @@ fn write_row(
     l: usize,
     w: usize,
     whole: &[i32],
-    term: &[i32],
-    rows: &[i32],
+    constant_terms: &[i32],
+    projections: &[i32],
     psi: &[i32],
     omega: &[i32],
-    table: &[i64; 25920],
+    omega_sums: &[i64; 25920],
     alpha: &[i32],
     delta: &[i32],
     witness: &[i32],
     i: usize,
     out: &mut [i32],
 )
-    requires { ⌜ AggregateFacts (shape .d) (shape .n) (shape .r) kc l w (now whole) (now term) (now rows) (now psi) (now omega) (now alpha) (now delta) ⌝ }
-    requires { ⌜ SumsOf w (now omega) (now table) ⌝ }
+    requires { ⌜ AggregateFacts (shape .d) (shape .n) (shape .r) kc l w (now whole) (now «constant_terms») (now projections) (now psi) (now omega) (now alpha) (now delta) ⌝ }
+    requires { ⌜ OmegaSums w (now omega) (now «omega_sums») ⌝ }
     requires { ⌜ (length (now witness) ≡ shape .r * shape .n * shape .d) × (i < shape .r) × (shape .r * shape .r * shape .d ≤ length (now out)) ⌝ }
-    ensures { λ _. ⌜ now (out .exit) ≡ over (now (out .entry)) (i * shape .r * shape .d) (elements (shape .d) (shape .r) (cross (shape .d) (shape .n) (aggregatePart (shape .d) (shape .n) (shape .r) kc l w (now (whole .entry)) (now (term .entry)) (now (rows .entry)) (now (psi .entry)) (now (omega .entry)) (now (alpha .entry)) (now (delta .entry))) (now (witness .entry)) i)) ⌝ }
+    ensures { λ _. ⌜ now (out .exit) ≡ over (now (out .entry)) (i * shape .r * shape .d) (elements (shape .d) (shape .r) (cross (shape .d) (shape .n) (aggregatePart (shape .d) (shape .n) (shape .r) kc l w (now (whole .entry)) (now («constant_terms» .entry)) (now (projections .entry)) (now (psi .entry)) (now (omega .entry)) (now (alpha .entry)) (now (delta .entry))) (now (witness .entry)) i)) ⌝ }
 {
     let d = shape.d;
     let rank = shape.n;
@@ -120,11 +120,11 @@ fn write_row(
         l,
         w,
         whole,
-        term,
-        rows,
+        constant_terms,
+        projections,
         psi,
         omega,
-        table,
+        omega_sums,
         alpha,
         delta,
         i,
@@ -141,8 +141,8 @@ pub fn write_products(
     l: usize,
     w: usize,
     whole: &[i32],
-    term: &[i32],
-    rows: &[i32],
+    constant_terms: &[i32],
+    projections: &[i32],
     psi: &[i32],
     omega: &[i32],
     alpha: &[i32],
@@ -150,12 +150,12 @@ pub fn write_products(
     witness: &[i32],
     out: &mut [i32],
 )
-    requires { ⌜ AggregateFacts (shape .d) (shape .n) (shape .r) kc l w (now whole) (now term) (now rows) (now psi) (now omega) (now alpha) (now delta) ⌝ }
+    requires { ⌜ AggregateFacts (shape .d) (shape .n) (shape .r) kc l w (now whole) (now «constant_terms») (now projections) (now psi) (now omega) (now alpha) (now delta) ⌝ }
     requires { ⌜ (length (now witness) ≡ shape .r * shape .n * shape .d) × (shape .r * shape .r * shape .d ≤ length (now out)) ⌝ }
-    ensures { λ _. ⌜ now (out .exit) ≡ over (now (out .entry)) 0 (squareElements (shape .d) (shape .r) (cross (shape .d) (shape .n) (aggregatePart (shape .d) (shape .n) (shape .r) kc l w (now (whole .entry)) (now (term .entry)) (now (rows .entry)) (now (psi .entry)) (now (omega .entry)) (now (alpha .entry)) (now (delta .entry))) (now (witness .entry)))) ⌝ }
+    ensures { λ _. ⌜ now (out .exit) ≡ over (now (out .entry)) 0 (squareElements (shape .d) (shape .r) (cross (shape .d) (shape .n) (aggregatePart (shape .d) (shape .n) (shape .r) kc l w (now (whole .entry)) (now («constant_terms» .entry)) (now (projections .entry)) (now (psi .entry)) (now (omega .entry)) (now (alpha .entry)) (now (delta .entry))) (now (witness .entry)))) ⌝ }
 {
-    let mut table = [0i64; 25920];
-    row_groups::write_sums(w, omega, &mut table);
+    let mut omega_sums = [0i64; 25920];
+    row_groups::write_omega_sums(w, omega, &mut omega_sums);
     let parts = shape.r;
     let mut i = 0;
     while i < parts {
@@ -165,11 +165,11 @@ pub fn write_products(
             l,
             w,
             whole,
-            term,
-            rows,
+            constant_terms,
+            projections,
             psi,
             omega,
-            &table,
+            &omega_sums,
             alpha,
             delta,
             witness,

@@ -6,10 +6,10 @@ ghost use lib.ListN.{length};
 ghost use Rattle.algebra.specs.Triangle.{pair};
 ghost use Rattle.fold.specs.Sizes.{pairs};
 ghost use Rattle.fold.specs.Messages.{b″};
-ghost use Rattle.constraints.specs.RowGroups.{SumsOf};
+ghost use Rattle.constraints.specs.RowGroups.{OmegaSums};
 ghost use Rattle.aggregation.specs.Known.Facts.{PairFacts, ValueFacts};
 ghost use Rattle.aggregation.specs.Rows.{Sums};
-ghost use Rattle.aggregation.specs.Values.{pairTerm, witnessTerm};
+ghost use Rattle.aggregation.specs.Values.{pairSummand, witnessSummand};
 use crate::rows;
 use constraints::row_groups;
 use constraints::second::second_row_a;
@@ -21,17 +21,17 @@ use ring::element::Element;
 fn add_part_pairs(
     shape: Shape,
     l: usize,
-    term: &[i32],
+    constant_terms: &[i32],
     psi: &[i32],
     witness: &[i32],
     i: usize,
     at: usize,
     before: [[i32; 64]; 5],
 ) -> [[i32; 64]; 5]
-    requires { ⌜ PairFacts (shape .d) (shape .n) (shape .r) l (now term) (now psi) (now witness) ⌝ }
+    requires { ⌜ PairFacts (shape .d) (shape .n) (shape .r) l (now «constant_terms») (now psi) (now witness) ⌝ }
     requires { ⌜ (i < shape .r) × (at ≡ pair (shape .r) i i) ⌝ }
-    requires { ⌜ Sums (shape .d) (pairTerm (shape .d) (shape .n) (shape .r) l (now term) (now psi) (now witness)) at before ⌝ }
-    ensures { λ x. ⌜ Sums (shape .d) (pairTerm (shape .d) (shape .n) (shape .r) l (now (term .entry)) (now (psi .entry))
+    requires { ⌜ Sums (shape .d) (pairSummand (shape .d) (shape .n) (shape .r) l (now «constant_terms») (now psi) (now witness)) at before ⌝ }
+    ensures { λ x. ⌜ Sums (shape .d) (pairSummand (shape .d) (shape .n) (shape .r) l (now («constant_terms» .entry)) (now (psi .entry))
         (now (witness .entry))) (at + (shape .r - i)) x ⌝ }
 {
     let d = shape.d;
@@ -43,7 +43,7 @@ fn add_part_pairs(
     while k < count {
         let place = at + k;
         let j = i + k;
-        let row = second_row_a(shape, l, term, psi, place);
+        let row = second_row_a(shape, l, constant_terms, psi, place);
         let more = rows::add_pair(d, rank, witness, i, j, sums, row);
         sums = more;
         k += 1;
@@ -52,9 +52,15 @@ fn add_part_pairs(
 }
 
 // The quadratic parts of the five values: the a''_k, each times the product <s_i, s_j> of its pair.
-fn weigh_pairs(shape: Shape, l: usize, term: &[i32], psi: &[i32], witness: &[i32]) -> [[i32; 64]; 5]
-    requires { ⌜ PairFacts (shape .d) (shape .n) (shape .r) l (now term) (now psi) (now witness) ⌝ }
-    ensures { λ x. ⌜ Sums (shape .d) (pairTerm (shape .d) (shape .n) (shape .r) l (now (term .entry)) (now (psi .entry))
+fn weigh_pairs(
+    shape: Shape,
+    l: usize,
+    constant_terms: &[i32],
+    psi: &[i32],
+    witness: &[i32],
+) -> [[i32; 64]; 5]
+    requires { ⌜ PairFacts (shape .d) (shape .n) (shape .r) l (now «constant_terms») (now psi) (now witness) ⌝ }
+    ensures { λ x. ⌜ Sums (shape .d) (pairSummand (shape .d) (shape .n) (shape .r) l (now («constant_terms» .entry)) (now (psi .entry))
         (now (witness .entry))) (pairs (shape .r)) x ⌝ }
 {
     let parts = shape.r;
@@ -62,7 +68,7 @@ fn weigh_pairs(shape: Shape, l: usize, term: &[i32], psi: &[i32], witness: &[i32
     let mut at = 0;
     let mut i = 0;
     while i < parts {
-        let more = add_part_pairs(shape, l, term, psi, witness, i, at, sums);
+        let more = add_part_pairs(shape, l, constant_terms, psi, witness, i, at, sums);
         sums = more;
         at += parts - i;
         i += 1;
@@ -70,21 +76,21 @@ fn weigh_pairs(shape: Shape, l: usize, term: &[i32], psi: &[i32], witness: &[i32
     sums
 }
 
-// The linear parts of the five values: the φ''_k, each times its element of the witness. `table` is the table of omega.
+// The linear parts of the five values: the φ''_k, each times its element of the witness. `omega_sums` are the sums of ω.
 fn weigh_witness(
     shape: Shape,
     l: usize,
     w: usize,
-    term: &[i32],
-    rows: &[i32],
+    constant_terms: &[i32],
+    projections: &[i32],
     psi: &[i32],
     omega: &[i32],
-    table: &[i64; 25920],
+    omega_sums: &[i64; 25920],
     witness: &[i32],
 ) -> [[i32; 64]; 5]
-    requires { ⌜ ValueFacts (shape .d) (shape .n) (shape .r) l w (now term) (now rows) (now psi) (now omega) (now witness) ⌝ }
-    requires { ⌜ SumsOf w (now omega) (now table) ⌝ }
-    ensures { λ x. ⌜ Sums (shape .d) (witnessTerm (shape .d) (shape .n) (shape .r) l w (now (term .entry)) (now (rows .entry))
+    requires { ⌜ ValueFacts (shape .d) (shape .n) (shape .r) l w (now «constant_terms») (now projections) (now psi) (now omega) (now witness) ⌝ }
+    requires { ⌜ OmegaSums w (now omega) (now «omega_sums») ⌝ }
+    ensures { λ x. ⌜ Sums (shape .d) (witnessSummand (shape .d) (shape .n) (shape .r) l w (now («constant_terms» .entry)) (now (projections .entry))
         (now (psi .entry)) (now (omega .entry)) (now (witness .entry))) (shape .r * shape .n) x ⌝ }
 {
     let d = shape.d;
@@ -94,7 +100,17 @@ fn weigh_witness(
     let mut sums = [[0i32; 64]; 5];
     let mut e = 0;
     while e < count {
-        let row = second_row_phi(shape, l, w, term, rows, psi, omega, table, e);
+        let row = second_row_phi(
+            shape,
+            l,
+            w,
+            constant_terms,
+            projections,
+            psi,
+            omega,
+            omega_sums,
+            e,
+        );
         let element = Element::from_slice(d, witness, e);
         let y = element.coefficients;
         let more = rows::add_products(d, sums, row, y);
@@ -105,25 +121,35 @@ fn weigh_witness(
 }
 
 // b''.
-pub fn write_b2(
+pub fn write_second_b(
     shape: Shape,
     l: usize,
     w: usize,
-    term: &[i32],
-    rows: &[i32],
+    constant_terms: &[i32],
+    projections: &[i32],
     psi: &[i32],
     omega: &[i32],
     witness: &[i32],
-    b2: &mut [i32],
+    second_b: &mut [i32],
 )
-    requires { ⌜ ValueFacts (shape .d) (shape .n) (shape .r) l w (now term) (now rows) (now psi) (now omega) (now witness) ⌝ }
-    requires { ⌜ length (now b2) ≡ 5 * shape .d ⌝ }
-    ensures { λ _. ⌜ now (b2 .exit) ≡ b″ (shape .d) (shape .n) (shape .r) l w (now (term .entry)) (now (rows .entry)) (now (psi .entry)) (now (omega .entry)) (now (witness .entry)) ⌝ }
+    requires { ⌜ ValueFacts (shape .d) (shape .n) (shape .r) l w (now «constant_terms») (now projections) (now psi) (now omega) (now witness) ⌝ }
+    requires { ⌜ length (now «second_b») ≡ 5 * shape .d ⌝ }
+    ensures { λ _. ⌜ now («second_b» .exit) ≡ b″ (shape .d) (shape .n) (shape .r) l w (now («constant_terms» .entry)) (now (projections .entry)) (now (psi .entry)) (now (omega .entry)) (now (witness .entry)) ⌝ }
 {
-    let mut table = [0i64; 25920];
-    row_groups::write_sums(w, omega, &mut table);
+    let mut omega_sums = [0i64; 25920];
+    row_groups::write_omega_sums(w, omega, &mut omega_sums);
     let d = shape.d;
-    let quadratic = weigh_pairs(shape, l, term, psi, witness);
-    let linear = weigh_witness(shape, l, w, term, rows, psi, omega, &table, witness);
-    rows::write_sums(d, quadratic, linear, b2);
+    let quadratic = weigh_pairs(shape, l, constant_terms, psi, witness);
+    let linear = weigh_witness(
+        shape,
+        l,
+        w,
+        constant_terms,
+        projections,
+        psi,
+        omega,
+        &omega_sums,
+        witness,
+    );
+    rows::write_sums(d, quadratic, linear, second_b);
 }

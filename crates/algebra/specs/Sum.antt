@@ -1,4 +1,4 @@
--- Finite sums in a commutative ring: `sum n f` is f 0 + .. + f (n-1), the last term added last, as a loop that counts up adds it.
+-- Finite sums in a commutative ring: `sum n f` is f 0 + .. + f (n-1), the last summand added last, as a loop that counts up adds it.
 use Prim.Native.Nat.{ℕ, zero, suc}
 use Rattle.algebra.specs.CommRing.{CommRing}
 

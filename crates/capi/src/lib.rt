@@ -22,19 +22,19 @@ pub mod types;
 #[no_mangle]
 pub extern "C" fn lizkarg_commit(
     sizes: CommitSizes,
-    a: &[i32],
-    b: &[i32],
-    c: &[i32],
+    a_matrix: &[i32],
+    b_matrix: &[i32],
+    c_matrix: &[i32],
     witness: &[i32],
     t: &mut [i32],
     g: &mut [i32],
     u1: &mut [i32],
 ) -> CAnswer
     ensures { λ x.
-        ⌜ Coded (λ answer. Committed sizes (now (a .entry)) (now (b .entry)) (now (c .entry)) (now (witness .entry))
+        ⌜ Coded (λ answer. Committed sizes (now («a_matrix» .entry)) (now («b_matrix» .entry)) (now («c_matrix» .entry)) (now (witness .entry))
         (now (t .entry)) (now (g .entry)) (now (u1 .entry)) answer (now (t .exit)) (now (g .exit)) (now (u1 .exit))) x ⌝ }
 {
-    let answer = lizkarg::commit(sizes, a, b, c, witness, t, g, u1);
+    let answer = lizkarg::commit(sizes, a_matrix, b_matrix, c_matrix, witness, t, g, u1);
     types::code(answer)
 }
 
@@ -43,15 +43,15 @@ pub extern "C" fn lizkarg_commit(
 pub extern "C" fn lizkarg_project(
     shape: Shape,
     w: usize,
-    rows: &[i32],
+    projections: &[i32],
     witness: &[i32],
     p: &mut [i32],
 ) -> CAnswer
     ensures { λ x.
-        ⌜ Coded (λ answer. Projected shape w (now (rows .entry)) (now (witness .entry)) (now (p .entry)) answer
+        ⌜ Coded (λ answer. Projected shape w (now (projections .entry)) (now (witness .entry)) (now (p .entry)) answer
         (now (p .exit))) x ⌝ }
 {
-    let answer = lizkarg::project(shape, w, rows, witness, p);
+    let answer = lizkarg::project(shape, w, projections, witness, p);
     types::code(answer)
 }
 
@@ -61,18 +61,28 @@ pub extern "C" fn lizkarg_aggregate(
     shape: Shape,
     l: usize,
     w: usize,
-    term: &[i32],
-    rows: &[i32],
+    constant_terms: &[i32],
+    projections: &[i32],
     psi: &[i32],
     omega: &[i32],
     witness: &[i32],
-    b2: &mut [i32],
+    second_b: &mut [i32],
 ) -> CAnswer
     ensures { λ x.
-        ⌜ Coded (λ answer. Aggregated shape l w (now (term .entry)) (now (rows .entry)) (now (psi .entry)) (now (omega .entry))
-        (now (witness .entry)) (now (b2 .entry)) answer (now (b2 .exit))) x ⌝ }
+        ⌜ Coded (λ answer. Aggregated shape l w (now («constant_terms» .entry)) (now (projections .entry)) (now (psi .entry)) (now (omega .entry))
+        (now (witness .entry)) (now («second_b» .entry)) answer (now («second_b» .exit))) x ⌝ }
 {
-    let answer = lizkarg::aggregate(shape, l, w, term, rows, psi, omega, witness, b2);
+    let answer = lizkarg::aggregate(
+        shape,
+        l,
+        w,
+        constant_terms,
+        projections,
+        psi,
+        omega,
+        witness,
+        second_b,
+    );
     types::code(answer)
 }
 
@@ -81,8 +91,8 @@ pub extern "C" fn lizkarg_aggregate(
 pub extern "C" fn lizkarg_commit_garbage(
     sizes: GarbageSizes,
     whole: &[i32],
-    term: &[i32],
-    rows: &[i32],
+    constant_terms: &[i32],
+    projections: &[i32],
     psi: &[i32],
     omega: &[i32],
     alpha: &[i32],
@@ -93,15 +103,15 @@ pub extern "C" fn lizkarg_commit_garbage(
     u2: &mut [i32],
 ) -> CAnswer
     ensures { λ x.
-        ⌜ Coded (λ answer. GarbageCommitted sizes (now (whole .entry)) (now (term .entry)) (now (rows .entry))
+        ⌜ Coded (λ answer. GarbageCommitted sizes (now (whole .entry)) (now («constant_terms» .entry)) (now (projections .entry))
         (now (psi .entry)) (now (omega .entry)) (now (alpha .entry)) (now (delta .entry)) (now («d_matrix» .entry))
         (now (witness .entry)) (now (h .entry)) (now (u2 .entry)) answer (now (h .exit)) (now (u2 .exit))) x ⌝ }
 {
     let answer = lizkarg::commit_garbage(
         sizes,
         whole,
-        term,
-        rows,
+        constant_terms,
+        projections,
         psi,
         omega,
         alpha,
@@ -135,18 +145,18 @@ pub extern "C" fn lizkarg_amortize(
 #[no_mangle]
 pub extern "C" fn lizkarg_verify(
     sizes: Sizes,
-    a: &[i32],
-    b: &[i32],
+    a_matrix: &[i32],
+    b_matrix: &[i32],
     c_matrix: &[i32],
     d_matrix: &[i32],
     whole: &[i32],
-    term: &[i32],
+    constant_terms: &[i32],
     u1: &[i32],
-    rows: &[i32],
+    projections: &[i32],
     p: &[i32],
     psi: &[i32],
     omega: &[i32],
-    b2: &[i32],
+    second_b: &[i32],
     alpha: &[i32],
     delta: &[i32],
     u2: &[i32],
@@ -154,26 +164,26 @@ pub extern "C" fn lizkarg_verify(
     opening: &[i32],
 ) -> CAnswer
     ensures { λ x.
-        ⌜ x ≡ codeOf (verification (statementOf sizes (now (a .entry)) (now (b .entry)) (now («c_matrix» .entry))
-        (now («d_matrix» .entry)) (now (whole .entry)) (now (term .entry)))
-        (drawsOf (now (rows .entry)) (now (psi .entry)) (now (omega .entry)) (now (alpha .entry)) (now (delta .entry))
-        (now (c .entry))) (transcriptOf (now (u1 .entry)) (now (p .entry)) (now (b2 .entry)) (now (u2 .entry)))
+        ⌜ x ≡ codeOf (verification (statementOf sizes (now («a_matrix» .entry)) (now («b_matrix» .entry)) (now («c_matrix» .entry))
+        (now («d_matrix» .entry)) (now (whole .entry)) (now («constant_terms» .entry)))
+        (drawsOf (now (projections .entry)) (now (psi .entry)) (now (omega .entry)) (now (alpha .entry)) (now (delta .entry))
+        (now (c .entry))) (transcriptOf (now (u1 .entry)) (now (p .entry)) (now («second_b» .entry)) (now (u2 .entry)))
         (now (opening .entry))) ⌝ }
 {
     let answer = lizkarg::verify(
         sizes,
-        a,
-        b,
+        a_matrix,
+        b_matrix,
         c_matrix,
         d_matrix,
         whole,
-        term,
+        constant_terms,
         u1,
-        rows,
+        projections,
         p,
         psi,
         omega,
-        b2,
+        second_b,
         alpha,
         delta,
         u2,

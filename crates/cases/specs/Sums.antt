@@ -5,7 +5,7 @@ use lib.IntN.{ℤ, pos, _+ℤ_, _*ℤ_}
 use lib.ListN.{length, getD}
 use Rattle.integers.specs.Remainder.{emod}
 
--- its first n terms
+-- its first n summands
 unfoldable pub weighted : ℕ → List ℤ → ℤ
 weighted zero xs = pos 0
 weighted (suc n) xs = weighted n xs +ℤ pos (suc n) *ℤ getD xs n (pos 0)

@@ -9,11 +9,11 @@ use lib.ListN.{length, getD}
 use lib.IntN.{ℤ, pos, _+ℤ_, _*ℤ_}
 use Rattle.constraints.specs.Laws.AccumulatorLaws.{Cell}
 
-unfoldable pub partial : (d m w : ℕ) (rows ω : List ℤ) (e j y k : ℕ) → ℤ
-partial d m w rows ω e zero y k = pos 0
-partial d m w rows ω e (suc j) y k =
-    partial d m w rows ω e j y k +ℤ (getD ω (k * w + j) (pos 0) *ℤ getD rows ((j * m + e) * d + y) (pos 0))
+unfoldable pub partial : (d m w : ℕ) (projections ω : List ℤ) (e j y k : ℕ) → ℤ
+partial d m w projections ω e zero y k = pos 0
+partial d m w projections ω e (suc j) y k =
+    partial d m w projections ω e j y k +ℤ (getD ω (k * w + j) (pos 0) *ℤ getD projections ((j * m + e) * d + y) (pos 0))
 
-pub record Summed (d m w : ℕ) (rows ω : List ℤ) (e j : ℕ) (acc : List ℤ) : Type 0 where
+pub record Summed (d m w : ℕ) (projections ω : List ℤ) (e j : ℕ) (acc : List ℤ) : Type 0 where
   pub size : length acc ≡ 320
-  pub cell : (y k : ℕ) → y < d → k < 5 → Cell acc (y * 5 + k) (partial d m w rows ω e j y k) j
+  pub cell : (y k : ℕ) → y < d → k < 5 → Cell acc (y * 5 + k) (partial d m w projections ω e j y k) j

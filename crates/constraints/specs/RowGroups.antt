@@ -3,9 +3,9 @@
 --     Coded          a code of four entries
 --     Codes, CodesOf    the codes of one group, and of the first groups
 --     fourSum        the sum of four entries, each times its weight
---     Term           one product more in such a sum, with its bound
+--     Summand           one product more in such a sum, with its bound
 --     WeightedSum    such a sum at a code, with its bound
---     SumsOf         the table of these sums; Tabled is the state of the loop that writes it
+--     OmegaSums         the table of these sums; Tabled is the state of the loop that writes it
 use mathlib.Core.Path.{_≡_}
 use mathlib.Core.List.{List}
 use Prim.Native.Nat.{ℕ, _+_, _*_, _/_, _%_, _≤_, _<_}
@@ -23,19 +23,19 @@ pub record Coded (c : ℕ) (x₀ x₁ x₂ x₃ : ℤ) : Type 0 where
   pub fourth : decode (c / 27) ≡ x₃
 
 -- the first m codes of entries of four rows, from place `from` on
-pub record Codes (rows : List ℤ) (at step from : ℕ) (old : List ℕ) (m : ℕ) (new : List ℕ) : Type 0 where
+pub record Codes (projections : List ℤ) (at step from : ℕ) (old : List ℕ) (m : ℕ) (new : List ℕ) : Type 0 where
   pub size : length new ≡ 4096
   pub code : (y : ℕ) → y < m
-      → Coded (getD new (from + y) 0) (getD rows (at + y) (pos 0)) (getD rows (at + y + step) (pos 0)) (getD rows (at + y + step + step) (pos 0))
-      (getD rows (at + y + step + step + step) (pos 0))
+      → Coded (getD new (from + y) 0) (getD projections (at + y) (pos 0)) (getD projections (at + y + step) (pos 0)) (getD projections (at + y + step + step) (pos 0))
+      (getD projections (at + y + step + step + step) (pos 0))
   pub before : (i : ℕ) → i < from → getD new i 0 ≡ getD old i 0
 
 -- the codes of the first groups at element e
-pub record CodesOf (d m : ℕ) (rows : List ℤ) (e groups : ℕ) (codes : List ℕ) : Type 0 where
+pub record CodesOf (d m : ℕ) (projections : List ℤ) (e groups : ℕ) (codes : List ℕ) : Type 0 where
   pub size : length codes ≡ 4096
   pub code : (g y : ℕ) → g < groups → y < d
-      → Coded (getD codes (g * 64 + y) 0) (getD rows ((g * 4 * m + e) * d + y) (pos 0)) (getD rows ((g * 4 * m + e) * d + y + m * d) (pos 0))
-      (getD rows ((g * 4 * m + e) * d + y + m * d + m * d) (pos 0)) (getD rows ((g * 4 * m + e) * d + y + m * d + m * d + m * d) (pos 0))
+      → Coded (getD codes (g * 64 + y) 0) (getD projections ((g * 4 * m + e) * d + y) (pos 0)) (getD projections ((g * 4 * m + e) * d + y + m * d) (pos 0))
+      (getD projections ((g * 4 * m + e) * d + y + m * d + m * d) (pos 0)) (getD projections ((g * 4 * m + e) * d + y + m * d + m * d + m * d) (pos 0))
 
 -- ---- weighted sums
 
@@ -47,8 +47,8 @@ fourSum ω at x₀ x₁ x₂ x₃ =
     +ℤ (getD ω (at + 2) (pos 0) *ℤ x₂)
     +ℤ (getD ω (at + 3) (pos 0) *ℤ x₃)
 
--- one term more
-pub record Term (ω : List ℤ) (at c : ℕ) (a s : ℤ) : Type 0 where
+-- one summand more
+pub record Summand (ω : List ℤ) (at c : ℕ) (a s : ℤ) : Type 0 where
   pub value : s ≡ a +ℤ (getD ω at (pos 0) *ℤ decode c)
   pub small : natAbs s ≤ natAbs a + 2147483648
 
@@ -58,5 +58,5 @@ pub record WeightedSum (ω : List ℤ) (at c : ℕ) (s : ℤ) : Type 0 where
 
 -- ---- the table
 
-pub record SumsOf (w : ℕ) (ω sums : List ℤ) : Type 0 where
-  pub entry : (g c k : ℕ) → g < w / 4 → c < 81 → k < 5 → WeightedSum ω (k * w + g * 4) c (getD sums ((g * 81 + c) * 5 + k) (pos 0))
+pub record OmegaSums (w : ℕ) (ω omegaSums : List ℤ) : Type 0 where
+  pub entry : (g c k : ℕ) → g < w / 4 → c < 81 → k < 5 → WeightedSum ω (k * w + g * 4) c (getD omegaSums ((g * 81 + c) * 5 + k) (pos 0))

@@ -10,7 +10,7 @@ ghost use Rattle.fold.specs.Messages.{aggregateConstant};
 ghost use Rattle.fold.specs.Sizes.{five};
 ghost use Rattle.fold.specs.Entries.{wholeEntry, aggregateA, aggregateΦ};
 ghost use Rattle.constraints.specs.Known.Facts.{TermFacts, SecondFacts, WholeFacts, AggregateFacts};
-ghost use Rattle.constraints.specs.RowGroups.{SumsOf};
+ghost use Rattle.constraints.specs.RowGroups.{OmegaSums};
 ghost use Rattle.constraints.specs.Aggregated.{weightedA, weightedΦ};
 use crate::second::COUNT;
 use crate::second::second_row_a;
@@ -75,14 +75,21 @@ fn weighted_row(d: usize, delta: &[i32], row: [[i32; 64]; 5]) -> Element
 }
 
 // Σ_k δ_k f''_k at pair place e.
-fn weighted_a(shape: Shape, l: usize, term: &[i32], psi: &[i32], delta: &[i32], e: usize) -> Element
-    requires { ⌜ TermFacts (shape .d) (shape .n) (shape .r) l (now term) (now psi) ⌝ }
+fn weighted_a(
+    shape: Shape,
+    l: usize,
+    constant_terms: &[i32],
+    psi: &[i32],
+    delta: &[i32],
+    e: usize,
+) -> Element
+    requires { ⌜ TermFacts (shape .d) (shape .n) (shape .r) l (now «constant_terms») (now psi) ⌝ }
     requires { ⌜ (length (now delta) ≡ 5 * shape .d) × (e < pairs (shape .r)) ⌝ }
     ensures { λ r. ⌜ r .coefficients ≡ array (shape .d) (sum (R (shape .d)) five (weightedA (shape .d) (shape .n) (shape .r) l
-        (now (term .entry)) (now (psi .entry)) (now (delta .entry)) e)) ⌝ }
+        (now («constant_terms» .entry)) (now (psi .entry)) (now (delta .entry)) e)) ⌝ }
 {
     let d = shape.d;
-    let row = second_row_a(shape, l, term, psi, e);
+    let row = second_row_a(shape, l, constant_terms, psi, e);
     weighted_row(d, delta, row)
 }
 
@@ -91,22 +98,32 @@ fn weighted_phi(
     shape: Shape,
     l: usize,
     w: usize,
-    term: &[i32],
-    rows: &[i32],
+    constant_terms: &[i32],
+    projections: &[i32],
     psi: &[i32],
     omega: &[i32],
-    sums: &[i64; 25920],
+    omega_sums: &[i64; 25920],
     delta: &[i32],
     e: usize,
 ) -> Element
-    requires { ⌜ SecondFacts (shape .d) (shape .n) (shape .r) l w (now term) (now rows) (now psi) (now omega) ⌝ }
-    requires { ⌜ SumsOf w (now omega) (now sums) ⌝ }
+    requires { ⌜ SecondFacts (shape .d) (shape .n) (shape .r) l w (now «constant_terms») (now projections) (now psi) (now omega) ⌝ }
+    requires { ⌜ OmegaSums w (now omega) (now «omega_sums») ⌝ }
     requires { ⌜ (length (now delta) ≡ 5 * shape .d) × (e < shape .r * shape .n) ⌝ }
     ensures { λ r. ⌜ r .coefficients ≡ array (shape .d) (sum (R (shape .d)) five (weightedΦ (shape .d) (shape .n) (shape .r) l w
-        (now (term .entry)) (now (rows .entry)) (now (psi .entry)) (now (omega .entry)) (now (delta .entry)) e)) ⌝ }
+        (now («constant_terms» .entry)) (now (projections .entry)) (now (psi .entry)) (now (omega .entry)) (now (delta .entry)) e)) ⌝ }
 {
     let d = shape.d;
-    let row = second_row_phi(shape, l, w, term, rows, psi, omega, sums, e);
+    let row = second_row_phi(
+        shape,
+        l,
+        w,
+        constant_terms,
+        projections,
+        psi,
+        omega,
+        omega_sums,
+        e,
+    );
     weighted_row(d, delta, row)
 }
 
@@ -116,53 +133,64 @@ pub fn aggregate_a(
     kc: usize,
     l: usize,
     whole: &[i32],
-    term: &[i32],
+    constant_terms: &[i32],
     psi: &[i32],
     alpha: &[i32],
     delta: &[i32],
     e: usize,
 ) -> Element
     requires { ⌜ WholeFacts (shape .d) (shape .n) (shape .r) kc (now whole) (now alpha) ⌝ }
-    requires { ⌜ TermFacts (shape .d) (shape .n) (shape .r) l (now term) (now psi) ⌝ }
+    requires { ⌜ TermFacts (shape .d) (shape .n) (shape .r) l (now «constant_terms») (now psi) ⌝ }
     requires { ⌜ (length (now delta) ≡ 5 * shape .d) × (e < pairs (shape .r)) ⌝ }
     ensures { λ r. ⌜ r .coefficients ≡ array (shape .d) (aggregateA (shape .d) (shape .n) (shape .r) kc l (now (whole .entry))
-        (now (term .entry)) (now (psi .entry)) (now (alpha .entry)) (now (delta .entry)) e) ⌝ }
+        (now («constant_terms» .entry)) (now (psi .entry)) (now (alpha .entry)) (now (delta .entry)) e) ⌝ }
 {
     let d = shape.d;
     let wholes = whole_entry(shape, kc, whole, alpha, e);
-    let seconds = weighted_a(shape, l, term, psi, delta, e);
+    let seconds = weighted_a(shape, l, constant_terms, psi, delta, e);
     wholes.sum(d, seconds)
 }
 
-// The aggregate's φ at element e of the witness. `sums` is the table of omega.
+// The aggregate's φ at element e of the witness. `omega_sums` are the sums of ω.
 pub fn aggregate_phi(
     shape: Shape,
     kc: usize,
     l: usize,
     w: usize,
     whole: &[i32],
-    term: &[i32],
-    rows: &[i32],
+    constant_terms: &[i32],
+    projections: &[i32],
     psi: &[i32],
     omega: &[i32],
-    sums: &[i64; 25920],
+    omega_sums: &[i64; 25920],
     alpha: &[i32],
     delta: &[i32],
     e: usize,
 ) -> Element
-    requires { ⌜ AggregateFacts (shape .d) (shape .n) (shape .r) kc l w (now whole) (now term) (now rows) (now psi) (now omega)
+    requires { ⌜ AggregateFacts (shape .d) (shape .n) (shape .r) kc l w (now whole) (now «constant_terms») (now projections) (now psi) (now omega)
         (now alpha) (now delta) ⌝ }
-    requires { ⌜ SumsOf w (now omega) (now sums) ⌝ }
+    requires { ⌜ OmegaSums w (now omega) (now «omega_sums») ⌝ }
     requires { ⌜ e < shape .r * shape .n ⌝ }
     ensures { λ r. ⌜ r .coefficients ≡ array (shape .d) (aggregateΦ (shape .d) (shape .n) (shape .r) kc l w (now (whole .entry))
-        (now (term .entry)) (now (rows .entry)) (now (psi .entry)) (now (omega .entry)) (now (alpha .entry))
+        (now («constant_terms» .entry)) (now (projections .entry)) (now (psi .entry)) (now (omega .entry)) (now (alpha .entry))
         (now (delta .entry)) e) ⌝ }
 {
     let d = shape.d;
     let pairs = counts::pair_count(shape.r);
     let place = pairs + e;
     let wholes = whole_entry(shape, kc, whole, alpha, place);
-    let seconds = weighted_phi(shape, l, w, term, rows, psi, omega, sums, delta, e);
+    let seconds = weighted_phi(
+        shape,
+        l,
+        w,
+        constant_terms,
+        projections,
+        psi,
+        omega,
+        omega_sums,
+        delta,
+        e,
+    );
     wholes.sum(d, seconds)
 }
 
@@ -173,17 +201,17 @@ pub fn aggregate_constant(
     whole: &[i32],
     alpha: &[i32],
     delta: &[i32],
-    b2: &[i32],
+    second_b: &[i32],
 ) -> Element
     requires { ⌜ WholeFacts (shape .d) (shape .n) (shape .r) kc (now whole) (now alpha) ⌝ }
-    requires { ⌜ (length (now delta) ≡ 5 * shape .d) × (length (now b2) ≡ 5 * shape .d) ⌝ }
+    requires { ⌜ (length (now delta) ≡ 5 * shape .d) × (length (now «second_b») ≡ 5 * shape .d) ⌝ }
     ensures { λ r. ⌜ r .coefficients ≡ array (shape .d) (aggregateConstant (shape .d) (shape .n) (shape .r) kc (now (whole .entry))
-        (now (alpha .entry)) (now (delta .entry)) (now (b2 .entry))) ⌝ }
+        (now (alpha .entry)) (now (delta .entry)) (now («second_b» .entry))) ⌝ }
 {
     let d = shape.d;
     let place = counts::function_size(shape.n, shape.r);
     let wholes = whole_entry(shape, kc, whole, alpha, place);
-    let coefficients = product::inner(d, COUNT, delta, 0, b2, 0);
+    let coefficients = product::inner(d, COUNT, delta, 0, second_b, 0);
     let seconds = Element { coefficients };
     wholes.sum(d, seconds)
 }

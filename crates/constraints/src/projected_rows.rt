@@ -9,7 +9,7 @@ ghost use Rattle.residues.specs.Modulus.{centred};
 ghost use Rattle.ring.specs.Element.{Degree, array};
 ghost use Rattle.fold.specs.Entries.{projectionEntry};
 ghost use Rattle.constraints.specs.Known.Facts.{ProjectionFacts};
-ghost use Rattle.constraints.specs.RowGroups.{CodesOf, SumsOf};
+ghost use Rattle.constraints.specs.RowGroups.{CodesOf, OmegaSums};
 ghost use Rattle.constraints.specs.Accumulator.{FiveRoom, SmallFive, AddedFive};
 ghost use Rattle.constraints.specs.ProjectedRows.{Summed};
 use crate::row_groups::group_codes;
@@ -39,15 +39,15 @@ fn signed(c: i32, x: i32) -> i64
 }
 
 // Adds five neighbouring numbers of the table.
-fn add_five(acc: &mut [i64; 320], at: usize, sums: &[i64; 25920], from: usize)
+fn add_five(acc: &mut [i64; 320], at: usize, omega_sums: &[i64; 25920], from: usize)
     requires { ⌜ FiveRoom (now acc) at ⌝ }
-    requires { ⌜ (from + 5 ≤ 25920) × SmallFive 8589934592 (now sums) from ⌝ }
-    ensures { λ _. ⌜ AddedFive 8589934592 (λ k. getD (now (sums .entry)) (from + k) (pos 0)) at (now (acc .entry)) 5 (now (acc .exit)) ⌝ }
+    requires { ⌜ (from + 5 ≤ 25920) × SmallFive 8589934592 (now «omega_sums») from ⌝ }
+    ensures { λ _. ⌜ AddedFive 8589934592 (λ k. getD (now («omega_sums» .entry)) (from + k) (pos 0)) at (now (acc .entry)) 5 (now (acc .exit)) ⌝ }
 {
     let mut k = 0;
     while k < 5 {
         let old = acc[at + k];
-        let sum = sums[from + k];
+        let sum = omega_sums[from + k];
         let new = plus(old, sum);
         acc[at + k] = new;
         k += 1;
@@ -65,9 +65,9 @@ fn add_entry(acc: &mut [i64; 320], at: usize, w: usize, omega: &[i32], j: usize,
     let mut k = 0;
     while k < 5 {
         let weight = omega[k * w + j];
-        let term = signed(weight, x);
+        let summand = signed(weight, x);
         let old = acc[at + k];
-        let new = plus(old, term);
+        let new = plus(old, summand);
         acc[at + k] = new;
         k += 1;
     }
@@ -78,19 +78,19 @@ fn add_group(
     d: usize,
     count: usize,
     w: usize,
-    rows: &[i32],
+    projections: &[i32],
     omega: &[i32],
-    sums: &[i64; 25920],
+    omega_sums: &[i64; 25920],
     e: usize,
     codes: &[u32; 4096],
     group: usize,
     acc: &mut [i64; 320],
 )
     requires { ⌜ (Degree d) × (w ≤ 256) × (group < w / 4) ⌝ }
-    requires { ⌜ SumsOf w (now omega) (now sums) ⌝ }
-    requires { ⌜ CodesOf d count (now rows) e (w / 4) (now codes) ⌝ }
-    requires { ⌜ Summed d count w (now rows) (now omega) e (group * 4) (now acc) ⌝ }
-    ensures { λ _. ⌜ Summed d count w (now (rows .entry)) (now (omega .entry)) e (group * 4 + 4) (now (acc .exit)) ⌝ }
+    requires { ⌜ OmegaSums w (now omega) (now «omega_sums») ⌝ }
+    requires { ⌜ CodesOf d count (now projections) e (w / 4) (now codes) ⌝ }
+    requires { ⌜ Summed d count w (now projections) (now omega) e (group * 4) (now acc) ⌝ }
+    ensures { λ _. ⌜ Summed d count w (now (projections .entry)) (now (omega .entry)) e (group * 4 + 4) (now (acc .exit)) ⌝ }
 {
     let place = group * 64;
     let first = group * 81;
@@ -98,7 +98,7 @@ fn add_group(
     while y < d {
         let c = codes[place + y] as usize;
         let number = first + c;
-        add_five(acc, y * 5, sums, number * 5);
+        add_five(acc, y * 5, omega_sums, number * 5);
         y += 1;
     }
 }
@@ -107,16 +107,16 @@ fn add_group(
 fn add_row(
     shape: Shape,
     w: usize,
-    rows: &[i32],
+    projections: &[i32],
     omega: &[i32],
     e: usize,
     j: usize,
     acc: &mut [i64; 320],
 )
-    requires { ⌜ ProjectionFacts (shape .d) (shape .n) (shape .r) w (now rows) (now omega) ⌝ }
+    requires { ⌜ ProjectionFacts (shape .d) (shape .n) (shape .r) w (now projections) (now omega) ⌝ }
     requires { ⌜ (e < shape .r * shape .n) × (j < w) ⌝ }
-    requires { ⌜ Summed (shape .d) (shape .r * shape .n) w (now rows) (now omega) e j (now acc) ⌝ }
-    ensures { λ _. ⌜ Summed (shape .d) (shape .r * shape .n) w (now (rows .entry)) (now (omega .entry)) e (j + 1) (now (acc .exit)) ⌝ }
+    requires { ⌜ Summed (shape .d) (shape .r * shape .n) w (now projections) (now omega) e j (now acc) ⌝ }
+    ensures { λ _. ⌜ Summed (shape .d) (shape .r * shape .n) w (now (projections .entry)) (now (omega .entry)) e (j + 1) (now (acc .exit)) ⌝ }
 {
     let d = shape.d;
     let parts = shape.r;
@@ -126,7 +126,7 @@ fn add_row(
     let at = element * d;
     let mut y = 0;
     while y < d {
-        let x = rows[at + y];
+        let x = projections[at + y];
         add_entry(acc, y * 5, w, omega, j, x);
         y += 1;
     }
@@ -137,38 +137,56 @@ fn add_groups(
     d: usize,
     count: usize,
     w: usize,
-    rows: &[i32],
+    projections: &[i32],
     omega: &[i32],
-    sums: &[i64; 25920],
+    omega_sums: &[i64; 25920],
     e: usize,
     codes: &[u32; 4096],
     acc: &mut [i64; 320],
 )
     requires { ⌜ (Degree d) × (w ≤ 256) ⌝ }
-    requires { ⌜ SumsOf w (now omega) (now sums) ⌝ }
-    requires { ⌜ CodesOf d count (now rows) e (w / 4) (now codes) ⌝ }
-    requires { ⌜ Summed d count w (now rows) (now omega) e 0 (now acc) ⌝ }
-    ensures { λ _. ⌜ Summed d count w (now (rows .entry)) (now (omega .entry)) e (w / 4 * 4) (now (acc .exit)) ⌝ }
+    requires { ⌜ OmegaSums w (now omega) (now «omega_sums») ⌝ }
+    requires { ⌜ CodesOf d count (now projections) e (w / 4) (now codes) ⌝ }
+    requires { ⌜ Summed d count w (now projections) (now omega) e 0 (now acc) ⌝ }
+    ensures { λ _. ⌜ Summed d count w (now (projections .entry)) (now (omega .entry)) e (w / 4 * 4) (now (acc .exit)) ⌝ }
 {
     let groups = w / 4;
     let mut group = 0;
     while group < groups {
-        add_group(d, count, w, rows, omega, sums, e, codes, group, acc);
+        add_group(
+            d,
+            count,
+            w,
+            projections,
+            omega,
+            omega_sums,
+            e,
+            codes,
+            group,
+            acc,
+        );
         group += 1;
     }
 }
 
 // Adds the rows that the groups leave over.
-fn add_rest(shape: Shape, w: usize, rows: &[i32], omega: &[i32], e: usize, acc: &mut [i64; 320])
-    requires { ⌜ ProjectionFacts (shape .d) (shape .n) (shape .r) w (now rows) (now omega) ⌝ }
+fn add_rest(
+    shape: Shape,
+    w: usize,
+    projections: &[i32],
+    omega: &[i32],
+    e: usize,
+    acc: &mut [i64; 320],
+)
+    requires { ⌜ ProjectionFacts (shape .d) (shape .n) (shape .r) w (now projections) (now omega) ⌝ }
     requires { ⌜ e < shape .r * shape .n ⌝ }
-    requires { ⌜ Summed (shape .d) (shape .r * shape .n) w (now rows) (now omega) e (w / 4 * 4) (now acc) ⌝ }
-    ensures { λ _. ⌜ Summed (shape .d) (shape .r * shape .n) w (now (rows .entry)) (now (omega .entry)) e w (now (acc .exit)) ⌝ }
+    requires { ⌜ Summed (shape .d) (shape .r * shape .n) w (now projections) (now omega) e (w / 4 * 4) (now acc) ⌝ }
+    ensures { λ _. ⌜ Summed (shape .d) (shape .r * shape .n) w (now (projections .entry)) (now (omega .entry)) e w (now (acc .exit)) ⌝ }
 {
     let groups = w / 4;
     let mut j = groups * 4;
     while j < w {
-        add_row(shape, w, rows, omega, e, j, acc);
+        add_row(shape, w, projections, omega, e, j, acc);
         j += 1;
     }
 }
@@ -209,15 +227,15 @@ fn centred_row(d: usize, acc: &[i64; 320]) -> [[i32; 64]; 5]
 pub fn projection_row(
     shape: Shape,
     w: usize,
-    rows: &[i32],
+    projections: &[i32],
     omega: &[i32],
-    sums: &[i64; 25920],
+    omega_sums: &[i64; 25920],
     e: usize,
 ) -> [[i32; 64]; 5]
-    requires { ⌜ ProjectionFacts (shape .d) (shape .n) (shape .r) w (now rows) (now omega) ⌝ }
-    requires { ⌜ SumsOf w (now omega) (now sums) ⌝ }
+    requires { ⌜ ProjectionFacts (shape .d) (shape .n) (shape .r) w (now projections) (now omega) ⌝ }
+    requires { ⌜ OmegaSums w (now omega) (now «omega_sums») ⌝ }
     requires { ⌜ e < shape .r * shape .n ⌝ }
-    ensures { λ r. ⌜ r ≡ tab 5 (λ k. array (shape .d) (projectionEntry (shape .d) (shape .n) (shape .r) w (now (rows .entry))
+    ensures { λ r. ⌜ r ≡ tab 5 (λ k. array (shape .d) (projectionEntry (shape .d) (shape .n) (shape .r) w (now (projections .entry))
         (now (omega .entry)) k e)) ⌝ }
 {
     let d = shape.d;
@@ -225,9 +243,19 @@ pub fn projection_row(
     let rank = shape.n;
     let count = parts * rank;
     let mut codes = [0u32; 4096];
-    group_codes(shape, w, rows, omega, e, &mut codes);
+    group_codes(shape, w, projections, omega, e, &mut codes);
     let mut acc = [0i64; 320];
-    add_groups(d, count, w, rows, omega, sums, e, &codes, &mut acc);
-    add_rest(shape, w, rows, omega, e, &mut acc);
+    add_groups(
+        d,
+        count,
+        w,
+        projections,
+        omega,
+        omega_sums,
+        e,
+        &codes,
+        &mut acc,
+    );
+    add_rest(shape, w, projections, omega, e, &mut acc);
     centred_row(d, &acc)
 }

@@ -5,9 +5,9 @@ ghost use mathlib.Core.Bool.{true};
 ghost use Prim.Native.Nat.{_+_, _*_, _/_, _<_, _≤_};
 ghost use lib.ListN.{length, getD};
 ghost use lib.IntN.{pos, natAbs, _+ℤ_, _-ℤ_, _*ℤ_};
-ghost use Rattle.residues.specs.Range.{projections};
+ghost use Rattle.residues.specs.Range.{projectionEntries};
 ghost use Rattle.constraints.specs.Known.Facts.{ProjectionFacts};
-ghost use Rattle.constraints.specs.RowGroups.{decode, Coded, Codes, CodesOf, Term, WeightedSum, SumsOf};
+ghost use Rattle.constraints.specs.RowGroups.{decode, Coded, Codes, CodesOf, Summand, WeightedSum, OmegaSums};
 use fold::Shape;
 
 // The digit x + 1 of an entry x.
@@ -33,32 +33,39 @@ fn code(x0: i32, x1: i32, x2: i32, x3: i32) -> u32
 }
 
 // The code of the entries of four rows, which stand `step` apart, the first at `at`.
-fn code_at(rows: &[i32], at: usize, step: usize) -> u32
-    requires { ⌜ projections (now rows) ≡ true ⌝ }
-    requires { ⌜ at + step + step + step < length (now rows) ⌝ }
-    ensures { λ r. ⌜ Coded r (getD (now (rows .entry)) at (pos 0)) (getD (now (rows .entry)) (at + step) (pos 0))
-        (getD (now (rows .entry)) (at + step + step) (pos 0)) (getD (now (rows .entry)) (at + step + step + step) (pos 0)) ⌝ }
+fn code_at(projections: &[i32], at: usize, step: usize) -> u32
+    requires { ⌜ projectionEntries (now projections) ≡ true ⌝ }
+    requires { ⌜ at + step + step + step < length (now projections) ⌝ }
+    ensures { λ r. ⌜ Coded r (getD (now (projections .entry)) at (pos 0)) (getD (now (projections .entry)) (at + step) (pos 0))
+        (getD (now (projections .entry)) (at + step + step) (pos 0)) (getD (now (projections .entry)) (at + step + step + step) (pos 0)) ⌝ }
 {
     let second = at + step;
     let third = second + step;
     let fourth = third + step;
-    let x0 = rows[at];
-    let x1 = rows[second];
-    let x2 = rows[third];
-    let x3 = rows[fourth];
+    let x0 = projections[at];
+    let x1 = projections[second];
+    let x2 = projections[third];
+    let x3 = projections[fourth];
     code(x0, x1, x2, x3)
 }
 
 // The codes of d neighbouring entries of four rows, from place `from` on.
-fn write_codes(d: usize, rows: &[i32], at: usize, step: usize, codes: &mut [u32; 4096], from: usize)
-    requires { ⌜ projections (now rows) ≡ true ⌝ }
-    requires { ⌜ at + d + step + step + step ≤ length (now rows) ⌝ }
+fn write_codes(
+    d: usize,
+    projections: &[i32],
+    at: usize,
+    step: usize,
+    codes: &mut [u32; 4096],
+    from: usize,
+)
+    requires { ⌜ projectionEntries (now projections) ≡ true ⌝ }
+    requires { ⌜ at + d + step + step + step ≤ length (now projections) ⌝ }
     requires { ⌜ (from + d ≤ 4096) × (length (now codes) ≡ 4096) ⌝ }
-    ensures { λ _. ⌜ Codes (now (rows .entry)) at step from (now (codes .entry)) d (now (codes .exit)) ⌝ }
+    ensures { λ _. ⌜ Codes (now (projections .entry)) at step from (now (codes .entry)) d (now (codes .exit)) ⌝ }
 {
     let mut y = 0;
     while y < d {
-        let c = code_at(rows, at + y, step);
+        let c = code_at(projections, at + y, step);
         codes[from + y] = c;
         y += 1;
     }
@@ -69,14 +76,14 @@ fn write_codes(d: usize, rows: &[i32], at: usize, step: usize, codes: &mut [u32;
 pub fn group_codes(
     shape: Shape,
     w: usize,
-    rows: &[i32],
+    projections: &[i32],
     omega: &[i32],
     e: usize,
     codes: &mut [u32; 4096],
 )
-    requires { ⌜ ProjectionFacts (shape .d) (shape .n) (shape .r) w (now rows) (now omega) ⌝ }
+    requires { ⌜ ProjectionFacts (shape .d) (shape .n) (shape .r) w (now projections) (now omega) ⌝ }
     requires { ⌜ (e < shape .r * shape .n) × (length (now codes) ≡ 4096) ⌝ }
-    ensures { λ _. ⌜ CodesOf (shape .d) (shape .r * shape .n) (now (rows .entry)) e (w / 4) (now (codes .exit)) ⌝ }
+    ensures { λ _. ⌜ CodesOf (shape .d) (shape .r * shape .n) (now (projections .entry)) e (w / 4) (now (codes .exit)) ⌝ }
 {
     let d = shape.d;
     let parts = shape.r;
@@ -89,7 +96,7 @@ pub fn group_codes(
         let row = g * 4;
         let element = row * count + e;
         let at = element * d;
-        write_codes(d, rows, at, step, codes, g * 64);
+        write_codes(d, projections, at, step, codes, g * 64);
         g += 1;
     }
 }
@@ -114,9 +121,9 @@ fn add_signed(acc: i64, x: i32, y: i32) -> i64
 }
 
 // One more weighted entry: the number of omega at `at`, times the entry of the last digit of c.
-fn add_term(sum: i64, omega: &[i32], at: usize, c: usize) -> i64
+fn add_summand(sum: i64, omega: &[i32], at: usize, c: usize) -> i64
     requires { ⌜ (at < length (now omega)) × (natAbs sum ≤ 6442450944) ⌝ }
-    ensures { λ r. ⌜ Term (now (omega .entry)) at c sum r ⌝ }
+    ensures { λ r. ⌜ Summand (now (omega .entry)) at c sum r ⌝ }
 {
     let weight = omega[at];
     let x = decoded(c);
@@ -128,16 +135,16 @@ fn weighted_sum(omega: &[i32], at: usize, c: usize) -> i64
     requires { ⌜ at + 4 ≤ length (now omega) ⌝ }
     ensures { λ r. ⌜ WeightedSum (now (omega .entry)) at c r ⌝ }
 {
-    let one = add_term(0, omega, at, c);
-    let two = add_term(one, omega, at + 1, c / 3);
-    let three = add_term(two, omega, at + 2, c / 9);
-    add_term(three, omega, at + 3, c / 27)
+    let one = add_summand(0, omega, at, c);
+    let two = add_summand(one, omega, at + 1, c / 3);
+    let three = add_summand(two, omega, at + 2, c / 9);
+    add_summand(three, omega, at + 3, c / 27)
 }
 
 // The table: number (g * 81 + c) * 5 + k is the sum of the entries of code c, weighted by the numbers ω_k of group g.
-pub fn write_sums(w: usize, omega: &[i32], sums: &mut [i64; 25920])
-    requires { ⌜ (w ≤ 256) × (length (now omega) ≡ 5 * w) × (length (now sums) ≡ 25920) ⌝ }
-    ensures { λ _. ⌜ SumsOf w (now (omega .entry)) (now (sums .exit)) ⌝ }
+pub fn write_omega_sums(w: usize, omega: &[i32], omega_sums: &mut [i64; 25920])
+    requires { ⌜ (w ≤ 256) × (length (now omega) ≡ 5 * w) × (length (now «omega_sums») ≡ 25920) ⌝ }
+    ensures { λ _. ⌜ OmegaSums w (now (omega .entry)) (now («omega_sums» .exit)) ⌝ }
 {
     let groups = w / 4;
     let count = groups * 405;
@@ -149,7 +156,7 @@ pub fn write_sums(w: usize, omega: &[i32], sums: &mut [i64; 25920])
         let c = number % 81;
         let at = k * w + group * 4;
         let sum = weighted_sum(omega, at, c);
-        sums[i] = sum;
+        omega_sums[i] = sum;
         i += 1;
     }
 }

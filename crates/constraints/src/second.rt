@@ -8,7 +8,7 @@ ghost use Rattle.ring.specs.Element.{R, lift, array};
 ghost use Rattle.fold.specs.Sizes.{pairs, functionSize};
 ghost use Rattle.fold.specs.Entries.{termEntry, secondA, secondΦ};
 ghost use Rattle.constraints.specs.Known.Facts.{TermFacts, SecondFacts};
-ghost use Rattle.constraints.specs.RowGroups.{SumsOf};
+ghost use Rattle.constraints.specs.RowGroups.{OmegaSums};
 use crate::projected_rows::projection_row;
 use fold::Shape;
 use fold::counts;
@@ -18,10 +18,17 @@ use ring::element::Element;
 pub const COUNT: usize = 5;
 
 // Σ_l ψ_kl f'_l at place e.
-fn term_entry(shape: Shape, l: usize, term: &[i32], psi: &[i32], k: usize, e: usize) -> Element
-    requires { ⌜ TermFacts (shape .d) (shape .n) (shape .r) l (now term) (now psi) ⌝ }
+fn term_entry(
+    shape: Shape,
+    l: usize,
+    constant_terms: &[i32],
+    psi: &[i32],
+    k: usize,
+    e: usize,
+) -> Element
+    requires { ⌜ TermFacts (shape .d) (shape .n) (shape .r) l (now «constant_terms») (now psi) ⌝ }
     requires { ⌜ (k < 5) × (e < functionSize (shape .n) (shape .r)) ⌝ }
-    ensures { λ r. ⌜ r .coefficients ≡ array (shape .d) (termEntry (shape .d) (shape .n) (shape .r) l (now (term .entry))
+    ensures { λ r. ⌜ r .coefficients ≡ array (shape .d) (termEntry (shape .d) (shape .n) (shape .r) l (now («constant_terms» .entry))
         (now (psi .entry)) k e) ⌝ }
 {
     let d = shape.d;
@@ -33,7 +40,7 @@ fn term_entry(shape: Shape, l: usize, term: &[i32], psi: &[i32], k: usize, e: us
     let mut j = 0;
     while j < l {
         let weight = psi[first + j];
-        let rest = &term[at..];
+        let rest = &constant_terms[at..];
         let entry = Element::from_slice(d, rest, e);
         let weighted = entry.scale(d, weight);
         sum = sum.sum(d, weighted);
@@ -44,16 +51,22 @@ fn term_entry(shape: Shape, l: usize, term: &[i32], psi: &[i32], k: usize, e: us
 }
 
 // The a of the five second functions at pair place e.
-pub fn second_row_a(shape: Shape, l: usize, term: &[i32], psi: &[i32], e: usize) -> [[i32; 64]; 5]
-    requires { ⌜ TermFacts (shape .d) (shape .n) (shape .r) l (now term) (now psi) ⌝ }
+pub fn second_row_a(
+    shape: Shape,
+    l: usize,
+    constant_terms: &[i32],
+    psi: &[i32],
+    e: usize,
+) -> [[i32; 64]; 5]
+    requires { ⌜ TermFacts (shape .d) (shape .n) (shape .r) l (now «constant_terms») (now psi) ⌝ }
     requires { ⌜ e < pairs (shape .r) ⌝ }
-    ensures { λ r. ⌜ r ≡ tab 5 (λ k. array (shape .d) (secondA (shape .d) (shape .n) (shape .r) l (now (term .entry))
+    ensures { λ r. ⌜ r ≡ tab 5 (λ k. array (shape .d) (secondA (shape .d) (shape .n) (shape .r) l (now («constant_terms» .entry))
         (now (psi .entry)) k e)) ⌝ }
 {
     let mut row = [[0i32; 64]; 5];
     let mut k = 0;
     while k < COUNT {
-        let entry = term_entry(shape, l, term, psi, k, e);
+        let entry = term_entry(shape, l, constant_terms, psi, k, e);
         let coefficients = entry.coefficients;
         row[k] = coefficients;
         k += 1;
@@ -65,51 +78,51 @@ pub fn second_row_a(shape: Shape, l: usize, term: &[i32], psi: &[i32], e: usize)
 fn second_phi(
     shape: Shape,
     l: usize,
-    term: &[i32],
+    constant_terms: &[i32],
     psi: &[i32],
     projected: Element,
     k: usize,
     e: usize,
 ) -> Element
-    requires { ⌜ TermFacts (shape .d) (shape .n) (shape .r) l (now term) (now psi) ⌝ }
+    requires { ⌜ TermFacts (shape .d) (shape .n) (shape .r) l (now «constant_terms») (now psi) ⌝ }
     requires { ⌜ (k < 5) × (e < shape .r * shape .n) ⌝ }
     ensures { λ r. ⌜ r .coefficients ≡ array (shape .d) (R (shape .d) .add
-        (termEntry (shape .d) (shape .n) (shape .r) l (now (term .entry)) (now (psi .entry)) k (pairs (shape .r) + e))
+        (termEntry (shape .d) (shape .n) (shape .r) l (now («constant_terms» .entry)) (now (psi .entry)) k (pairs (shape .r) + e))
         (conjugate Zq (lift (shape .d) (projected .coefficients)))) ⌝ }
 {
     let d = shape.d;
     let pairs = counts::pair_count(shape.r);
     let place = pairs + e;
-    let own = term_entry(shape, l, term, psi, k, place);
+    let own = term_entry(shape, l, constant_terms, psi, k, place);
     let conjugated = projected.conjugate(d);
     own.sum(d, conjugated)
 }
 
-// The φ of the five second functions at element e of the witness. `sums` is the table of omega.
+// The φ of the five second functions at element e of the witness. `omega_sums` are the sums of ω.
 pub fn second_row_phi(
     shape: Shape,
     l: usize,
     w: usize,
-    term: &[i32],
-    rows: &[i32],
+    constant_terms: &[i32],
+    projections: &[i32],
     psi: &[i32],
     omega: &[i32],
-    sums: &[i64; 25920],
+    omega_sums: &[i64; 25920],
     e: usize,
 ) -> [[i32; 64]; 5]
-    requires { ⌜ SecondFacts (shape .d) (shape .n) (shape .r) l w (now term) (now rows) (now psi) (now omega) ⌝ }
-    requires { ⌜ SumsOf w (now omega) (now sums) ⌝ }
+    requires { ⌜ SecondFacts (shape .d) (shape .n) (shape .r) l w (now «constant_terms») (now projections) (now psi) (now omega) ⌝ }
+    requires { ⌜ OmegaSums w (now omega) (now «omega_sums») ⌝ }
     requires { ⌜ e < shape .r * shape .n ⌝ }
-    ensures { λ r. ⌜ r ≡ tab 5 (λ k. array (shape .d) (secondΦ (shape .d) (shape .n) (shape .r) l w (now (term .entry))
-        (now (rows .entry)) (now (psi .entry)) (now (omega .entry)) k e)) ⌝ }
+    ensures { λ r. ⌜ r ≡ tab 5 (λ k. array (shape .d) (secondΦ (shape .d) (shape .n) (shape .r) l w (now («constant_terms» .entry))
+        (now (projections .entry)) (now (psi .entry)) (now (omega .entry)) k e)) ⌝ }
 {
-    let projections = projection_row(shape, w, rows, omega, sums, e);
+    let projected_row = projection_row(shape, w, projections, omega, omega_sums, e);
     let mut row = [[0i32; 64]; 5];
     let mut k = 0;
     while k < COUNT {
-        let coefficients = projections[k];
+        let coefficients = projected_row[k];
         let projected = Element { coefficients };
-        let entry = second_phi(shape, l, term, psi, projected, k, e);
+        let entry = second_phi(shape, l, constant_terms, psi, projected, k, e);
         let phi = entry.coefficients;
         row[k] = phi;
         k += 1;

@@ -14,10 +14,10 @@ use Rattle.fold.specs.NextCall.{partRefusal, nextPart}
 pub use Rattle.fold.specs.Known.CallLimits.{CommitSized, GarbageSized, VerifySized, PartSized}
 use Rattle.fold.specs.Refusals.{commitTests, projectTests, aggregateTests, garbageTests, amortizeTests, verifyTests, productTests}
 
-abbrev pub statementOf : Sizes → (A B C D whole term : List ℤ) → Statement
-statementOf sizes A B C D whole term =
+abbrev pub statementOf : Sizes → (A B C D whole constantTerms : List ℤ) → Statement
+statementOf sizes A B C D whole constantTerms =
     record {
-      relation = record { d = sizes .d; n = sizes .n; r = sizes .r; K = sizes .k; L = sizes .l; bound = sizes .bound; whole = whole; term = term };
+      relation = record { d = sizes .d; n = sizes .n; r = sizes .r; K = sizes .k; L = sizes .l; bound = sizes .bound; whole = whole; constantTerms = constantTerms };
       w = sizes .w;
       tz = 2;
       κ = sizes .kappa;
@@ -47,8 +47,8 @@ abbrev pub garbageSizesOf : Sizes → GarbageSizes
 garbageSizesOf m =
     record { d = m .d; n = m .n; r = m .r; k = m .k; l = m .l; w = m .w; kappa2 = m .kappa2; b1 = m .b1; t1 = m .t1 }
 
-abbrev pub drawsOf : (rows ψ ω α δ c : List ℤ) → Draws
-drawsOf rows ψ ω α δ c = record { projections = rows; ψ = ψ; ω = ω; α = α; δ = δ; c = c }
+abbrev pub drawsOf : (projections ψ ω α δ c : List ℤ) → Draws
+drawsOf projections ψ ω α δ c = record { projections = projections; ψ = ψ; ω = ω; α = α; δ = δ; c = c }
 
 abbrev pub transcriptOf : (u₁ p b″ u₂ : List ℤ) → Transcript
 transcriptOf u₁ p b″ u₂ = record { u₁ = u₁; p = p; b″ = b″; u₂ = u₂ }
@@ -60,16 +60,16 @@ commitRefusal m A B C s ts gs u₁ =
     firstFailing
     (commitTests (m .d) (m .n) (m .r) (m .kappa) (m .kappa1) (m .b1) (m .b2) (m .t1) (m .t2) A B C s ts gs u₁)
 
-abbrev pub projectRefusal : Shape → (w : ℕ) (rows s p : List ℤ) → ℕ
-projectRefusal m w rows s p = firstFailing (projectTests (m .d) (m .n) (m .r) w rows s p)
+abbrev pub projectRefusal : Shape → (w : ℕ) (projections s p : List ℤ) → ℕ
+projectRefusal m w projections s p = firstFailing (projectTests (m .d) (m .n) (m .r) w projections s p)
 
-abbrev pub aggregateRefusal : Shape → (L w : ℕ) (term rows ψ ω s b″ : List ℤ) → ℕ
-aggregateRefusal m L w term rows ψ ω s b″ = firstFailing (aggregateTests (m .d) (m .n) (m .r) L w term rows ψ ω s b″)
+abbrev pub aggregateRefusal : Shape → (L w : ℕ) (constantTerms projections ψ ω s b″ : List ℤ) → ℕ
+aggregateRefusal m L w constantTerms projections ψ ω s b″ = firstFailing (aggregateTests (m .d) (m .n) (m .r) L w constantTerms projections ψ ω s b″)
 
-abbrev pub garbageRefusal : GarbageSizes → (whole term rows ψ ω α δ D s hs u₂ : List ℤ) → ℕ
-garbageRefusal m whole term rows ψ ω α δ D s hs u₂ =
+abbrev pub garbageRefusal : GarbageSizes → (whole constantTerms projections ψ ω α δ D s hs u₂ : List ℤ) → ℕ
+garbageRefusal m whole constantTerms projections ψ ω α δ D s hs u₂ =
     firstFailing
-    (garbageTests (m .d) (m .n) (m .r) (m .k) (m .l) (m .w) (m .kappa2) (m .b1) (m .t1) whole term rows ψ ω α δ D s hs u₂)
+    (garbageTests (m .d) (m .n) (m .r) (m .k) (m .l) (m .w) (m .kappa2) (m .b1) (m .t1) whole constantTerms projections ψ ω α δ D s hs u₂)
 
 abbrev pub amortizeRefusal : Shape → (b : ℕ) (c s zs : List ℤ) → ℕ
 amortizeRefusal m b c s zs = firstFailing (amortizeTests (m .d) (m .n) (m .r) 2 b c s zs)

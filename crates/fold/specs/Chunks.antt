@@ -1,4 +1,4 @@
--- Document 01, 'Next instance': the opening cut into chunks, its stretches. "z low and z high are cut into ν stretches each of n/ν
+-- Document 01, 'Next instance': the opening cut into chunks, the document's stretches. "z low and z high are cut into ν stretches each of n/ν
 -- elements, the rest into μ stretches of m/μ elements, both rounded up; the last stretches may be short or empty."
 use mathlib.Core.Path.{_≡_}
 use mathlib.Core.Bool.{cond}

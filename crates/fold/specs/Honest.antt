@@ -8,7 +8,7 @@ use Rattle.fold.specs.Statement.{Statement, Draws, Transcript}
 
 module _ (𝓢 : Statement) (𝓓 : Draws) (s : List ℤ) where
   open Statement 𝓢 using (relation, w, tz, κ, κ₁, κ₂, b, b₁, b₂, t₁, t₂, A, B, C, D)
-  open Relation relation using (d, n, r, K, L, whole, term)
+  open Relation relation using (d, n, r, K, L, whole, constantTerms)
   open Draws 𝓓 using (projections, ψ, ω, α, δ, c)
 
   abbrev pub honestT : List ℤ
@@ -25,7 +25,7 @@ module _ (𝓢 : Statement) (𝓓 : Draws) (s : List ℤ) where
       record {
         u₁ = Messages.u₁ d r κ κ₁ t₁ t₂ B C honestT honestG;
         p = Messages.p d n r w projections s;
-        b″ = Messages.b″ d n r L w term projections ψ ω s;
+        b″ = Messages.b″ d n r L w constantTerms projections ψ ω s;
         u₂ = Messages.u₂ d r κ₂ t₁ D honestH;
       }
 

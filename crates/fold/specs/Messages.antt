@@ -59,30 +59,30 @@ projection d n r projections j = record { a = λ i i′. R d .zero; φ = λ i k.
 
 -- Message 3: "Given ψ (5 by L) and ω (5 by w), for k = 1..5: a''= Σψ a'; φ''_i = Σψ φ'_i + Σω_j σ(row j, part i); b''_k is the value of
 -- that function without its constant. Five is the count, since q^4 < 2^128."
-abbrev pub second : (d n r L w : ℕ) (term projections ψ ω : List ℤ) → ℕ → Function (R d)
-second d n r L w term projections ψ ω k =
+abbrev pub second : (d n r L w : ℕ) (constantTerms projections ψ ω : List ℤ) → ℕ → Function (R d)
+second d n r L w constantTerms projections ψ ω k =
     plus (R d)
-    (combination (R d) L (λ l. number d (getD ψ (k * L + l) (pos 0))) (λ l. function d n r (termAt d n r term l)))
+    (combination (R d) L (λ l. number d (getD ψ (k * L + l) (pos 0))) (λ l. function d n r (termAt d n r constantTerms l)))
     (combination (R d) w (λ j. number d (getD ω (k * w + j) (pos 0))) (projection d n r projections))
 
-unfoldable pub b″ : (d n r L w : ℕ) (term projections ψ ω s : List ℤ) → List ℤ
-b″ d n r L w term projections ψ ω s = elements d five (λ k. value (R d) r n (second d n r L w term projections ψ ω k) (part d n s))
+unfoldable pub b″ : (d n r L w : ℕ) (constantTerms projections ψ ω s : List ℤ) → List ℤ
+b″ d n r L w constantTerms projections ψ ω s = elements d five (λ k. value (R d) r n (second d n r L w constantTerms projections ψ ω k) (part d n s))
 
 -- Message 4: "Given ring elements α (K) and δ (5), the aggregate is Σα f + Σδ f''."
-abbrev pub aggregate : (d n r K L w : ℕ) (whole term projections ψ ω α δ : List ℤ) → Function (R d)
-aggregate d n r K L w whole term projections ψ ω α δ =
+abbrev pub aggregate : (d n r K L w : ℕ) (whole constantTerms projections ψ ω α δ : List ℤ) → Function (R d)
+aggregate d n r K L w whole constantTerms projections ψ ω α δ =
     plus (R d)
     (combination (R d) K (el d α) (λ k. function d n r (wholeAt d n r whole k)))
-    (combination (R d) five (el d δ) (second d n r L w term projections ψ ω))
+    (combination (R d) five (el d δ) (second d n r L w constantTerms projections ψ ω))
 
 module _ (𝓢 : Statement) (𝓓 : Draws) where
   open Statement 𝓢 using (relation, w)
-  open Relation relation using (d, n, r, K, L, whole, term)
+  open Relation relation using (d, n, r, K, L, whole, constantTerms)
   open Draws 𝓓 using (projections, ψ, ω, α, δ)
 
   -- the aggregate of a statement and its draws
   abbrev pub aggregated : Function (R d)
-  aggregated = aggregate d n r K L w whole term projections ψ ω α δ
+  aggregated = aggregate d n r K L w whole constantTerms projections ψ ω α δ
 
 -- the aggregate's b: Σα b + Σδ b''
 unfoldable pub aggregateConstant : (d n r K : ℕ) (whole α δ b″ : List ℤ) → R d .Carrier

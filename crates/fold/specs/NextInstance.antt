@@ -55,7 +55,7 @@ module _ (d : ℕ) where
 
 module _ (𝓢 : Statement) (𝓓 : Draws) (𝓣 : Transcript) (ν μ : ℕ) where
   open Statement 𝓢 using (relation, w, tz, κ, κ₁, κ₂, b, b₁, b₂, t₁, t₂, target, A, B, C, D)
-  open Relation relation using (d, n, r, K, L, whole, term)
+  open Relation relation using (d, n, r, K, L, whole, constantTerms)
   open Draws 𝓓 using (projections, ψ, ω, α, δ, c)
   open Transcript 𝓣 using (u₁, b″, u₂)
   open CommRing (R d) using (Carrier as Rd, zero as 𝟘, one as 𝟙, mul as _⊗_, neg as ⊖_)
@@ -157,7 +157,7 @@ module _ (𝓢 : Statement) (𝓓 : Draws) (𝓣 : Transcript) (ν μ : ℕ) whe
 
   -- "K' = κ+κ1+κ2+3, L' = 0, bound β'²", for the constraints that some numbers are
   abbrev pub relationOf : (numbers : List ℤ) → Relation
-  relationOf numbers = record { d = d; n = n′; r = r′; K = nextCount κ κ₁ κ₂; L = 0; bound = target; whole = numbers; term = [] }
+  relationOf numbers = record { d = d; n = n′; r = r′; K = nextCount κ κ₁ κ₂; L = 0; bound = target; whole = numbers; constantTerms = [] }
 
   abbrev pub nextRelation : Relation
   nextRelation = relationOf nextWhole

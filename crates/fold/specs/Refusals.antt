@@ -7,7 +7,7 @@ use lib.Dec.{leb, eqb}
 use lib.ListN.{length, take, drop}
 use lib.IntN.{ℤ, pos, negsuc}
 use Rattle.ring.specs.Element.{every}
-use Rattle.residues.specs.Range.{allWithin, coefficients, projections, challenge}
+use Rattle.residues.specs.Range.{allWithin, coefficients, projectionEntries, challenge}
 use Rattle.fold.specs.Sizes.{five, functionSize, tSize, garbageSize, restSize, openingSize, nextRank, nextParts, nextCount}
 use Rattle.fold.specs.Statement.{Relation}
 use Rattle.fold.specs.Statement.{Statement, Draws, Transcript}
@@ -79,8 +79,8 @@ challenges d r c = every r (λ i. challenge (take d (drop (i * d) c)))
 unfoldable pub wholeLength : (d n r K : ℕ) → ℕ
 wholeLength d n r K = K * ((functionSize n r + 1) * d)
 
-unfoldable pub termLength : (d n r L : ℕ) → ℕ
-termLength d n r L = L * (functionSize n r * d + 1)
+unfoldable pub constantTermsLength : (d n r L : ℕ) → ℕ
+constantTermsLength d n r L = L * (functionSize n r * d + 1)
 
 unfoldable pub projectionLength : (d n r w : ℕ) → ℕ
 projectionLength d n r w = w * (r * n * d)
@@ -171,14 +171,14 @@ commitLengths d n r κ κ₁ t₁ t₂ A B C s ts gs u₁ =
     ∷ []
 
 -- message 2
-abbrev pub projectLengths : (d n r w : ℕ) (rows s p : List ℤ) → List Bool
-projectLengths d n r w rows s p = sized rows (projectionLength d n r w) ∷ sized s (r * n * d) ∷ sized p w ∷ []
+abbrev pub projectLengths : (d n r w : ℕ) (projections s p : List ℤ) → List Bool
+projectLengths d n r w projections s p = sized projections (projectionLength d n r w) ∷ sized s (r * n * d) ∷ sized p w ∷ []
 
 -- message 3
-abbrev pub aggregateLengths : (d n r L w : ℕ) (term rows ψ ω s b″ : List ℤ) → List Bool
-aggregateLengths d n r L w term rows ψ ω s b″ =
-    sized term (termLength d n r L)
-    ∷ sized rows (projectionLength d n r w)
+abbrev pub aggregateLengths : (d n r L w : ℕ) (constantTerms projections ψ ω s b″ : List ℤ) → List Bool
+aggregateLengths d n r L w constantTerms projections ψ ω s b″ =
+    sized constantTerms (constantTermsLength d n r L)
+    ∷ sized projections (projectionLength d n r w)
     ∷ sized ψ (five * L)
     ∷ sized ω (five * w)
     ∷ sized s (r * n * d)
@@ -186,11 +186,11 @@ aggregateLengths d n r L w term rows ψ ω s b″ =
     ∷ []
 
 -- both kinds of constraints and what is lent to aggregate them
-abbrev pub constraintLengths : (d n r K L w : ℕ) (whole term rows ψ ω α δ : List ℤ) → List Bool
-constraintLengths d n r K L w whole term rows ψ ω α δ =
+abbrev pub constraintLengths : (d n r K L w : ℕ) (whole constantTerms projections ψ ω α δ : List ℤ) → List Bool
+constraintLengths d n r K L w whole constantTerms projections ψ ω α δ =
     sized whole (wholeLength d n r K)
-    ∷ sized term (termLength d n r L)
-    ∷ sized rows (projectionLength d n r w)
+    ∷ sized constantTerms (constantTermsLength d n r L)
+    ∷ sized projections (projectionLength d n r w)
     ∷ sized ψ (five * L)
     ∷ sized ω (five * w)
     ∷ sized α (K * d)
@@ -235,27 +235,27 @@ commitTests d n r κ κ₁ b₁ b₂ t₁ t₂ A B C s ts gs u₁ =
     ∷ [])
 
 -- message 2: projection rows, the witness; out: p
-unfoldable pub projectTests : (d n r w : ℕ) (rows s p : List ℤ) → List (ℕ × Bool)
-projectTests d n r w rows s p =
+unfoldable pub projectTests : (d n r w : ℕ) (projections s p : List ℤ) → List (ℕ × Bool)
+projectTests d n r w projections s p =
     projectBounds d n r w
-    ++ ((7, allOf (projectLengths d n r w rows s p)) ∷ (8, allOf (inRange (rows ∷ s ∷ []))) ∷ (9, projections rows) ∷ [])
+    ++ ((7, allOf (projectLengths d n r w projections s p)) ∷ (8, allOf (inRange (projections ∷ s ∷ []))) ∷ (9, projectionEntries projections) ∷ [])
 
 -- message 3: constant-term constraints, projection rows, ψ, ω, the witness; out: b''
-unfoldable pub aggregateTests : (d n r L w : ℕ) (term rows ψ ω s b″ : List ℤ) → List (ℕ × Bool)
-aggregateTests d n r L w term rows ψ ω s b″ =
+unfoldable pub aggregateTests : (d n r L w : ℕ) (constantTerms projections ψ ω s b″ : List ℤ) → List (ℕ × Bool)
+aggregateTests d n r L w constantTerms projections ψ ω s b″ =
     aggregateBounds d n r L w
-    ++ ((7, allOf (aggregateLengths d n r L w term rows ψ ω s b″))
-    ∷ (8, allOf (inRange (term ∷ rows ∷ ψ ∷ ω ∷ s ∷ [])))
-    ∷ (9, projections rows)
+    ++ ((7, allOf (aggregateLengths d n r L w constantTerms projections ψ ω s b″))
+    ∷ (8, allOf (inRange (constantTerms ∷ projections ∷ ψ ∷ ω ∷ s ∷ [])))
+    ∷ (9, projectionEntries projections)
     ∷ [])
 
 -- message 4: both kinds of constraints, projection rows, ψ, ω, α, δ, D, the witness; out: h digits, u2
-unfoldable pub garbageTests : (d n r K L w κ₂ b₁ t₁ : ℕ) (whole term rows ψ ω α δ D s hs u₂ : List ℤ) → List (ℕ × Bool)
-garbageTests d n r K L w κ₂ b₁ t₁ whole term rows ψ ω α δ D s hs u₂ =
+unfoldable pub garbageTests : (d n r K L w κ₂ b₁ t₁ : ℕ) (whole constantTerms projections ψ ω α δ D s hs u₂ : List ℤ) → List (ℕ × Bool)
+garbageTests d n r K L w κ₂ b₁ t₁ whole constantTerms projections ψ ω α δ D s hs u₂ =
     garbageBounds d n r K L w κ₂ b₁ t₁
-    ++ ((7, allOf (constraintLengths d n r K L w whole term rows ψ ω α δ ++ garbageLengths d n r κ₂ t₁ D s hs u₂))
-    ∷ (8, allOf (inRange (whole ∷ term ∷ rows ∷ ψ ∷ ω ∷ α ∷ δ ∷ D ∷ s ∷ [])))
-    ∷ (9, projections rows)
+    ++ ((7, allOf (constraintLengths d n r K L w whole constantTerms projections ψ ω α δ ++ garbageLengths d n r κ₂ t₁ D s hs u₂))
+    ∷ (8, allOf (inRange (whole ∷ constantTerms ∷ projections ∷ ψ ∷ ω ∷ α ∷ δ ∷ D ∷ s ∷ [])))
+    ∷ (9, projectionEntries projections)
     ∷ [])
 
 -- message 5: challenges, the witness; out: the tz digits of z
@@ -267,8 +267,8 @@ amortizeTests d n r tz b c s zs =
 -- what is lent beside the messages: the statement and the draws
 module _ (𝓢 : Statement) (𝓓 : Draws) where
   open Statement 𝓢 using (relation, w, tz, κ, κ₁, κ₂, b, b₁, b₂, t₁, t₂, target, A, B, C, D)
-  open Relation relation using (d, n, r, K, L, bound, whole, term)
-  open Draws 𝓓 using (projections as projectionRows, ψ, ω, α, δ, c)
+  open Relation relation using (d, n, r, K, L, bound, whole, constantTerms)
+  open Draws 𝓓 using (projections, ψ, ω, α, δ, c)
 
   abbrev pub sizeTests : List (ℕ × Bool)
   sizeTests =
@@ -280,13 +280,13 @@ module _ (𝓢 : Statement) (𝓓 : Draws) where
   abbrev pub givenLengths : List Bool
   givenLengths =
       matrixLengths d n r κ κ₁ κ₂ t₁ t₂ A B C D
-      ++ (constraintLengths d n r K L w whole term projectionRows ψ ω α δ ++ (sized c (r * d) ∷ []))
+      ++ (constraintLengths d n r K L w whole constantTerms projections ψ ω α δ ++ (sized c (r * d) ∷ []))
 
   abbrev pub givenRanges : List Bool
-  givenRanges = inRange (A ∷ B ∷ C ∷ D ∷ whole ∷ term ∷ projectionRows ∷ ψ ∷ ω ∷ α ∷ δ ∷ c ∷ [])
+  givenRanges = inRange (A ∷ B ∷ C ∷ D ∷ whole ∷ constantTerms ∷ projections ∷ ψ ∷ ω ∷ α ∷ δ ∷ c ∷ [])
 
   abbrev pub drawTests : List (ℕ × Bool)
-  drawTests = (9, projections projectionRows) ∷ (10, challenges d r c) ∷ []
+  drawTests = (9, projectionEntries projections) ∷ (10, challenges d r c) ∷ []
 
   -- the statement, the draws and a witness: what the five messages are made from
   unfoldable pub proverTests : (s : List ℤ) → List (ℕ × Bool)

@@ -47,17 +47,17 @@ pub record Relation : Type 0 where
   pub L : ℕ
   pub bound : ℕ
   pub whole : List ℤ
-  pub term : List ℤ
+  pub constantTerms : List ℤ
 
 module _ (𝓢 : Relation) where
-  open Relation 𝓢 using (d, n, r, K, L, bound, whole, term)
+  open Relation 𝓢 using (d, n, r, K, L, bound, whole, constantTerms)
 
   -- "A witness meets all constraints when both kinds hold at it; its length isn't asked."
   pub record Meets (s : List ℤ) : Type 0 where
     pub wholly : (k : ℕ) → k < K
         → value (R d) r n (function d n r (wholeAt d n r whole k)) (part d n s) ≡ wholeConstant d n r whole k
     pub in-constant-term : (l : ℕ) → l < L
-        → ct Zq (value (R d) r n (function d n r (termAt d n r term l)) (part d n s)) ≡ red (termConstant d n r term l)
+        → ct Zq (value (R d) r n (function d n r (termAt d n r constantTerms l)) (part d n s)) ≡ red (termConstant d n r constantTerms l)
 
   pub record Solves (s : List ℤ) : Type 0 where
     pub meets : Meets s

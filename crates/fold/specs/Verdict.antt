@@ -29,12 +29,12 @@ unfoldable pub check₁ : (w β² : ℕ) (p : List ℤ) → Bool
 check₁ w β² p = leb (2 * normSq p) (w * β²)
 
 -- "Each b''_k has constant term Σψ b' + Σω p."
-unfoldable pub check₂ : (d n r L w : ℕ) (term ψ ω p b″ : List ℤ) → Bool
-check₂ d n r L w term ψ ω p b″ =
+unfoldable pub check₂ : (d n r L w : ℕ) (constantTerms ψ ω p b″ : List ℤ) → Bool
+check₂ d n r L w constantTerms ψ ω p b″ =
     every five (λ k. eqb (ct Zq (el d b″ k) .val) (Zq .add (terms k) (projected k) .val))
   where
     terms : ℕ → Zq .Carrier
-    terms k = sum Zq L (λ l. Zq .mul (red (getD ψ (k * L + l) (pos 0))) (red (termConstant d n r term l)))
+    terms k = sum Zq L (λ l. Zq .mul (red (getD ψ (k * L + l) (pos 0))) (red (termConstant d n r constantTerms l)))
 
     projected : ℕ → Zq .Carrier
     projected k = sum Zq w (λ j. Zq .mul (red (getD ω (k * w + j) (pos 0))) (red (getD p j (pos 0))))
@@ -72,12 +72,12 @@ check₉ d n r tz κ t₁ t₂ target o = leb (zLength d n tz o + tgLength d n r
 -- checks 1 and 2, which need no opening
 module _ (𝓢 : Statement) (𝓓 : Draws) (𝓣 : Transcript) where
   open Statement 𝓢 using (relation, w)
-  open Relation relation using (d, n, r, L, bound, term)
+  open Relation relation using (d, n, r, L, bound, constantTerms)
   open Draws 𝓓 using (ψ, ω)
   open Transcript 𝓣 using (p, b″)
 
   abbrev pub messageChecks : List (ℕ × Bool)
-  messageChecks = (1, check₁ w bound p) ∷ (2, check₂ d n r L w term ψ ω p b″) ∷ []
+  messageChecks = (1, check₁ w bound p) ∷ (2, check₂ d n r L w constantTerms ψ ω p b″) ∷ []
 
 module _ (𝓢 : Statement) (𝓓 : Draws) (𝓣 : Transcript) (o : List ℤ) where
   open Statement 𝓢 using (relation, tz, κ, κ₁, κ₂, b, b₁, b₂, t₁, t₂, target, A, B, C, D)

@@ -26,11 +26,11 @@ fn commit(sizes: Sizes, lists: &[i32], t: &mut [i32], g: &mut [i32], u1: &mut [i
         answer (now (t .exit)) (now (g .exit)) (now (u1 .exit))) x ⌝ }
 {
     let its = commit_sizes(sizes);
-    let a = nth_list(lists, 0);
-    let b = nth_list(lists, 1);
-    let c = nth_list(lists, 2);
+    let a_matrix = nth_list(lists, 0);
+    let b_matrix = nth_list(lists, 1);
+    let c_matrix = nth_list(lists, 2);
     let witness = nth_list(lists, 3);
-    let answer = capi::lizkarg_commit(its, a, b, c, witness, t, g, u1);
+    let answer = capi::lizkarg_commit(its, a_matrix, b_matrix, c_matrix, witness, t, g, u1);
     output::print_answer(answer);
     output::print_list(t);
     output::print_list(g);
@@ -64,9 +64,9 @@ fn project(sizes: Sizes, lists: &[i32], p: &mut [i32]) -> CAnswer
         (now (p .entry)) answer (now (p .exit))) x ⌝ }
 {
     let its = shape(sizes);
-    let rows = nth_list(lists, 0);
+    let projections = nth_list(lists, 0);
     let witness = nth_list(lists, 1);
-    let answer = capi::lizkarg_project(its, sizes.w, rows, witness, p);
+    let answer = capi::lizkarg_project(its, sizes.w, projections, witness, p);
     output::print_answer(answer);
     output::print_list(p);
     answer
@@ -82,15 +82,15 @@ pub fn run_project(sizes: Sizes, lists: &[i32]) -> CAnswer
 }
 
 // Call 3: the constant-term functions, the rows, psi, omega, the witness; b''.
-fn aggregate(sizes: Sizes, lists: &[i32], b2: &mut [i32]) -> CAnswer
+fn aggregate(sizes: Sizes, lists: &[i32], second_b: &mut [i32]) -> CAnswer
     ensures { λ x.
         ⌜ Coded (λ answer. Aggregated (shapeOf sizes) (sizes .l) (sizes .w) (nthList 0 (now (lists .entry)))
         (nthList 1 (now (lists .entry))) (nthList 2 (now (lists .entry))) (nthList 3 (now (lists .entry)))
-        (nthList 4 (now (lists .entry))) (now (b2 .entry)) answer (now (b2 .exit))) x ⌝ }
+        (nthList 4 (now (lists .entry))) (now («second_b» .entry)) answer (now («second_b» .exit))) x ⌝ }
 {
     let its = shape(sizes);
-    let term = nth_list(lists, 0);
-    let rows = nth_list(lists, 1);
+    let constant_terms = nth_list(lists, 0);
+    let projections = nth_list(lists, 1);
     let psi = nth_list(lists, 2);
     let omega = nth_list(lists, 3);
     let witness = nth_list(lists, 4);
@@ -98,15 +98,15 @@ fn aggregate(sizes: Sizes, lists: &[i32], b2: &mut [i32]) -> CAnswer
         its,
         sizes.l,
         sizes.w,
-        term,
-        rows,
+        constant_terms,
+        projections,
         psi,
         omega,
         witness,
-        b2,
+        second_b,
     );
     output::print_answer(answer);
-    output::print_list(b2);
+    output::print_list(second_b);
     answer
 }
 
@@ -114,9 +114,9 @@ pub fn run_aggregate(sizes: Sizes, lists: &[i32]) -> CAnswer
     ensures { λ x. ⌜ x ≡ codeOf (aggregateAnswer sizes (now (lists .entry))) ⌝ }
 {
     let lengths = past_lists(lists, 5);
-    let b2_count = count_at(lengths, 0);
-    let mut b2 = [FILL; ROOM];
-    aggregate(sizes, lists, &mut b2[..b2_count])
+    let second_b_count = count_at(lengths, 0);
+    let mut second_b = [FILL; ROOM];
+    aggregate(sizes, lists, &mut second_b[..b2_count])
 }
 
 // Call 4: the whole and the constant-term functions, the rows, psi, omega, alpha, delta, D, the witness; h's digits, u2.
@@ -130,8 +130,8 @@ fn commit_garbage(sizes: Sizes, lists: &[i32], h: &mut [i32], u2: &mut [i32]) ->
 {
     let its = garbage_sizes(sizes);
     let whole = nth_list(lists, 0);
-    let term = nth_list(lists, 1);
-    let rows = nth_list(lists, 2);
+    let constant_terms = nth_list(lists, 1);
+    let projections = nth_list(lists, 2);
     let psi = nth_list(lists, 3);
     let omega = nth_list(lists, 4);
     let alpha = nth_list(lists, 5);
@@ -141,8 +141,8 @@ fn commit_garbage(sizes: Sizes, lists: &[i32], h: &mut [i32], u2: &mut [i32]) ->
     let answer = capi::lizkarg_commit_garbage(
         its,
         whole,
-        term,
-        rows,
+        constant_terms,
+        projections,
         psi,
         omega,
         alpha,

@@ -12,18 +12,18 @@ use fold::Sizes;
 pub fn run_verify(sizes: Sizes, lists: &[i32]) -> CAnswer
     ensures { λ x. ⌜ x ≡ codeOf (verifyAnswer sizes (now (lists .entry))) ⌝ }
 {
-    let a = nth_list(lists, 0);
-    let b = nth_list(lists, 1);
+    let a_matrix = nth_list(lists, 0);
+    let b_matrix = nth_list(lists, 1);
     let c_matrix = nth_list(lists, 2);
     let d_matrix = nth_list(lists, 3);
     let whole = nth_list(lists, 4);
-    let term = nth_list(lists, 5);
+    let constant_terms = nth_list(lists, 5);
     let u1 = nth_list(lists, 6);
-    let rows = nth_list(lists, 7);
+    let projections = nth_list(lists, 7);
     let p = nth_list(lists, 8);
     let psi = nth_list(lists, 9);
     let omega = nth_list(lists, 10);
-    let b2 = nth_list(lists, 11);
+    let second_b = nth_list(lists, 11);
     let alpha = nth_list(lists, 12);
     let delta = nth_list(lists, 13);
     let u2 = nth_list(lists, 14);
@@ -31,18 +31,18 @@ pub fn run_verify(sizes: Sizes, lists: &[i32]) -> CAnswer
     let opening = nth_list(lists, 16);
     let answer = capi::lizkarg_verify(
         sizes,
-        a,
-        b,
+        a_matrix,
+        b_matrix,
         c_matrix,
         d_matrix,
         whole,
-        term,
+        constant_terms,
         u1,
-        rows,
+        projections,
         p,
         psi,
         omega,
-        b2,
+        second_b,
         alpha,
         delta,
         u2,

@@ -1,5 +1,5 @@
 -- Finite sums of natural numbers, and the squared norm of a list of integers.
---     total n f     f 0 + .. + f (n - 1), the last term added last, as a loop that counts up adds it
+--     total n f     f 0 + .. + f (n - 1), the last summand added last, as a loop that counts up adds it
 --     sq x          the square of an integer, as a natural number
 --     normSq xs     the sum of the squares of a list's elements
 use mathlib.Core.List.{List, [], _∷_}

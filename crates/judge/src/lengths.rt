@@ -2,7 +2,7 @@
 ghost use mathlib.Core.Path.{_≡_};
 ghost use Prim.Native.Nat.{_*_};
 ghost use Rattle.fold.specs.Sizes.{tSize, garbageSize, openingSize};
-ghost use Rattle.fold.specs.Refusals.{wholeLength, termLength, projectionLength};
+ghost use Rattle.fold.specs.Refusals.{wholeLength, constantTermsLength, projectionLength};
 ghost use Rattle.sheet.specs.Sections.{Bounded};
 use fold::counts::garbage_size;
 use fold::counts::opening_size;
@@ -10,14 +10,14 @@ use fold::counts::t_size;
 use limits::sizes;
 use sheet::sizes::SheetSizes;
 
-pub fn a_length(s: SheetSizes) -> usize
+pub fn a_matrix_length(s: SheetSizes) -> usize
     requires { ⌜ Bounded s ⌝ }
     ensures { λ m. ⌜ m ≡ s .kappa * s .n * s .d ⌝ }
 {
     sizes::flat_length(s.kappa, s.n, s.d)
 }
 
-pub fn b_length(s: SheetSizes) -> usize
+pub fn b_matrix_length(s: SheetSizes) -> usize
     requires { ⌜ Bounded s ⌝ }
     ensures { λ m. ⌜ m ≡ s .kappa1 * tSize (s .r) (s .kappa) (s .t1) * s .d ⌝ }
 {
@@ -25,7 +25,7 @@ pub fn b_length(s: SheetSizes) -> usize
     sizes::flat_length(s.kappa1, columns, s.d)
 }
 
-pub fn c_length(s: SheetSizes) -> usize
+pub fn c_matrix_length(s: SheetSizes) -> usize
     requires { ⌜ Bounded s ⌝ }
     ensures { λ m. ⌜ m ≡ s .kappa1 * garbageSize (s .r) (s .t2) * s .d ⌝ }
 {
@@ -33,7 +33,7 @@ pub fn c_length(s: SheetSizes) -> usize
     sizes::flat_length(s.kappa1, columns, s.d)
 }
 
-pub fn d_length(s: SheetSizes) -> usize
+pub fn d_matrix_length(s: SheetSizes) -> usize
     requires { ⌜ Bounded s ⌝ }
     ensures { λ m. ⌜ m ≡ s .kappa2 * garbageSize (s .r) (s .t1) * s .d ⌝ }
 {
@@ -48,14 +48,14 @@ pub fn whole_length(s: SheetSizes) -> usize
     sizes::whole_length(s.d, s.n, s.r, s.k)
 }
 
-pub fn term_length(s: SheetSizes) -> usize
+pub fn constant_terms_length(s: SheetSizes) -> usize
     requires { ⌜ Bounded s ⌝ }
-    ensures { λ m. ⌜ m ≡ termLength (s .d) (s .n) (s .r) (s .l) ⌝ }
+    ensures { λ m. ⌜ m ≡ constantTermsLength (s .d) (s .n) (s .r) (s .l) ⌝ }
 {
-    sizes::term_length(s.d, s.n, s.r, s.l)
+    sizes::constant_terms_length(s.d, s.n, s.r, s.l)
 }
 
-pub fn rows_length(s: SheetSizes) -> usize
+pub fn projections_length(s: SheetSizes) -> usize
     requires { ⌜ Bounded s ⌝ }
     ensures { λ m. ⌜ m ≡ projectionLength (s .d) (s .n) (s .r) (s .w) ⌝ }
 {

@@ -15,25 +15,25 @@ use sheet::sizes::fold_sizes;
 // α, δ, u2, c and the opening.
 fn judge_last(
     s: SheetSizes,
-    a: &[i32],
-    b: &[i32],
+    a_matrix: &[i32],
+    b_matrix: &[i32],
     c_matrix: &[i32],
     d_matrix: &[i32],
     whole: &[i32],
-    term: &[i32],
+    constant_terms: &[i32],
     u1: &[i32],
-    rows: &[i32],
+    projections: &[i32],
     p: &[i32],
     psi: &[i32],
     omega: &[i32],
-    b2: &[i32],
+    second_b: &[i32],
     xs: &[i32],
 ) -> Answer
     requires { ⌜ Bounded s ⌝ }
     ensures { λ r.
-        ⌜ r ≡ lastStage s (now (a .entry)) (now (b .entry)) (now («c_matrix» .entry)) (now («d_matrix» .entry))
-        (now (whole .entry)) (now (term .entry)) (now (u1 .entry)) (now (rows .entry)) (now (p .entry)) (now (psi .entry))
-        (now (omega .entry)) (now (b2 .entry)) (now (xs .entry)) ⌝ }
+        ⌜ r ≡ lastStage s (now («a_matrix» .entry)) (now («b_matrix» .entry)) (now («c_matrix» .entry)) (now («d_matrix» .entry))
+        (now (whole .entry)) (now («constant_terms» .entry)) (now (u1 .entry)) (now (projections .entry)) (now (p .entry)) (now (psi .entry))
+        (now (omega .entry)) (now («second_b» .entry)) (now (xs .entry)) ⌝ }
 {
     let alpha_length = list_length(s.k, s.d);
     let delta_length = list_length(5, s.d);
@@ -47,18 +47,18 @@ fn judge_last(
     let sizes = fold_sizes(s);
     verifier::verify(
         sizes,
-        a,
-        b,
+        a_matrix,
+        b_matrix,
         c_matrix,
         d_matrix,
         whole,
-        term,
+        constant_terms,
         u1,
-        rows,
+        projections,
         p,
         psi,
         omega,
-        b2,
+        second_b,
         front(xs, alpha_length),
         front(after_alpha, delta_length),
         front(after_delta, u2_length),
@@ -70,80 +70,80 @@ fn judge_last(
 // p, ψ, ω and b''.
 fn judge_numbers(
     s: SheetSizes,
-    a: &[i32],
-    b: &[i32],
+    a_matrix: &[i32],
+    b_matrix: &[i32],
     c_matrix: &[i32],
     d_matrix: &[i32],
     whole: &[i32],
-    term: &[i32],
+    constant_terms: &[i32],
     u1: &[i32],
-    rows: &[i32],
+    projections: &[i32],
     xs: &[i32],
 ) -> Answer
     requires { ⌜ Bounded s ⌝ }
     ensures { λ r.
-        ⌜ r ≡ numberStage s (now (a .entry)) (now (b .entry)) (now («c_matrix» .entry)) (now («d_matrix» .entry))
-        (now (whole .entry)) (now (term .entry)) (now (u1 .entry)) (now (rows .entry)) (now (xs .entry)) ⌝ }
+        ⌜ r ≡ numberStage s (now («a_matrix» .entry)) (now («b_matrix» .entry)) (now («c_matrix» .entry)) (now («d_matrix» .entry))
+        (now (whole .entry)) (now («constant_terms» .entry)) (now (u1 .entry)) (now (projections .entry)) (now (xs .entry)) ⌝ }
 {
     let p_length = s.w;
     let psi_length = 5 * s.l;
     let omega_length = 5 * s.w;
-    let b2_length = 5 * s.d;
+    let second_b_length = 5 * s.d;
     let after_p = rest(xs, p_length);
     let after_psi = rest(after_p, psi_length);
     let after_omega = rest(after_psi, omega_length);
-    let after_b2 = rest(after_omega, b2_length);
+    let after_second_b = rest(after_omega, second_b_length);
     judge_last(
         s,
-        a,
-        b,
+        a_matrix,
+        b_matrix,
         c_matrix,
         d_matrix,
         whole,
-        term,
+        constant_terms,
         u1,
-        rows,
+        projections,
         front(xs, p_length),
         front(after_p, psi_length),
         front(after_psi, omega_length),
-        front(after_omega, b2_length),
-        after_b2,
+        front(after_omega, second_b_length),
+        after_second_b,
     )
 }
 
 // The constraints, u1 and the projection rows.
 fn judge_constraints(
     s: SheetSizes,
-    a: &[i32],
-    b: &[i32],
+    a_matrix: &[i32],
+    b_matrix: &[i32],
     c_matrix: &[i32],
     d_matrix: &[i32],
     xs: &[i32],
 ) -> Answer
     requires { ⌜ Bounded s ⌝ }
     ensures { λ r.
-        ⌜ r ≡ constraintStage s (now (a .entry)) (now (b .entry)) (now («c_matrix» .entry)) (now («d_matrix» .entry))
+        ⌜ r ≡ constraintStage s (now («a_matrix» .entry)) (now («b_matrix» .entry)) (now («c_matrix» .entry)) (now («d_matrix» .entry))
         (now (xs .entry)) ⌝ }
 {
     let whole_length = lengths::whole_length(s);
-    let term_length = lengths::term_length(s);
+    let constant_terms_length = lengths::constant_terms_length(s);
     let u1_length = list_length(s.kappa1, s.d);
-    let rows_length = lengths::rows_length(s);
+    let projections_length = lengths::projections_length(s);
     let after_whole = rest(xs, whole_length);
-    let after_term = rest(after_whole, term_length);
-    let after_u1 = rest(after_term, u1_length);
-    let after_rows = rest(after_u1, rows_length);
+    let after_constant_terms = rest(after_whole, constant_terms_length);
+    let after_u1 = rest(after_constant_terms, u1_length);
+    let after_projections = rest(after_u1, projections_length);
     judge_numbers(
         s,
-        a,
-        b,
+        a_matrix,
+        b_matrix,
         c_matrix,
         d_matrix,
         front(xs, whole_length),
-        front(after_whole, term_length),
-        front(after_term, u1_length),
-        front(after_u1, rows_length),
-        after_rows,
+        front(after_whole, constant_terms_length),
+        front(after_constant_terms, u1_length),
+        front(after_u1, projections_length),
+        after_projections,
     )
 }
 
@@ -152,20 +152,20 @@ pub fn judge_sheet_numbers(s: SheetSizes, xs: &[i32]) -> Answer
     requires { ⌜ Bounded s ⌝ }
     ensures { λ r. ⌜ r ≡ judgedNumbers s (now (xs .entry)) ⌝ }
 {
-    let a_length = lengths::a_length(s);
-    let b_length = lengths::b_length(s);
-    let c_length = lengths::c_length(s);
-    let d_length = lengths::d_length(s);
-    let after_a = rest(xs, a_length);
-    let after_b = rest(after_a, b_length);
-    let after_c = rest(after_b, c_length);
-    let after_d = rest(after_c, d_length);
+    let a_matrix_length = lengths::a_matrix_length(s);
+    let b_matrix_length = lengths::b_matrix_length(s);
+    let c_matrix_length = lengths::c_matrix_length(s);
+    let d_matrix_length = lengths::d_matrix_length(s);
+    let after_a_matrix = rest(xs, a_matrix_length);
+    let after_b_matrix = rest(after_a_matrix, b_matrix_length);
+    let after_c_matrix = rest(after_b_matrix, c_matrix_length);
+    let after_d_matrix = rest(after_c_matrix, d_matrix_length);
     judge_constraints(
         s,
-        front(xs, a_length),
-        front(after_a, b_length),
-        front(after_b, c_length),
-        front(after_c, d_length),
-        after_d,
+        front(xs, a_matrix_length),
+        front(after_a_matrix, b_matrix_length),
+        front(after_b_matrix, c_matrix_length),
+        front(after_c_matrix, d_matrix_length),
+        after_d_matrix,
     )
 }

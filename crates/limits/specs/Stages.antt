@@ -52,9 +52,9 @@ abbrev pub matrixLengthsOf : Sizes → (A B C D : List ℤ) → List Bool
 matrixLengthsOf m A B C D = matrixLengths (m .d) (m .n) (m .r) (m .kappa) (m .kappa1) (m .kappa2) (m .t1) (m .t2) A B C D
 
 -- both kinds of constraints and all draws
-abbrev pub drawLengthsOf : Sizes → (whole term rows ψ ω α δ c : List ℤ) → List Bool
-drawLengthsOf m whole term rows ψ ω α δ c =
-    constraintLengths (m .d) (m .n) (m .r) (m .k) (m .l) (m .w) whole term rows ψ ω α δ ++ (sized c (m .r * m .d) ∷ [])
+abbrev pub drawLengthsOf : Sizes → (whole constantTerms projections ψ ω α δ c : List ℤ) → List Bool
+drawLengthsOf m whole constantTerms projections ψ ω α δ c =
+    constraintLengths (m .d) (m .n) (m .r) (m .k) (m .l) (m .w) whole constantTerms projections ψ ω α δ ++ (sized c (m .r * m .d) ∷ [])
 
 -- the rank of the next instance, and the length of its constraints
 abbrev pub rankOf : Sizes → (ν μ : ℕ) → ℕ

@@ -11,8 +11,8 @@ use fold::Sizes;
 pub fn draw_lengths(
     sizes: Sizes,
     whole: &[i32],
-    term: &[i32],
-    rows: &[i32],
+    constant_terms: &[i32],
+    projections: &[i32],
     psi: &[i32],
     omega: &[i32],
     alpha: &[i32],
@@ -21,7 +21,7 @@ pub fn draw_lengths(
 ) -> bool
     requires { ⌜ VerifySized sizes ⌝ }
     ensures { λ x.
-        ⌜ x ≡ allOf (spec.drawLengthsOf sizes (now (whole .entry)) (now (term .entry)) (now (rows .entry))
+        ⌜ x ≡ allOf (spec.drawLengthsOf sizes (now (whole .entry)) (now («constant_terms» .entry)) (now (projections .entry))
         (now (psi .entry)) (now (omega .entry)) (now (alpha .entry)) (now (delta .entry)) (now (c .entry))) ⌝ }
 {
     let shape = Shape {
@@ -35,8 +35,8 @@ pub fn draw_lengths(
         sizes.l,
         sizes.w,
         whole,
-        term,
-        rows,
+        constant_terms,
+        projections,
         psi,
         omega,
         alpha,

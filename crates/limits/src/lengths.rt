@@ -9,10 +9,10 @@ ghost use Rattle.fold.specs.Arguments.{CommitSized, GarbageSized, VerifySized};
 ghost use Rattle.limits.specs.Stages.{ConstraintLimits};
 ghost use Rattle.limits.specs.Stages as spec;
 use crate::rows::sized;
+use crate::sizes::constant_terms_length;
 use crate::sizes::flat_length;
 use crate::sizes::list_length;
 use crate::sizes::projection_length;
-use crate::sizes::term_length;
 use crate::sizes::whole_length;
 use fold::CommitSizes;
 use fold::GarbageSizes;
@@ -57,20 +57,20 @@ pub fn whole_fits(d: usize, n: usize, r: usize, k: usize, whole: &[i32]) -> bool
     sized(whole, length)
 }
 
-pub fn term_fits(d: usize, n: usize, r: usize, l: usize, term: &[i32]) -> bool
+pub fn constant_terms_fit(d: usize, n: usize, r: usize, l: usize, constant_terms: &[i32]) -> bool
     requires { ⌜ (d ≤ 64) × (n ≤ 256) × (r ≤ 16) × (l ≤ 32) ⌝ }
-    ensures { λ x. ⌜ x ≡ table.sized (now (term .entry)) (table.termLength d n r l) ⌝ }
+    ensures { λ x. ⌜ x ≡ table.sized (now («constant_terms» .entry)) (table.constantTermsLength d n r l) ⌝ }
 {
-    let length = term_length(d, n, r, l);
-    sized(term, length)
+    let length = constant_terms_length(d, n, r, l);
+    sized(constant_terms, length)
 }
 
-pub fn rows_fit(d: usize, n: usize, r: usize, w: usize, rows: &[i32]) -> bool
+pub fn projections_fit(d: usize, n: usize, r: usize, w: usize, projections: &[i32]) -> bool
     requires { ⌜ (d ≤ 64) × (n ≤ 256) × (r ≤ 16) × (w ≤ 256) ⌝ }
-    ensures { λ x. ⌜ x ≡ table.sized (now (rows .entry)) (table.projectionLength d n r w) ⌝ }
+    ensures { λ x. ⌜ x ≡ table.sized (now (projections .entry)) (table.projectionLength d n r w) ⌝ }
 {
     let length = projection_length(d, n, r, w);
-    sized(rows, length)
+    sized(projections, length)
 }
 
 // The digits of z, t, g and h.
@@ -92,9 +92,9 @@ pub fn opening_fits(
 
 pub fn commit_lengths(
     sizes: CommitSizes,
-    a: &[i32],
-    b: &[i32],
-    c: &[i32],
+    a_matrix: &[i32],
+    b_matrix: &[i32],
+    c_matrix: &[i32],
     witness: &[i32],
     t: &[i32],
     g: &[i32],
@@ -102,27 +102,33 @@ pub fn commit_lengths(
 ) -> bool
     requires { ⌜ CommitSized sizes ⌝ }
     ensures { λ x.
-        ⌜ x ≡ allOf (spec.commitLengthsOf sizes (now (a .entry)) (now (b .entry)) (now (c .entry)) (now (witness .entry))
+        ⌜ x ≡ allOf (spec.commitLengthsOf sizes (now («a_matrix» .entry)) (now («b_matrix» .entry)) (now («c_matrix» .entry)) (now (witness .entry))
         (now (t .entry)) (now (g .entry)) (now (u1 .entry))) ⌝ }
 {
     let t_elements = t_size(sizes.r, sizes.kappa, sizes.t1);
     let g_elements = garbage_size(sizes.r, sizes.t2);
-    matrix_fits(a, sizes.kappa, sizes.n, sizes.d)
-        & matrix_fits(b, sizes.kappa1, t_elements, sizes.d)
-        & matrix_fits(c, sizes.kappa1, g_elements, sizes.d)
+    matrix_fits(a_matrix, sizes.kappa, sizes.n, sizes.d)
+        & matrix_fits(b_matrix, sizes.kappa1, t_elements, sizes.d)
+        & matrix_fits(c_matrix, sizes.kappa1, g_elements, sizes.d)
         & matrix_fits(witness, sizes.r, sizes.n, sizes.d)
         & list_fits(t, t_elements, sizes.d)
         & list_fits(g, g_elements, sizes.d)
         & list_fits(u1, sizes.kappa1, sizes.d)
 }
 
-pub fn project_lengths(shape: Shape, w: usize, rows: &[i32], witness: &[i32], p: &[i32]) -> bool
+pub fn project_lengths(
+    shape: Shape,
+    w: usize,
+    projections: &[i32],
+    witness: &[i32],
+    p: &[i32],
+) -> bool
     requires { ⌜ ProjectLimits (shape .d) (shape .n) (shape .r) w ⌝ }
     ensures { λ x.
-        ⌜ x ≡ allOf (table.projectLengths (shape .d) (shape .n) (shape .r) w (now (rows .entry)) (now (witness .entry))
+        ⌜ x ≡ allOf (table.projectLengths (shape .d) (shape .n) (shape .r) w (now (projections .entry)) (now (witness .entry))
         (now (p .entry))) ⌝ }
 {
-    rows_fit(shape.d, shape.n, shape.r, w, rows)
+    projections_fit(shape.d, shape.n, shape.r, w, projections)
         & matrix_fits(witness, shape.r, shape.n, shape.d)
         & sized(p, w)
 }
@@ -131,24 +137,24 @@ pub fn aggregate_lengths(
     shape: Shape,
     l: usize,
     w: usize,
-    term: &[i32],
-    rows: &[i32],
+    constant_terms: &[i32],
+    projections: &[i32],
     psi: &[i32],
     omega: &[i32],
     witness: &[i32],
-    b2: &[i32],
+    second_b: &[i32],
 ) -> bool
     requires { ⌜ AggregateLimits (shape .d) (shape .n) (shape .r) l w ⌝ }
     ensures { λ x.
-        ⌜ x ≡ allOf (table.aggregateLengths (shape .d) (shape .n) (shape .r) l w (now (term .entry)) (now (rows .entry))
-        (now (psi .entry)) (now (omega .entry)) (now (witness .entry)) (now (b2 .entry))) ⌝ }
+        ⌜ x ≡ allOf (table.aggregateLengths (shape .d) (shape .n) (shape .r) l w (now («constant_terms» .entry)) (now (projections .entry))
+        (now (psi .entry)) (now (omega .entry)) (now (witness .entry)) (now («second_b» .entry))) ⌝ }
 {
-    term_fits(shape.d, shape.n, shape.r, l, term)
-        & rows_fit(shape.d, shape.n, shape.r, w, rows)
+    constant_terms_fit(shape.d, shape.n, shape.r, l, constant_terms)
+        & projections_fit(shape.d, shape.n, shape.r, w, projections)
         & five_fit(psi, l)
         & five_fit(omega, w)
         & matrix_fits(witness, shape.r, shape.n, shape.d)
-        & five_fit(b2, shape.d)
+        & five_fit(second_b, shape.d)
 }
 
 // Both kinds of constraints and what is lent to aggregate them.
@@ -158,8 +164,8 @@ pub fn constraint_lengths(
     l: usize,
     w: usize,
     whole: &[i32],
-    term: &[i32],
-    rows: &[i32],
+    constant_terms: &[i32],
+    projections: &[i32],
     psi: &[i32],
     omega: &[i32],
     alpha: &[i32],
@@ -168,12 +174,12 @@ pub fn constraint_lengths(
     requires { ⌜ ConstraintLimits (shape .d) (shape .n) (shape .r) k l w ⌝ }
     ensures { λ x.
         ⌜ x ≡ allOf (table.constraintLengths (shape .d) (shape .n) (shape .r) k l w (now (whole .entry))
-        (now (term .entry)) (now (rows .entry)) (now (psi .entry)) (now (omega .entry)) (now (alpha .entry))
+        (now («constant_terms» .entry)) (now (projections .entry)) (now (psi .entry)) (now (omega .entry)) (now (alpha .entry))
         (now (delta .entry))) ⌝ }
 {
     whole_fits(shape.d, shape.n, shape.r, k, whole)
-        & term_fits(shape.d, shape.n, shape.r, l, term)
-        & rows_fit(shape.d, shape.n, shape.r, w, rows)
+        & constant_terms_fit(shape.d, shape.n, shape.r, l, constant_terms)
+        & projections_fit(shape.d, shape.n, shape.r, w, projections)
         & five_fit(psi, l)
         & five_fit(omega, w)
         & list_fits(alpha, k, shape.d)
@@ -212,35 +218,35 @@ pub fn amortize_lengths(shape: Shape, b: usize, c: &[i32], witness: &[i32], z: &
 }
 
 // The messages before the opening.
-pub fn message_lengths(sizes: Sizes, u1: &[i32], p: &[i32], b2: &[i32], u2: &[i32]) -> bool
+pub fn message_lengths(sizes: Sizes, u1: &[i32], p: &[i32], second_b: &[i32], u2: &[i32]) -> bool
     requires { ⌜ VerifySized sizes ⌝ }
     ensures { λ x.
-        ⌜ x ≡ allOf (spec.messageLengthsOf sizes (now (u1 .entry)) (now (p .entry)) (now (b2 .entry))
+        ⌜ x ≡ allOf (spec.messageLengthsOf sizes (now (u1 .entry)) (now (p .entry)) (now («second_b» .entry))
         (now (u2 .entry))) ⌝ }
 {
     list_fits(u1, sizes.kappa1, sizes.d)
         & sized(p, sizes.w)
-        & five_fit(b2, sizes.d)
+        & five_fit(second_b, sizes.d)
         & list_fits(u2, sizes.kappa2, sizes.d)
 }
 
 pub fn matrix_lengths(
     sizes: Sizes,
-    a: &[i32],
-    b: &[i32],
+    a_matrix: &[i32],
+    b_matrix: &[i32],
     c_matrix: &[i32],
     d_matrix: &[i32],
 ) -> bool
     requires { ⌜ VerifySized sizes ⌝ }
     ensures { λ x.
-        ⌜ x ≡ allOf (spec.matrixLengthsOf sizes (now (a .entry)) (now (b .entry)) (now («c_matrix» .entry))
+        ⌜ x ≡ allOf (spec.matrixLengthsOf sizes (now («a_matrix» .entry)) (now («b_matrix» .entry)) (now («c_matrix» .entry))
         (now («d_matrix» .entry))) ⌝ }
 {
     let t_elements = t_size(sizes.r, sizes.kappa, sizes.t1);
     let g_elements = garbage_size(sizes.r, sizes.t2);
     let h_elements = garbage_size(sizes.r, sizes.t1);
-    matrix_fits(a, sizes.kappa, sizes.n, sizes.d)
-        & matrix_fits(b, sizes.kappa1, t_elements, sizes.d)
+    matrix_fits(a_matrix, sizes.kappa, sizes.n, sizes.d)
+        & matrix_fits(b_matrix, sizes.kappa1, t_elements, sizes.d)
         & matrix_fits(c_matrix, sizes.kappa1, g_elements, sizes.d)
         & matrix_fits(d_matrix, sizes.kappa2, h_elements, sizes.d)
 }

@@ -36,7 +36,7 @@ use lengths::project_lengths;
 use ranges::constraint_ranges;
 use ranges::is_element;
 use ranges::message_ranges;
-use ranges::rows_in_range;
+use ranges::projections_in_range;
 use residues::range::are_coefficients;
 use residues::range::are_projection_entries;
 use ring::element::Element;
@@ -47,47 +47,53 @@ use rows::first;
 // Message 1: A, B, C and the witness; t, g and u1 are looked at only for their lengths.
 pub fn commit_refusal(
     sizes: CommitSizes,
-    a: &[i32],
-    b: &[i32],
-    c: &[i32],
+    a_matrix: &[i32],
+    b_matrix: &[i32],
+    c_matrix: &[i32],
     witness: &[i32],
     t: &[i32],
     g: &[i32],
     u1: &[i32],
 ) -> u8
     ensures { λ x.
-        ⌜ x ≡ commitRefusal sizes (now (a .entry)) (now (b .entry)) (now (c .entry)) (now (witness .entry))
+        ⌜ x ≡ commitRefusal sizes (now («a_matrix» .entry)) (now («b_matrix» .entry)) (now («c_matrix» .entry)) (now (witness .entry))
         (now (t .entry)) (now (g .entry)) (now (u1 .entry)) ⌝ }
 {
     let size = commit_bounds(sizes);
     if size != 0 {
         return size;
     }
-    let fits = commit_lengths(sizes, a, b, c, witness, t, g, u1);
+    let fits = commit_lengths(sizes, a_matrix, b_matrix, c_matrix, witness, t, g, u1);
     if !fits {
         return 7;
     }
-    let ranges = are_coefficients(a)
-        & are_coefficients(b)
-        & are_coefficients(c)
+    let ranges = are_coefficients(a_matrix)
+        & are_coefficients(b_matrix)
+        & are_coefficients(c_matrix)
         & are_coefficients(witness);
     first(ranges, 8, 0)
 }
 
 // Message 2: projection rows and the witness; p for its length.
-pub fn project_refusal(shape: Shape, w: usize, rows: &[i32], witness: &[i32], p: &[i32]) -> u8
-    ensures { λ x. ⌜ x ≡ projectRefusal shape w (now (rows .entry)) (now (witness .entry)) (now (p .entry)) ⌝ }
+pub fn project_refusal(
+    shape: Shape,
+    w: usize,
+    projections: &[i32],
+    witness: &[i32],
+    p: &[i32],
+) -> u8
+    ensures { λ x. ⌜ x ≡ projectRefusal shape w (now (projections .entry)) (now (witness .entry)) (now (p .entry)) ⌝ }
 {
     let size = project_bounds(shape, w);
     if size != 0 {
         return size;
     }
-    let fits = project_lengths(shape, w, rows, witness, p);
+    let fits = project_lengths(shape, w, projections, witness, p);
     if !fits {
         return 7;
     }
-    let entries = are_projection_entries(rows);
-    let ranges = rows_in_range(rows, entries) & are_coefficients(witness);
+    let entries = are_projection_entries(projections);
+    let ranges = projections_in_range(projections, entries) & are_coefficients(witness);
     first(ranges, 8, first(entries, 9, 0))
 }
 
@@ -96,28 +102,38 @@ pub fn aggregate_refusal(
     shape: Shape,
     l: usize,
     w: usize,
-    term: &[i32],
-    rows: &[i32],
+    constant_terms: &[i32],
+    projections: &[i32],
     psi: &[i32],
     omega: &[i32],
     witness: &[i32],
-    b2: &[i32],
+    second_b: &[i32],
 ) -> u8
     ensures { λ x.
-        ⌜ x ≡ aggregateRefusal shape l w (now (term .entry)) (now (rows .entry)) (now (psi .entry)) (now (omega .entry))
-        (now (witness .entry)) (now (b2 .entry)) ⌝ }
+        ⌜ x ≡ aggregateRefusal shape l w (now («constant_terms» .entry)) (now (projections .entry)) (now (psi .entry)) (now (omega .entry))
+        (now (witness .entry)) (now («second_b» .entry)) ⌝ }
 {
     let size = aggregate_bounds(shape, l, w);
     if size != 0 {
         return size;
     }
-    let fits = aggregate_lengths(shape, l, w, term, rows, psi, omega, witness, b2);
+    let fits = aggregate_lengths(
+        shape,
+        l,
+        w,
+        constant_terms,
+        projections,
+        psi,
+        omega,
+        witness,
+        second_b,
+    );
     if !fits {
         return 7;
     }
-    let entries = are_projection_entries(rows);
-    let ranges = are_coefficients(term)
-        & rows_in_range(rows, entries)
+    let entries = are_projection_entries(projections);
+    let ranges = are_coefficients(constant_terms)
+        & projections_in_range(projections, entries)
         & are_coefficients(psi)
         & are_coefficients(omega)
         & are_coefficients(witness);
@@ -128,8 +144,8 @@ pub fn aggregate_refusal(
 pub fn garbage_refusal(
     sizes: GarbageSizes,
     whole: &[i32],
-    term: &[i32],
-    rows: &[i32],
+    constant_terms: &[i32],
+    projections: &[i32],
     psi: &[i32],
     omega: &[i32],
     alpha: &[i32],
@@ -140,7 +156,7 @@ pub fn garbage_refusal(
     u2: &[i32],
 ) -> u8
     ensures { λ x.
-        ⌜ x ≡ garbageRefusal sizes (now (whole .entry)) (now (term .entry)) (now (rows .entry)) (now (psi .entry))
+        ⌜ x ≡ garbageRefusal sizes (now (whole .entry)) (now («constant_terms» .entry)) (now (projections .entry)) (now (psi .entry))
         (now (omega .entry)) (now (alpha .entry)) (now (delta .entry)) (now («d_matrix» .entry))
         (now (witness .entry)) (now (h .entry)) (now (u2 .entry)) ⌝ }
 {
@@ -159,8 +175,8 @@ pub fn garbage_refusal(
         sizes.l,
         sizes.w,
         whole,
-        term,
-        rows,
+        constant_terms,
+        projections,
         psi,
         omega,
         alpha,
@@ -170,9 +186,19 @@ pub fn garbage_refusal(
     if !fits {
         return 7;
     }
-    let entries = are_projection_entries(rows);
+    let entries = are_projection_entries(projections);
     let others = are_coefficients(d_matrix) & are_coefficients(witness);
-    let ranges = constraint_ranges(whole, term, rows, entries, psi, omega, alpha, delta) & others;
+    let ranges = constraint_ranges(
+        whole,
+        constant_terms,
+        projections,
+        entries,
+        psi,
+        omega,
+        alpha,
+        delta,
+    )
+        & others;
     first(ranges, 8, first(entries, 9, 0))
 }
 
@@ -196,18 +222,18 @@ pub fn amortize_refusal(shape: Shape, b: usize, c: &[i32], witness: &[i32], z: &
 // The verifier: the statement, the draws, the messages and the opening.
 pub fn verify_refusal(
     sizes: Sizes,
-    a: &[i32],
-    b: &[i32],
+    a_matrix: &[i32],
+    b_matrix: &[i32],
     c_matrix: &[i32],
     d_matrix: &[i32],
     whole: &[i32],
-    term: &[i32],
+    constant_terms: &[i32],
     u1: &[i32],
-    rows: &[i32],
+    projections: &[i32],
     p: &[i32],
     psi: &[i32],
     omega: &[i32],
-    b2: &[i32],
+    second_b: &[i32],
     alpha: &[i32],
     delta: &[i32],
     u2: &[i32],
@@ -215,10 +241,10 @@ pub fn verify_refusal(
     opening: &[i32],
 ) -> u8
     ensures { λ x.
-        ⌜ x ≡ verifyRefusal (statementOf sizes (now (a .entry)) (now (b .entry)) (now («c_matrix» .entry))
-        (now («d_matrix» .entry)) (now (whole .entry)) (now (term .entry))) (drawsOf (now (rows .entry))
+        ⌜ x ≡ verifyRefusal (statementOf sizes (now («a_matrix» .entry)) (now («b_matrix» .entry)) (now («c_matrix» .entry))
+        (now («d_matrix» .entry)) (now (whole .entry)) (now («constant_terms» .entry))) (drawsOf (now (projections .entry))
         (now (psi .entry)) (now (omega .entry)) (now (alpha .entry)) (now (delta .entry)) (now (c .entry)))
-        (transcriptOf (now (u1 .entry)) (now (p .entry)) (now (b2 .entry)) (now (u2 .entry))) (now (opening .entry)) ⌝ }
+        (transcriptOf (now (u1 .entry)) (now (p .entry)) (now («second_b» .entry)) (now (u2 .entry))) (now (opening .entry)) ⌝ }
 {
     let size = verify_bounds(sizes);
     if size != 0 {
@@ -234,16 +260,35 @@ pub fn verify_refusal(
         opening,
     );
     let fits = opened
-        & message_lengths(sizes, u1, p, b2, u2)
-        & matrix_lengths(sizes, a, b, c_matrix, d_matrix)
-        & draw_lengths(sizes, whole, term, rows, psi, omega, alpha, delta, c);
+        & message_lengths(sizes, u1, p, second_b, u2)
+        & matrix_lengths(sizes, a_matrix, b_matrix, c_matrix, d_matrix)
+        & draw_lengths(
+            sizes,
+            whole,
+            constant_terms,
+            projections,
+            psi,
+            omega,
+            alpha,
+            delta,
+            c,
+        );
     if !fits {
         return 7;
     }
-    let entries = are_projection_entries(rows);
+    let entries = are_projection_entries(projections);
     let ranges = are_coefficients(opening)
-        & message_ranges(u1, p, b2, u2, a, b, c_matrix, d_matrix)
-        & constraint_ranges(whole, term, rows, entries, psi, omega, alpha, delta)
+        & message_ranges(u1, p, second_b, u2, a_matrix, b_matrix, c_matrix, d_matrix)
+        & constraint_ranges(
+            whole,
+            constant_terms,
+            projections,
+            entries,
+            psi,
+            omega,
+            alpha,
+            delta,
+        )
         & are_coefficients(c);
     let rule = challenges(sizes.d, sizes.r, c);
     first(ranges, 8, first(entries, 9, first(rule, 10, 0)))

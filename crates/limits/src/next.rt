@@ -71,18 +71,18 @@ pub fn next_refusal(
     sizes: Sizes,
     nu: usize,
     mu: usize,
-    a: &[i32],
-    b: &[i32],
+    a_matrix: &[i32],
+    b_matrix: &[i32],
     c_matrix: &[i32],
     d_matrix: &[i32],
     whole: &[i32],
-    term: &[i32],
+    constant_terms: &[i32],
     u1: &[i32],
-    rows: &[i32],
+    projections: &[i32],
     p: &[i32],
     psi: &[i32],
     omega: &[i32],
-    b2: &[i32],
+    second_b: &[i32],
     alpha: &[i32],
     delta: &[i32],
     u2: &[i32],
@@ -90,10 +90,10 @@ pub fn next_refusal(
     out: &[i32],
 ) -> u8
     ensures { λ x.
-        ⌜ x ≡ firstFailing (nextTests (statementOf sizes (now (a .entry)) (now (b .entry)) (now («c_matrix» .entry))
-        (now («d_matrix» .entry)) (now (whole .entry)) (now (term .entry))) (drawsOf (now (rows .entry))
+        ⌜ x ≡ firstFailing (nextTests (statementOf sizes (now («a_matrix» .entry)) (now («b_matrix» .entry)) (now («c_matrix» .entry))
+        (now («d_matrix» .entry)) (now (whole .entry)) (now («constant_terms» .entry))) (drawsOf (now (projections .entry))
         (now (psi .entry)) (now (omega .entry)) (now (alpha .entry)) (now (delta .entry)) (now (c .entry)))
-        (transcriptOf (now (u1 .entry)) (now (p .entry)) (now (b2 .entry)) (now (u2 .entry))) nu mu (now (out .entry))) ⌝ }
+        (transcriptOf (now (u1 .entry)) (now (p .entry)) (now («second_b» .entry)) (now (u2 .entry))) nu mu (now (out .entry))) ⌝ }
 {
     let size = next_bounds(sizes, nu, mu);
     if size != 0 {
@@ -101,15 +101,34 @@ pub fn next_refusal(
     }
     let rank = rank_of(sizes, nu, mu);
     let fits = out_fits(sizes, nu, mu, rank, out)
-        & message_lengths(sizes, u1, p, b2, u2)
-        & matrix_lengths(sizes, a, b, c_matrix, d_matrix)
-        & draw_lengths(sizes, whole, term, rows, psi, omega, alpha, delta, c);
+        & message_lengths(sizes, u1, p, second_b, u2)
+        & matrix_lengths(sizes, a_matrix, b_matrix, c_matrix, d_matrix)
+        & draw_lengths(
+            sizes,
+            whole,
+            constant_terms,
+            projections,
+            psi,
+            omega,
+            alpha,
+            delta,
+            c,
+        );
     if !fits {
         return 7;
     }
-    let entries = are_projection_entries(rows);
-    let ranges = message_ranges(u1, p, b2, u2, a, b, c_matrix, d_matrix)
-        & constraint_ranges(whole, term, rows, entries, psi, omega, alpha, delta)
+    let entries = are_projection_entries(projections);
+    let ranges = message_ranges(u1, p, second_b, u2, a_matrix, b_matrix, c_matrix, d_matrix)
+        & constraint_ranges(
+            whole,
+            constant_terms,
+            projections,
+            entries,
+            psi,
+            omega,
+            alpha,
+            delta,
+        )
         & are_coefficients(c);
     let rule = challenges(sizes.d, sizes.r, c);
     let small = rank <= 256;

@@ -43,11 +43,7 @@ pub fn part_bounds(sizes: PartSizes, part: usize) -> u8
     first(
         degree(sizes.d),
         1,
-        first(
-            two,
-            2,
-            first(three, 3, first(four, 4, first(five, 5, 0))),
-        ),
+        first(two, 2, first(three, 3, first(four, 4, first(five, 5, 0)))),
     )
 }
 

@@ -2,42 +2,42 @@
 ghost use mathlib.Core.Path.{_≡_};
 ghost use mathlib.Core.List.{[], _∷_};
 ghost use lib.ListN.{drop};
-ghost use Rattle.residues.specs.Range.{allWithin, coefficients, projections};
+ghost use Rattle.residues.specs.Range.{allWithin, coefficients, projectionEntries};
 ghost use Rattle.fold.specs.Refusals.{allOf, inRange, isElement};
 use residues::range::all_between;
 use residues::range::are_coefficients;
 
 // The projection rows, where `entries` says whether row 9 holds. Entries of -1, 0 and 1 are in coefficient range, so that the rows are
 // looked at once where it does.
-pub fn rows_in_range(rows: &[i32], entries: bool) -> bool
-    requires { ⌜ entries ≡ projections (now rows) ⌝ }
-    ensures { λ x. ⌜ x ≡ coefficients (now (rows .entry)) ⌝ }
+pub fn projections_in_range(projections: &[i32], entries: bool) -> bool
+    requires { ⌜ entries ≡ projectionEntries (now projections) ⌝ }
+    ensures { λ x. ⌜ x ≡ coefficients (now (projections .entry)) ⌝ }
 {
     if entries {
         return true;
     }
-    are_coefficients(rows)
+    are_coefficients(projections)
 }
 
 // Both kinds of constraints and what is lent to aggregate them.
 pub fn constraint_ranges(
     whole: &[i32],
-    term: &[i32],
-    rows: &[i32],
+    constant_terms: &[i32],
+    projections: &[i32],
     entries: bool,
     psi: &[i32],
     omega: &[i32],
     alpha: &[i32],
     delta: &[i32],
 ) -> bool
-    requires { ⌜ entries ≡ projections (now rows) ⌝ }
+    requires { ⌜ entries ≡ projectionEntries (now projections) ⌝ }
     ensures { λ x.
-        ⌜ x ≡ allOf (inRange (now (whole .entry) ∷ now (term .entry) ∷ now (rows .entry) ∷ now (psi .entry)
+        ⌜ x ≡ allOf (inRange (now (whole .entry) ∷ now («constant_terms» .entry) ∷ now (projections .entry) ∷ now (psi .entry)
         ∷ now (omega .entry) ∷ now (alpha .entry) ∷ now (delta .entry) ∷ [])) ⌝ }
 {
     are_coefficients(whole)
-        & are_coefficients(term)
-        & rows_in_range(rows, entries)
+        & are_coefficients(constant_terms)
+        & projections_in_range(projections, entries)
         & are_coefficients(psi)
         & are_coefficients(omega)
         & are_coefficients(alpha)
@@ -48,23 +48,23 @@ pub fn constraint_ranges(
 pub fn message_ranges(
     u1: &[i32],
     p: &[i32],
-    b2: &[i32],
+    second_b: &[i32],
     u2: &[i32],
-    a: &[i32],
-    b: &[i32],
+    a_matrix: &[i32],
+    b_matrix: &[i32],
     c_matrix: &[i32],
     d_matrix: &[i32],
 ) -> bool
     ensures { λ x.
-        ⌜ x ≡ allOf (inRange (now (u1 .entry) ∷ now (p .entry) ∷ now (b2 .entry) ∷ now (u2 .entry)
-        ∷ now (a .entry) ∷ now (b .entry) ∷ now («c_matrix» .entry) ∷ now («d_matrix» .entry) ∷ [])) ⌝ }
+        ⌜ x ≡ allOf (inRange (now (u1 .entry) ∷ now (p .entry) ∷ now («second_b» .entry) ∷ now (u2 .entry)
+        ∷ now («a_matrix» .entry) ∷ now («b_matrix» .entry) ∷ now («c_matrix» .entry) ∷ now («d_matrix» .entry) ∷ [])) ⌝ }
 {
     are_coefficients(u1)
         & are_coefficients(p)
-        & are_coefficients(b2)
+        & are_coefficients(second_b)
         & are_coefficients(u2)
-        & are_coefficients(a)
-        & are_coefficients(b)
+        & are_coefficients(a_matrix)
+        & are_coefficients(b_matrix)
         & are_coefficients(c_matrix)
         & are_coefficients(d_matrix)
 }

@@ -30,9 +30,9 @@ pub fn whole_length(d: usize, n: usize, r: usize, k: usize) -> usize
 }
 
 // Numbers of l constant-term constraints.
-pub fn term_length(d: usize, n: usize, r: usize, l: usize) -> usize
+pub fn constant_terms_length(d: usize, n: usize, r: usize, l: usize) -> usize
     requires { ⌜ (d ≤ 64) × (n ≤ 256) × (r ≤ 16) × (l ≤ 32) ⌝ }
-    ensures { λ x. ⌜ x ≡ table.termLength d n r l ⌝ }
+    ensures { λ x. ⌜ x ≡ table.constantTermsLength d n r l ⌝ }
 {
     let function = function_size(n, r);
     l * (function * d + 1)

@@ -34,26 +34,26 @@ pub record Committed (sizes : CommitSizes) (A B C s t g u : List ℤ) (answer : 
   pub u-is : u′ ≡ written (commitRefusal sizes A B C s t g u) (u₁Of sizes B C (tOf sizes A s) (gOf sizes s)) u
 
 -- Message 2
-pub record Projected (shape : Shape) (w : ℕ) (rows s v : List ℤ) (answer : Answer) (v′ : List ℤ) : Type 0 where
-  pub answer-is : answer ≡ answered (projectRefusal shape w rows s v) Written
-  pub p-is : v′ ≡ written (projectRefusal shape w rows s v) (p (shape .d) (shape .n) (shape .r) w rows s) v
+pub record Projected (shape : Shape) (w : ℕ) (projections s v : List ℤ) (answer : Answer) (v′ : List ℤ) : Type 0 where
+  pub answer-is : answer ≡ answered (projectRefusal shape w projections s v) Written
+  pub p-is : v′ ≡ written (projectRefusal shape w projections s v) (p (shape .d) (shape .n) (shape .r) w projections s) v
 
 -- Message 3
-pub record Aggregated (shape : Shape) (L w : ℕ) (term rows ψ ω s v : List ℤ) (answer : Answer) (v′ : List ℤ) : Type 0 where
-  pub answer-is : answer ≡ answered (aggregateRefusal shape L w term rows ψ ω s v) Written
-  pub b-is : v′ ≡ written (aggregateRefusal shape L w term rows ψ ω s v) (b″ (shape .d) (shape .n) (shape .r) L w term rows ψ ω s) v
+pub record Aggregated (shape : Shape) (L w : ℕ) (constantTerms projections ψ ω s v : List ℤ) (answer : Answer) (v′ : List ℤ) : Type 0 where
+  pub answer-is : answer ≡ answered (aggregateRefusal shape L w constantTerms projections ψ ω s v) Written
+  pub b-is : v′ ≡ written (aggregateRefusal shape L w constantTerms projections ψ ω s v) (b″ (shape .d) (shape .n) (shape .r) L w constantTerms projections ψ ω s) v
 
 -- Message 4: the digits of h for the sizes of a struct
-abbrev pub hOf : GarbageSizes → (whole term rows ψ ω α δ s : List ℤ) → List ℤ
-hOf m whole term rows ψ ω α δ s =
-    hDigits (m .d) (m .n) (m .r) (m .b1) (m .t1) (aggregate (m .d) (m .n) (m .r) (m .k) (m .l) (m .w) whole term rows ψ ω α δ .φ) s
+abbrev pub hOf : GarbageSizes → (whole constantTerms projections ψ ω α δ s : List ℤ) → List ℤ
+hOf m whole constantTerms projections ψ ω α δ s =
+    hDigits (m .d) (m .n) (m .r) (m .b1) (m .t1) (aggregate (m .d) (m .n) (m .r) (m .k) (m .l) (m .w) whole constantTerms projections ψ ω α δ .φ) s
 
-pub record GarbageCommitted (sizes : GarbageSizes) (whole term rows ψ ω α δ D s h u : List ℤ) (answer : Answer) (h′ u′ : List ℤ) : Type 0 where
-  pub answer-is : answer ≡ answered (garbageRefusal sizes whole term rows ψ ω α δ D s h u) Written
-  pub h-is : h′ ≡ written (garbageRefusal sizes whole term rows ψ ω α δ D s h u) (hOf sizes whole term rows ψ ω α δ s) h
+pub record GarbageCommitted (sizes : GarbageSizes) (whole constantTerms projections ψ ω α δ D s h u : List ℤ) (answer : Answer) (h′ u′ : List ℤ) : Type 0 where
+  pub answer-is : answer ≡ answered (garbageRefusal sizes whole constantTerms projections ψ ω α δ D s h u) Written
+  pub h-is : h′ ≡ written (garbageRefusal sizes whole constantTerms projections ψ ω α δ D s h u) (hOf sizes whole constantTerms projections ψ ω α δ s) h
   pub u-is : u′
-      ≡ written (garbageRefusal sizes whole term rows ψ ω α δ D s h u)
-      (u₂ (sizes .d) (sizes .r) (sizes .kappa2) (sizes .t1) D (hOf sizes whole term rows ψ ω α δ s)) u
+      ≡ written (garbageRefusal sizes whole constantTerms projections ψ ω α δ D s h u)
+      (u₂ (sizes .d) (sizes .r) (sizes .kappa2) (sizes .t1) D (hOf sizes whole constantTerms projections ψ ω α δ s)) u
 
 -- Message 5
 pub record Amortized (shape : Shape) (b : ℕ) (c s v : List ℤ) (answer : Answer) (v′ : List ℤ) : Type 0 where

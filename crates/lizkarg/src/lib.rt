@@ -41,61 +41,87 @@ pub fn multiply(d: usize, x: Element, y: Element) -> Product
 // Message 1: the inner commitments t and the products g, in digits, and the outer commitment u1.
 pub fn commit(
     sizes: CommitSizes,
-    a: &[i32],
-    b: &[i32],
-    c: &[i32],
+    a_matrix: &[i32],
+    b_matrix: &[i32],
+    c_matrix: &[i32],
     witness: &[i32],
     t: &mut [i32],
     g: &mut [i32],
     u1: &mut [i32],
 ) -> Answer
     ensures { λ x.
-        ⌜ Committed sizes (now (a .entry)) (now (b .entry)) (now (c .entry)) (now (witness .entry)) (now (t .entry))
+        ⌜ Committed sizes (now («a_matrix» .entry)) (now («b_matrix» .entry)) (now («c_matrix» .entry)) (now (witness .entry)) (now (t .entry))
         (now (g .entry)) (now (u1 .entry)) x (now (t .exit)) (now (g .exit)) (now (u1 .exit)) ⌝ }
 {
-    let refusal = limits::commit_refusal(sizes, a, b, c, witness, t, g, u1);
+    let refusal = limits::commit_refusal(sizes, a_matrix, b_matrix, c_matrix, witness, t, g, u1);
     if refusal != 0 {
         return Answer::Refused(refusal);
     }
-    prover::commit::write_t(sizes, a, witness, t);
+    prover::commit::write_t(sizes, a_matrix, witness, t);
     prover::commit::write_g(sizes, witness, g);
-    prover::commit::write_u1(sizes, b, c, t, g, u1);
+    prover::commit::write_u1(sizes, b_matrix, c_matrix, t, g, u1);
     Answer::Written
 }
 
 // Message 2: the projections p.
-pub fn project(shape: Shape, w: usize, rows: &[i32], witness: &[i32], p: &mut [i32]) -> Answer
-    ensures { λ x. ⌜ Projected shape w (now (rows .entry)) (now (witness .entry)) (now (p .entry)) x (now (p .exit)) ⌝ }
+pub fn project(
+    shape: Shape,
+    w: usize,
+    projections: &[i32],
+    witness: &[i32],
+    p: &mut [i32],
+) -> Answer
+    ensures { λ x. ⌜ Projected shape w (now (projections .entry)) (now (witness .entry)) (now (p .entry)) x (now (p .exit)) ⌝ }
 {
-    let refusal = limits::project_refusal(shape, w, rows, witness, p);
+    let refusal = limits::project_refusal(shape, w, projections, witness, p);
     if refusal != 0 {
         return Answer::Refused(refusal);
     }
-    prover::project::write_p(shape, w, rows, witness, p);
+    prover::project::write_p(shape, w, projections, witness, p);
     Answer::Written
 }
 
-// Message 3: the values b'' of the five second functions, here b2.
+// Message 3: the values b'' of the five second functions, here second_b.
 pub fn aggregate(
     shape: Shape,
     l: usize,
     w: usize,
-    term: &[i32],
-    rows: &[i32],
+    constant_terms: &[i32],
+    projections: &[i32],
     psi: &[i32],
     omega: &[i32],
     witness: &[i32],
-    b2: &mut [i32],
+    second_b: &mut [i32],
 ) -> Answer
     ensures { λ x.
-        ⌜ Aggregated shape l w (now (term .entry)) (now (rows .entry)) (now (psi .entry)) (now (omega .entry))
-        (now (witness .entry)) (now (b2 .entry)) x (now (b2 .exit)) ⌝ }
+        ⌜ Aggregated shape l w (now («constant_terms» .entry)) (now (projections .entry)) (now (psi .entry)) (now (omega .entry))
+        (now (witness .entry)) (now («second_b» .entry)) x (now («second_b» .exit)) ⌝ }
 {
-    let refusal = limits::aggregate_refusal(shape, l, w, term, rows, psi, omega, witness, b2);
+    let refusal = limits::aggregate_refusal(
+        shape,
+        l,
+        w,
+        constant_terms,
+        projections,
+        psi,
+        omega,
+        witness,
+        second_b,
+    );
     if refusal != 0 {
         return Answer::Refused(refusal);
     }
-    aggregation::second::write_b2(shape, l, w, term, rows, psi, omega, witness, b2);
+    aggregation::second::write_second_b(
+        shape,
+        l,
+        w,
+        constant_terms,
+        projections,
+        psi,
+        omega,
+        witness,
+        second_b,
+    );
     Answer::Written
 }
 
@@ -103,8 +129,8 @@ pub fn aggregate(
 pub fn commit_garbage(
     sizes: GarbageSizes,
     whole: &[i32],
-    term: &[i32],
-    rows: &[i32],
+    constant_terms: &[i32],
+    projections: &[i32],
     psi: &[i32],
     omega: &[i32],
     alpha: &[i32],
@@ -115,15 +141,15 @@ pub fn commit_garbage(
     u2: &mut [i32],
 ) -> Answer
     ensures { λ x.
-        ⌜ GarbageCommitted sizes (now (whole .entry)) (now (term .entry)) (now (rows .entry)) (now (psi .entry)) (now (omega .entry))
+        ⌜ GarbageCommitted sizes (now (whole .entry)) (now («constant_terms» .entry)) (now (projections .entry)) (now (psi .entry)) (now (omega .entry))
         (now (alpha .entry)) (now (delta .entry)) (now («d_matrix» .entry)) (now (witness .entry)) (now (h .entry))
         (now (u2 .entry)) x (now (h .exit)) (now (u2 .exit)) ⌝ }
 {
     let refusal = limits::garbage_refusal(
         sizes,
         whole,
-        term,
-        rows,
+        constant_terms,
+        projections,
         psi,
         omega,
         alpha,
@@ -139,8 +165,8 @@ pub fn commit_garbage(
     aggregation::garbage::write_h(
         sizes,
         whole,
-        term,
-        rows,
+        constant_terms,
+        projections,
         psi,
         omega,
         alpha,

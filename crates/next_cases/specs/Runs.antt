@@ -48,23 +48,23 @@ pub record Committing (sizes : Sizes) (setup s lengths m : List ℤ) (code : CAn
       code
   pub keeps : m′ ≡ kept (kept (kept m lengths 1 t′) lengths 2 g′) lengths 4 u′
 
-pub record Projecting (sizes : Sizes) (rows s lengths m : List ℤ) (code : CAnswer) (m′ : List ℤ) : Type 0 where
+pub record Projecting (sizes : Sizes) (projections s lengths m : List ℤ) (code : CAnswer) (m′ : List ℤ) : Type 0 where
   pub p′ : List ℤ
-  pub called : Coded (λ answer. Projected (shapeOf sizes) (sizes .w) rows s (blank lengths 5) answer p′) code
+  pub called : Coded (λ answer. Projected (shapeOf sizes) (sizes .w) projections s (blank lengths 5) answer p′) code
   pub keeps : m′ ≡ kept m lengths 5 p′
 
-pub record Aggregating (sizes : Sizes) (term rows ψ draws s lengths m : List ℤ) (code : CAnswer) (m′ : List ℤ) : Type 0 where
+pub record Aggregating (sizes : Sizes) (constantTerms projections ψ draws s lengths m : List ℤ) (code : CAnswer) (m′ : List ℤ) : Type 0 where
   pub b′ : List ℤ
   pub called : Coded
-      (λ answer. Aggregated (shapeOf sizes) (sizes .l) (sizes .w) term rows ψ (nthList 0 draws) s (blank lengths 6) answer b′)
+      (λ answer. Aggregated (shapeOf sizes) (sizes .l) (sizes .w) constantTerms projections ψ (nthList 0 draws) s (blank lengths 6) answer b′)
       code
   pub keeps : m′ ≡ kept m lengths 6 b′
 
-pub record GarbageCommitting (sizes : Sizes) (setup whole term rows ψ draws s lengths m : List ℤ) (code : CAnswer) (m′ : List ℤ) : Type 0 where
+pub record GarbageCommitting (sizes : Sizes) (setup whole constantTerms projections ψ draws s lengths m : List ℤ) (code : CAnswer) (m′ : List ℤ) : Type 0 where
   pub h′ : List ℤ
   pub u′ : List ℤ
   pub called : Coded
-      (λ answer. GarbageCommitted (garbageSizesOf sizes) whole term rows ψ (nthList 0 draws) (nthList 1 draws) (nthList 2 draws)
+      (λ answer. GarbageCommitted (garbageSizesOf sizes) whole constantTerms projections ψ (nthList 0 draws) (nthList 1 draws) (nthList 2 draws)
       (nthList 3 setup) s (blank lengths 3) (blank lengths 7) answer h′ u′)
       code
   pub keeps : m′ ≡ kept (kept m lengths 3 h′) lengths 7 u′
@@ -75,23 +75,23 @@ pub record Amortizing (sizes : Sizes) (draws s lengths m : List ℤ) (code : CAn
   pub keeps : m′ ≡ kept m lengths 0 z′
 
 -- what the verifier and the next instance are given
-abbrev pub foldStatement : Sizes → (setup whole term : List ℤ) → Statement
-foldStatement sizes setup whole term =
-    statementOf sizes (nthList 0 setup) (nthList 1 setup) (nthList 2 setup) (nthList 3 setup) whole term
+abbrev pub foldStatement : Sizes → (setup whole constantTerms : List ℤ) → Statement
+foldStatement sizes setup whole constantTerms =
+    statementOf sizes (nthList 0 setup) (nthList 1 setup) (nthList 2 setup) (nthList 3 setup) whole constantTerms
 
-abbrev pub foldDraws : (rows ψ draws : List ℤ) → Draws
-foldDraws rows ψ draws = drawsOf rows ψ (nthList 0 draws) (nthList 1 draws) (nthList 2 draws) (nthList 3 draws)
+abbrev pub foldDraws : (projections ψ draws : List ℤ) → Draws
+foldDraws projections ψ draws = drawsOf projections ψ (nthList 0 draws) (nthList 1 draws) (nthList 2 draws) (nthList 3 draws)
 
 abbrev pub foldTranscript : (lengths m : List ℤ) → Transcript
 foldTranscript lengths m = transcriptOf (messageOf m lengths 4) (messageOf m lengths 5) (messageOf m lengths 6) (messageOf m lengths 7)
 
-abbrev pub verdictOf : Sizes → (setup whole term rows ψ draws lengths m : List ℤ) → CAnswer
-verdictOf sizes setup whole term rows ψ draws lengths m =
+abbrev pub verdictOf : Sizes → (setup whole constantTerms projections ψ draws lengths m : List ℤ) → CAnswer
+verdictOf sizes setup whole constantTerms projections ψ draws lengths m =
     codeOf
-    (verification (foldStatement sizes setup whole term) (foldDraws rows ψ draws) (foldTranscript lengths m) (openingOf m lengths))
+    (verification (foldStatement sizes setup whole constantTerms) (foldDraws projections ψ draws) (foldTranscript lengths m) (openingOf m lengths))
 
 -- the five messages one after another, and the verdict on them
-pub record Folded (sizes : Sizes) (setup whole term rows ψ draws s lengths m : List ℤ) (verdict : CAnswer) (m′ : List ℤ) : Type 0 where
+pub record Folded (sizes : Sizes) (setup whole constantTerms projections ψ draws s lengths m : List ℤ) (verdict : CAnswer) (m′ : List ℤ) : Type 0 where
   pub code₁ : CAnswer
   pub code₂ : CAnswer
   pub code₃ : CAnswer
@@ -102,19 +102,19 @@ pub record Folded (sizes : Sizes) (setup whole term rows ψ draws s lengths m : 
   pub m₃ : List ℤ
   pub m₄ : List ℤ
   pub message₁ : Committing sizes setup s lengths m code₁ m₁
-  pub message₂ : Projecting sizes rows s lengths m₁ code₂ m₂
-  pub message₃ : Aggregating sizes term rows ψ draws s lengths m₂ code₃ m₃
-  pub message₄ : GarbageCommitting sizes setup whole term rows ψ draws s lengths m₃ code₄ m₄
+  pub message₂ : Projecting sizes projections s lengths m₁ code₂ m₂
+  pub message₃ : Aggregating sizes constantTerms projections ψ draws s lengths m₂ code₃ m₃
+  pub message₄ : GarbageCommitting sizes setup whole constantTerms projections ψ draws s lengths m₃ code₄ m₄
   pub message₅ : Amortizing sizes draws s lengths m₄ code₅ m′
-  pub verdict-is : verdict ≡ verdictOf sizes setup whole term rows ψ draws lengths m′
+  pub verdict-is : verdict ≡ verdictOf sizes setup whole constantTerms projections ψ draws lengths m′
 
 -- ---- kind 3
 
 -- the next instance after a fold
-abbrev pub NextOfFold : Sizes → (ν μ : ℕ) → (setup whole term rows ψ draws lengths m out : List ℤ) → CAnswer → (out′ : List ℤ) → Type 0
-NextOfFold sizes ν μ setup whole term rows ψ draws lengths m out code out′ =
+abbrev pub NextOfFold : Sizes → (ν μ : ℕ) → (setup whole constantTerms projections ψ draws lengths m out : List ℤ) → CAnswer → (out′ : List ℤ) → Type 0
+NextOfFold sizes ν μ setup whole constantTerms projections ψ draws lengths m out code out′ =
     Coded
-    (λ answer. NextCalled (foldStatement sizes setup whole term) (foldDraws rows ψ draws) (foldTranscript lengths m) ν μ out answer out′)
+    (λ answer. NextCalled (foldStatement sizes setup whole constantTerms) (foldDraws projections ψ draws) (foldTranscript lengths m) ν μ out answer out′)
     code
 
 -- A, B, C, D, the whole and the constant-term functions, the rows, ψ, ω, α, δ, c, the witness

@@ -4,10 +4,10 @@ ghost use mathlib.Core.Path.{_≡_};
 ghost use Rattle.next_cases.specs.Runs.{Committing, Projecting, Aggregating, GarbageCommitting, Amortizing, verdictOf, Folded};
 use crate::input::FILL;
 use crate::input::ROOM;
-use crate::messages::B2;
 use crate::messages::G;
 use crate::messages::H;
 use crate::messages::P;
+use crate::messages::SECOND_B;
 use crate::messages::T;
 use crate::messages::U1;
 use crate::messages::U2;
@@ -75,13 +75,13 @@ fn commit(
 
 fn project(
     sizes: Sizes,
-    rows: &[i32],
+    projections: &[i32],
     witness: &[i32],
     lengths: &[i32],
     messages: &mut [i32],
 ) -> CAnswer
     ensures { λ x.
-        ⌜ Projecting sizes (now (rows .entry)) (now (witness .entry)) (now (lengths .entry)) (now (messages .entry)) x
+        ⌜ Projecting sizes (now (projections .entry)) (now (witness .entry)) (now (lengths .entry)) (now (messages .entry)) x
         (now (messages .exit)) ⌝ }
 {
     let count = size(lengths, P, ROOM);
@@ -92,7 +92,7 @@ fn project(
         n: sizes.n,
         r: sizes.r,
     };
-    let answer = capi::lizkarg_project(shape, sizes.w, rows, witness, p);
+    let answer = capi::lizkarg_project(shape, sizes.w, projections, witness, p);
     print_answer(1, answer);
     keep(messages, lengths, P, p);
     answer
@@ -100,8 +100,8 @@ fn project(
 
 fn aggregate(
     sizes: Sizes,
-    term: &[i32],
-    rows: &[i32],
+    constant_terms: &[i32],
+    projections: &[i32],
     psi: &[i32],
     draws: &[i32],
     witness: &[i32],
@@ -109,12 +109,12 @@ fn aggregate(
     messages: &mut [i32],
 ) -> CAnswer
     ensures { λ x.
-        ⌜ Aggregating sizes (now (term .entry)) (now (rows .entry)) (now (psi .entry)) (now (draws .entry))
+        ⌜ Aggregating sizes (now («constant_terms» .entry)) (now (projections .entry)) (now (psi .entry)) (now (draws .entry))
         (now (witness .entry)) (now (lengths .entry)) (now (messages .entry)) x (now (messages .exit)) ⌝ }
 {
-    let count = size(lengths, B2, ROOM);
+    let count = size(lengths, SECOND_B, ROOM);
     let mut room = [FILL; ROOM];
-    let b2 = &mut room[..count];
+    let second_b = &mut room[..count];
     let shape = Shape {
         d: sizes.d,
         n: sizes.n,
@@ -124,15 +124,15 @@ fn aggregate(
         shape,
         sizes.l,
         sizes.w,
-        term,
-        rows,
+        constant_terms,
+        projections,
         psi,
         nth_list(draws, 0),
         witness,
-        b2,
+        second_b,
     );
     print_answer(1, answer);
-    keep(messages, lengths, B2, b2);
+    keep(messages, lengths, SECOND_B, second_b);
     answer
 }
 
@@ -140,8 +140,8 @@ fn commit_garbage(
     sizes: Sizes,
     setup: &[i32],
     whole: &[i32],
-    term: &[i32],
-    rows: &[i32],
+    constant_terms: &[i32],
+    projections: &[i32],
     psi: &[i32],
     draws: &[i32],
     witness: &[i32],
@@ -149,7 +149,7 @@ fn commit_garbage(
     messages: &mut [i32],
 ) -> CAnswer
     ensures { λ x.
-        ⌜ GarbageCommitting sizes (now (setup .entry)) (now (whole .entry)) (now (term .entry)) (now (rows .entry))
+        ⌜ GarbageCommitting sizes (now (setup .entry)) (now (whole .entry)) (now («constant_terms» .entry)) (now (projections .entry))
         (now (psi .entry)) (now (draws .entry)) (now (witness .entry)) (now (lengths .entry)) (now (messages .entry)) x
         (now (messages .exit)) ⌝ }
 {
@@ -173,8 +173,8 @@ fn commit_garbage(
     let answer = capi::lizkarg_commit_garbage(
         its,
         whole,
-        term,
-        rows,
+        constant_terms,
+        projections,
         psi,
         nth_list(draws, 0),
         nth_list(draws, 1),
@@ -221,15 +221,15 @@ fn verify(
     sizes: Sizes,
     setup: &[i32],
     whole: &[i32],
-    term: &[i32],
-    rows: &[i32],
+    constant_terms: &[i32],
+    projections: &[i32],
     psi: &[i32],
     draws: &[i32],
     lengths: &[i32],
     messages: &[i32],
 ) -> CAnswer
     ensures { λ x.
-        ⌜ x ≡ verdictOf sizes (now (setup .entry)) (now (whole .entry)) (now (term .entry)) (now (rows .entry))
+        ⌜ x ≡ verdictOf sizes (now (setup .entry)) (now (whole .entry)) (now («constant_terms» .entry)) (now (projections .entry))
         (now (psi .entry)) (now (draws .entry)) (now (lengths .entry)) (now (messages .entry)) ⌝ }
 {
     let answer = capi::lizkarg_verify(
@@ -239,13 +239,13 @@ fn verify(
         nth_list(setup, 2),
         nth_list(setup, 3),
         whole,
-        term,
+        constant_terms,
         message(messages, lengths, U1),
-        rows,
+        projections,
         message(messages, lengths, P),
         psi,
         nth_list(draws, 0),
-        message(messages, lengths, B2),
+        message(messages, lengths, SECOND_B),
         nth_list(draws, 1),
         nth_list(draws, 2),
         message(messages, lengths, U2),
@@ -262,8 +262,8 @@ pub fn run_fold(
     sizes: Sizes,
     setup: &[i32],
     whole: &[i32],
-    term: &[i32],
-    rows: &[i32],
+    constant_terms: &[i32],
+    projections: &[i32],
     psi: &[i32],
     draws: &[i32],
     witness: &[i32],
@@ -271,18 +271,27 @@ pub fn run_fold(
     messages: &mut [i32],
 ) -> CAnswer
     ensures { λ x.
-        ⌜ Folded sizes (now (setup .entry)) (now (whole .entry)) (now (term .entry)) (now (rows .entry)) (now (psi .entry))
+        ⌜ Folded sizes (now (setup .entry)) (now (whole .entry)) (now («constant_terms» .entry)) (now (projections .entry)) (now (psi .entry))
         (now (draws .entry)) (now (witness .entry)) (now (lengths .entry)) (now (messages .entry)) x (now (messages .exit)) ⌝ }
 {
     commit(place, sizes, setup, witness, lengths, messages);
-    project(sizes, rows, witness, lengths, messages);
-    aggregate(sizes, term, rows, psi, draws, witness, lengths, messages);
+    project(sizes, projections, witness, lengths, messages);
+    aggregate(
+        sizes,
+        constant_terms,
+        projections,
+        psi,
+        draws,
+        witness,
+        lengths,
+        messages,
+    );
     commit_garbage(
         sizes,
         setup,
         whole,
-        term,
-        rows,
+        constant_terms,
+        projections,
         psi,
         draws,
         witness,
@@ -294,8 +303,8 @@ pub fn run_fold(
         sizes,
         setup,
         whole,
-        term,
-        rows,
+        constant_terms,
+        projections,
         psi,
         draws,
         lengths,

@@ -20,7 +20,7 @@ pub const U1: usize = 4;
 
 pub const P: usize = 5;
 
-pub const B2: usize = 6;
+pub const SECOND_B: usize = 6;
 
 pub const U2: usize = 7;
 

@@ -12,8 +12,8 @@ use crate::input::ROOM;
 use crate::input::SIZE_COUNT;
 use crate::input::fitting;
 use crate::input::read_sizes;
-use crate::messages::B2;
 use crate::messages::P;
+use crate::messages::SECOND_B;
 use crate::messages::U1;
 use crate::messages::U2;
 use crate::messages::message;
@@ -39,8 +39,8 @@ fn print_next(
     mu: usize,
     setup: &[i32],
     whole: &[i32],
-    term: &[i32],
-    rows: &[i32],
+    constant_terms: &[i32],
+    projections: &[i32],
     psi: &[i32],
     draws: &[i32],
     lengths: &[i32],
@@ -48,7 +48,7 @@ fn print_next(
     out: &mut [i32],
 ) -> CAnswer
     ensures { λ x.
-        ⌜ NextOfFold sizes nu mu (now (setup .entry)) (now (whole .entry)) (now (term .entry)) (now (rows .entry))
+        ⌜ NextOfFold sizes nu mu (now (setup .entry)) (now (whole .entry)) (now («constant_terms» .entry)) (now (projections .entry))
         (now (psi .entry)) (now (draws .entry)) (now (lengths .entry)) (now (messages .entry)) (now (out .entry)) x
         (now (out .exit)) ⌝ }
 {
@@ -61,13 +61,13 @@ fn print_next(
         nth_list(setup, 2),
         nth_list(setup, 3),
         whole,
-        term,
+        constant_terms,
         message(messages, lengths, U1),
-        rows,
+        projections,
         message(messages, lengths, P),
         psi,
         nth_list(draws, 0),
-        message(messages, lengths, B2),
+        message(messages, lengths, SECOND_B),
         nth_list(draws, 1),
         nth_list(draws, 2),
         message(messages, lengths, U2),
@@ -95,8 +95,8 @@ fn run_first(
         (now (out .entry)) (now (out .exit)) ⌝ }
 {
     let whole = nth_list(lists, 4);
-    let term = nth_list(lists, 5);
-    let rows = nth_list(lists, 6);
+    let constant_terms = nth_list(lists, 5);
+    let projections = nth_list(lists, 6);
     let psi = nth_list(lists, 7);
     let draws = past_lists(lists, 8);
     let witness = nth_list(lists, 12);
@@ -105,8 +105,8 @@ fn run_first(
         sizes,
         lists,
         whole,
-        term,
-        rows,
+        constant_terms,
+        projections,
         psi,
         draws,
         witness,
@@ -119,8 +119,8 @@ fn run_first(
         mu,
         lists,
         whole,
-        term,
-        rows,
+        constant_terms,
+        projections,
         psi,
         draws,
         lengths,

@@ -62,10 +62,10 @@ module _ (s : Sizes) where
       cond (ltb p tFrom) (zEntry (s .d) (s .n) (s .b) folded 0 p)
       (cond (ltb p hFrom) 𝟘 (garbageEntry (s .d) (s .b1) (s .t1) products (p - hFrom)))
 
-  unfoldable pub entry8 : (relation diagonal : List ℤ) (p : ℕ) → Rd
-  entry8 relation diagonal p =
+  unfoldable pub entry8 : (aggregatedA diagonal : List ℤ) (p : ℕ) → Rd
+  entry8 aggregatedA diagonal p =
       cond (ltb p gFrom) 𝟘
-      (cond (ltb p hFrom) (garbageEntry (s .d) (s .b2) (s .t2) relation (p - gFrom))
+      (cond (ltb p hFrom) (garbageEntry (s .d) (s .b2) (s .t2) aggregatedA (p - gFrom))
       (garbageEntry (s .d) (s .b1) (s .t1) diagonal (p - hFrom)))
 
   unfoldable pub entry3 : (B C : List ℤ) (k p : ℕ) → Rd
@@ -79,15 +79,15 @@ module _ (s : Sizes) where
 
   -- ---- the order of the constraints
 
-  unfoldable pub middleEntry : (folded products relation diagonal : List ℤ) (y p : ℕ) → Rd
-  middleEntry folded products relation diagonal y p =
-      cond (eqb y 0) (entry6 products p) (cond (eqb y 1) (entry7 folded products p) (entry8 relation diagonal p))
+  unfoldable pub middleEntry : (folded products aggregatedA diagonal : List ℤ) (y p : ℕ) → Rd
+  middleEntry folded products aggregatedA diagonal y p =
+      cond (eqb y 0) (entry6 products p) (cond (eqb y 1) (entry7 folded products p) (entry8 aggregatedA diagonal p))
 
   unfoldable pub outerEntry : (B C D : List ℤ) (y p : ℕ) → Rd
   outerEntry B C D y p = cond (ltb y (s .kappa1)) (entry3 B C y p) (entry4 D (y - s .kappa1) p)
 
-  unfoldable pub coefficientAt : (A B C D c folded products relation diagonal : List ℤ) (x p : ℕ) → Rd
-  coefficientAt A B C D c folded products relation diagonal x p =
+  unfoldable pub coefficientAt : (A B C D c folded products aggregatedA diagonal : List ℤ) (x p : ℕ) → Rd
+  coefficientAt A B C D c folded products aggregatedA diagonal x p =
       cond (ltb x (s .kappa)) (entry5 A c x p)
-      (cond (ltb x (s .kappa + 3)) (middleEntry folded products relation diagonal (x - s .kappa) p)
+      (cond (ltb x (s .kappa + 3)) (middleEntry folded products aggregatedA diagonal (x - s .kappa) p)
       (outerEntry B C D (x - (s .kappa + 3)) p))

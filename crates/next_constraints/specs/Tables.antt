@@ -15,16 +15,16 @@ use Rattle.fold.specs.Messages.{aggregate}
 use Rattle.fold.specs.NextInstance.{product}
 
 -- the four lists have room
-pub record TableRoom (d n r : ℕ) (folded products relation diagonal : List ℤ) : Type 0 where
+pub record TableRoom (d n r : ℕ) (folded products aggregatedA diagonal : List ℤ) : Type 0 where
   pub folded-length : n * d ≤ length folded
   pub products-length : pairs r * d ≤ length products
-  pub relation-length : pairs r * d ≤ length relation
+  pub aggregate-a-length : pairs r * d ≤ length aggregatedA
   pub diagonal-length : pairs r * d ≤ length diagonal
 
 -- and hold what the constraints are made of
-pub record Tables (d n r K L w : ℕ) (whole term rows ψ ω α δ c : List ℤ) (folded products relation diagonal : List ℤ) : Type 0 where
+pub record Tables (d n r K L w : ℕ) (whole constantTerms projections ψ ω α δ c : List ℤ) (folded products aggregatedA diagonal : List ℤ) : Type 0 where
   pub folded-is : (k : ℕ) → k < n
-      → el d folded k ≡ sum (R d) r (λ i. R d .mul (aggregate d n r K L w whole term rows ψ ω α δ .φ i k) (el d c i))
+      → el d folded k ≡ sum (R d) r (λ i. R d .mul (aggregate d n r K L w whole constantTerms projections ψ ω α δ .φ i k) (el d c i))
   pub products-is : (i j : ℕ) → i ≤ j → j < r → el d products (pair r i j) ≡ R d .neg (product d (el d c) i j)
-  pub relation-is : (i j : ℕ) → i ≤ j → j < r → el d relation (pair r i j) ≡ aggregate d n r K L w whole term rows ψ ω α δ .a i j
+  pub aggregate-a-is : (i j : ℕ) → i ≤ j → j < r → el d aggregatedA (pair r i j) ≡ aggregate d n r K L w whole constantTerms projections ψ ω α δ .a i j
   pub diagonal-is : (i j : ℕ) → i ≤ j → j < r → el d diagonal (pair r i j) ≡ cond (eqb i j) (R d .one) (R d .zero)

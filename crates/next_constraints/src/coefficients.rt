@@ -22,18 +22,18 @@ use fold::places;
 use ring::element::Element;
 
 // Check 5, row k: A on z, -c_i b1^e on row k of t.
-fn check5_entry(sizes: Sizes, a: &[i32], c: &[i32], k: usize, p: usize) -> Element
+fn check5_entry(sizes: Sizes, a_matrix: &[i32], c: &[i32], k: usize, p: usize) -> Element
     requires { ⌜ VerifySized sizes ⌝ }
-    requires { ⌜ length (now a) ≡ sizes .kappa * sizes .n * sizes .d ⌝ }
+    requires { ⌜ length (now «a_matrix») ≡ sizes .kappa * sizes .n * sizes .d ⌝ }
     requires { ⌜ length (now c) ≡ sizes .r * sizes .d ⌝ }
     requires { ⌜ k < sizes .kappa ⌝ }
-    ensures { λ x. ⌜ x .coefficients ≡ array (sizes .d) (entry5 sizes (now (a .entry)) (now (c .entry)) k p) ⌝ }
+    ensures { λ x. ⌜ x .coefficients ≡ array (sizes .d) (entry5 sizes (now («a_matrix» .entry)) (now (c .entry)) k p) ⌝ }
 {
     let d = sizes.d;
     let t_start = places::t_place(sizes);
     if p < t_start {
         let from = k * sizes.n;
-        return entries::z_entry(d, sizes.n, sizes.b, a, from, p);
+        return entries::z_entry(d, sizes.n, sizes.b, a_matrix, from, p);
     }
     let g_start = places::g_place(sizes);
     if p < g_start {
@@ -85,13 +85,13 @@ fn check7_entry(sizes: Sizes, folded: &[i32], products: &[i32], p: usize) -> Ele
 }
 
 // Check 8: the aggregate's a on g, the diagonal on h.
-fn check8_entry(sizes: Sizes, relation: &[i32], diagonal: &[i32], p: usize) -> Element
+fn check8_entry(sizes: Sizes, aggregate_a: &[i32], diagonal: &[i32], p: usize) -> Element
     requires { ⌜ VerifySized sizes ⌝ }
-    requires { ⌜ pairs (sizes .r) * sizes .d ≤ length (now relation) ⌝ }
+    requires { ⌜ pairs (sizes .r) * sizes .d ≤ length (now «aggregate_a») ⌝ }
     requires { ⌜ pairs (sizes .r) * sizes .d ≤ length (now diagonal) ⌝ }
     requires { ⌜ p < openingSize 2 (sizes .n) (sizes .r) (sizes .kappa) (sizes .t1) (sizes .t2) ⌝ }
     ensures { λ x.
-        ⌜ x .coefficients ≡ array (sizes .d) (entry8 sizes (now (relation .entry)) (now (diagonal .entry)) p) ⌝ }
+        ⌜ x .coefficients ≡ array (sizes .d) (entry8 sizes (now («aggregate_a» .entry)) (now (diagonal .entry)) p) ⌝ }
 {
     let d = sizes.d;
     let g_start = places::g_place(sizes);
@@ -101,20 +101,20 @@ fn check8_entry(sizes: Sizes, relation: &[i32], diagonal: &[i32], p: usize) -> E
     let h_start = places::h_place(sizes);
     if p < h_start {
         let place = p - g_start;
-        return entries::garbage_entry(d, sizes.b2, sizes.t2, relation, place);
+        return entries::garbage_entry(d, sizes.b2, sizes.t2, aggregate_a, place);
     }
     let place = p - h_start;
     entries::garbage_entry(d, sizes.b1, sizes.t1, diagonal, place)
 }
 
 // Check 3, row k: B on t, C on g.
-fn check3_entry(sizes: Sizes, b: &[i32], c_matrix: &[i32], k: usize, p: usize) -> Element
+fn check3_entry(sizes: Sizes, b_matrix: &[i32], c_matrix: &[i32], k: usize, p: usize) -> Element
     requires { ⌜ VerifySized sizes ⌝ }
-    requires { ⌜ length (now b) ≡ sizes .kappa1 * tSize (sizes .r) (sizes .kappa) (sizes .t1) * sizes .d ⌝ }
+    requires { ⌜ length (now «b_matrix») ≡ sizes .kappa1 * tSize (sizes .r) (sizes .kappa) (sizes .t1) * sizes .d ⌝ }
     requires { ⌜ length (now «c_matrix») ≡ sizes .kappa1 * garbageSize (sizes .r) (sizes .t2) * sizes .d ⌝ }
     requires { ⌜ k < sizes .kappa1 ⌝ }
     ensures { λ x.
-        ⌜ x .coefficients ≡ array (sizes .d) (entry3 sizes (now (b .entry)) (now («c_matrix» .entry)) k p) ⌝ }
+        ⌜ x .coefficients ≡ array (sizes .d) (entry3 sizes (now («b_matrix» .entry)) (now («c_matrix» .entry)) k p) ⌝ }
 {
     let d = sizes.d;
     let t_start = places::t_place(sizes);
@@ -125,7 +125,7 @@ fn check3_entry(sizes: Sizes, b: &[i32], c_matrix: &[i32], k: usize, p: usize) -
     if p < g_start {
         let size = t_size(sizes.r, sizes.kappa, sizes.t1);
         let place = p - t_start;
-        return entries::row_entry(d, size, b, k, place);
+        return entries::row_entry(d, size, b_matrix, k, place);
     }
     let h_start = places::h_place(sizes);
     if p < h_start {
@@ -159,17 +159,17 @@ fn middle_entry(
     sizes: Sizes,
     folded: &[i32],
     products: &[i32],
-    relation: &[i32],
+    aggregate_a: &[i32],
     diagonal: &[i32],
     y: usize,
     p: usize,
 ) -> Element
     requires { ⌜ VerifySized sizes ⌝ }
-    requires { ⌜ TableRoom (sizes .d) (sizes .n) (sizes .r) (now folded) (now products) (now relation) (now diagonal) ⌝ }
+    requires { ⌜ TableRoom (sizes .d) (sizes .n) (sizes .r) (now folded) (now products) (now «aggregate_a») (now diagonal) ⌝ }
     requires { ⌜ p < openingSize 2 (sizes .n) (sizes .r) (sizes .kappa) (sizes .t1) (sizes .t2) ⌝ }
     ensures { λ x.
         ⌜ x .coefficients ≡ array (sizes .d) (middleEntry sizes (now (folded .entry)) (now (products .entry))
-        (now (relation .entry)) (now (diagonal .entry)) y p) ⌝ }
+        (now («aggregate_a» .entry)) (now (diagonal .entry)) y p) ⌝ }
 {
     if y == 0 {
         return check6_entry(sizes, products, p);
@@ -177,31 +177,31 @@ fn middle_entry(
     if y == 1 {
         return check7_entry(sizes, folded, products, p);
     }
-    check8_entry(sizes, relation, diagonal, p)
+    check8_entry(sizes, aggregate_a, diagonal, p)
 }
 
 // The rows of checks 3 and 4, by y from 0 on.
 fn outer_entry(
     sizes: Sizes,
-    b: &[i32],
+    b_matrix: &[i32],
     c_matrix: &[i32],
     d_matrix: &[i32],
     y: usize,
     p: usize,
 ) -> Element
     requires { ⌜ VerifySized sizes ⌝ }
-    requires { ⌜ length (now b) ≡ sizes .kappa1 * tSize (sizes .r) (sizes .kappa) (sizes .t1) * sizes .d ⌝ }
+    requires { ⌜ length (now «b_matrix») ≡ sizes .kappa1 * tSize (sizes .r) (sizes .kappa) (sizes .t1) * sizes .d ⌝ }
     requires { ⌜ length (now «c_matrix») ≡ sizes .kappa1 * garbageSize (sizes .r) (sizes .t2) * sizes .d ⌝ }
     requires { ⌜ length (now «d_matrix») ≡ sizes .kappa2 * garbageSize (sizes .r) (sizes .t1) * sizes .d ⌝ }
     requires { ⌜ y < sizes .kappa1 + sizes .kappa2 ⌝ }
     requires { ⌜ p < openingSize 2 (sizes .n) (sizes .r) (sizes .kappa) (sizes .t1) (sizes .t2) ⌝ }
     ensures { λ x.
-        ⌜ x .coefficients ≡ array (sizes .d) (outerEntry sizes (now (b .entry)) (now («c_matrix» .entry))
+        ⌜ x .coefficients ≡ array (sizes .d) (outerEntry sizes (now («b_matrix» .entry)) (now («c_matrix» .entry))
         (now («d_matrix» .entry)) y p) ⌝ }
 {
     let rows = sizes.kappa1;
     if y < rows {
-        return check3_entry(sizes, b, c_matrix, y, p);
+        return check3_entry(sizes, b_matrix, c_matrix, y, p);
     }
     check4_entry(sizes, d_matrix, y - rows, p)
 }
@@ -209,75 +209,75 @@ fn outer_entry(
 // In the order of the constraints: 5, 6, 7, 8, 3, 4.
 fn ordered_entry(
     sizes: Sizes,
-    a: &[i32],
-    b: &[i32],
+    a_matrix: &[i32],
+    b_matrix: &[i32],
     c_matrix: &[i32],
     d_matrix: &[i32],
     c: &[i32],
     folded: &[i32],
     products: &[i32],
-    relation: &[i32],
+    aggregate_a: &[i32],
     diagonal: &[i32],
     x: usize,
     p: usize,
 ) -> Element
-    requires { ⌜ EntryFacts sizes (now a) (now b) (now «c_matrix») (now «d_matrix») (now c) ⌝ }
-    requires { ⌜ TableRoom (sizes .d) (sizes .n) (sizes .r) (now folded) (now products) (now relation) (now diagonal) ⌝ }
+    requires { ⌜ EntryFacts sizes (now «a_matrix») (now «b_matrix») (now «c_matrix») (now «d_matrix») (now c) ⌝ }
+    requires { ⌜ TableRoom (sizes .d) (sizes .n) (sizes .r) (now folded) (now products) (now «aggregate_a») (now diagonal) ⌝ }
     requires { ⌜ x < nextCount (sizes .kappa) (sizes .kappa1) (sizes .kappa2) ⌝ }
     requires { ⌜ p < openingSize 2 (sizes .n) (sizes .r) (sizes .kappa) (sizes .t1) (sizes .t2) ⌝ }
     ensures { λ y.
-        ⌜ y .coefficients ≡ array (sizes .d) (coefficientAt sizes (now (a .entry)) (now (b .entry)) (now («c_matrix» .entry))
-        (now («d_matrix» .entry)) (now (c .entry)) (now (folded .entry)) (now (products .entry)) (now (relation .entry))
+        ⌜ y .coefficients ≡ array (sizes .d) (coefficientAt sizes (now («a_matrix» .entry)) (now («b_matrix» .entry)) (now («c_matrix» .entry))
+        (now («d_matrix» .entry)) (now (c .entry)) (now (folded .entry)) (now (products .entry)) (now («aggregate_a» .entry))
         (now (diagonal .entry)) x p) ⌝ }
 {
     let first = sizes.kappa;
     if x < first {
-        return check5_entry(sizes, a, c, x, p);
+        return check5_entry(sizes, a_matrix, c, x, p);
     }
     let second = first + 3;
     if x < second {
-        return middle_entry(sizes, folded, products, relation, diagonal, x - first, p);
+        return middle_entry(sizes, folded, products, aggregate_a, diagonal, x - first, p);
     }
-    outer_entry(sizes, b, c_matrix, d_matrix, x - second, p)
+    outer_entry(sizes, b_matrix, c_matrix, d_matrix, x - second, p)
 }
 
 // The coefficient of constraint x of the next instance at place p of the opening.
 pub fn coefficient(
     sizes: Sizes,
-    a: &[i32],
-    b: &[i32],
+    a_matrix: &[i32],
+    b_matrix: &[i32],
     c_matrix: &[i32],
     d_matrix: &[i32],
     c: &[i32],
     folded: &[i32],
     products: &[i32],
-    relation: &[i32],
+    aggregate_a: &[i32],
     diagonal: &[i32],
     x: usize,
     p: usize,
 ) -> Element
-    requires { ⌜ EntryFacts sizes (now a) (now b) (now «c_matrix») (now «d_matrix») (now c) ⌝ }
-    requires { ⌜ TableRoom (sizes .d) (sizes .n) (sizes .r) (now folded) (now products) (now relation) (now diagonal) ⌝ }
+    requires { ⌜ EntryFacts sizes (now «a_matrix») (now «b_matrix») (now «c_matrix») (now «d_matrix») (now c) ⌝ }
+    requires { ⌜ TableRoom (sizes .d) (sizes .n) (sizes .r) (now folded) (now products) (now «aggregate_a») (now diagonal) ⌝ }
     requires { ⌜ x < nextCount (sizes .kappa) (sizes .kappa1) (sizes .kappa2) ⌝ }
     requires { ⌜ p < openingSize 2 (sizes .n) (sizes .r) (sizes .kappa) (sizes .t1) (sizes .t2) ⌝ }
     ensures { λ y.
-        ⌜ ((whole term rows ψ ω α δ : List ℤ) (𝓣 : Transcript) (ν μ : ℕ)
-        → Tables (sizes .d) (sizes .n) (sizes .r) (sizes .k) (sizes .l) (sizes .w) whole term rows ψ ω α δ (now (c .entry))
-        (now (folded .entry)) (now (products .entry)) (now (relation .entry)) (now (diagonal .entry))
+        ⌜ ((whole constantTerms projections ψ ω α δ : List ℤ) (𝓣 : Transcript) (ν μ : ℕ)
+        → Tables (sizes .d) (sizes .n) (sizes .r) (sizes .k) (sizes .l) (sizes .w) whole constantTerms projections ψ ω α δ (now (c .entry))
+        (now (folded .entry)) (now (products .entry)) (now («aggregate_a» .entry)) (now (diagonal .entry))
         → y .coefficients ≡ array (sizes .d) (getD (constraint
-        (statementOf sizes (now (a .entry)) (now (b .entry)) (now («c_matrix» .entry)) (now («d_matrix» .entry)) whole term)
-        (drawsOf rows ψ ω α δ (now (c .entry))) 𝓣 ν μ x .table) p (R (sizes .d) .zero))) ⌝ }
+        (statementOf sizes (now («a_matrix» .entry)) (now («b_matrix» .entry)) (now («c_matrix» .entry)) (now («d_matrix» .entry)) whole constantTerms)
+        (drawsOf projections ψ ω α δ (now (c .entry))) 𝓣 ν μ x .table) p (R (sizes .d) .zero))) ⌝ }
 {
     ordered_entry(
         sizes,
-        a,
-        b,
+        a_matrix,
+        b_matrix,
         c_matrix,
         d_matrix,
         c,
         folded,
         products,
-        relation,
+        aggregate_a,
         diagonal,
         x,
         p,

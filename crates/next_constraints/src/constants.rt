@@ -66,8 +66,8 @@ pub fn a_entry(sizes: Sizes, nu: usize, x: usize, s: usize, s2: usize) -> Elemen
     requires { ⌜ (0 < nu) × (nu ≤ 16) ⌝ }
     requires { ⌜ (s < 16) × (s2 < 16) ⌝ }
     ensures { λ r.
-        ⌜ ((A B C D whole term rows ψ ω α δ c : List ℤ) (𝓣 : Transcript) (μ : ℕ)
-        → r .coefficients ≡ array (sizes .d) (constraint (statementOf sizes A B C D whole term) (drawsOf rows ψ ω α δ c) 𝓣 nu μ x .a
+        ⌜ ((A B C D whole constantTerms projections ψ ω α δ c : List ℤ) (𝓣 : Transcript) (μ : ℕ)
+        → r .coefficients ≡ array (sizes .d) (constraint (statementOf sizes A B C D whole constantTerms) (drawsOf projections ψ ω α δ c) 𝓣 nu μ x .a
         s s2)) ⌝ }
 {
     let sixth = sizes.kappa;
@@ -83,16 +83,16 @@ fn ordered_constant(
     whole: &[i32],
     alpha: &[i32],
     delta: &[i32],
-    b2: &[i32],
+    second_b: &[i32],
     u1: &[i32],
     u2: &[i32],
     x: usize,
 ) -> Element
-    requires { ⌜ ConstantFacts sizes (now whole) (now alpha) (now delta) (now b2) (now u1) (now u2) ⌝ }
+    requires { ⌜ ConstantFacts sizes (now whole) (now alpha) (now delta) (now «second_b») (now u1) (now u2) ⌝ }
     requires { ⌜ x < nextCount (sizes .kappa) (sizes .kappa1) (sizes .kappa2) ⌝ }
     ensures { λ r.
         ⌜ r .coefficients ≡ array (sizes .d) (constantAt sizes (now (whole .entry)) (now (alpha .entry)) (now (delta .entry))
-        (now (b2 .entry)) (now (u1 .entry)) (now (u2 .entry)) x) ⌝ }
+        (now («second_b» .entry)) (now (u1 .entry)) (now (u2 .entry)) x) ⌝ }
 {
     let d = sizes.d;
     let eighth = sizes.kappa + 2;
@@ -105,7 +105,7 @@ fn ordered_constant(
             n: sizes.n,
             r: sizes.r,
         };
-        return aggregated::aggregate_constant(shape, sizes.k, whole, alpha, delta, b2);
+        return aggregated::aggregate_constant(shape, sizes.k, whole, alpha, delta, second_b);
     }
     let third = sizes.kappa + 3;
     let fourth = third + sizes.kappa1;
@@ -123,18 +123,18 @@ pub fn constant_entry(
     whole: &[i32],
     alpha: &[i32],
     delta: &[i32],
-    b2: &[i32],
+    second_b: &[i32],
     u1: &[i32],
     u2: &[i32],
     x: usize,
 ) -> Element
-    requires { ⌜ ConstantFacts sizes (now whole) (now alpha) (now delta) (now b2) (now u1) (now u2) ⌝ }
+    requires { ⌜ ConstantFacts sizes (now whole) (now alpha) (now delta) (now «second_b») (now u1) (now u2) ⌝ }
     requires { ⌜ x < nextCount (sizes .kappa) (sizes .kappa1) (sizes .kappa2) ⌝ }
     ensures { λ r.
-        ⌜ ((A B C D term rows ψ ω c p : List ℤ) (ν μ : ℕ)
-        → r .coefficients ≡ array (sizes .d) (constraint (statementOf sizes A B C D (now (whole .entry)) term)
-        (drawsOf rows ψ ω (now (alpha .entry)) (now (delta .entry)) c)
-        (transcriptOf (now (u1 .entry)) p (now (b2 .entry)) (now (u2 .entry))) ν μ x .constant)) ⌝ }
+        ⌜ ((A B C D constantTerms projections ψ ω c p : List ℤ) (ν μ : ℕ)
+        → r .coefficients ≡ array (sizes .d) (constraint (statementOf sizes A B C D (now (whole .entry)) constantTerms)
+        (drawsOf projections ψ ω (now (alpha .entry)) (now (delta .entry)) c)
+        (transcriptOf (now (u1 .entry)) p (now («second_b» .entry)) (now (u2 .entry))) ν μ x .constant)) ⌝ }
 {
-    ordered_constant(sizes, whole, alpha, delta, b2, u1, u2, x)
+    ordered_constant(sizes, whole, alpha, delta, second_b, u1, u2, x)
 }

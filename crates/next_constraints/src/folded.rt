@@ -6,35 +6,35 @@ ghost use Rattle.integers.specs.Over.{over};
 ghost use Rattle.ring.specs.Element.{array};
 ghost use Rattle.fold.specs.Messages.{elements};
 ghost use Rattle.constraints.specs.Known.Facts.{AggregateFacts};
-ghost use Rattle.constraints.specs.RowGroups.{SumsOf};
-ghost use Rattle.next_constraints.specs.Folded.{foldedTerm, foldedSum};
+ghost use Rattle.constraints.specs.RowGroups.{OmegaSums};
+ghost use Rattle.next_constraints.specs.Folded.{foldedSummand, foldedSum};
 use constraints::aggregated::aggregate_phi;
 use constraints::row_groups;
 use fold::Shape;
 use fold::Sizes;
 use ring::element::Element;
 
-// φ_i c_i at element k. `table` is the table of omega.
-fn folded_term(
+// φ_i c_i at element k. `omega_sums` are the sums of ω.
+fn folded_summand(
     sizes: Sizes,
     whole: &[i32],
-    term: &[i32],
-    rows: &[i32],
+    constant_terms: &[i32],
+    projections: &[i32],
     psi: &[i32],
     omega: &[i32],
-    table: &[i64; 25920],
+    omega_sums: &[i64; 25920],
     alpha: &[i32],
     delta: &[i32],
     c: &[i32],
     k: usize,
     i: usize,
 ) -> Element
-    requires { ⌜ AggregateFacts (sizes .d) (sizes .n) (sizes .r) (sizes .k) (sizes .l) (sizes .w) (now whole) (now term) (now rows) (now psi)
+    requires { ⌜ AggregateFacts (sizes .d) (sizes .n) (sizes .r) (sizes .k) (sizes .l) (sizes .w) (now whole) (now «constant_terms») (now projections) (now psi)
         (now omega) (now alpha) (now delta) ⌝ }
-    requires { ⌜ SumsOf (sizes .w) (now omega) (now table) ⌝ }
+    requires { ⌜ OmegaSums (sizes .w) (now omega) (now «omega_sums») ⌝ }
     requires { ⌜ (sizes .r * sizes .d ≤ length (now c)) × (k < sizes .n) × (i < sizes .r) ⌝ }
-    ensures { λ x. ⌜ x .coefficients ≡ array (sizes .d) (foldedTerm (sizes .d) (sizes .n) (sizes .r) (sizes .k) (sizes .l) (sizes .w)
-        (now (whole .entry)) (now (term .entry)) (now (rows .entry)) (now (psi .entry)) (now (omega .entry)) (now (alpha .entry))
+    ensures { λ x. ⌜ x .coefficients ≡ array (sizes .d) (foldedSummand (sizes .d) (sizes .n) (sizes .r) (sizes .k) (sizes .l) (sizes .w)
+        (now (whole .entry)) (now («constant_terms» .entry)) (now (projections .entry)) (now (psi .entry)) (now (omega .entry)) (now (alpha .entry))
         (now (delta .entry)) (now (c .entry)) k i) ⌝ }
 {
     let d = sizes.d;
@@ -51,11 +51,11 @@ fn folded_term(
         sizes.l,
         sizes.w,
         whole,
-        term,
-        rows,
+        constant_terms,
+        projections,
         psi,
         omega,
-        table,
+        omega_sums,
         alpha,
         delta,
         place,
@@ -68,22 +68,22 @@ fn folded_term(
 fn folded_element(
     sizes: Sizes,
     whole: &[i32],
-    term: &[i32],
-    rows: &[i32],
+    constant_terms: &[i32],
+    projections: &[i32],
     psi: &[i32],
     omega: &[i32],
-    table: &[i64; 25920],
+    omega_sums: &[i64; 25920],
     alpha: &[i32],
     delta: &[i32],
     c: &[i32],
     k: usize,
 ) -> Element
-    requires { ⌜ AggregateFacts (sizes .d) (sizes .n) (sizes .r) (sizes .k) (sizes .l) (sizes .w) (now whole) (now term) (now rows) (now psi)
+    requires { ⌜ AggregateFacts (sizes .d) (sizes .n) (sizes .r) (sizes .k) (sizes .l) (sizes .w) (now whole) (now «constant_terms») (now projections) (now psi)
         (now omega) (now alpha) (now delta) ⌝ }
-    requires { ⌜ SumsOf (sizes .w) (now omega) (now table) ⌝ }
+    requires { ⌜ OmegaSums (sizes .w) (now omega) (now «omega_sums») ⌝ }
     requires { ⌜ (sizes .r * sizes .d ≤ length (now c)) × (k < sizes .n) ⌝ }
     ensures { λ x. ⌜ x .coefficients ≡ array (sizes .d) (foldedSum (sizes .d) (sizes .n) (sizes .r) (sizes .k) (sizes .l) (sizes .w)
-        (now (whole .entry)) (now (term .entry)) (now (rows .entry)) (now (psi .entry)) (now (omega .entry)) (now (alpha .entry))
+        (now (whole .entry)) (now («constant_terms» .entry)) (now (projections .entry)) (now (psi .entry)) (now (omega .entry)) (now (alpha .entry))
         (now (delta .entry)) (now (c .entry)) k) ⌝ }
 {
     let d = sizes.d;
@@ -91,14 +91,14 @@ fn folded_element(
     let mut sum = Element::additive_identity();
     let mut i = 0;
     while i < parts {
-        let weighted = folded_term(
+        let weighted = folded_summand(
             sizes,
             whole,
-            term,
-            rows,
+            constant_terms,
+            projections,
             psi,
             omega,
-            table,
+            omega_sums,
             alpha,
             delta,
             c,
@@ -115,8 +115,8 @@ fn folded_element(
 pub fn write_folded(
     sizes: Sizes,
     whole: &[i32],
-    term: &[i32],
-    rows: &[i32],
+    constant_terms: &[i32],
+    projections: &[i32],
     psi: &[i32],
     omega: &[i32],
     alpha: &[i32],
@@ -124,15 +124,15 @@ pub fn write_folded(
     c: &[i32],
     out: &mut [i32],
 )
-    requires { ⌜ AggregateFacts (sizes .d) (sizes .n) (sizes .r) (sizes .k) (sizes .l) (sizes .w) (now whole) (now term) (now rows) (now psi)
+    requires { ⌜ AggregateFacts (sizes .d) (sizes .n) (sizes .r) (sizes .k) (sizes .l) (sizes .w) (now whole) (now «constant_terms») (now projections) (now psi)
         (now omega) (now alpha) (now delta) ⌝ }
     requires { ⌜ (sizes .r * sizes .d ≤ length (now c)) × (sizes .n * sizes .d ≤ length (now out)) ⌝ }
     ensures { λ _. ⌜ now (out .exit) ≡ over (now (out .entry)) 0 (elements (sizes .d) (sizes .n) (foldedSum (sizes .d) (sizes .n) (sizes .r)
-        (sizes .k) (sizes .l) (sizes .w) (now (whole .entry)) (now (term .entry)) (now (rows .entry)) (now (psi .entry)) (now (omega .entry))
+        (sizes .k) (sizes .l) (sizes .w) (now (whole .entry)) (now («constant_terms» .entry)) (now (projections .entry)) (now (psi .entry)) (now (omega .entry))
         (now (alpha .entry)) (now (delta .entry)) (now (c .entry)))) ⌝ }
 {
-    let mut table = [0i64; 25920];
-    row_groups::write_sums(sizes.w, omega, &mut table);
+    let mut omega_sums = [0i64; 25920];
+    row_groups::write_omega_sums(sizes.w, omega, &mut omega_sums);
     let d = sizes.d;
     let rank = sizes.n;
     let mut k = 0;
@@ -140,11 +140,11 @@ pub fn write_folded(
         let element = folded_element(
             sizes,
             whole,
-            term,
-            rows,
+            constant_terms,
+            projections,
             psi,
             omega,
-            &table,
+            &omega_sums,
             alpha,
             delta,
             c,

@@ -4,16 +4,16 @@ ghost use lib.ListN.{length};
 ghost use Rattle.constraints.specs.Known.Facts.{AggregateFacts};
 ghost use Rattle.next_constraints.specs.Tables.{TableRoom, Tables};
 use crate::folded::write_folded;
+use crate::tables::write_aggregate_a;
 use crate::tables::write_diagonal;
 use crate::tables::write_products;
-use crate::tables::write_relation;
 use fold::Sizes;
 
 pub fn write_tables(
     sizes: Sizes,
     whole: &[i32],
-    term: &[i32],
-    rows: &[i32],
+    constant_terms: &[i32],
+    projections: &[i32],
     psi: &[i32],
     omega: &[i32],
     alpha: &[i32],
@@ -21,24 +21,24 @@ pub fn write_tables(
     c: &[i32],
     folded: &mut [i32],
     products: &mut [i32],
-    relation: &mut [i32],
+    aggregate_a: &mut [i32],
     diagonal: &mut [i32],
 )
-    requires { ⌜ AggregateFacts (sizes .d) (sizes .n) (sizes .r) (sizes .k) (sizes .l) (sizes .w) (now whole) (now term) (now rows) (now psi)
+    requires { ⌜ AggregateFacts (sizes .d) (sizes .n) (sizes .r) (sizes .k) (sizes .l) (sizes .w) (now whole) (now «constant_terms») (now projections) (now psi)
         (now omega) (now alpha) (now delta) ⌝ }
     requires { ⌜ sizes .r * sizes .d ≤ length (now c) ⌝ }
-    requires { ⌜ TableRoom (sizes .d) (sizes .n) (sizes .r) (now folded) (now products) (now relation) (now diagonal) ⌝ }
-    ensures { λ _. ⌜ Tables (sizes .d) (sizes .n) (sizes .r) (sizes .k) (sizes .l) (sizes .w) (now (whole .entry)) (now (term .entry))
-        (now (rows .entry)) (now (psi .entry)) (now (omega .entry)) (now (alpha .entry)) (now (delta .entry)) (now (c .entry))
-        (now (folded .exit)) (now (products .exit)) (now (relation .exit)) (now (diagonal .exit)) ⌝ }
+    requires { ⌜ TableRoom (sizes .d) (sizes .n) (sizes .r) (now folded) (now products) (now «aggregate_a») (now diagonal) ⌝ }
+    ensures { λ _. ⌜ Tables (sizes .d) (sizes .n) (sizes .r) (sizes .k) (sizes .l) (sizes .w) (now (whole .entry)) (now («constant_terms» .entry))
+        (now (projections .entry)) (now (psi .entry)) (now (omega .entry)) (now (alpha .entry)) (now (delta .entry)) (now (c .entry))
+        (now (folded .exit)) (now (products .exit)) (now («aggregate_a» .exit)) (now (diagonal .exit)) ⌝ }
 {
     let d = sizes.d;
     let r = sizes.r;
     write_folded(
         sizes,
         whole,
-        term,
-        rows,
+        constant_terms,
+        projections,
         psi,
         omega,
         alpha,
@@ -47,6 +47,6 @@ pub fn write_tables(
         folded,
     );
     write_products(d, r, c, products);
-    write_relation(sizes, whole, term, psi, alpha, delta, relation);
+    write_aggregate_a(sizes, whole, constant_terms, psi, alpha, delta, aggregate_a);
     write_diagonal(d, r, diagonal);
 }

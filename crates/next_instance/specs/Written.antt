@@ -16,9 +16,9 @@ use Rattle.fold.specs.Statement.{Transcript}
 use Rattle.fold.specs.Constraint.{Constraint}
 use Rattle.fold.specs.NextInstance.{constraint}
 
-module _ (s : Sizes) (A B C D c whole term rows ψ ω α δ : List ℤ) (𝓣 : Transcript) (ν μ : ℕ) where
+module _ (s : Sizes) (A B C D c whole constantTerms projections ψ ω α δ : List ℤ) (𝓣 : Transcript) (ν μ : ℕ) where
   abbrev pub constraintOf : ℕ → Constraint (s .d)
-  constraintOf x = constraint (statementOf s A B C D whole term) (drawsOf rows ψ ω α δ c) 𝓣 ν μ x
+  constraintOf x = constraint (statementOf s A B C D whole constantTerms) (drawsOf projections ψ ω α δ c) 𝓣 ν μ x
 
   abbrev pub tableOf : ℕ → List (R (s .d) .Carrier)
   tableOf x = constraintOf x .table

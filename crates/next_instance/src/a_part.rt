@@ -28,9 +28,9 @@ fn write_a_row(
     requires { ⌜ (0 < nu) × (nu ≤ 16) × (parts ≤ 16) × (x < nextCount (sizes .kappa) (sizes .kappa1) (sizes .kappa2)) × (s ≤ parts) ⌝ }
     requires { ⌜ (at + (parts - s)) * sizes .d ≤ length (now out) ⌝ }
     ensures { λ _.
-        ⌜ ((A B C D whole term rows psi omega alpha delta c : List ℤ) (transcript : Transcript) (μ : ℕ) →
+        ⌜ ((A B C D whole constantTerms projections psi omega alpha delta c : List ℤ) (transcript : Transcript) (μ : ℕ) →
         now (out .exit) ≡ over (now (out .entry)) (at * sizes .d) (elements (sizes .d) (parts - s)
-        (λ k. constraint (statementOf sizes A B C D whole term) (drawsOf rows psi omega alpha delta c) transcript nu μ x .a s (s + k)))) ⌝ }
+        (λ k. constraint (statementOf sizes A B C D whole constantTerms) (drawsOf projections psi omega alpha delta c) transcript nu μ x .a s (s + k)))) ⌝ }
 {
     let d = sizes.d;
     let count = parts - s;
@@ -48,9 +48,9 @@ pub fn write_a(sizes: Sizes, nu: usize, parts: usize, x: usize, out: &mut [i32])
     requires { ⌜ (0 < nu) × (nu ≤ 16) × (parts ≤ 16) × (x < nextCount (sizes .kappa) (sizes .kappa1) (sizes .kappa2)) ⌝ }
     requires { ⌜ pairs parts * sizes .d ≤ length (now out) ⌝ }
     ensures { λ _.
-        ⌜ ((A B C D whole term rows psi omega alpha delta c : List ℤ) (transcript : Transcript) (μ : ℕ) →
+        ⌜ ((A B C D whole constantTerms projections psi omega alpha delta c : List ℤ) (transcript : Transcript) (μ : ℕ) →
         now (out .exit) ≡ over (now (out .entry)) 0 (pairElements (sizes .d) parts
-        (constraint (statementOf sizes A B C D whole term) (drawsOf rows psi omega alpha delta c) transcript nu μ x .a))) ⌝ }
+        (constraint (statementOf sizes A B C D whole constantTerms) (drawsOf projections psi omega alpha delta c) transcript nu μ x .a))) ⌝ }
 {
     let mut at = 0;
     let mut s = 0;

@@ -5,9 +5,9 @@ ghost use Rattle.fold.specs.Arguments.{VerifySized};
 ghost use Rattle.fold.specs.Sizes.{restSize, nextRank};
 ghost use Rattle.fold.specs.Known.CallLimits.{ChunkLimits};
 ghost use Rattle.next_instance.specs.Known.Facts.{CutFacts};
+use fold::Sizes;
 use fold::chunks::next_rank;
 use fold::chunks::rest_size;
-use fold::Sizes;
 use fold::counts::function_size;
 use fold::counts::pair_count;
 

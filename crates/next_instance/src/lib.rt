@@ -1,10 +1,10 @@
 // The next instance: document 01, 'Next instance'. The call has no `requires`: what it cannot take it refuses by number.
 ghost use Rattle.fold.specs.Arguments.{statementOf, drawsOf, transcriptOf};
 ghost use Rattle.next_instance.specs.Calls.{NextCalled};
-use limits::next::next_refusal;
 use fold::Answer;
 use fold::Sizes;
 use fold::Verdict;
+use limits::next::next_refusal;
 use verifier::judgement::message_checks;
 use writer::write_instance;
 
@@ -19,18 +19,18 @@ pub fn next_instance(
     sizes: Sizes,
     nu: usize,
     mu: usize,
-    a: &[i32],
-    b: &[i32],
+    a_matrix: &[i32],
+    b_matrix: &[i32],
     c_matrix: &[i32],
     d_matrix: &[i32],
     whole: &[i32],
-    term: &[i32],
+    constant_terms: &[i32],
     u1: &[i32],
-    rows: &[i32],
+    projections: &[i32],
     p: &[i32],
     psi: &[i32],
     omega: &[i32],
-    b2: &[i32],
+    second_b: &[i32],
     alpha: &[i32],
     delta: &[i32],
     u2: &[i32],
@@ -38,28 +38,28 @@ pub fn next_instance(
     out: &mut [i32],
 ) -> Answer
     ensures { λ x.
-        ⌜ NextCalled (statementOf sizes (now (a .entry)) (now (b .entry)) (now («c_matrix» .entry))
-        (now («d_matrix» .entry)) (now (whole .entry)) (now (term .entry))) (drawsOf (now (rows .entry))
+        ⌜ NextCalled (statementOf sizes (now («a_matrix» .entry)) (now («b_matrix» .entry)) (now («c_matrix» .entry))
+        (now («d_matrix» .entry)) (now (whole .entry)) (now («constant_terms» .entry))) (drawsOf (now (projections .entry))
         (now (psi .entry)) (now (omega .entry)) (now (alpha .entry)) (now (delta .entry)) (now (c .entry)))
-        (transcriptOf (now (u1 .entry)) (now (p .entry)) (now (b2 .entry)) (now (u2 .entry))) nu mu (now (out .entry))
+        (transcriptOf (now (u1 .entry)) (now (p .entry)) (now («second_b» .entry)) (now (u2 .entry))) nu mu (now (out .entry))
         x (now (out .exit)) ⌝ }
 {
     let refusal = next_refusal(
         sizes,
         nu,
         mu,
-        a,
-        b,
+        a_matrix,
+        b_matrix,
         c_matrix,
         d_matrix,
         whole,
-        term,
+        constant_terms,
         u1,
-        rows,
+        projections,
         p,
         psi,
         omega,
-        b2,
+        second_b,
         alpha,
         delta,
         u2,
@@ -69,7 +69,7 @@ pub fn next_instance(
     if refusal != 0 {
         return Answer::Refused(refusal);
     }
-    let failed = message_checks(sizes, term, p, psi, omega, b2);
+    let failed = message_checks(sizes, constant_terms, p, psi, omega, second_b);
     if failed != 0 {
         return Answer::Judged(Verdict::Failed(failed));
     }
@@ -77,18 +77,18 @@ pub fn next_instance(
         sizes,
         nu,
         mu,
-        a,
-        b,
+        a_matrix,
+        b_matrix,
         c_matrix,
         d_matrix,
         whole,
-        term,
+        constant_terms,
         u1,
-        rows,
+        projections,
         p,
         psi,
         omega,
-        b2,
+        second_b,
         alpha,
         delta,
         u2,

@@ -17,50 +17,50 @@ ghost use Rattle.next_constraints.specs.Tables.{TableRoom, Tables};
 ghost use Rattle.next_instance.specs.Known.Facts.{CutFacts};
 ghost use Rattle.next_instance.specs.Written.{tableOf, chunkEntry};
 use crate::cut::Cut;
-use fold::chunks::chunk_width;
 use fold::Sizes;
+use fold::chunks::chunk_width;
 use next_constraints::coefficients::coefficient;
 use ring::element::Element;
 
 // Element k of the chunk of `size` coefficients from coefficient `start` on; past its end, zero.
 fn chunk_entry(
     sizes: Sizes,
-    a: &[i32],
-    b: &[i32],
+    a_matrix: &[i32],
+    b_matrix: &[i32],
     c_matrix: &[i32],
     d_matrix: &[i32],
     c: &[i32],
     folded: &[i32],
     products: &[i32],
-    relation: &[i32],
+    aggregate_a: &[i32],
     diagonal: &[i32],
     x: usize,
     start: usize,
     size: usize,
     k: usize,
 ) -> Element
-    requires { ⌜ EntryFacts sizes (now a) (now b) (now «c_matrix») (now «d_matrix») (now c) ⌝ }
-    requires { ⌜ TableRoom (sizes .d) (sizes .n) (sizes .r) (now folded) (now products) (now relation) (now diagonal) ⌝ }
+    requires { ⌜ EntryFacts sizes (now «a_matrix») (now «b_matrix») (now «c_matrix») (now «d_matrix») (now c) ⌝ }
+    requires { ⌜ TableRoom (sizes .d) (sizes .n) (sizes .r) (now folded) (now products) (now «aggregate_a») (now diagonal) ⌝ }
     requires { ⌜ (x < nextCount (sizes .kappa) (sizes .kappa1) (sizes .kappa2)) × (start + size ≤ openingSize 2 (sizes .n) (sizes .r) (sizes .kappa) (sizes .t1) (sizes .t2)) ⌝ }
     ensures { λ e.
-        ⌜ ((whole term rows psi omega alpha delta : List ℤ) (transcript : Transcript) (ν μ : ℕ) →
-        Tables (sizes .d) (sizes .n) (sizes .r) (sizes .k) (sizes .l) (sizes .w) whole term rows psi omega alpha delta (now (c .entry))
-        (now (folded .entry)) (now (products .entry)) (now (relation .entry)) (now (diagonal .entry)) →
+        ⌜ ((whole constantTerms projections psi omega alpha delta : List ℤ) (transcript : Transcript) (ν μ : ℕ) →
+        Tables (sizes .d) (sizes .n) (sizes .r) (sizes .k) (sizes .l) (sizes .w) whole constantTerms projections psi omega alpha delta (now (c .entry))
+        (now (folded .entry)) (now (products .entry)) (now («aggregate_a» .entry)) (now (diagonal .entry)) →
         e .coefficients ≡ array (sizes .d) (chunkEntry (sizes .d)
-        (tableOf sizes (now (a .entry)) (now (b .entry)) (now («c_matrix» .entry)) (now («d_matrix» .entry)) (now (c .entry))
-        whole term rows psi omega alpha delta transcript ν μ x) start size k)) ⌝ }
+        (tableOf sizes (now («a_matrix» .entry)) (now («b_matrix» .entry)) (now («c_matrix» .entry)) (now («d_matrix» .entry)) (now (c .entry))
+        whole constantTerms projections psi omega alpha delta transcript ν μ x) start size k)) ⌝ }
 {
     if k < size {
         coefficient(
             sizes,
-            a,
-            b,
+            a_matrix,
+            b_matrix,
             c_matrix,
             d_matrix,
             c,
             folded,
             products,
-            relation,
+            aggregate_a,
             diagonal,
             x,
             start + k,
@@ -74,14 +74,14 @@ fn chunk_entry(
 fn write_chunk(
     sizes: Sizes,
     rank: usize,
-    a: &[i32],
-    b: &[i32],
+    a_matrix: &[i32],
+    b_matrix: &[i32],
     c_matrix: &[i32],
     d_matrix: &[i32],
     c: &[i32],
     folded: &[i32],
     products: &[i32],
-    relation: &[i32],
+    aggregate_a: &[i32],
     diagonal: &[i32],
     x: usize,
     start: usize,
@@ -89,31 +89,31 @@ fn write_chunk(
     out: &mut [i32],
     at: usize,
 )
-    requires { ⌜ EntryFacts sizes (now a) (now b) (now «c_matrix») (now «d_matrix») (now c) ⌝ }
-    requires { ⌜ TableRoom (sizes .d) (sizes .n) (sizes .r) (now folded) (now products) (now relation) (now diagonal) ⌝ }
+    requires { ⌜ EntryFacts sizes (now «a_matrix») (now «b_matrix») (now «c_matrix») (now «d_matrix») (now c) ⌝ }
+    requires { ⌜ TableRoom (sizes .d) (sizes .n) (sizes .r) (now folded) (now products) (now «aggregate_a») (now diagonal) ⌝ }
     requires { ⌜ (x < nextCount (sizes .kappa) (sizes .kappa1) (sizes .kappa2)) × (start + size ≤ openingSize 2 (sizes .n) (sizes .r) (sizes .kappa) (sizes .t1) (sizes .t2)) ⌝ }
     requires { ⌜ (at + rank) * sizes .d ≤ length (now out) ⌝ }
     ensures { λ _.
-        ⌜ ((whole term rows psi omega alpha delta : List ℤ) (transcript : Transcript) (ν μ : ℕ) →
-        Tables (sizes .d) (sizes .n) (sizes .r) (sizes .k) (sizes .l) (sizes .w) whole term rows psi omega alpha delta (now (c .entry))
-        (now (folded .entry)) (now (products .entry)) (now (relation .entry)) (now (diagonal .entry)) →
+        ⌜ ((whole constantTerms projections psi omega alpha delta : List ℤ) (transcript : Transcript) (ν μ : ℕ) →
+        Tables (sizes .d) (sizes .n) (sizes .r) (sizes .k) (sizes .l) (sizes .w) whole constantTerms projections psi omega alpha delta (now (c .entry))
+        (now (folded .entry)) (now (products .entry)) (now («aggregate_a» .entry)) (now (diagonal .entry)) →
         now (out .exit) ≡ over (now (out .entry)) (at * sizes .d) (elements (sizes .d) rank (chunkEntry (sizes .d)
-        (tableOf sizes (now (a .entry)) (now (b .entry)) (now («c_matrix» .entry)) (now («d_matrix» .entry)) (now (c .entry))
-        whole term rows psi omega alpha delta transcript ν μ x) start size))) ⌝ }
+        (tableOf sizes (now («a_matrix» .entry)) (now («b_matrix» .entry)) (now («c_matrix» .entry)) (now («d_matrix» .entry)) (now (c .entry))
+        whole constantTerms projections psi omega alpha delta transcript ν μ x) start size))) ⌝ }
 {
     let d = sizes.d;
     let mut k = 0;
     while k < rank {
         let element = chunk_entry(
             sizes,
-            a,
-            b,
+            a_matrix,
+            b_matrix,
             c_matrix,
             d_matrix,
             c,
             folded,
             products,
-            relation,
+            aggregate_a,
             diagonal,
             x,
             start,
@@ -129,31 +129,31 @@ fn write_chunk(
 pub fn write_phi(
     sizes: Sizes,
     cut: Cut,
-    a: &[i32],
-    b: &[i32],
+    a_matrix: &[i32],
+    b_matrix: &[i32],
     c_matrix: &[i32],
     d_matrix: &[i32],
     c: &[i32],
     folded: &[i32],
     products: &[i32],
-    relation: &[i32],
+    aggregate_a: &[i32],
     diagonal: &[i32],
     x: usize,
     out: &mut [i32],
     at: usize,
 )
-    requires { ⌜ EntryFacts sizes (now a) (now b) (now «c_matrix») (now «d_matrix») (now c) ⌝ }
-    requires { ⌜ TableRoom (sizes .d) (sizes .n) (sizes .r) (now folded) (now products) (now relation) (now diagonal) ⌝ }
+    requires { ⌜ EntryFacts sizes (now «a_matrix») (now «b_matrix») (now «c_matrix») (now «d_matrix») (now c) ⌝ }
+    requires { ⌜ TableRoom (sizes .d) (sizes .n) (sizes .r) (now folded) (now products) (now «aggregate_a») (now diagonal) ⌝ }
     requires { ⌜ CutFacts sizes cut ⌝ }
     requires { ⌜ (x < nextCount (sizes .kappa) (sizes .kappa1) (sizes .kappa2)) × ((at + cut .parts * cut .rank) * sizes .d ≤ length (now out)) ⌝ }
     ensures { λ _.
-        ⌜ ((whole term rows psi omega alpha delta : List ℤ) (transcript : Transcript) (ν μ : ℕ) →
-        Tables (sizes .d) (sizes .n) (sizes .r) (sizes .k) (sizes .l) (sizes .w) whole term rows psi omega alpha delta (now (c .entry))
-        (now (folded .entry)) (now (products .entry)) (now (relation .entry)) (now (diagonal .entry)) →
+        ⌜ ((whole constantTerms projections psi omega alpha delta : List ℤ) (transcript : Transcript) (ν μ : ℕ) →
+        Tables (sizes .d) (sizes .n) (sizes .r) (sizes .k) (sizes .l) (sizes .w) whole constantTerms projections psi omega alpha delta (now (c .entry))
+        (now (folded .entry)) (now (products .entry)) (now («aggregate_a» .entry)) (now (diagonal .entry)) →
         now (out .exit) ≡ over (now (out .entry)) (at * sizes .d) (flat (cut .parts) (λ s. elements (sizes .d) (cut .rank) (φ′ (sizes .d)
         (width 2 (sizes .n) (cut .nu) (cut .m) (cut .mu))
-        (tableOf sizes (now (a .entry)) (now (b .entry)) (now («c_matrix» .entry)) (now («d_matrix» .entry)) (now (c .entry))
-        whole term rows psi omega alpha delta transcript ν μ x) s)))) ⌝ }
+        (tableOf sizes (now («a_matrix» .entry)) (now («b_matrix» .entry)) (now («c_matrix» .entry)) (now («d_matrix» .entry)) (now (c .entry))
+        whole constantTerms projections psi omega alpha delta transcript ν μ x) s)))) ⌝ }
 {
     let n = sizes.n;
     let rank = cut.rank;
@@ -166,14 +166,14 @@ pub fn write_phi(
         write_chunk(
             sizes,
             rank,
-            a,
-            b,
+            a_matrix,
+            b_matrix,
             c_matrix,
             d_matrix,
             c,
             folded,
             products,
-            relation,
+            aggregate_a,
             diagonal,
             x,
             start,

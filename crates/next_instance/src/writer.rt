@@ -29,58 +29,58 @@ use next_constraints::lists::write_tables;
 fn write_constraint(
     sizes: Sizes,
     cut: Cut,
-    a: &[i32],
-    b: &[i32],
+    a_matrix: &[i32],
+    b_matrix: &[i32],
     c_matrix: &[i32],
     d_matrix: &[i32],
     whole: &[i32],
     u1: &[i32],
-    b2: &[i32],
+    second_b: &[i32],
     alpha: &[i32],
     delta: &[i32],
     u2: &[i32],
     c: &[i32],
     folded: &[i32],
     products: &[i32],
-    relation: &[i32],
+    aggregate_a: &[i32],
     diagonal: &[i32],
     x: usize,
     out: &mut [i32],
 )
-    requires { ⌜ EntryFacts sizes (now a) (now b) (now «c_matrix») (now «d_matrix») (now c) ⌝ }
-    requires { ⌜ TableRoom (sizes .d) (sizes .n) (sizes .r) (now folded) (now products) (now relation) (now diagonal) ⌝ }
-    requires { ⌜ ConstantFacts sizes (now whole) (now alpha) (now delta) (now b2) (now u1) (now u2) ⌝ }
+    requires { ⌜ EntryFacts sizes (now «a_matrix») (now «b_matrix») (now «c_matrix») (now «d_matrix») (now c) ⌝ }
+    requires { ⌜ TableRoom (sizes .d) (sizes .n) (sizes .r) (now folded) (now products) (now «aggregate_a») (now diagonal) ⌝ }
+    requires { ⌜ ConstantFacts sizes (now whole) (now alpha) (now delta) (now «second_b») (now u1) (now u2) ⌝ }
     requires { ⌜ CutFacts sizes cut ⌝ }
     requires { ⌜ (x < nextCount (sizes .kappa) (sizes .kappa1) (sizes .kappa2)) × (length (now out) ≡ (functionSize (cut .rank) (cut .parts) + 1) * sizes .d) ⌝ }
     ensures { λ _.
-        ⌜ ((term rows psi omega p : List ℤ) →
-        Tables (sizes .d) (sizes .n) (sizes .r) (sizes .k) (sizes .l) (sizes .w) (now (whole .entry)) term rows psi omega
+        ⌜ ((constantTerms projections psi omega p : List ℤ) →
+        Tables (sizes .d) (sizes .n) (sizes .r) (sizes .k) (sizes .l) (sizes .w) (now (whole .entry)) constantTerms projections psi omega
         (now (alpha .entry)) (now (delta .entry)) (now (c .entry))
-        (now (folded .entry)) (now (products .entry)) (now (relation .entry)) (now (diagonal .entry)) →
+        (now (folded .entry)) (now (products .entry)) (now («aggregate_a» .entry)) (now (diagonal .entry)) →
         now (out .exit) ≡ laidOut (sizes .d) (cut .rank) (cut .parts) (width 2 (sizes .n) (cut .nu) (cut .m) (cut .mu))
-        (constraintOf sizes (now (a .entry)) (now (b .entry)) (now («c_matrix» .entry)) (now («d_matrix» .entry)) (now (c .entry))
-        (now (whole .entry)) term rows psi omega (now (alpha .entry)) (now (delta .entry))
-        (transcriptOf (now (u1 .entry)) p (now (b2 .entry)) (now (u2 .entry))) (cut .nu) (cut .mu) x)) ⌝ }
+        (constraintOf sizes (now («a_matrix» .entry)) (now («b_matrix» .entry)) (now («c_matrix» .entry)) (now («d_matrix» .entry)) (now (c .entry))
+        (now (whole .entry)) constantTerms projections psi omega (now (alpha .entry)) (now (delta .entry))
+        (transcriptOf (now (u1 .entry)) p (now («second_b» .entry)) (now (u2 .entry))) (cut .nu) (cut .mu) x)) ⌝ }
 {
     let d = sizes.d;
     write_a(sizes, cut.nu, cut.parts, x, out);
     write_phi(
         sizes,
         cut,
-        a,
-        b,
+        a_matrix,
+        b_matrix,
         c_matrix,
         d_matrix,
         c,
         folded,
         products,
-        relation,
+        aggregate_a,
         diagonal,
         x,
         out,
         cut.pairs,
     );
-    let element = constant_entry(sizes, whole, alpha, delta, b2, u1, u2, x);
+    let element = constant_entry(sizes, whole, alpha, delta, second_b, u1, u2, x);
     element.store(d, out, cut.size);
 }
 
@@ -88,38 +88,38 @@ fn write_constraint(
 fn write_constraints(
     sizes: Sizes,
     cut: Cut,
-    a: &[i32],
-    b: &[i32],
+    a_matrix: &[i32],
+    b_matrix: &[i32],
     c_matrix: &[i32],
     d_matrix: &[i32],
     whole: &[i32],
     u1: &[i32],
-    b2: &[i32],
+    second_b: &[i32],
     alpha: &[i32],
     delta: &[i32],
     u2: &[i32],
     c: &[i32],
     folded: &[i32],
     products: &[i32],
-    relation: &[i32],
+    aggregate_a: &[i32],
     diagonal: &[i32],
     out: &mut [i32],
 )
-    requires { ⌜ EntryFacts sizes (now a) (now b) (now «c_matrix») (now «d_matrix») (now c) ⌝ }
-    requires { ⌜ TableRoom (sizes .d) (sizes .n) (sizes .r) (now folded) (now products) (now relation) (now diagonal) ⌝ }
-    requires { ⌜ ConstantFacts sizes (now whole) (now alpha) (now delta) (now b2) (now u1) (now u2) ⌝ }
+    requires { ⌜ EntryFacts sizes (now «a_matrix») (now «b_matrix») (now «c_matrix») (now «d_matrix») (now c) ⌝ }
+    requires { ⌜ TableRoom (sizes .d) (sizes .n) (sizes .r) (now folded) (now products) (now «aggregate_a») (now diagonal) ⌝ }
+    requires { ⌜ ConstantFacts sizes (now whole) (now alpha) (now delta) (now «second_b») (now u1) (now u2) ⌝ }
     requires { ⌜ CutFacts sizes cut ⌝ }
     requires { ⌜ length (now out) ≡ wholeLength (sizes .d) (cut .rank) (cut .parts) (nextCount (sizes .kappa) (sizes .kappa1) (sizes .kappa2)) ⌝ }
     ensures { λ _.
-        ⌜ ((term rows psi omega p : List ℤ) →
-        Tables (sizes .d) (sizes .n) (sizes .r) (sizes .k) (sizes .l) (sizes .w) (now (whole .entry)) term rows psi omega
+        ⌜ ((constantTerms projections psi omega p : List ℤ) →
+        Tables (sizes .d) (sizes .n) (sizes .r) (sizes .k) (sizes .l) (sizes .w) (now (whole .entry)) constantTerms projections psi omega
         (now (alpha .entry)) (now (delta .entry)) (now (c .entry))
-        (now (folded .entry)) (now (products .entry)) (now (relation .entry)) (now (diagonal .entry)) →
+        (now (folded .entry)) (now (products .entry)) (now («aggregate_a» .entry)) (now (diagonal .entry)) →
         now (out .exit) ≡ flat (nextCount (sizes .kappa) (sizes .kappa1) (sizes .kappa2)) (λ x. laidOut (sizes .d) (cut .rank) (cut .parts)
         (width 2 (sizes .n) (cut .nu) (cut .m) (cut .mu))
-        (constraintOf sizes (now (a .entry)) (now (b .entry)) (now («c_matrix» .entry)) (now («d_matrix» .entry)) (now (c .entry))
-        (now (whole .entry)) term rows psi omega (now (alpha .entry)) (now (delta .entry))
-        (transcriptOf (now (u1 .entry)) p (now (b2 .entry)) (now (u2 .entry))) (cut .nu) (cut .mu) x))) ⌝ }
+        (constraintOf sizes (now («a_matrix» .entry)) (now («b_matrix» .entry)) (now («c_matrix» .entry)) (now («d_matrix» .entry)) (now (c .entry))
+        (now (whole .entry)) constantTerms projections psi omega (now (alpha .entry)) (now (delta .entry))
+        (transcriptOf (now (u1 .entry)) p (now («second_b» .entry)) (now (u2 .entry))) (cut .nu) (cut .mu) x))) ⌝ }
 {
     let count = sizes.kappa + sizes.kappa1 + sizes.kappa2 + 3;
     let size = (cut.size + 1) * sizes.d;
@@ -130,20 +130,20 @@ fn write_constraints(
         write_constraint(
             sizes,
             cut,
-            a,
-            b,
+            a_matrix,
+            b_matrix,
             c_matrix,
             d_matrix,
             whole,
             u1,
-            b2,
+            second_b,
             alpha,
             delta,
             u2,
             c,
             folded,
             products,
-            relation,
+            aggregate_a,
             diagonal,
             x,
             &mut out[at..next],
@@ -158,42 +158,42 @@ pub fn write_instance(
     sizes: Sizes,
     nu: usize,
     mu: usize,
-    a: &[i32],
-    b: &[i32],
+    a_matrix: &[i32],
+    b_matrix: &[i32],
     c_matrix: &[i32],
     d_matrix: &[i32],
     whole: &[i32],
-    term: &[i32],
+    constant_terms: &[i32],
     u1: &[i32],
-    rows: &[i32],
+    projections: &[i32],
     p: &[i32],
     psi: &[i32],
     omega: &[i32],
-    b2: &[i32],
+    second_b: &[i32],
     alpha: &[i32],
     delta: &[i32],
     u2: &[i32],
     c: &[i32],
     out: &mut [i32],
 )
-    requires { ⌜ NextFacts (statementOf sizes (now a) (now b) (now «c_matrix») (now «d_matrix») (now whole) (now term))
-        (drawsOf (now rows) (now psi) (now omega) (now alpha) (now delta) (now c))
-        (transcriptOf (now u1) (now p) (now b2) (now u2)) nu mu (now out) ⌝ }
+    requires { ⌜ NextFacts (statementOf sizes (now «a_matrix») (now «b_matrix») (now «c_matrix») (now «d_matrix») (now whole) (now «constant_terms»))
+        (drawsOf (now projections) (now psi) (now omega) (now alpha) (now delta) (now c))
+        (transcriptOf (now u1) (now p) (now «second_b») (now u2)) nu mu (now out) ⌝ }
     ensures { λ _. ⌜ now (out .exit) ≡ nextWhole
-        (statementOf sizes (now (a .entry)) (now (b .entry)) (now («c_matrix» .entry)) (now («d_matrix» .entry)) (now (whole .entry)) (now (term .entry)))
-        (drawsOf (now (rows .entry)) (now (psi .entry)) (now (omega .entry)) (now (alpha .entry)) (now (delta .entry)) (now (c .entry)))
-        (transcriptOf (now (u1 .entry)) (now (p .entry)) (now (b2 .entry)) (now (u2 .entry))) nu mu ⌝ }
+        (statementOf sizes (now («a_matrix» .entry)) (now («b_matrix» .entry)) (now («c_matrix» .entry)) (now («d_matrix» .entry)) (now (whole .entry)) (now («constant_terms» .entry)))
+        (drawsOf (now (projections .entry)) (now (psi .entry)) (now (omega .entry)) (now (alpha .entry)) (now (delta .entry)) (now (c .entry)))
+        (transcriptOf (now (u1 .entry)) (now (p .entry)) (now («second_b» .entry)) (now (u2 .entry))) nu mu ⌝ }
 {
     let cut = cut_of(sizes, nu, mu);
     let mut folded = [0i32; 16384];
     let mut products = [0i32; 8704];
-    let mut relation = [0i32; 8704];
+    let mut aggregate_a = [0i32; 8704];
     let mut diagonal = [0i32; 8704];
     write_tables(
         sizes,
         whole,
-        term,
-        rows,
+        constant_terms,
+        projections,
         psi,
         omega,
         alpha,
@@ -201,26 +201,26 @@ pub fn write_instance(
         c,
         &mut folded,
         &mut products,
-        &mut relation,
+        &mut aggregate_a,
         &mut diagonal,
     );
     write_constraints(
         sizes,
         cut,
-        a,
-        b,
+        a_matrix,
+        b_matrix,
         c_matrix,
         d_matrix,
         whole,
         u1,
-        b2,
+        second_b,
         alpha,
         delta,
         u2,
         c,
         &folded,
         &products,
-        &relation,
+        &aggregate_a,
         &diagonal,
         out,
     );

@@ -1,5 +1,5 @@
 -- Message 2's loops: the dot product of a projection row and the witness in a 64-bit number, and the numbers p_j one after the other.
---     Dotted         the sum of the first y terms, as the accumulator holds it
+--     Dotted         the sum of the first y summands, as the accumulator holds it
 --     Projecting     the first j numbers of p are written, and the next row begins at place `at`
 use mathlib.Core.List.{List}
 use Prim.Native.Nat.{ℕ}

@@ -23,23 +23,23 @@ fn write_products(
     d: usize,
     n: usize,
     kappa: usize,
-    a: &[i32],
+    a_matrix: &[i32],
     witness: &[i32],
     i: usize,
     block: &mut [i32],
     at: usize,
 )
     requires { ⌜ Degree d ⌝ }
-    requires { ⌜ PartFacts d n kappa i (now a) (now witness) ⌝ }
+    requires { ⌜ PartFacts d n kappa i (now «a_matrix») (now witness) ⌝ }
     requires { ⌜ (at + kappa) * d ≤ length (now block) ⌝ }
-    ensures { λ _. ⌜ now (block .exit) ≡ over (now (block .entry)) (at * d) (elements d kappa (t d n (now (a .entry)) (now (witness .entry)) i)) ⌝ }
+    ensures { λ _. ⌜ now (block .exit) ≡ over (now (block .entry)) (at * d) (elements d kappa (t d n (now («a_matrix» .entry)) (now (witness .entry)) i)) ⌝ }
 {
     let part = i * n;
     let mut k = 0;
     while k < kappa {
         let row = k * n;
         let product = Element {
-            coefficients: inner(d, n, a, row, witness, part),
+            coefficients: inner(d, n, a_matrix, row, witness, part),
         };
         product.store(d, block, at + k);
         k += 1;
@@ -53,27 +53,27 @@ fn write_t_part(
     kappa: usize,
     b1: usize,
     t1: usize,
-    a: &[i32],
+    a_matrix: &[i32],
     witness: &[i32],
     i: usize,
     block: &mut [i32],
 )
     requires { ⌜ Degree d ⌝ }
     requires { ⌜ Base b1 ⌝ }
-    requires { ⌜ PartFacts d n kappa i (now a) (now witness) ⌝ }
+    requires { ⌜ PartFacts d n kappa i (now «a_matrix») (now witness) ⌝ }
     requires { ⌜ (0 < t1) × (length (now block) ≡ t1 * (kappa * d)) ⌝ }
-    ensures { λ _. ⌜ now (block .exit) ≡ split b1 t1 (elements d kappa (t d n (now (a .entry)) (now (witness .entry)) i)) ⌝ }
+    ensures { λ _. ⌜ now (block .exit) ≡ split b1 t1 (elements d kappa (t d n (now («a_matrix» .entry)) (now (witness .entry)) i)) ⌝ }
 {
     let last = (t1 - 1) * kappa;
-    write_products(d, n, kappa, a, witness, i, block, last);
+    write_products(d, n, kappa, a_matrix, witness, i, block, last);
     let width = kappa * d;
     split_digits(b1, t1, width, block);
 }
 
 // The t digits: by part, then digit, then row.
-pub fn write_t(sizes: CommitSizes, a: &[i32], witness: &[i32], out: &mut [i32])
-    requires { ⌜ TFacts sizes (now a) (now witness) (now out) ⌝ }
-    ensures { λ _. ⌜ now (out .exit) ≡ tOf sizes (now (a .entry)) (now (witness .entry)) ⌝ }
+pub fn write_t(sizes: CommitSizes, a_matrix: &[i32], witness: &[i32], out: &mut [i32])
+    requires { ⌜ TFacts sizes (now «a_matrix») (now witness) (now out) ⌝ }
+    ensures { λ _. ⌜ now (out .exit) ≡ tOf sizes (now («a_matrix» .entry)) (now (witness .entry)) ⌝ }
 {
     let d = sizes.d;
     let n = sizes.n;
@@ -86,7 +86,17 @@ pub fn write_t(sizes: CommitSizes, a: &[i32], witness: &[i32], out: &mut [i32])
     let mut i = 0;
     while i < r {
         let next = at + width;
-        write_t_part(d, n, kappa, b1, t1, a, witness, i, &mut out[at..next]);
+        write_t_part(
+            d,
+            n,
+            kappa,
+            b1,
+            t1,
+            a_matrix,
+            witness,
+            i,
+            &mut out[at..next],
+        );
         at = next;
         i += 1;
     }
@@ -111,23 +121,23 @@ pub fn write_g(sizes: CommitSizes, witness: &[i32], out: &mut [i32])
 fn outer_row(
     d: usize,
     m: usize,
-    b: &[i32],
+    b_matrix: &[i32],
     x: &[i32],
     l: usize,
-    c: &[i32],
+    c_matrix: &[i32],
     y: &[i32],
     k: usize,
 ) -> Element
     requires { ⌜ Degree d ⌝ }
-    requires { ⌜ (m ≤ 4096) × ((k * m + m) * d ≤ length (now b)) × (m * d ≤ length (now x)) ⌝ }
-    requires { ⌜ (l ≤ 4096) × ((k * l + l) * d ≤ length (now c)) × (l * d ≤ length (now y)) ⌝ }
-    ensures { λ e. ⌜ e .coefficients ≡ array d (outer d m l (now (b .entry)) (now (x .entry)) (now (c .entry)) (now (y .entry)) k) ⌝ }
+    requires { ⌜ (m ≤ 4096) × ((k * m + m) * d ≤ length (now «b_matrix»)) × (m * d ≤ length (now x)) ⌝ }
+    requires { ⌜ (l ≤ 4096) × ((k * l + l) * d ≤ length (now «c_matrix»)) × (l * d ≤ length (now y)) ⌝ }
+    ensures { λ e. ⌜ e .coefficients ≡ array d (outer d m l (now («b_matrix» .entry)) (now (x .entry)) (now («c_matrix» .entry)) (now (y .entry)) k) ⌝ }
 {
     let left = Element {
-        coefficients: inner(d, m, b, k * m, x, 0),
+        coefficients: inner(d, m, b_matrix, k * m, x, 0),
     };
     let right = Element {
-        coefficients: inner(d, l, c, k * l, y, 0),
+        coefficients: inner(d, l, c_matrix, k * l, y, 0),
     };
     left.sum(d, right)
 }
@@ -137,33 +147,40 @@ fn write_outer(
     d: usize,
     rows: usize,
     m: usize,
-    b: &[i32],
+    b_matrix: &[i32],
     x: &[i32],
     l: usize,
-    c: &[i32],
+    c_matrix: &[i32],
     y: &[i32],
     out: &mut [i32],
 )
     requires { ⌜ Degree d ⌝ }
-    requires { ⌜ (m ≤ 4096) × (rows * m * d ≤ length (now b)) × (m * d ≤ length (now x)) ⌝ }
-    requires { ⌜ (l ≤ 4096) × (rows * l * d ≤ length (now c)) × (l * d ≤ length (now y)) ⌝ }
+    requires { ⌜ (m ≤ 4096) × (rows * m * d ≤ length (now «b_matrix»)) × (m * d ≤ length (now x)) ⌝ }
+    requires { ⌜ (l ≤ 4096) × (rows * l * d ≤ length (now «c_matrix»)) × (l * d ≤ length (now y)) ⌝ }
     requires { ⌜ length (now out) ≡ rows * d ⌝ }
-    ensures { λ _. ⌜ now (out .exit) ≡ elements d rows (outer d m l (now (b .entry)) (now (x .entry)) (now (c .entry)) (now (y .entry))) ⌝ }
+    ensures { λ _. ⌜ now (out .exit) ≡ elements d rows (outer d m l (now («b_matrix» .entry)) (now (x .entry)) (now («c_matrix» .entry)) (now (y .entry))) ⌝ }
 {
     let mut k = 0;
     while k < rows {
-        let row = outer_row(d, m, b, x, l, c, y, k);
+        let row = outer_row(d, m, b_matrix, x, l, c_matrix, y, k);
         row.store(d, out, k);
         k += 1;
     }
 }
 
 // u1 = B·(t digits) + C·(g digits).
-pub fn write_u1(sizes: CommitSizes, b: &[i32], c: &[i32], t: &[i32], g: &[i32], out: &mut [i32])
-    requires { ⌜ OuterFacts sizes (now b) (now c) (now t) (now g) (now out) ⌝ }
-    ensures { λ _. ⌜ now (out .exit) ≡ u₁Of sizes (now (b .entry)) (now (c .entry)) (now (t .entry)) (now (g .entry)) ⌝ }
+pub fn write_u1(
+    sizes: CommitSizes,
+    b_matrix: &[i32],
+    c_matrix: &[i32],
+    t: &[i32],
+    g: &[i32],
+    out: &mut [i32],
+)
+    requires { ⌜ OuterFacts sizes (now «b_matrix») (now «c_matrix») (now t) (now g) (now out) ⌝ }
+    ensures { λ _. ⌜ now (out .exit) ≡ u₁Of sizes (now («b_matrix» .entry)) (now («c_matrix» .entry)) (now (t .entry)) (now (g .entry)) ⌝ }
 {
     let m = t_size(sizes.r, sizes.kappa, sizes.t1);
     let l = garbage_size(sizes.r, sizes.t2);
-    write_outer(sizes.d, sizes.kappa1, m, b, t, l, c, g, out);
+    write_outer(sizes.d, sizes.kappa1, m, b_matrix, t, l, c_matrix, g, out);
 }

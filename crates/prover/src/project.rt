@@ -5,14 +5,14 @@ ghost use Prim.Native.Nat.{_≤_};
 ghost use lib.ListN.{length};
 ghost use lib.IntN.{natAbs, _+ℤ_, _*ℤ_};
 ghost use Rattle.residues.specs.Modulus.{centred};
-ghost use Rattle.residues.specs.Range.{projections};
+ghost use Rattle.residues.specs.Range.{projectionEntries};
 ghost use Rattle.fold.specs.Messages.{p};
 ghost use Rattle.prover.specs.Known.Facts.{ProjectFacts};
 ghost use Rattle.prover.specs.Projected.{dot};
 use fold::Shape;
 use residues::modulus::centre;
 
-// One term more of a dot product, where x is a projection entry.
+// One summand more of a dot product, where x is a projection entry.
 fn add_product(acc: i64, x: i32, y: i32) -> i64
     requires { ⌜ (natAbs acc ≤ 4611686018427387904) × (natAbs x ≤ 1) ⌝ }
     ensures { λ r. ⌜ r ≡ acc +ℤ x *ℤ y ⌝ }
@@ -20,9 +20,9 @@ fn add_product(acc: i64, x: i32, y: i32) -> i64
     acc + x as i64 * y as i64
 }
 
-// The centred dot product of a projection row and the witness. The terms are below 2^31 each, so the sum of all needs no reduction.
+// The centred dot product of a projection row and the witness. The summands are below 2^31 each, so the sum of all needs no reduction.
 fn project_row(row: &[i32], witness: &[i32]) -> i32
-    requires { ⌜ (projections (now row) ≡ true) × (length (now row) ≡ length (now witness)) × (length (now witness) ≤ 262144) ⌝ }
+    requires { ⌜ (projectionEntries (now row) ≡ true) × (length (now row) ≡ length (now witness)) × (length (now witness) ≤ 262144) ⌝ }
     ensures { λ r. ⌜ r ≡ centred (dot (now (row .entry)) (now (witness .entry)) (length (now (witness .entry)))) ⌝ }
 {
     let mut acc: i64 = 0;
@@ -35,16 +35,16 @@ fn project_row(row: &[i32], witness: &[i32]) -> i32
 }
 
 // p: one number for each projection row.
-pub fn write_p(shape: Shape, w: usize, rows: &[i32], witness: &[i32], out: &mut [i32])
-    requires { ⌜ ProjectFacts shape w (now rows) (now witness) (now out) ⌝ }
-    ensures { λ _. ⌜ now (out .exit) ≡ p (shape .d) (shape .n) (shape .r) w (now (rows .entry)) (now (witness .entry)) ⌝ }
+pub fn write_p(shape: Shape, w: usize, projections: &[i32], witness: &[i32], out: &mut [i32])
+    requires { ⌜ ProjectFacts shape w (now projections) (now witness) (now out) ⌝ }
+    ensures { λ _. ⌜ now (out .exit) ≡ p (shape .d) (shape .n) (shape .r) w (now (projections .entry)) (now (witness .entry)) ⌝ }
 {
     let size = witness.len();
     let mut at = 0;
     let mut j = 0;
     while j < w {
         let next = at + size;
-        let product = project_row(&rows[at..next], witness);
+        let product = project_row(&projections[at..next], witness);
         out[j] = product;
         at = next;
         j += 1;

@@ -24,8 +24,8 @@ unfoldable pub coefficients : List ℤ → Bool
 coefficients xs = allWithin 2147483598 xs
 
 -- row 9: "projection entry not -1, 0, 1"
-unfoldable pub projections : List ℤ → Bool
-projections xs = allWithin 1 xs
+unfoldable pub projectionEntries : List ℤ → Bool
+projectionEntries xs = allWithin 1 xs
 
 -- row 10: "A challenge c has coefficients -2 to 2 and squared length at most 71."
 unfoldable pub challenge : List ℤ → Bool

@@ -1,7 +1,7 @@
 // The tests of refusals 8, 9 and 10 on slices.
 ghost use mathlib.Core.Path.{_≡_};
 ghost use lib.IntN.{natAbs};
-ghost use Rattle.residues.specs.Range.{between, allBetween, coefficients, projections, challenge};
+ghost use Rattle.residues.specs.Range.{between, allBetween, coefficients, projectionEntries, challenge};
 use crate::length::compare;
 use crate::length::is_within;
 
@@ -49,7 +49,7 @@ pub fn are_coefficients(xs: &[i32]) -> bool
 
 // Every number of xs is -1, 0 or 1.
 pub fn are_projection_entries(xs: &[i32]) -> bool
-    ensures { λ r. ⌜ r ≡ projections (now (xs .entry)) ⌝ }
+    ensures { λ r. ⌜ r ≡ projectionEntries (now (xs .entry)) ⌝ }
 {
     all_between(-1, 1, xs)
 }

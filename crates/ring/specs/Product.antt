@@ -1,7 +1,7 @@
 -- How products in R are computed, in natural numbers: what the kernels of src/product.rt make of arrays of residues.
---     term a e start i     term i of a column: a_i times e_(start + i), each modulo 2^32
---     highs n f            the sum of the upper halves of the terms
---     folded n f           the lower halves, and 99 times the upper halves: congruent to the sum of the terms modulo q = 2^32 - 99
+--     summand a e start i  summand i of a column: a_i times e_(start + i), each modulo 2^32
+--     highs n f            the sum of the upper halves of the summands
+--     folded n f           the lower halves, and 99 times the upper halves: congruent to the sum of the summands modulo q = 2^32 - 99
 -- One operand of a product lies in an array as it is, the other one reversed and followed by its negacyclic copy, so that each coefficient
 -- of the product is one column.
 use mathlib.Core.Path.{_≡_}
@@ -14,8 +14,8 @@ use Rattle.algebra.specs.Residue.{make}
 use Rattle.residues.specs.Modulus.{q, q-positive, Zq}
 use Rattle.ring.specs.Element.{R}
 
-unfoldable pub term : List ℕ → List ℕ → ℕ → ℕ → ℕ
-term a e start i = (getD a i 0 % 4294967296) * (getD e (start + i) 0 % 4294967296)
+unfoldable pub summand : List ℕ → List ℕ → ℕ → ℕ → ℕ
+summand a e start i = (getD a i 0 % 4294967296) * (getD e (start + i) 0 % 4294967296)
 
 unfoldable pub highs : ℕ → (ℕ → ℕ) → ℕ
 highs n f = total n (λ i. f i / 4294967296)
@@ -25,7 +25,7 @@ folded n f = (total n f - 4294967296 * highs n f) + 99 * highs n f
 
 -- the column of the product of two arrays that starts at a place of e; column k starts at d - k
 unfoldable pub column : ℕ → List ℕ → List ℕ → ℕ → ℕ
-column d a e start = folded d (term a e start)
+column d a e start = folded d (summand a e start)
 
 -- the largest value of a column
 unfoldable pub most : ℕ

@@ -1,7 +1,7 @@
 -- Products with one short operand, in natural numbers: what the kernels of src/short.rt make of arrays. The short operand lies reversed
 -- in an array with its negacyclic copy, each number raised by 2^22 so that none is negative. That adds 2^22 times the sum of the
 -- other operand's residues to every column, and `weight` takes it away again modulo q. No product then reaches 2^55, so that a column of
--- at most sixty-four terms is summed exactly.
+-- at most sixty-four summands is summed exactly.
 use mathlib.Core.Path.{_≡_}
 use mathlib.Core.Bool.{Bool}
 use mathlib.Core.List.{List}
@@ -10,7 +10,7 @@ use lib.ListN.{length, getD, take, drop}
 use lib.IntN.{ℤ, pos, natAbs, _+ℤ_}
 use Rattle.integers.specs.Sums.{total}
 use Rattle.residues.specs.Range.{allWithin}
-use Rattle.ring.specs.Product.{term}
+use Rattle.ring.specs.Product.{summand}
 
 -- congruent to x modulo q = 2^32 - 99
 unfoldable pub reduced : ℕ → ℕ
@@ -21,7 +21,7 @@ unfoldable pub weight : ℕ → List ℕ → ℕ
 weight d a = 4194304 * (274877900608 - total d (λ i. getD a i 0))
 
 unfoldable pub shortColumn : ℕ → List ℕ → List ℕ → ℕ → ℕ → ℕ
-shortColumn d a e c start = reduced (c + total d (term a e start))
+shortColumn d a e c start = reduced (c + total d (summand a e start))
 
 -- whether the d numbers of element p of a list are all below 2^22 in absolute value
 unfoldable pub short : ℕ → List ℤ → ℕ → Bool

@@ -1,5 +1,5 @@
 // Products and inner products in R. Residues are unsigned; one operand is reversed and extended by its negacyclic copy, so that each
-// coefficient of a product is one column of d terms. Whole products are summed wrapping and their upper halves exactly, and one
+// coefficient of a product is one column of d summands. Whole products are summed wrapping and their upper halves exactly, and one
 // remainder at the end gives the coefficient.
 ghost use mathlib.Core.Path.{_≡_};
 ghost use Prim.Native.Nat.{ℕ, _+_, _*_, _<_, _≤_};

@@ -18,7 +18,7 @@ use Rattle.algebra.specs.Sum.{sum}
 use Rattle.residues.specs.Modulus.{Zq, centred}
 use Rattle.residues.specs.Digits.{split, value}
 use Rattle.residues.specs.Length.{remaining, lessened, holds}
-use Rattle.residues.specs.Range.{coefficients, projections, challenge}
+use Rattle.residues.specs.Range.{coefficients, projectionEntries, challenge}
 use Rattle.ring.specs.Element.{R, el, array, coeffs, number}
 use Rattle.capi.specs.declared.types.CProduct.{CProduct}
 use Rattle.capi.specs.Codes.{productCode}
@@ -82,7 +82,7 @@ unfoldable pub listAt : (n k : ℕ) → List ℤ → List ℤ
 listAt n k xs = take n (drop k xs)
 
 unfoldable pub listTest : ℕ → List ℤ → Bool
-listTest op xs = cond (eqb op 13) (coefficients xs) (cond (eqb op 14) (projections xs) (challenge xs))
+listTest op xs = cond (eqb op 13) (coefficients xs) (cond (eqb op 14) (projectionEntries xs) (challenge xs))
 
 -- `bound n x[n]`
 unfoldable pub normAt : (xs wides : List ℤ) → Bool

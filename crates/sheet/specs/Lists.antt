@@ -6,7 +6,7 @@ use Prim.Native.Nat.{ℕ, zero, suc, _*_}
 use lib.ListN.{take, drop}
 use lib.IntN.{ℤ}
 use Rattle.fold.specs.Sizes.{five, tSize, garbageSize, openingSize}
-use Rattle.fold.specs.Refusals.{wholeLength, termLength, projectionLength}
+use Rattle.fold.specs.Refusals.{wholeLength, constantTermsLength, projectionLength}
 use Rattle.sheet.specs.declared.sizes.SheetSizes.{SheetSizes}
 
 -- "A, B, C, D by rows; each whole constraint ..; each constant-term one ..; u1; projection rows ..; p, ψ, ω ..; b''; α; δ; u2; c; the opening":
@@ -18,7 +18,7 @@ listLengths s =
     ∷ s .kappa1 * garbageSize (s .r) (s .t2) * s .d
     ∷ s .kappa2 * garbageSize (s .r) (s .t1) * s .d
     ∷ wholeLength (s .d) (s .n) (s .r) (s .k)
-    ∷ termLength (s .d) (s .n) (s .r) (s .l)
+    ∷ constantTermsLength (s .d) (s .n) (s .r) (s .l)
     ∷ s .kappa1 * s .d
     ∷ projectionLength (s .d) (s .n) (s .r) (s .w)
     ∷ s .w

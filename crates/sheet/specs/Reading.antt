@@ -16,7 +16,7 @@ use lib.Dec.{eqb}
 use lib.ListN.{length, getD}
 use lib.IntN.{ℤ, pos, negsuc}
 use Rattle.integers.specs.Lists.{tab}
-use Rattle.residues.specs.Range.{coefficients, projections}
+use Rattle.residues.specs.Range.{coefficients, projectionEntries}
 use Rattle.fold.specs.declared.Answer.{Answer}
 use Rattle.fold.specs.declared.Answer.the-variants as answer
 use Rattle.fold.specs.Answers.{firstFailing, answered, written}
@@ -119,8 +119,8 @@ unfoldable pub bodyNumbers : SheetSizes → List ℕ → List ℤ
 bodyNumbers s text = numbersFrom (endsLine (sectionsOf s)) 289 text 0 (total s)
 
 -- the projection rows and the challenges among the numbers after the header
-unfoldable pub rowsIn : SheetSizes → List ℤ → List ℤ
-rowsIn s xs = listAt (listLengths s) xs 7
+unfoldable pub projectionsIn : SheetSizes → List ℤ → List ℤ
+projectionsIn s xs = listAt (listLengths s) xs 7
 
 unfoldable pub challengesIn : SheetSizes → List ℤ → List ℤ
 challengesIn s xs = listAt (listLengths s) xs 15
@@ -129,7 +129,7 @@ challengesIn s xs = listAt (listLengths s) xs 15
 unfoldable pub numberTests : SheetSizes → List ℤ → List (ℕ × Bool)
 numberTests s xs =
     (8, coefficients xs)
-    ∷ (9, projections (rowsIn s xs))
+    ∷ (9, projectionEntries (projectionsIn s xs))
     ∷ (10, challenges (s .d) (s .r) (challengesIn s xs))
     ∷ []
 

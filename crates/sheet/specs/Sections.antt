@@ -1,7 +1,7 @@
 -- How many elements and numbers each part of a sheet has, and where its lines end, by the place of a number among those after the header.
 --     matrixCount .. lastCount    elements of A, B, C, D; of the whole constraints; of u1 and the projection rows; of b'', α, δ, u2, c and the opening
 --     sectionsOf, endsLine        the parts in numbers, and whether number i is the last of its line
---     total, rowsFrom, challengesFrom    numbers in all, and before the projection rows and before c
+--     total, projectionsFrom, challengesFrom    numbers in all, and before the projection rows and before c
 use mathlib.Core.Path.{_≡_}
 use mathlib.Core.Bool.{Bool, true, cond}
 use Prim.Native.Nat.{ℕ, _+_, _*_, _-_, _%_, _≤_, _<_}
@@ -17,7 +17,7 @@ pub record Bounded (s : SheetSizes) : Type 0 where
   pub rank : s .n ≤ 256
   pub parts : s .r ≤ 16
   pub whole : s .k ≤ 32
-  pub term : s .l ≤ 32
+  pub constantTerms : s .l ≤ 32
   pub projections : s .w ≤ 256
   pub κ : s .kappa ≤ 8
   pub κ₁ : s .kappa1 ≤ 8
@@ -61,8 +61,8 @@ module _ (s : SheetSizes) where
   unfoldable pub total : ℕ
   total = (matrixCount + wholeCount) * s .d + (s .l * termSize + (rowCount * s .d + (onesCount + lastCount * s .d)))
 
-  unfoldable pub rowsFrom : ℕ
-  rowsFrom = (matrixCount + wholeCount) * s .d + (s .l * termSize + s .kappa1 * s .d)
+  unfoldable pub projectionsFrom : ℕ
+  projectionsFrom = (matrixCount + wholeCount) * s .d + (s .l * termSize + s .kappa1 * s .d)
 
   unfoldable pub challengesFrom : ℕ
   challengesFrom =

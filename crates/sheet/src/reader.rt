@@ -2,18 +2,18 @@
 ghost use mathlib.Core.Path.{_≡_};
 ghost use mathlib.Core.Bool.{true};
 ghost use lib.ListN.{length};
-ghost use Rattle.residues.specs.Range.{coefficients, projections};
+ghost use Rattle.residues.specs.Range.{coefficients, projectionEntries};
 ghost use Rattle.fold.specs.Answers.{firstFailing};
 ghost use Rattle.fold.specs.Refusals.{challenges};
 ghost use Rattle.sheet.specs.Sections.{Bounded, sectionsOf, total, endsLine};
 ghost use Rattle.sheet.specs.Place.{place};
-ghost use Rattle.sheet.specs.Reading.{numberCount, bodyNumbers, rowsIn, challengesIn, numberTests, bodyTests, readingTests, SheetRead};
+ghost use Rattle.sheet.specs.Reading.{numberCount, bodyNumbers, projectionsIn, challengesIn, numberTests, bodyTests, readingTests, SheetRead};
 ghost use Rattle.sheet.specs.Known.Reading.{endsAt, Inside};
 use crate::header::header_refusal;
 use crate::header::sheet_sizes;
 use crate::sizes::SheetSizes;
 use crate::sizes::challenges_from;
-use crate::sizes::rows_from;
+use crate::sizes::projections_from;
 use crate::sizes::sections_of;
 use crate::sizes::total_numbers;
 use crate::walk::End;
@@ -32,12 +32,12 @@ pub enum SheetAnswer {
 }
 
 // Row 9.
-fn rows_ok(s: SheetSizes, text: &[u8]) -> bool
+fn projections_ok(s: SheetSizes, text: &[u8]) -> bool
     requires { ⌜ Inside s (now text) ⌝ }
-    ensures { λ r. ⌜ r ≡ projections (rowsIn s (bodyNumbers s (now (text .entry)))) ⌝ }
+    ensures { λ r. ⌜ r ≡ projectionEntries (projectionsIn s (bodyNumbers s (now (text .entry)))) ⌝ }
 {
     let q = sections_of(s);
-    let from = rows_from(s);
+    let from = projections_from(s);
     let start = place_after(q, text, 0, 289, from);
     let count = projection_length(s.d, s.n, s.r, s.w);
     all_within(q, text, from, start, count, 1)
@@ -74,9 +74,9 @@ fn number_refusal(s: SheetSizes, text: &[u8]) -> u8
         return 8;
     }
     let challenges = challenges_ok(s, text);
-    let rows = rows_ok(s, text);
+    let projections = projections_ok(s, text);
     let ten = first(challenges, 10, 0);
-    first(rows, 9, ten)
+    first(projections, 9, ten)
 }
 
 fn ends_at(end: End, n: usize) -> bool

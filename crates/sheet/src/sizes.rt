@@ -3,7 +3,7 @@ ghost use mathlib.Core.Path.{_≡_};
 ghost use Prim.Native.Nat.{_+_, _*_, _≤_, _<_};
 ghost use Rattle.sheet.specs.Reading.{foldSizes};
 ghost use Rattle.sheet.specs.Sections.{Bounded, Sectioned, matrixCount, wholeCount, rowCount, lastCount, termSize};
-ghost use Rattle.sheet.specs.Sections.{total, rowsFrom, challengesFrom, endsElement, endsTerm, endsLine};
+ghost use Rattle.sheet.specs.Sections.{total, projectionsFrom, challengesFrom, endsElement, endsTerm, endsLine};
 use fold::Sizes;
 use fold::counts::function_size;
 use fold::counts::garbage_size;
@@ -170,9 +170,9 @@ pub fn total_numbers(s: SheetSizes) -> usize
 }
 
 // The numbers before the projection rows.
-pub fn rows_from(s: SheetSizes) -> usize
+pub fn projections_from(s: SheetSizes) -> usize
     requires { ⌜ Bounded s ⌝ }
-    ensures { λ p. ⌜ p ≡ rowsFrom s ⌝ }
+    ensures { λ p. ⌜ p ≡ projectionsFrom s ⌝ }
 {
     let q = sections_of(s);
     let own = s.kappa1 * s.d;

@@ -19,21 +19,21 @@ use Rattle.fold.specs.Theorems.HonestRuns.{HonestVerdict}
 use Rattle.fold.specs.Laws.HonestWritten.{honest-written, tested, left}
 use Rattle.lizkarg.specs.Calls.{Committed, Projected, Aggregated, GarbageCommitted, Amortized}
 
-module _ (sizes : Sizes) (A B C D whole term rows ψ ω α δ c s : List ℤ) where
+module _ (sizes : Sizes) (A B C D whole constantTerms projections ψ ω α δ c s : List ℤ) where
   abbrev pub 𝓢 : Statement
-  𝓢 = statementOf sizes A B C D whole term
+  𝓢 = statementOf sizes A B C D whole constantTerms
 
   abbrev pub 𝓓 : Draws
-  𝓓 = drawsOf rows ψ ω α δ c
+  𝓓 = drawsOf projections ψ ω α δ c
 
   -- the five calls, "all from one statement, one witness and one set of lent projection rows, ψ, ω, α, δ and c", answered `Written`, and the lists
   -- that held `before` hold these numbers
   pub record HonestRun (u₁ p b″ u₂ z t g h : List ℤ) : Type 0 where
     pub before : record { t : List ℤ; g : List ℤ; u₁ : List ℤ; p : List ℤ; b″ : List ℤ; h : List ℤ; u₂ : List ℤ; z : List ℤ }
     pub message-1 : Committed (commitSizesOf sizes) A B C s (before .t) (before .g) (before .u₁) Written t g u₁
-    pub message-2 : Projected (shapeOf sizes) (sizes .w) rows s (before .p) Written p
-    pub message-3 : Aggregated (shapeOf sizes) (sizes .l) (sizes .w) term rows ψ ω s (before .b″) Written b″
-    pub message-4 : GarbageCommitted (garbageSizesOf sizes) whole term rows ψ ω α δ D s (before .h) (before .u₂) Written h u₂
+    pub message-2 : Projected (shapeOf sizes) (sizes .w) projections s (before .p) Written p
+    pub message-3 : Aggregated (shapeOf sizes) (sizes .l) (sizes .w) constantTerms projections ψ ω s (before .b″) Written b″
+    pub message-4 : GarbageCommitted (garbageSizesOf sizes) whole constantTerms projections ψ ω α δ D s (before .h) (before .u₂) Written h u₂
     pub message-5 : Amortized (shapeOf sizes) (sizes .b) c s (before .z) Written z
 
   -- what `verify` answered on these numbers, where β² and β'² keep row 6: no message takes them, and all else the calls have tested

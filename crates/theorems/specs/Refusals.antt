@@ -38,19 +38,19 @@ unfolding commitTests
 commit-refuses call =
     message-refuses _ refl (call .answer-is) (λ kept. (call .t-is ∙ kept _ _, call .g-is ∙ kept _ _, call .u-is ∙ kept _ _))
 
-pub project-refuses : {m : Shape} {w : ℕ} {rows s p p′ : List ℤ} {answer : Answer} → Projected m w rows s p answer p′
-    → Refuses (projectTests (m .d) (m .n) (m .r) w rows s p) answer (p′ ≡ p)
+pub project-refuses : {m : Shape} {w : ℕ} {projections s p p′ : List ℤ} {answer : Answer} → Projected m w projections s p answer p′
+    → Refuses (projectTests (m .d) (m .n) (m .r) w projections s p) answer (p′ ≡ p)
 unfolding projectTests
 project-refuses call = message-refuses _ refl (call .answer-is) (λ kept. call .p-is ∙ kept _ _)
 
-pub aggregate-refuses : {m : Shape} {L w : ℕ} {term rows ψ ω s b b′ : List ℤ} {answer : Answer} → Aggregated m L w term rows ψ ω s b answer b′
-    → Refuses (aggregateTests (m .d) (m .n) (m .r) L w term rows ψ ω s b) answer (b′ ≡ b)
+pub aggregate-refuses : {m : Shape} {L w : ℕ} {constantTerms projections ψ ω s b b′ : List ℤ} {answer : Answer} → Aggregated m L w constantTerms projections ψ ω s b answer b′
+    → Refuses (aggregateTests (m .d) (m .n) (m .r) L w constantTerms projections ψ ω s b) answer (b′ ≡ b)
 unfolding aggregateTests
 aggregate-refuses call = message-refuses _ refl (call .answer-is) (λ kept. call .b-is ∙ kept _ _)
 
-pub garbage-refuses : {m : GarbageSizes} {whole term rows ψ ω α δ D s h u h′ u′ : List ℤ} {answer : Answer}
-    → GarbageCommitted m whole term rows ψ ω α δ D s h u answer h′ u′
-    → Refuses (garbageTests (m .d) (m .n) (m .r) (m .k) (m .l) (m .w) (m .kappa2) (m .b1) (m .t1) whole term rows ψ ω α δ D s h u) answer
+pub garbage-refuses : {m : GarbageSizes} {whole constantTerms projections ψ ω α δ D s h u h′ u′ : List ℤ} {answer : Answer}
+    → GarbageCommitted m whole constantTerms projections ψ ω α δ D s h u answer h′ u′
+    → Refuses (garbageTests (m .d) (m .n) (m .r) (m .k) (m .l) (m .w) (m .kappa2) (m .b1) (m .t1) whole constantTerms projections ψ ω α δ D s h u) answer
     ((h′ ≡ h) × (u′ ≡ u))
 unfolding garbageTests
 garbage-refuses call = message-refuses _ refl (call .answer-is) (λ kept. (call .h-is ∙ kept _ _, call .u-is ∙ kept _ _))

@@ -12,12 +12,12 @@ use Rattle.residues.specs.Modulus.{Zq, red}
 use Rattle.ring.specs.Element.{el}
 use Rattle.fold.specs.declared.Sizes.{Sizes}
 use Rattle.fold.specs.Statement.{termConstant}
-use Rattle.fold.specs.Refusals.{termLength}
+use Rattle.fold.specs.Refusals.{constantTermsLength}
 use Rattle.verifier.specs.Known.Facts.{Holds}
 
 -- what check 2 needs of its slices
-pub record Terms (s : Sizes) (term ψ ω p b″ : List ℤ) : Type 0 where
-  pub terms : length term ≡ termLength (s .d) (s .n) (s .r) (s .l)
+pub record Terms (s : Sizes) (constantTerms ψ ω p b″ : List ℤ) : Type 0 where
+  pub terms : length constantTerms ≡ constantTermsLength (s .d) (s .n) (s .r) (s .l)
   pub psi : length ψ ≡ 5 * s .l
   pub omega-length : length ω ≡ 5 * s .w
   pub projections : length p ≡ s .w
@@ -29,9 +29,9 @@ weighted weights at xs first step l = Zq .mul (red (getD weights (at + l) (pos 0
 
 -- test k of check 2
 unfoldable pub termHolds : (d n r L w : ℕ) → List ℤ → List ℤ → List ℤ → List ℤ → List ℤ → ℕ → Bool
-termHolds d n r L w term ψ ω p b″ k =
+termHolds d n r L w constantTerms ψ ω p b″ k =
     eqb
     (ct Zq (el d b″ k) .val)
     (Zq .add
-    (sum Zq L (λ l. Zq .mul (red (getD ψ (k * L + l) (pos 0))) (red (termConstant d n r term l))))
+    (sum Zq L (λ l. Zq .mul (red (getD ψ (k * L + l) (pos 0))) (red (termConstant d n r constantTerms l))))
     (sum Zq w (λ j. Zq .mul (red (getD ω (k * w + j) (pos 0))) (red (getD p j (pos 0))))) .val)

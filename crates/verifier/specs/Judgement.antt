@@ -13,16 +13,16 @@ use Rattle.fold.specs.Arguments.{statementOf, drawsOf, transcriptOf}
 use Rattle.constraints.specs.Known.Facts.{AggregateFacts}
 use Rattle.verifier.specs.Known.Facts.{Fits, Holds, Opening, zValue}
 
-abbrev pub messageChecksOf : Sizes → (term p ψ ω b″ : List ℤ) → List (ℕ × Bool)
-messageChecksOf s term p ψ ω b″ =
-    messageChecks (statementOf s [] [] [] [] [] term) (drawsOf [] ψ ω [] [] []) (transcriptOf [] p b″ [])
+abbrev pub messageChecksOf : Sizes → (constantTerms p ψ ω b″ : List ℤ) → List (ℕ × Bool)
+messageChecksOf s constantTerms p ψ ω b″ =
+    messageChecks (statementOf s [] [] [] [] [] constantTerms) (drawsOf [] ψ ω [] [] []) (transcriptOf [] p b″ [])
 
 abbrev pub outerChecksOf : Sizes → (B C D u₁ u₂ o : List ℤ) → List (ℕ × Bool)
 outerChecksOf s B C D u₁ u₂ o = outerChecks (statementOf s [] B C D [] []) (drawsOf [] [] [] [] [] []) (transcriptOf u₁ [] [] u₂) o
 
-abbrev pub openingChecksOf : Sizes → (A whole term projections ψ ω b″ α δ c o : List ℤ) → List (ℕ × Bool)
-openingChecksOf s A whole term projections ψ ω b″ α δ c o =
-    openingChecks (statementOf s A [] [] [] whole term) (drawsOf projections ψ ω α δ c) (transcriptOf [] [] b″ []) o
+abbrev pub openingChecksOf : Sizes → (A whole constantTerms projections ψ ω b″ α δ c o : List ℤ) → List (ℕ × Bool)
+openingChecksOf s A whole constantTerms projections ψ ω b″ α δ c o =
+    openingChecks (statementOf s A [] [] [] whole constantTerms) (drawsOf projections ψ ω α δ c) (transcriptOf [] [] b″ []) o
 
 -- z stands at the start of a list
 pub record Recomposed (s : Sizes) (o z : List ℤ) : Type 0 where
@@ -40,10 +40,10 @@ pub record OuterFacts (s : Sizes) (B C D u₁ u₂ o : List ℤ) : Type 0 where
   pub opening : Opening s o
 
 -- what checks 5 to 9 ask
-pub record OpeningFacts (s : Sizes) (A whole term projections ψ ω b″ α δ c o : List ℤ) : Type 0 where
+pub record OpeningFacts (s : Sizes) (A whole constantTerms projections ψ ω b″ α δ c o : List ℤ) : Type 0 where
   pub fits : Fits s
   pub matrix : Holds (s .d) (s .kappa * s .n) A
-  pub aggregated : AggregateFacts (s .d) (s .n) (s .r) (s .k) (s .l) (s .w) whole term projections ψ ω α δ
+  pub aggregated : AggregateFacts (s .d) (s .n) (s .r) (s .k) (s .l) (s .w) whole constantTerms projections ψ ω α δ
   pub weights : Holds (s .d) 5 δ
   pub second : Holds (s .d) 5 b″
   pub challenges : Holds (s .d) (s .r) c

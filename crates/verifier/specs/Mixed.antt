@@ -29,8 +29,8 @@ pub record Garbage (d r b t place : ℕ) (o : List ℤ) : Type 0 where
 
 module _ (d r b t place : ℕ) (c o : List ℤ) where
   -- term k of row i
-  unfoldable pub mixedTerm : ℕ → ℕ → R d .Carrier
-  mixedTerm i k = weighed (R d) k (R d .mul (garbageOf d r b t (block d o place) i (i + k)) (R d .mul (el d c i) (el d c (i + k))))
+  unfoldable pub mixedSummand : ℕ → ℕ → R d .Carrier
+  mixedSummand i k = weighed (R d) k (R d .mul (garbageOf d r b t (block d o place) i (i + k)) (R d .mul (el d c i) (el d c (i + k))))
 
   unfoldable pub mixedRow : ℕ → R d .Carrier
-  mixedRow i = sum (R d) (r - i) (mixedTerm i)
+  mixedRow i = sum (R d) (r - i) (mixedSummand i)

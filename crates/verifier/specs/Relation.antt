@@ -9,24 +9,24 @@ use Rattle.fold.specs.Entries.{aggregateA, aggregateΦ}
 use Rattle.fold.specs.Opening.{block}
 use Rattle.verifier.specs.Places.{garbageAt}
 
-module _ (s : Sizes) (whole term projections ψ ω α δ : List ℤ) where
+module _ (s : Sizes) (whole constantTerms projections ψ ω α δ : List ℤ) where
   module _ (z : List ℤ) where
     -- element e of the aggregate's φ, times element y of z
-    unfoldable pub phiTerm : ℕ → ℕ → R (s .d) .Carrier
-    phiTerm e y = R (s .d) .mul (aggregateΦ (s .d) (s .n) (s .r) (s .k) (s .l) (s .w) whole term projections ψ ω α δ e) (el (s .d) z y)
+    unfoldable pub phiSummand : ℕ → ℕ → R (s .d) .Carrier
+    phiSummand e y = R (s .d) .mul (aggregateΦ (s .d) (s .n) (s .r) (s .k) (s .l) (s .w) whole constantTerms projections ψ ω α δ e) (el (s .d) z y)
 
     -- <φ_i, z>
     unfoldable pub phiProduct : ℕ → R (s .d) .Carrier
-    phiProduct i = sum (R (s .d)) (s .n) (λ y. phiTerm (i * s .n + y) y)
+    phiProduct i = sum (R (s .d)) (s .n) (λ y. phiSummand (i * s .n + y) y)
 
   module _ (c z : List ℤ) where
     -- <φ_i, z> c_i
-    unfoldable pub linearTerm : ℕ → R (s .d) .Carrier
-    linearTerm i = R (s .d) .mul (phiProduct z i) (el (s .d) c i)
+    unfoldable pub linearSummand : ℕ → R (s .d) .Carrier
+    linearSummand i = R (s .d) .mul (phiProduct z i) (el (s .d) c i)
 
-module _ (s : Sizes) (whole term ψ α δ o : List ℤ) where
+module _ (s : Sizes) (whole constantTerms ψ α δ o : List ℤ) where
   -- the aggregate's a times g, at pair number q
-  unfoldable pub relationTerm : ℕ → ℕ → R (s .d) .Carrier
-  relationTerm place q =
-      R (s .d) .mul (aggregateA (s .d) (s .n) (s .r) (s .k) (s .l) whole term ψ α δ q) (garbageAt (s .d) (s .b2) (s .t2) (block
+  unfoldable pub relationSummand : ℕ → ℕ → R (s .d) .Carrier
+  relationSummand place q =
+      R (s .d) .mul (aggregateA (s .d) (s .n) (s .r) (s .k) (s .l) whole constantTerms ψ α δ q) (garbageAt (s .d) (s .b2) (s .t2) (block
       (s .d) o place) q)

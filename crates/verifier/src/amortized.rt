@@ -10,7 +10,7 @@ ghost use Rattle.fold.specs.Messages.{times};
 ghost use Rattle.fold.specs.Opening.{block, garbageOf};
 ghost use Rattle.fold.specs.Verdict.{check₅, check₆};
 ghost use Rattle.verifier.specs.Known.Facts.{Fits, Holds, Opening, tValue, gValue};
-ghost use Rattle.verifier.specs.Mixed.{Garbage, mixedTerm, mixedRow};
+ghost use Rattle.verifier.specs.Mixed.{Garbage, mixedSummand, mixedRow};
 use crate::outer;
 use crate::recomposed;
 use fold::Sizes;
@@ -19,7 +19,7 @@ use ring::element::Element;
 use ring::product;
 
 // c_i times row k of t_i.
-fn folded_term(sizes: Sizes, c: &[i32], opening: &[i32], i: usize, k: usize) -> Element
+fn folded_summand(sizes: Sizes, c: &[i32], opening: &[i32], i: usize, k: usize) -> Element
     requires { ⌜ Fits sizes ⌝ }
     requires { ⌜ Holds (sizes .d) (sizes .r) (now c) ⌝ }
     requires { ⌜ Opening sizes (now opening) ⌝ }
@@ -50,56 +50,63 @@ fn folded_row(sizes: Sizes, c: &[i32], opening: &[i32], k: usize) -> Element
     let mut acc = Element::additive_identity();
     let mut i = 0;
     while i < count {
-        let term = folded_term(sizes, c, opening, i, k);
-        acc = acc.sum(d, term);
+        let summand = folded_summand(sizes, c, opening, i, k);
+        acc = acc.sum(d, summand);
         i += 1;
     }
     acc
 }
 
 // Row k of A z is that of Σ c_i t_i.
-fn amortized_row(sizes: Sizes, a: &[i32], c: &[i32], z: &[i32], opening: &[i32], k: usize) -> bool
+fn amortized_row(
+    sizes: Sizes,
+    a_matrix: &[i32],
+    c: &[i32],
+    z: &[i32],
+    opening: &[i32],
+    k: usize,
+) -> bool
     requires { ⌜ Fits sizes ⌝ }
-    requires { ⌜ Holds (sizes .d) (sizes .kappa * sizes .n) (now a) ⌝ }
+    requires { ⌜ Holds (sizes .d) (sizes .kappa * sizes .n) (now «a_matrix») ⌝ }
     requires { ⌜ Holds (sizes .d) (sizes .r) (now c) ⌝ }
     requires { ⌜ sizes .n * sizes .d ≤ length (now z) ⌝ }
     requires { ⌜ Opening sizes (now opening) ⌝ }
     requires { ⌜ k < sizes .kappa ⌝ }
     ensures { λ r.
-        ⌜ r ≡ same (sizes .d) (times (sizes .d) (sizes .n) (now (a .entry)) k (el (sizes .d) (now (z .entry))))
+        ⌜ r ≡ same (sizes .d) (times (sizes .d) (sizes .n) (now («a_matrix» .entry)) k (el (sizes .d) (now (z .entry))))
         (sum (R (sizes .d)) (sizes .r) (λ i. R (sizes .d) .mul (el (sizes .d) (now (c .entry)) i)
         (tValue sizes (now (opening .entry)) i k))) ⌝ }
 {
     let d = sizes.d;
-    let left = outer::row_times(d, sizes.n, a, k, z, 0);
+    let left = outer::row_times(d, sizes.n, a_matrix, k, z, 0);
     let right = folded_row(sizes, c, opening, k);
     left.equals(d, right)
 }
 
 // Check 5: every row of A z, with z read from the start of a slice.
-pub fn amortized(sizes: Sizes, a: &[i32], c: &[i32], z: &[i32], opening: &[i32]) -> bool
+pub fn amortized(sizes: Sizes, a_matrix: &[i32], c: &[i32], z: &[i32], opening: &[i32]) -> bool
     requires { ⌜ Fits sizes ⌝ }
-    requires { ⌜ Holds (sizes .d) (sizes .kappa * sizes .n) (now a) ⌝ }
+    requires { ⌜ Holds (sizes .d) (sizes .kappa * sizes .n) (now «a_matrix») ⌝ }
     requires { ⌜ Holds (sizes .d) (sizes .r) (now c) ⌝ }
     requires { ⌜ sizes .n * sizes .d ≤ length (now z) ⌝ }
     requires { ⌜ Opening sizes (now opening) ⌝ }
     ensures { λ r.
-        ⌜ r ≡ check₅ (sizes .d) (sizes .n) (sizes .r) (sizes .kappa) (now (a .entry)) (now (c .entry))
+        ⌜ r ≡ check₅ (sizes .d) (sizes .n) (sizes .r) (sizes .kappa) (now («a_matrix» .entry)) (now (c .entry))
         (el (sizes .d) (now (z .entry))) (tValue sizes (now (opening .entry))) ⌝ }
 {
     let rows = sizes.kappa;
     let mut all = true;
     let mut k = 0;
     while k < rows {
-        let row = amortized_row(sizes, a, c, z, opening, k);
+        let row = amortized_row(sizes, a_matrix, c, z, opening, k);
         all = all & row;
         k += 1;
     }
     all
 }
 
-// Term k of row i of the mixed sum: garbage element q times c_i c_j for j = i + k, doubled off the diagonal.
-fn mixed_term(
+// Summand k of row i of the mixed sum: garbage element q times c_i c_j for j = i + k, doubled off the diagonal.
+fn mixed_summand(
     d: usize,
     r: usize,
     b: usize,
@@ -114,7 +121,7 @@ fn mixed_term(
     requires { ⌜ Garbage d r b t place (now opening) ⌝ }
     requires { ⌜ Holds d r (now c) ⌝ }
     requires { ⌜ (i + k < r) × (q ≡ pair r i (i + k)) ⌝ }
-    ensures { λ x. ⌜ x .coefficients ≡ array d (mixedTerm d r b t place (now (c .entry)) (now (opening .entry)) i k) ⌝ }
+    ensures { λ x. ⌜ x .coefficients ≡ array d (mixedSummand d r b t place (now (c .entry)) (now (opening .entry)) i k) ⌝ }
 {
     let garbage = recomposed::garbage_of(d, b, t, opening, place, q);
     let left = Element::from_slice(d, c, i);
@@ -148,8 +155,8 @@ fn mixed_row(
     let mut acc = Element::additive_identity();
     let mut k = 0;
     while k < width {
-        let term = mixed_term(d, r, b, t, opening, place, c, i, k, q + k);
-        acc = acc.sum(d, term);
+        let summand = mixed_summand(d, r, b, t, opening, place, c, i, k, q + k);
+        acc = acc.sum(d, summand);
         k += 1;
     }
     acc

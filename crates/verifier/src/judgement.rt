@@ -20,42 +20,42 @@ use limits::rows::first;
 // Checks 1 and 2, which need no opening.
 pub fn message_checks(
     sizes: Sizes,
-    term: &[i32],
+    constant_terms: &[i32],
     p: &[i32],
     psi: &[i32],
     omega: &[i32],
-    b2: &[i32],
+    second_b: &[i32],
 ) -> u8
     requires { ⌜ VerifySized sizes ⌝ }
-    requires { ⌜ Terms sizes (now term) (now psi) (now omega) (now p) (now b2) ⌝ }
+    requires { ⌜ Terms sizes (now «constant_terms») (now psi) (now omega) (now p) (now «second_b») ⌝ }
     ensures { λ x.
-        ⌜ x ≡ firstFailing (messageChecksOf sizes (now (term .entry)) (now (p .entry)) (now (psi .entry)) (now (omega .entry))
-        (now (b2 .entry))) ⌝ }
+        ⌜ x ≡ firstFailing (messageChecksOf sizes (now («constant_terms» .entry)) (now (p .entry)) (now (psi .entry)) (now (omega .entry))
+        (now («second_b» .entry))) ⌝ }
 {
     let one = norms::short_projection(sizes.w, sizes.bound, p);
     if !one {
         return 1;
     }
-    let two = terms::constant_terms(sizes, term, psi, omega, p, b2);
+    let two = terms::constant_terms_hold(sizes, constant_terms, psi, omega, p, second_b);
     first(two, 2, 0)
 }
 
 // Checks 3 and 4.
 fn outer_checks(
     sizes: Sizes,
-    b: &[i32],
+    b_matrix: &[i32],
     c_matrix: &[i32],
     d_matrix: &[i32],
     u1: &[i32],
     u2: &[i32],
     opening: &[i32],
 ) -> u8
-    requires { ⌜ OuterFacts sizes (now b) (now «c_matrix») (now «d_matrix») (now u1) (now u2) (now opening) ⌝ }
+    requires { ⌜ OuterFacts sizes (now «b_matrix») (now «c_matrix») (now «d_matrix») (now u1) (now u2) (now opening) ⌝ }
     ensures { λ x.
-        ⌜ x ≡ firstFailing (outerChecksOf sizes (now (b .entry)) (now («c_matrix» .entry)) (now («d_matrix» .entry))
+        ⌜ x ≡ firstFailing (outerChecksOf sizes (now («b_matrix» .entry)) (now («c_matrix» .entry)) (now («d_matrix» .entry))
         (now (u1 .entry)) (now (u2 .entry)) (now (opening .entry))) ⌝ }
 {
-    let three = outer::first_outer(sizes, b, c_matrix, u1, opening);
+    let three = outer::first_outer(sizes, b_matrix, c_matrix, u1, opening);
     if !three {
         return 3;
     }
@@ -66,28 +66,28 @@ fn outer_checks(
 // Checks 5 to 9, with the recomposed z at the start of a slice.
 fn recomposed_checks(
     sizes: Sizes,
-    a: &[i32],
+    a_matrix: &[i32],
     whole: &[i32],
-    term: &[i32],
-    rows: &[i32],
+    constant_terms: &[i32],
+    projections: &[i32],
     psi: &[i32],
     omega: &[i32],
-    b2: &[i32],
+    second_b: &[i32],
     alpha: &[i32],
     delta: &[i32],
     c: &[i32],
     opening: &[i32],
     z: &[i32],
 ) -> u8
-    requires { ⌜ OpeningFacts sizes (now a) (now whole) (now term) (now rows) (now psi) (now omega) (now b2) (now alpha) (now delta)
+    requires { ⌜ OpeningFacts sizes (now «a_matrix») (now whole) (now «constant_terms») (now projections) (now psi) (now omega) (now «second_b») (now alpha) (now delta)
         (now c) (now opening) ⌝ }
     requires { ⌜ Recomposed sizes (now opening) (now z) ⌝ }
     ensures { λ x.
-        ⌜ x ≡ firstFailing (openingChecksOf sizes (now (a .entry)) (now (whole .entry)) (now (term .entry)) (now (rows .entry))
-        (now (psi .entry)) (now (omega .entry)) (now (b2 .entry)) (now (alpha .entry)) (now (delta .entry)) (now (c .entry))
+        ⌜ x ≡ firstFailing (openingChecksOf sizes (now («a_matrix» .entry)) (now (whole .entry)) (now («constant_terms» .entry)) (now (projections .entry))
+        (now (psi .entry)) (now (omega .entry)) (now («second_b» .entry)) (now (alpha .entry)) (now (delta .entry)) (now (c .entry))
         (now (opening .entry))) ⌝ }
 {
-    let five = amortized::amortized(sizes, a, c, z, opening);
+    let five = amortized::amortized(sizes, a_matrix, c, z, opening);
     if !five {
         return 5;
     }
@@ -98,8 +98,8 @@ fn recomposed_checks(
     let seven = linear::linear_part(
         sizes,
         whole,
-        term,
-        rows,
+        constant_terms,
+        projections,
         psi,
         omega,
         alpha,
@@ -111,7 +111,16 @@ fn recomposed_checks(
     if !seven {
         return 7;
     }
-    let eight = relation::relation_holds(sizes, whole, term, psi, alpha, delta, b2, opening);
+    let eight = relation::relation_holds(
+        sizes,
+        whole,
+        constant_terms,
+        psi,
+        alpha,
+        delta,
+        second_b,
+        opening,
+    );
     if !eight {
         return 8;
     }
@@ -122,36 +131,36 @@ fn recomposed_checks(
 // The same, with z recomposed here.
 fn opening_checks(
     sizes: Sizes,
-    a: &[i32],
+    a_matrix: &[i32],
     whole: &[i32],
-    term: &[i32],
-    rows: &[i32],
+    constant_terms: &[i32],
+    projections: &[i32],
     psi: &[i32],
     omega: &[i32],
-    b2: &[i32],
+    second_b: &[i32],
     alpha: &[i32],
     delta: &[i32],
     c: &[i32],
     opening: &[i32],
 ) -> u8
-    requires { ⌜ OpeningFacts sizes (now a) (now whole) (now term) (now rows) (now psi) (now omega) (now b2) (now alpha) (now delta)
+    requires { ⌜ OpeningFacts sizes (now «a_matrix») (now whole) (now «constant_terms») (now projections) (now psi) (now omega) (now «second_b») (now alpha) (now delta)
         (now c) (now opening) ⌝ }
     ensures { λ x.
-        ⌜ x ≡ firstFailing (openingChecksOf sizes (now (a .entry)) (now (whole .entry)) (now (term .entry)) (now (rows .entry))
-        (now (psi .entry)) (now (omega .entry)) (now (b2 .entry)) (now (alpha .entry)) (now (delta .entry)) (now (c .entry))
+        ⌜ x ≡ firstFailing (openingChecksOf sizes (now («a_matrix» .entry)) (now (whole .entry)) (now («constant_terms» .entry)) (now (projections .entry))
+        (now (psi .entry)) (now (omega .entry)) (now («second_b» .entry)) (now (alpha .entry)) (now (delta .entry)) (now (c .entry))
         (now (opening .entry))) ⌝ }
 {
     let mut z = [0i32; 16384];
     recomposed::write_z(sizes.d, sizes.n, sizes.b, opening, &mut z);
     recomposed_checks(
         sizes,
-        a,
+        a_matrix,
         whole,
-        term,
-        rows,
+        constant_terms,
+        projections,
         psi,
         omega,
-        b2,
+        second_b,
         alpha,
         delta,
         c,
@@ -163,50 +172,50 @@ fn opening_checks(
 // Checks 1 to 9, for a call that is not refused.
 pub fn first_failing(
     sizes: Sizes,
-    a: &[i32],
-    b: &[i32],
+    a_matrix: &[i32],
+    b_matrix: &[i32],
     c_matrix: &[i32],
     d_matrix: &[i32],
     whole: &[i32],
-    term: &[i32],
+    constant_terms: &[i32],
     u1: &[i32],
-    rows: &[i32],
+    projections: &[i32],
     p: &[i32],
     psi: &[i32],
     omega: &[i32],
-    b2: &[i32],
+    second_b: &[i32],
     alpha: &[i32],
     delta: &[i32],
     u2: &[i32],
     c: &[i32],
     opening: &[i32],
 ) -> u8
-    requires { ⌜ VerifyFacts (statementOf sizes (now a) (now b) (now «c_matrix») (now «d_matrix») (now whole) (now term)) (drawsOf
-        (now rows) (now psi) (now omega) (now alpha) (now delta) (now c)) (transcriptOf (now u1) (now p) (now b2) (now u2))
+    requires { ⌜ VerifyFacts (statementOf sizes (now «a_matrix») (now «b_matrix») (now «c_matrix») (now «d_matrix») (now whole) (now «constant_terms»)) (drawsOf
+        (now projections) (now psi) (now omega) (now alpha) (now delta) (now c)) (transcriptOf (now u1) (now p) (now «second_b») (now u2))
         (now opening) ⌝ }
     ensures { λ x.
-        ⌜ x ≡ firstFailing (checks (statementOf sizes (now (a .entry)) (now (b .entry)) (now («c_matrix» .entry))
-        (now («d_matrix» .entry)) (now (whole .entry)) (now (term .entry))) (drawsOf (now (rows .entry)) (now (psi .entry))
+        ⌜ x ≡ firstFailing (checks (statementOf sizes (now («a_matrix» .entry)) (now («b_matrix» .entry)) (now («c_matrix» .entry))
+        (now («d_matrix» .entry)) (now (whole .entry)) (now («constant_terms» .entry))) (drawsOf (now (projections .entry)) (now (psi .entry))
         (now (omega .entry)) (now (alpha .entry)) (now (delta .entry)) (now (c .entry))) (transcriptOf (now (u1 .entry))
-        (now (p .entry)) (now (b2 .entry)) (now (u2 .entry))) (now (opening .entry))) ⌝ }
+        (now (p .entry)) (now («second_b» .entry)) (now (u2 .entry))) (now (opening .entry))) ⌝ }
 {
-    let message = message_checks(sizes, term, p, psi, omega, b2);
+    let message = message_checks(sizes, constant_terms, p, psi, omega, second_b);
     if message != 0 {
         return message;
     }
-    let outer = outer_checks(sizes, b, c_matrix, d_matrix, u1, u2, opening);
+    let outer = outer_checks(sizes, b_matrix, c_matrix, d_matrix, u1, u2, opening);
     if outer != 0 {
         return outer;
     }
     opening_checks(
         sizes,
-        a,
+        a_matrix,
         whole,
-        term,
-        rows,
+        constant_terms,
+        projections,
         psi,
         omega,
-        b2,
+        second_b,
         alpha,
         delta,
         c,

@@ -7,9 +7,9 @@ ghost use Rattle.ring.specs.Element.{R, el, array};
 ghost use Rattle.fold.specs.Messages.{aggregate};
 ghost use Rattle.fold.specs.Verdict.{check₇};
 ghost use Rattle.constraints.specs.Known.Facts.{AggregateFacts};
-ghost use Rattle.constraints.specs.RowGroups.{SumsOf};
+ghost use Rattle.constraints.specs.RowGroups.{OmegaSums};
 ghost use Rattle.verifier.specs.Known.Facts.{Fits, Holds, Opening, hValue};
-ghost use Rattle.verifier.specs.Relation.{phiTerm, phiProduct, linearTerm};
+ghost use Rattle.verifier.specs.Relation.{phiSummand, phiProduct, linearSummand};
 use crate::amortized;
 use constraints::aggregated;
 use constraints::row_groups;
@@ -18,28 +18,28 @@ use fold::Sizes;
 use fold::places;
 use ring::element::Element;
 
-// Element y of φ_i times that of z, at element e = i n + y of the witness. `table` is the table of omega.
-fn phi_term(
+// Element y of φ_i times that of z, at element e = i n + y of the witness. `omega_sums` are the sums of ω.
+fn phi_summand(
     sizes: Sizes,
     whole: &[i32],
-    term: &[i32],
-    rows: &[i32],
+    constant_terms: &[i32],
+    projections: &[i32],
     psi: &[i32],
     omega: &[i32],
-    table: &[i64; 25920],
+    omega_sums: &[i64; 25920],
     alpha: &[i32],
     delta: &[i32],
     z: &[i32],
     e: usize,
     y: usize,
 ) -> Element
-    requires { ⌜ AggregateFacts (sizes .d) (sizes .n) (sizes .r) (sizes .k) (sizes .l) (sizes .w) (now whole) (now term) (now rows)
+    requires { ⌜ AggregateFacts (sizes .d) (sizes .n) (sizes .r) (sizes .k) (sizes .l) (sizes .w) (now whole) (now «constant_terms») (now projections)
         (now psi) (now omega) (now alpha) (now delta) ⌝ }
-    requires { ⌜ SumsOf (sizes .w) (now omega) (now table) ⌝ }
+    requires { ⌜ OmegaSums (sizes .w) (now omega) (now «omega_sums») ⌝ }
     requires { ⌜ sizes .n * sizes .d ≤ length (now z) ⌝ }
     requires { ⌜ (e < sizes .r * sizes .n) × (y < sizes .n) ⌝ }
     ensures { λ x.
-        ⌜ x .coefficients ≡ array (sizes .d) (phiTerm sizes (now (whole .entry)) (now (term .entry)) (now (rows .entry))
+        ⌜ x .coefficients ≡ array (sizes .d) (phiSummand sizes (now (whole .entry)) (now («constant_terms» .entry)) (now (projections .entry))
         (now (psi .entry)) (now (omega .entry)) (now (alpha .entry)) (now (delta .entry)) (now (z .entry)) e y) ⌝ }
 {
     let d = sizes.d;
@@ -54,11 +54,11 @@ fn phi_term(
         sizes.l,
         sizes.w,
         whole,
-        term,
-        rows,
+        constant_terms,
+        projections,
         psi,
         omega,
-        table,
+        omega_sums,
         alpha,
         delta,
         e,
@@ -71,23 +71,23 @@ fn phi_term(
 fn phi_product(
     sizes: Sizes,
     whole: &[i32],
-    term: &[i32],
-    rows: &[i32],
+    constant_terms: &[i32],
+    projections: &[i32],
     psi: &[i32],
     omega: &[i32],
-    table: &[i64; 25920],
+    omega_sums: &[i64; 25920],
     alpha: &[i32],
     delta: &[i32],
     z: &[i32],
     i: usize,
 ) -> Element
-    requires { ⌜ AggregateFacts (sizes .d) (sizes .n) (sizes .r) (sizes .k) (sizes .l) (sizes .w) (now whole) (now term) (now rows)
+    requires { ⌜ AggregateFacts (sizes .d) (sizes .n) (sizes .r) (sizes .k) (sizes .l) (sizes .w) (now whole) (now «constant_terms») (now projections)
         (now psi) (now omega) (now alpha) (now delta) ⌝ }
-    requires { ⌜ SumsOf (sizes .w) (now omega) (now table) ⌝ }
+    requires { ⌜ OmegaSums (sizes .w) (now omega) (now «omega_sums») ⌝ }
     requires { ⌜ sizes .n * sizes .d ≤ length (now z) ⌝ }
     requires { ⌜ i < sizes .r ⌝ }
     ensures { λ x.
-        ⌜ x .coefficients ≡ array (sizes .d) (phiProduct sizes (now (whole .entry)) (now (term .entry)) (now (rows .entry))
+        ⌜ x .coefficients ≡ array (sizes .d) (phiProduct sizes (now (whole .entry)) (now («constant_terms» .entry)) (now (projections .entry))
         (now (psi .entry)) (now (omega .entry)) (now (alpha .entry)) (now (delta .entry)) (now (z .entry)) i) ⌝ }
 {
     let d = sizes.d;
@@ -96,21 +96,21 @@ fn phi_product(
     let mut acc = Element::additive_identity();
     let mut y = 0;
     while y < rank {
-        let term = phi_term(
+        let summand = phi_summand(
             sizes,
             whole,
-            term,
-            rows,
+            constant_terms,
+            projections,
             psi,
             omega,
-            table,
+            omega_sums,
             alpha,
             delta,
             z,
             first + y,
             y,
         );
-        acc = acc.sum(d, term);
+        acc = acc.sum(d, summand);
         y += 1;
     }
     acc
@@ -120,24 +120,24 @@ fn phi_product(
 fn linear_sum(
     sizes: Sizes,
     whole: &[i32],
-    term: &[i32],
-    rows: &[i32],
+    constant_terms: &[i32],
+    projections: &[i32],
     psi: &[i32],
     omega: &[i32],
-    table: &[i64; 25920],
+    omega_sums: &[i64; 25920],
     alpha: &[i32],
     delta: &[i32],
     c: &[i32],
     z: &[i32],
 ) -> Element
-    requires { ⌜ AggregateFacts (sizes .d) (sizes .n) (sizes .r) (sizes .k) (sizes .l) (sizes .w) (now whole) (now term) (now rows)
+    requires { ⌜ AggregateFacts (sizes .d) (sizes .n) (sizes .r) (sizes .k) (sizes .l) (sizes .w) (now whole) (now «constant_terms») (now projections)
         (now psi) (now omega) (now alpha) (now delta) ⌝ }
-    requires { ⌜ SumsOf (sizes .w) (now omega) (now table) ⌝ }
+    requires { ⌜ OmegaSums (sizes .w) (now omega) (now «omega_sums») ⌝ }
     requires { ⌜ Holds (sizes .d) (sizes .r) (now c) ⌝ }
     requires { ⌜ sizes .n * sizes .d ≤ length (now z) ⌝ }
     ensures { λ x.
         ⌜ x .coefficients ≡ array (sizes .d) (sum (R (sizes .d)) (sizes .r)
-        (linearTerm sizes (now (whole .entry)) (now (term .entry)) (now (rows .entry)) (now (psi .entry)) (now (omega .entry))
+        (linearSummand sizes (now (whole .entry)) (now («constant_terms» .entry)) (now (projections .entry)) (now (psi .entry)) (now (omega .entry))
         (now (alpha .entry)) (now (delta .entry)) (now (c .entry)) (now (z .entry)))) ⌝ }
 {
     let d = sizes.d;
@@ -148,11 +148,11 @@ fn linear_sum(
         let inner = phi_product(
             sizes,
             whole,
-            term,
-            rows,
+            constant_terms,
+            projections,
             psi,
             omega,
-            table,
+            omega_sums,
             alpha,
             delta,
             z,
@@ -170,8 +170,8 @@ fn linear_sum(
 pub fn linear_part(
     sizes: Sizes,
     whole: &[i32],
-    term: &[i32],
-    rows: &[i32],
+    constant_terms: &[i32],
+    projections: &[i32],
     psi: &[i32],
     omega: &[i32],
     alpha: &[i32],
@@ -181,28 +181,28 @@ pub fn linear_part(
     opening: &[i32],
 ) -> bool
     requires { ⌜ Fits sizes ⌝ }
-    requires { ⌜ AggregateFacts (sizes .d) (sizes .n) (sizes .r) (sizes .k) (sizes .l) (sizes .w) (now whole) (now term) (now rows)
+    requires { ⌜ AggregateFacts (sizes .d) (sizes .n) (sizes .r) (sizes .k) (sizes .l) (sizes .w) (now whole) (now «constant_terms») (now projections)
         (now psi) (now omega) (now alpha) (now delta) ⌝ }
     requires { ⌜ Holds (sizes .d) (sizes .r) (now c) ⌝ }
     requires { ⌜ sizes .n * sizes .d ≤ length (now z) ⌝ }
     requires { ⌜ Opening sizes (now opening) ⌝ }
     ensures { λ r.
         ⌜ r ≡ check₇ (sizes .d) (sizes .n) (sizes .r) (now (c .entry))
-        (aggregate (sizes .d) (sizes .n) (sizes .r) (sizes .k) (sizes .l) (sizes .w) (now (whole .entry)) (now (term .entry))
-        (now (rows .entry)) (now (psi .entry)) (now (omega .entry)) (now (alpha .entry)) (now (delta .entry)) .φ)
+        (aggregate (sizes .d) (sizes .n) (sizes .r) (sizes .k) (sizes .l) (sizes .w) (now (whole .entry)) (now («constant_terms» .entry))
+        (now (projections .entry)) (now (psi .entry)) (now (omega .entry)) (now (alpha .entry)) (now (delta .entry)) .φ)
         (el (sizes .d) (now (z .entry))) (hValue sizes (now (opening .entry))) ⌝ }
 {
-    let mut table = [0i64; 25920];
-    row_groups::write_sums(sizes.w, omega, &mut table);
+    let mut omega_sums = [0i64; 25920];
+    row_groups::write_omega_sums(sizes.w, omega, &mut omega_sums);
     let d = sizes.d;
     let left = linear_sum(
         sizes,
         whole,
-        term,
-        rows,
+        constant_terms,
+        projections,
         psi,
         omega,
-        &table,
+        &omega_sums,
         alpha,
         delta,
         c,

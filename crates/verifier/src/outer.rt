@@ -29,46 +29,59 @@ pub fn row_times(d: usize, m: usize, matrix: &[i32], k: usize, xs: &[i32], place
 }
 
 // Row k of u1 is B·(t digits) + C·(g digits).
-fn first_row(sizes: Sizes, b: &[i32], c: &[i32], u1: &[i32], opening: &[i32], k: usize) -> bool
+fn first_row(
+    sizes: Sizes,
+    b_matrix: &[i32],
+    c_matrix: &[i32],
+    u1: &[i32],
+    opening: &[i32],
+    k: usize,
+) -> bool
     requires { ⌜ Fits sizes ⌝ }
-    requires { ⌜ Holds (sizes .d) (sizes .kappa1 * tSize (sizes .r) (sizes .kappa) (sizes .t1)) (now b) ⌝ }
-    requires { ⌜ Holds (sizes .d) (sizes .kappa1 * garbageSize (sizes .r) (sizes .t2)) (now c) ⌝ }
+    requires { ⌜ Holds (sizes .d) (sizes .kappa1 * tSize (sizes .r) (sizes .kappa) (sizes .t1)) (now «b_matrix») ⌝ }
+    requires { ⌜ Holds (sizes .d) (sizes .kappa1 * garbageSize (sizes .r) (sizes .t2)) (now «c_matrix») ⌝ }
     requires { ⌜ Holds (sizes .d) (sizes .kappa1) (now u1) ⌝ }
     requires { ⌜ Opening sizes (now opening) ⌝ }
     requires { ⌜ k < sizes .kappa1 ⌝ }
     ensures { λ r.
         ⌜ r ≡ same (sizes .d) (el (sizes .d) (now (u1 .entry)) k) (outer₁ (sizes .d) (sizes .r) (sizes .kappa) (sizes .t1)
-        (sizes .t2) (now (b .entry)) (now (c .entry)) k (tBlockOf sizes (now (opening .entry)))
+        (sizes .t2) (now («b_matrix» .entry)) (now («c_matrix» .entry)) k (tBlockOf sizes (now (opening .entry)))
         (gBlockOf sizes (now (opening .entry)))) ⌝ }
 {
     let d = sizes.d;
     let t_count = t_size(sizes.r, sizes.kappa, sizes.t1);
     let t_start = places::t_place(sizes);
-    let t_part = row_times(d, t_count, b, k, opening, t_start);
+    let t_part = row_times(d, t_count, b_matrix, k, opening, t_start);
     let g_count = garbage_size(sizes.r, sizes.t2);
     let g_start = places::g_place(sizes);
-    let g_part = row_times(d, g_count, c, k, opening, g_start);
+    let g_part = row_times(d, g_count, c_matrix, k, opening, g_start);
     let row = t_part.sum(d, g_part);
     let u = Element::from_slice(d, u1, k);
     u.equals(d, row)
 }
 
 // Check 3: every row of u1.
-pub fn first_outer(sizes: Sizes, b: &[i32], c: &[i32], u1: &[i32], opening: &[i32]) -> bool
+pub fn first_outer(
+    sizes: Sizes,
+    b_matrix: &[i32],
+    c_matrix: &[i32],
+    u1: &[i32],
+    opening: &[i32],
+) -> bool
     requires { ⌜ Fits sizes ⌝ }
-    requires { ⌜ Holds (sizes .d) (sizes .kappa1 * tSize (sizes .r) (sizes .kappa) (sizes .t1)) (now b) ⌝ }
-    requires { ⌜ Holds (sizes .d) (sizes .kappa1 * garbageSize (sizes .r) (sizes .t2)) (now c) ⌝ }
+    requires { ⌜ Holds (sizes .d) (sizes .kappa1 * tSize (sizes .r) (sizes .kappa) (sizes .t1)) (now «b_matrix») ⌝ }
+    requires { ⌜ Holds (sizes .d) (sizes .kappa1 * garbageSize (sizes .r) (sizes .t2)) (now «c_matrix») ⌝ }
     requires { ⌜ Holds (sizes .d) (sizes .kappa1) (now u1) ⌝ }
     requires { ⌜ Opening sizes (now opening) ⌝ }
     ensures { λ r.
-        ⌜ r ≡ check₃ (sizes .d) (sizes .r) (sizes .kappa) (sizes .kappa1) (sizes .t1) (sizes .t2) (now (b .entry))
-        (now (c .entry)) (now (u1 .entry)) (tBlockOf sizes (now (opening .entry))) (gBlockOf sizes (now (opening .entry))) ⌝ }
+        ⌜ r ≡ check₃ (sizes .d) (sizes .r) (sizes .kappa) (sizes .kappa1) (sizes .t1) (sizes .t2) (now («b_matrix» .entry))
+        (now («c_matrix» .entry)) (now (u1 .entry)) (tBlockOf sizes (now (opening .entry))) (gBlockOf sizes (now (opening .entry))) ⌝ }
 {
     let rows = sizes.kappa1;
     let mut all = true;
     let mut k = 0;
     while k < rows {
-        let row = first_row(sizes, b, c, u1, opening, k);
+        let row = first_row(sizes, b_matrix, c_matrix, u1, opening, k);
         all = all & row;
         k += 1;
     }
@@ -76,39 +89,39 @@ pub fn first_outer(sizes: Sizes, b: &[i32], c: &[i32], u1: &[i32], opening: &[i3
 }
 
 // Row k of u2 is D·(h digits).
-fn second_row(sizes: Sizes, matrix: &[i32], u2: &[i32], opening: &[i32], k: usize) -> bool
+fn second_row(sizes: Sizes, d_matrix: &[i32], u2: &[i32], opening: &[i32], k: usize) -> bool
     requires { ⌜ Fits sizes ⌝ }
-    requires { ⌜ Holds (sizes .d) (sizes .kappa2 * garbageSize (sizes .r) (sizes .t1)) (now matrix) ⌝ }
+    requires { ⌜ Holds (sizes .d) (sizes .kappa2 * garbageSize (sizes .r) (sizes .t1)) (now «d_matrix») ⌝ }
     requires { ⌜ Holds (sizes .d) (sizes .kappa2) (now u2) ⌝ }
     requires { ⌜ Opening sizes (now opening) ⌝ }
     requires { ⌜ k < sizes .kappa2 ⌝ }
     ensures { λ r.
         ⌜ r ≡ same (sizes .d) (el (sizes .d) (now (u2 .entry)) k) (outer₂ (sizes .d) (sizes .r) (sizes .t1)
-        (now (matrix .entry)) k (hBlockOf sizes (now (opening .entry)))) ⌝ }
+        (now («d_matrix» .entry)) k (hBlockOf sizes (now (opening .entry)))) ⌝ }
 {
     let d = sizes.d;
     let count = garbage_size(sizes.r, sizes.t1);
     let start = places::h_place(sizes);
-    let row = row_times(d, count, matrix, k, opening, start);
+    let row = row_times(d, count, d_matrix, k, opening, start);
     let u = Element::from_slice(d, u2, k);
     u.equals(d, row)
 }
 
 // Check 4: every row of u2.
-pub fn second_outer(sizes: Sizes, matrix: &[i32], u2: &[i32], opening: &[i32]) -> bool
+pub fn second_outer(sizes: Sizes, d_matrix: &[i32], u2: &[i32], opening: &[i32]) -> bool
     requires { ⌜ Fits sizes ⌝ }
-    requires { ⌜ Holds (sizes .d) (sizes .kappa2 * garbageSize (sizes .r) (sizes .t1)) (now matrix) ⌝ }
+    requires { ⌜ Holds (sizes .d) (sizes .kappa2 * garbageSize (sizes .r) (sizes .t1)) (now «d_matrix») ⌝ }
     requires { ⌜ Holds (sizes .d) (sizes .kappa2) (now u2) ⌝ }
     requires { ⌜ Opening sizes (now opening) ⌝ }
     ensures { λ r.
-        ⌜ r ≡ check₄ (sizes .d) (sizes .r) (sizes .kappa2) (sizes .t1) (now (matrix .entry)) (now (u2 .entry))
+        ⌜ r ≡ check₄ (sizes .d) (sizes .r) (sizes .kappa2) (sizes .t1) (now («d_matrix» .entry)) (now (u2 .entry))
         (hBlockOf sizes (now (opening .entry))) ⌝ }
 {
     let rows = sizes.kappa2;
     let mut all = true;
     let mut k = 0;
     while k < rows {
-        let row = second_row(sizes, matrix, u2, opening, k);
+        let row = second_row(sizes, d_matrix, u2, opening, k);
         all = all & row;
         k += 1;
     }

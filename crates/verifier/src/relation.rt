@@ -12,7 +12,7 @@ ghost use Rattle.fold.specs.Verdict.{check₈};
 ghost use Rattle.constraints.specs.Known.Facts.{TermFacts, WholeFacts};
 ghost use Rattle.verifier.specs.Known.Facts.{Fits, Holds, Opening, gValue, hValue};
 ghost use Rattle.verifier.specs.Mixed.{Garbage};
-ghost use Rattle.verifier.specs.Relation.{relationTerm};
+ghost use Rattle.verifier.specs.Relation.{relationSummand};
 use crate::recomposed;
 use constraints::aggregated;
 use fold::Shape;
@@ -22,10 +22,10 @@ use fold::places;
 use ring::element::Element;
 
 // The aggregate's a at pair number q, times g there.
-fn relation_term(
+fn relation_summand(
     sizes: Sizes,
     whole: &[i32],
-    term: &[i32],
+    constant_terms: &[i32],
     psi: &[i32],
     alpha: &[i32],
     delta: &[i32],
@@ -34,12 +34,12 @@ fn relation_term(
     q: usize,
 ) -> Element
     requires { ⌜ WholeFacts (sizes .d) (sizes .n) (sizes .r) (sizes .k) (now whole) (now alpha) ⌝ }
-    requires { ⌜ TermFacts (sizes .d) (sizes .n) (sizes .r) (sizes .l) (now term) (now psi) ⌝ }
+    requires { ⌜ TermFacts (sizes .d) (sizes .n) (sizes .r) (sizes .l) (now «constant_terms») (now psi) ⌝ }
     requires { ⌜ Holds (sizes .d) 5 (now delta) ⌝ }
     requires { ⌜ Garbage (sizes .d) (sizes .r) (sizes .b2) (sizes .t2) place (now opening) ⌝ }
     requires { ⌜ q < pairs (sizes .r) ⌝ }
     ensures { λ x.
-        ⌜ x .coefficients ≡ array (sizes .d) (relationTerm sizes (now (whole .entry)) (now (term .entry)) (now (psi .entry))
+        ⌜ x .coefficients ≡ array (sizes .d) (relationSummand sizes (now (whole .entry)) (now («constant_terms» .entry)) (now (psi .entry))
         (now (alpha .entry)) (now (delta .entry)) (now (opening .entry)) place q) ⌝ }
 {
     let d = sizes.d;
@@ -48,16 +48,26 @@ fn relation_term(
         n: sizes.n,
         r: sizes.r,
     };
-    let a = aggregated::aggregate_a(shape, sizes.k, sizes.l, whole, term, psi, alpha, delta, q);
+    let aggregate_a = aggregated::aggregate_a(
+        shape,
+        sizes.k,
+        sizes.l,
+        whole,
+        constant_terms,
+        psi,
+        alpha,
+        delta,
+        q,
+    );
     let g = recomposed::garbage_of(d, sizes.b2, sizes.t2, opening, place, q);
-    a.product(d, g)
+    aggregate_a.product(d, g)
 }
 
 // Σ a_ij g_ij.
 fn relation_sum(
     sizes: Sizes,
     whole: &[i32],
-    term: &[i32],
+    constant_terms: &[i32],
     psi: &[i32],
     alpha: &[i32],
     delta: &[i32],
@@ -65,12 +75,12 @@ fn relation_sum(
     place: usize,
 ) -> Element
     requires { ⌜ WholeFacts (sizes .d) (sizes .n) (sizes .r) (sizes .k) (now whole) (now alpha) ⌝ }
-    requires { ⌜ TermFacts (sizes .d) (sizes .n) (sizes .r) (sizes .l) (now term) (now psi) ⌝ }
+    requires { ⌜ TermFacts (sizes .d) (sizes .n) (sizes .r) (sizes .l) (now «constant_terms») (now psi) ⌝ }
     requires { ⌜ Holds (sizes .d) 5 (now delta) ⌝ }
     requires { ⌜ Garbage (sizes .d) (sizes .r) (sizes .b2) (sizes .t2) place (now opening) ⌝ }
     ensures { λ x.
         ⌜ x .coefficients ≡ array (sizes .d) (sum (R (sizes .d)) (pairs (sizes .r))
-        (relationTerm sizes (now (whole .entry)) (now (term .entry)) (now (psi .entry)) (now (alpha .entry))
+        (relationSummand sizes (now (whole .entry)) (now («constant_terms» .entry)) (now (psi .entry)) (now (alpha .entry))
         (now (delta .entry)) (now (opening .entry)) place)) ⌝ }
 {
     let d = sizes.d;
@@ -78,7 +88,17 @@ fn relation_sum(
     let mut acc = Element::additive_identity();
     let mut q = 0;
     while q < count {
-        let product = relation_term(sizes, whole, term, psi, alpha, delta, opening, place, q);
+        let product = relation_summand(
+            sizes,
+            whole,
+            constant_terms,
+            psi,
+            alpha,
+            delta,
+            opening,
+            place,
+            q,
+        );
         acc = acc.sum(d, product);
         q += 1;
     }
@@ -106,24 +126,24 @@ fn diagonal_sum(d: usize, r: usize, b: usize, t: usize, opening: &[i32], place: 
 pub fn relation_holds(
     sizes: Sizes,
     whole: &[i32],
-    term: &[i32],
+    constant_terms: &[i32],
     psi: &[i32],
     alpha: &[i32],
     delta: &[i32],
-    b2: &[i32],
+    second_b: &[i32],
     opening: &[i32],
 ) -> bool
     requires { ⌜ Fits sizes ⌝ }
     requires { ⌜ WholeFacts (sizes .d) (sizes .n) (sizes .r) (sizes .k) (now whole) (now alpha) ⌝ }
-    requires { ⌜ TermFacts (sizes .d) (sizes .n) (sizes .r) (sizes .l) (now term) (now psi) ⌝ }
-    requires { ⌜ (Holds (sizes .d) 5 (now delta)) × (Holds (sizes .d) 5 (now b2)) ⌝ }
+    requires { ⌜ TermFacts (sizes .d) (sizes .n) (sizes .r) (sizes .l) (now «constant_terms») (now psi) ⌝ }
+    requires { ⌜ (Holds (sizes .d) 5 (now delta)) × (Holds (sizes .d) 5 (now «second_b»)) ⌝ }
     requires { ⌜ Opening sizes (now opening) ⌝ }
     ensures { λ r.
-        ⌜ ((w : ℕ) (rows omega : List ℤ) → r ≡ check₈ (sizes .d) (sizes .r)
-        (aggregate (sizes .d) (sizes .n) (sizes .r) (sizes .k) (sizes .l) w (now (whole .entry)) (now (term .entry)) rows
+        ⌜ ((w : ℕ) (projections omega : List ℤ) → r ≡ check₈ (sizes .d) (sizes .r)
+        (aggregate (sizes .d) (sizes .n) (sizes .r) (sizes .k) (sizes .l) w (now (whole .entry)) (now («constant_terms» .entry)) projections
         (now (psi .entry)) omega (now (alpha .entry)) (now (delta .entry)) .a)
         (aggregateConstant (sizes .d) (sizes .n) (sizes .r) (sizes .k) (now (whole .entry)) (now (alpha .entry))
-        (now (delta .entry)) (now (b2 .entry))) (gValue sizes (now (opening .entry))) (hValue sizes (now (opening .entry)))) ⌝ }
+        (now (delta .entry)) (now («second_b» .entry))) (gValue sizes (now (opening .entry))) (hValue sizes (now (opening .entry)))) ⌝ }
 {
     let d = sizes.d;
     let shape = Shape {
@@ -132,10 +152,19 @@ pub fn relation_holds(
         r: sizes.r,
     };
     let g_start = places::g_place(sizes);
-    let g_sum = relation_sum(sizes, whole, term, psi, alpha, delta, opening, g_start);
+    let g_sum = relation_sum(
+        sizes,
+        whole,
+        constant_terms,
+        psi,
+        alpha,
+        delta,
+        opening,
+        g_start,
+    );
     let h_start = places::h_place(sizes);
     let h_sum = diagonal_sum(d, sizes.r, sizes.b1, sizes.t1, opening, h_start);
     let left = g_sum.sum(d, h_sum);
-    let right = aggregated::aggregate_constant(shape, sizes.k, whole, alpha, delta, b2);
+    let right = aggregated::aggregate_constant(shape, sizes.k, whole, alpha, delta, second_b);
     left.equals(d, right)
 }

@@ -43,49 +43,49 @@ fn weighted_sum(
 // The constant term of b''_k is Σ ψ b' + Σ ω p.
 fn constant_term_holds(
     sizes: Sizes,
-    term: &[i32],
+    constant_terms: &[i32],
     psi: &[i32],
     omega: &[i32],
     p: &[i32],
-    b2: &[i32],
+    second_b: &[i32],
     k: usize,
 ) -> bool
     requires { ⌜ Fits sizes ⌝ }
-    requires { ⌜ Terms sizes (now term) (now psi) (now omega) (now p) (now b2) ⌝ }
+    requires { ⌜ Terms sizes (now «constant_terms») (now psi) (now omega) (now p) (now «second_b») ⌝ }
     requires { ⌜ k < 5 ⌝ }
     ensures { λ r.
-        ⌜ r ≡ termHolds (sizes .d) (sizes .n) (sizes .r) (sizes .l) (sizes .w) (now (term .entry)) (now (psi .entry))
-        (now (omega .entry)) (now (p .entry)) (now (b2 .entry)) k ⌝ }
+        ⌜ r ≡ termHolds (sizes .d) (sizes .n) (sizes .r) (sizes .l) (sizes .w) (now («constant_terms» .entry)) (now (psi .entry))
+        (now (omega .entry)) (now (p .entry)) (now («second_b» .entry)) k ⌝ }
 {
     let d = sizes.d;
     let last = function_size(sizes.n, sizes.r) * d;
-    let terms = weighted_sum(sizes.l, psi, k * sizes.l, term, last, last + 1);
+    let terms = weighted_sum(sizes.l, psi, k * sizes.l, constant_terms, last, last + 1);
     let projected = weighted_sum(sizes.w, omega, k * sizes.w, p, 0, 1);
     let expected = modulus::add(terms, projected);
-    let element = Element::from_slice(d, b2, k);
+    let element = Element::from_slice(d, second_b, k);
     let given = element.constant_term();
     modulus::residue(given) == modulus::residue(expected)
 }
 
 // Check 2: all five.
-pub fn constant_terms(
+pub fn constant_terms_hold(
     sizes: Sizes,
-    term: &[i32],
+    constant_terms: &[i32],
     psi: &[i32],
     omega: &[i32],
     p: &[i32],
-    b2: &[i32],
+    second_b: &[i32],
 ) -> bool
     requires { ⌜ Fits sizes ⌝ }
-    requires { ⌜ Terms sizes (now term) (now psi) (now omega) (now p) (now b2) ⌝ }
+    requires { ⌜ Terms sizes (now «constant_terms») (now psi) (now omega) (now p) (now «second_b») ⌝ }
     ensures { λ r.
-        ⌜ r ≡ check₂ (sizes .d) (sizes .n) (sizes .r) (sizes .l) (sizes .w) (now (term .entry)) (now (psi .entry))
-        (now (omega .entry)) (now (p .entry)) (now (b2 .entry)) ⌝ }
+        ⌜ r ≡ check₂ (sizes .d) (sizes .n) (sizes .r) (sizes .l) (sizes .w) (now («constant_terms» .entry)) (now (psi .entry))
+        (now (omega .entry)) (now (p .entry)) (now («second_b» .entry)) ⌝ }
 {
     let mut all = true;
     let mut k = 0;
     while k < 5 {
-        let holds = constant_term_holds(sizes, term, psi, omega, p, b2, k);
+        let holds = constant_term_holds(sizes, constant_terms, psi, omega, p, second_b, k);
         all = all & holds;
         k += 1;
     }

@@ -16,16 +16,16 @@ use Rattle.fold.specs.Sizes.{garbageSize}
 use Rattle.fold.specs.Known.CallFacts as calls
 use Rattle.constraints.specs.Known.Facts.{TermFacts, SecondFacts, AggregateFacts}
 
-pub record PairFacts (d n r L : ℕ) (term ψ s : List ℤ) : Type 0 where
-  pub terms : TermFacts d n r L term ψ
+pub record PairFacts (d n r L : ℕ) (constantTerms ψ s : List ℤ) : Type 0 where
+  pub terms : TermFacts d n r L constantTerms ψ
   pub s-length : length s ≡ r * n * d
 
-pub record ValueFacts (d n r L w : ℕ) (term rows ψ ω s : List ℤ) : Type 0 where
-  pub seconds : SecondFacts d n r L w term rows ψ ω
+pub record ValueFacts (d n r L w : ℕ) (constantTerms projections ψ ω s : List ℤ) : Type 0 where
+  pub seconds : SecondFacts d n r L w constantTerms projections ψ ω
   pub s-length : length s ≡ r * n * d
 
-pub record HFacts (d n r K L w b₁ t₁ : ℕ) (whole term rows ψ ω α δ s hs : List ℤ) : Type 0 where
-  pub aggregated : AggregateFacts d n r K L w whole term rows ψ ω α δ
+pub record HFacts (d n r K L w b₁ t₁ : ℕ) (whole constantTerms projections ψ ω α δ s hs : List ℤ) : Type 0 where
+  pub aggregated : AggregateFacts d n r K L w whole constantTerms projections ψ ω α δ
   pub base : Base b₁
   pub t₁-positive : 0 < t₁
   pub t₁-small : t₁ ≤ 8
@@ -40,29 +40,29 @@ pub record OuterFacts (d r κ₂ t₁ : ℕ) (D hs u₂ : List ℤ) : Type 0 whe
   pub hs-length : length hs ≡ garbageSize r t₁ * d
   pub u₂-length : length u₂ ≡ κ₂ * d
 
-pub value-facts : {d n r L w : ℕ} {term rows ψ ω s b″ : List ℤ} → calls.AggregateFacts d n r L w term rows ψ ω s b″
-    → ValueFacts d n r L w term rows ψ ω s
+pub value-facts : {d n r L w : ℕ} {constantTerms projections ψ ω s b″ : List ℤ} → calls.AggregateFacts d n r L w constantTerms projections ψ ω s b″
+    → ValueFacts d n r L w constantTerms projections ψ ω s
 value-facts f =
     let shaped = f .limits .shaped in
     record {
       seconds =
           record {
-            terms = record { shaped = shaped; term-count = f .limits .L-small; term-length = f .term-length; ψ-length = f .ψ-length };
+            terms = record { shaped = shaped; term-count = f .limits .L-small; constant-terms-length = f .constant-terms-length; ψ-length = f .ψ-length };
             projected =
                 record {
                   shaped = shaped;
                   row-count = f .limits .w-small;
-                  rows-length = f .rows-length;
+                  projections-length = f .projections-length;
                   ω-length = f .ω-length;
-                  tested = f .rows-entries;
+                  tested = f .projections-entries;
                 };
           };
       s-length = f .s-length;
     }
 
-module _ {d n r K L w κ₂ b₁ t₁ : ℕ} {whole term rows ψ ω α δ D s hs u₂ : List ℤ}
-    (f : calls.GarbageFacts d n r K L w κ₂ b₁ t₁ whole term rows ψ ω α δ D s hs u₂) where
-  pub h-facts : HFacts d n r K L w b₁ t₁ whole term rows ψ ω α δ s hs
+module _ {d n r K L w κ₂ b₁ t₁ : ℕ} {whole constantTerms projections ψ ω α δ D s hs u₂ : List ℤ}
+    (f : calls.GarbageFacts d n r K L w κ₂ b₁ t₁ whole constantTerms projections ψ ω α δ D s hs u₂) where
+  pub h-facts : HFacts d n r K L w b₁ t₁ whole constantTerms projections ψ ω α δ s hs
   h-facts =
       let shaped = f .limits .shaped in
       record {
@@ -71,14 +71,14 @@ module _ {d n r K L w κ₂ b₁ t₁ : ℕ} {whole term rows ψ ω α δ D s hs
               wholes = record { shaped = shaped; whole-count = f .limits .K-small; whole-length = f .whole-length; α-length = f .α-length };
               seconds =
                   record {
-                    terms = record { shaped = shaped; term-count = f .limits .L-small; term-length = f .term-length; ψ-length = f .ψ-length };
+                    terms = record { shaped = shaped; term-count = f .limits .L-small; constant-terms-length = f .constant-terms-length; ψ-length = f .ψ-length };
                     projected =
                         record {
                           shaped = shaped;
                           row-count = f .limits .w-small;
-                          rows-length = f .rows-length;
+                          projections-length = f .projections-length;
                           ω-length = f .ω-length;
-                          tested = f .rows-entries;
+                          tested = f .projections-entries;
                         };
                   };
               δ-length = f .δ-length;

@@ -88,44 +88,44 @@ square-place d r {i} {j} a b size = omega (arith, block-before d (i * r + j) (r 
 pub square-small : (r : ℕ) {i j : ℕ} → i < r → j < r → i * r + j < r * r
 square-small r {i} {j} a b = block-fits r r i j a b
 
-cross-aggregate : (d n r K L w : ℕ) (whole term rows ψ ω α δ s : List ℤ) (i j : ℕ)
-    → cross d n (aggregatePart d n r K L w whole term rows ψ ω α δ) s i j
-    ≡ inner (R d) n (aggregate d n r K L w whole term rows ψ ω α δ .φ i) (part d n s j)
+cross-aggregate : (d n r K L w : ℕ) (whole constantTerms projections ψ ω α δ s : List ℤ) (i j : ℕ)
+    → cross d n (aggregatePart d n r K L w whole constantTerms projections ψ ω α δ) s i j
+    ≡ inner (R d) n (aggregate d n r K L w whole constantTerms projections ψ ω α δ .φ i) (part d n s j)
 unfolding cross inner aggregatePart
-cross-aggregate d n r K L w whole term rows ψ ω α δ s i j =
-    sum-cong (R d) n _ _ (λ y _. ap (λ u. R d .mul u (part d n s j y)) (sym (aggregate-φ d n r L w term rows ψ ω K whole α δ i y)))
+cross-aggregate d n r K L w whole constantTerms projections ψ ω α δ s i j =
+    sum-cong (R d) n _ _ (λ y _. ap (λ u. R d .mul u (part d n s j y)) (sym (aggregate-φ d n r L w constantTerms projections ψ ω K whole α δ i y)))
 
 -- that is the h of the message
-halved-h : (d n r K L w : ℕ) (whole term rows ψ ω α δ s old : List ℤ) {M : List ℤ}
-    → M ≡ over old 0 (squareElements d r (cross d n (aggregatePart d n r K L w whole term rows ψ ω α δ) s)) → (i j : ℕ) → i < r → j < r
-    → halved d r M i j ≡ h d n (aggregate d n r K L w whole term rows ψ ω α δ .φ) s i j
+halved-h : (d n r K L w : ℕ) (whole constantTerms projections ψ ω α δ s old : List ℤ) {M : List ℤ}
+    → M ≡ over old 0 (squareElements d r (cross d n (aggregatePart d n r K L w whole constantTerms projections ψ ω α δ) s)) → (i j : ℕ) → i < r → j < r
+    → halved d r M i j ≡ h d n (aggregate d n r K L w whole constantTerms projections ψ ω α δ .φ) s i j
 unfolding halved h garbage
-halved-h d n r K L w whole term rows ψ ω α δ s old {M} filled i j a b =
+halved-h d n r K L w whole constantTerms projections ψ ω α δ s old {M} filled i j a b =
     ap₂ (λ u v. R d .mul (half d) (R d .add u v)) (product i j a b) (product j i b a)
   where
     product : (i j : ℕ) → i < r → j < r
-        → el d M (i * r + j) ≡ inner (R d) n (aggregate d n r K L w whole term rows ψ ω α δ .φ i) (part d n s j)
+        → el d M (i * r + j) ≡ inner (R d) n (aggregate d n r K L w whole constantTerms projections ψ ω α δ .φ i) (part d n s j)
     product i j a b =
-        el-square d r (cross d n (aggregatePart d n r K L w whole term rows ψ ω α δ) s) old filled i j a b
-        ∙ cross-aggregate d n r K L w whole term rows ψ ω α δ s i j
+        el-square d r (cross d n (aggregatePart d n r K L w whole constantTerms projections ψ ω α δ) s) old filled i j a b
+        ∙ cross-aggregate d n r K L w whole constantTerms projections ψ ω α δ s i j
 
 -- ---- the digits
 
-pub h-written : (d n r K L w b₁ t₁ : ℕ) (whole term rows ψ ω α δ s old older : List ℤ) {M values out : List ℤ} {count : ℕ}
-    → M ≡ over old 0 (squareElements d r (cross d n (aggregatePart d n r K L w whole term rows ψ ω α δ) s))
+pub h-written : (d n r K L w b₁ t₁ : ℕ) (whole constantTerms projections ψ ω α δ s old older : List ℤ) {M values out : List ℤ} {count : ℕ}
+    → M ≡ over old 0 (squareElements d r (cross d n (aggregatePart d n r K L w whole constantTerms projections ψ ω α δ) s))
     → pairs r * d ≤ length older
     → values ≡ over older 0 (pairElements d r (halved d r M))
     → count ≡ pairs r
     → out ≡ flat count (λ e. split b₁ t₁ (coeffs d (el d values e)))
-    → out ≡ hDigits d n r b₁ t₁ (aggregate d n r K L w whole term rows ψ ω α δ .φ) s
+    → out ≡ hDigits d n r b₁ t₁ (aggregate d n r K L w whole constantTerms projections ψ ω α δ .φ) s
 unfolding hDigits
-h-written d n r K L w b₁ t₁ whole term rows ψ ω α δ s old older {M} {values} filled room held all out =
+h-written d n r K L w b₁ t₁ whole constantTerms projections ψ ω α δ s old older {M} {values} filled room held all out =
     out
     ∙ ap (λ (m : ℕ). flat m (λ e. split b₁ t₁ (coeffs d (el d values e)))) all
     ∙ garbage-places d r b₁ t₁ (el d values)
     ∙ garbage-cong d r b₁ t₁ _ _ (λ i j a b.
     ap (λ (xs : List ℤ). el d xs (pair r i j)) held ∙ el-pairs d r (halved d r M) older room i j a b
-    ∙ halved-h d n r K L w whole term rows ψ ω α δ s old filled i j (omega arith) b)
+    ∙ halved-h d n r K L w whole constantTerms projections ψ ω α δ s old filled i j (omega arith) b)
 
 -- ---- D·(h digits)
 

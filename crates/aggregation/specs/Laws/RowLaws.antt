@@ -49,17 +49,17 @@ pub sums-start : (d : ℕ) (F : ℕ → ℕ → R d .Carrier) → Sums d F 0 (re
 unfolding sum
 sums-start d F = record { held = sym (tab-const 5 (replicate 64 (pos 0))) ∙ tab-cong 5 _ _ (λ k _. sym (array-zero d)) }
 
--- a row whose entries times y are the terms
+-- a row whose entries times y are the summands
 pub sums-step : {d : ℕ} {F : ℕ → ℕ → R d .Carrier} {e : ℕ} {sums row next : List (List ℤ)} (a : ℕ → R d .Carrier) (y : R d .Carrier) → d ≤ 64
     → Sums d F e sums → row ≡ tab 5 (λ k. array d (a k)) → ((k : ℕ) → F k e ≡ R d .mul (a k) y)
     → next ≡ tab 5 (λ k. array d (plusProduct d sums row y k)) → Sums d F (e + 1) next
 unfolding plusProduct
 sums-step {d} {F} {e} {sums} {row} a y small running held is next =
-    record { held = next ∙ tab-cong 5 _ _ (λ k h. ap (array d) (term k h)) }
+    record { held = next ∙ tab-cong 5 _ _ (λ k h. ap (array d) (summand k h)) }
   where
-    term : (k : ℕ) → k < 5
+    summand : (k : ℕ) → k < 5
         → R d .add (lift d (getD sums k [])) (R d .mul (lift d (getD row k [])) y) ≡ sum (R d) (e + 1) (F k)
-    term k h =
+    summand k h =
         ap₂ (R d .add) (row-entry d (λ k. sum (R d) e (F k)) small (running .held) k h)
         (ap (λ (u : R d .Carrier). R d .mul u y) (row-entry d a small held k h) ∙ sym (is k))
         ∙ sym (sum-one-more (R d) e (F k))

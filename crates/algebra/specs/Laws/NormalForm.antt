@@ -142,7 +142,7 @@ module _ (𝓡 : CommRing) where
       rw (value-negate a (λ i. ρ (suc i)), value-negate p ρ, mul-neg 𝓡 (ρ 0) (value p ρ))
       (sym (neg-distrib 𝓡 (value a (λ i. ρ (suc i))) (ρ 0 ⊗ value p ρ)))
 
-  -- a factor into each term of a + x q
+  -- a factor into each summand of a + x q
   through : (c a x q : Carrier) → c ⊗ a ⊕ x ⊗ (c ⊗ q) ≡ c ⊗ (a ⊕ x ⊗ q)
   through c a x q = rw (mul-left-comm 𝓡 x c q) (sym (mul-add c a (x ⊗ q)))
 

@@ -17,7 +17,7 @@ module _ (𝓡 : CommRing) where
   open CommRing 𝓡 using (Carrier, zero as 𝟘, add as _⊕_, mul as _⊗_, neg as ⊖_)
   open CommRing 𝓡 using (add-assoc, add-comm, add-zero, mul-comm, mul-add)
 
-  -- a sum depends on the terms that it adds, and on nothing else
+  -- a sum depends on the summands that it adds, and on nothing else
   pub sum-cong : (n : ℕ) (f g : ℕ → Carrier) → ((i : ℕ) → i < n → f i ≡ g i) → sum 𝓡 n f ≡ sum 𝓡 n g
   unfolding sum
   sum-cong zero f g h = refl
@@ -73,7 +73,7 @@ module _ (𝓡 : CommRing) where
   sum-first zero f = add-comm 𝟘 (f 0)
   sum-first (suc n) f = ap (λ x. x ⊕ f (suc n)) (sum-first n f) ∙ add-assoc (f 0) (sum 𝓡 n (λ i. f (suc i))) (f (suc n))
 
-  -- one term alone may differ from zero
+  -- one summand alone may differ from zero
   pub sum-single : (n k : ℕ) (f : ℕ → Carrier) → k < n → ((i : ℕ) → i < n → i ≢ k → f i ≡ 𝟘) → sum 𝓡 n f ≡ f k
   unfolding sum
   sum-single zero k f l h = absurd (omega arith)
@@ -85,7 +85,7 @@ module _ (𝓡 : CommRing) where
           rw (sum-vanish n f (λ i g. h i (le-step g) (λ d. omega arith)), same) (zero-add 𝓡 (f n))
       pick before (inr g) = rw (before (omega arith), h n (lt-suc-self n) (λ d. omega arith)) (add-zero (f k))
 
-  -- m blocks of n terms each
+  -- m blocks of n summands each
   pub sum-blocks : (m n : ℕ) (f : ℕ → Carrier) → sum 𝓡 (m * n) f ≡ sum 𝓡 m (λ i. sum 𝓡 n (λ j. f (i * n + j)))
   unfolding sum
   sum-blocks zero n f = rw nat-zero-mul

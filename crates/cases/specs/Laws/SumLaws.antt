@@ -39,8 +39,8 @@ pub checksum-step : (xs : List ℤ) (i sum : ℕ) {r : ℕ} → sum ≡ emod (we
     → r ≡ emod (pos sum +ℤ pos (i + 1) *ℤ getD xs i (pos 0)) 2147483647 → r ≡ emod (weighted (i + 1) xs) 2147483647
 unfolding weighted
 checksum-step xs i sum e f =
-    let term = pos (suc i) *ℤ getD xs i (pos 0) in
-    f ∙ rw (add-one i) (emod-add-cong 2147483647 (omega arith) (pos sum) term (weighted i xs) term
+    let summand = pos (suc i) *ℤ getD xs i (pos 0) in
+    f ∙ rw (add-one i) (emod-add-cong 2147483647 (omega arith) (pos sum) summand (weighted i xs) summand
     (ap (λ (k : ℕ). emod (pos k) 2147483647) e ∙ emod-emod 2147483647 (omega arith) (weighted i xs)) refl)
 
 pub checksum-below : (xs : List ℤ) (i : ℕ) {sum : ℕ} → sum ≡ emod (weighted i xs) 2147483647 → sum < 2147483647

@@ -46,9 +46,9 @@ pub held-room : (z : ℤ) {b : ℕ} → mag z < 2 ^ 63 → natAbs z ≤ b → b 
 held-room z fits h l = rw (held-number z fits) (omega (arith, h, l))
 
 -- a weight times an entry, the weight read back from its bits
-pub entry-term : (ω : List ℤ) (i : ℕ) (x : ℤ) {v : ℤ} → mag (getD ω i (pos 0)) < 2 ^ 31 → natAbs x ≤ 1
+pub entry-summand : (ω : List ℤ) (i : ℕ) (x : ℤ) {v : ℤ} → mag (getD ω i (pos 0)) < 2 ^ 31 → natAbs x ≤ 1
     → v ≡ toZ w32 (ofZ w32 (getD ω i (pos 0))) *ℤ x → (v ≡ getD ω i (pos 0) *ℤ x) × (natAbs (getD ω i (pos 0) *ℤ x) ≤ 2147483648)
-entry-term ω i x read one e =
+entry-summand ω i x read one e =
     let c = getD ω i (pos 0) in
     let product : P (c *ℤ x) + N (c *ℤ x) ≤ 2147483648 * 1 =
     mul-bnd c x (abs-bnd {w = w32} {x = c} (record { sfits = read })) (rw (natAbs-pn x) at one)

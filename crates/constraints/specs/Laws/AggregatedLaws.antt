@@ -31,35 +31,35 @@ module _ (d : ℕ) (degree : Degree d) (x y : R d .Carrier) {a b c : List ℤ} (
 pub δ-place : (d : ℕ) (δ : List ℤ) → length δ ≡ 5 * d → {k : ℕ} → k < 5 → k * d + d ≤ length δ
 δ-place d δ e {k} h = omega (arith, e, mul-le-mul-right d h)
 
-pub second-φ-end : (d n r L : ℕ) (term ψ : List ℤ) (k e : ℕ) (projected : List ℤ) {own turned out : List ℤ} → Degree d
-    → own ≡ array d (termEntry d n r L term ψ k (pairs r + e))
+pub second-φ-end : (d n r L : ℕ) (constantTerms ψ : List ℤ) (k e : ℕ) (projected : List ℤ) {own turned out : List ℤ} → Degree d
+    → own ≡ array d (termEntry d n r L constantTerms ψ k (pairs r + e))
     → turned ≡ array d (conjugate Zq (lift d projected))
     → out ≡ array d (R d .add (lift d own) (lift d turned))
-    → out ≡ array d (R d .add (termEntry d n r L term ψ k (pairs r + e)) (conjugate Zq (lift d projected)))
-second-φ-end d n r L term ψ k e projected degree is by sum = values-sum d degree _ _ is by sum
+    → out ≡ array d (R d .add (termEntry d n r L constantTerms ψ k (pairs r + e)) (conjugate Zq (lift d projected)))
+second-φ-end d n r L constantTerms ψ k e projected degree is by sum = values-sum d degree _ _ is by sum
 
 -- with the projected part from a row
-pub second-φ-row : (d n r L w : ℕ) (term rows ψ ω : List ℤ) (k e : ℕ) {row : List (List ℤ)} {out : List ℤ} → Degree d → k < 5
-    → row ≡ tab 5 (λ i. array d (projectionEntry d n r w rows ω i e))
-    → out ≡ array d (R d .add (termEntry d n r L term ψ k (pairs r + e)) (conjugate Zq (lift d (getD row k []))))
-    → out ≡ array d (secondΦ d n r L w term rows ψ ω k e)
+pub second-φ-row : (d n r L w : ℕ) (constantTerms projections ψ ω : List ℤ) (k e : ℕ) {row : List (List ℤ)} {out : List ℤ} → Degree d → k < 5
+    → row ≡ tab 5 (λ i. array d (projectionEntry d n r w projections ω i e))
+    → out ≡ array d (R d .add (termEntry d n r L constantTerms ψ k (pairs r + e)) (conjugate Zq (lift d (getD row k []))))
+    → out ≡ array d (secondΦ d n r L w constantTerms projections ψ ω k e)
 unfolding secondΦ
-second-φ-row d n r L w term rows ψ ω k e degree h held is =
-    is ∙ rw (row-entry d (λ i. projectionEntry d n r w rows ω i e) (degree .small) held k h) refl
+second-φ-row d n r L w constantTerms projections ψ ω k e degree h held is =
+    is ∙ rw (row-entry d (λ i. projectionEntry d n r w projections ω i e) (degree .small) held k h) refl
 
-pub aggregate-a-end : (d n r K L : ℕ) (whole term ψ α δ : List ℤ) (e : ℕ) {wholes seconds out : List ℤ} → Degree d
+pub aggregate-a-end : (d n r K L : ℕ) (whole constantTerms ψ α δ : List ℤ) (e : ℕ) {wholes seconds out : List ℤ} → Degree d
     → wholes ≡ array d (wholeEntry d n r K whole α e)
-    → seconds ≡ array d (sum (R d) five (weightedA d n r L term ψ δ e))
-    → out ≡ array d (R d .add (lift d wholes) (lift d seconds)) → out ≡ array d (aggregateA d n r K L whole term ψ α δ e)
+    → seconds ≡ array d (sum (R d) five (weightedA d n r L constantTerms ψ δ e))
+    → out ≡ array d (R d .add (lift d wholes) (lift d seconds)) → out ≡ array d (aggregateA d n r K L whole constantTerms ψ α δ e)
 unfolding aggregateA weightedA
-aggregate-a-end d n r K L whole term ψ α δ e degree is by sum = values-sum d degree _ _ is by sum
+aggregate-a-end d n r K L whole constantTerms ψ α δ e degree is by sum = values-sum d degree _ _ is by sum
 
-pub aggregate-φ-end : (d n r K L w : ℕ) (whole term rows ψ ω α δ : List ℤ) (e : ℕ) {wholes seconds out : List ℤ} → Degree d
+pub aggregate-φ-end : (d n r K L w : ℕ) (whole constantTerms projections ψ ω α δ : List ℤ) (e : ℕ) {wholes seconds out : List ℤ} → Degree d
     → wholes ≡ array d (wholeEntry d n r K whole α (pairs r + e))
-    → seconds ≡ array d (sum (R d) five (weightedΦ d n r L w term rows ψ ω δ e))
-    → out ≡ array d (R d .add (lift d wholes) (lift d seconds)) → out ≡ array d (aggregateΦ d n r K L w whole term rows ψ ω α δ e)
+    → seconds ≡ array d (sum (R d) five (weightedΦ d n r L w constantTerms projections ψ ω δ e))
+    → out ≡ array d (R d .add (lift d wholes) (lift d seconds)) → out ≡ array d (aggregateΦ d n r K L w whole constantTerms projections ψ ω α δ e)
 unfolding aggregateΦ weightedΦ
-aggregate-φ-end d n r K L w whole term rows ψ ω α δ e degree is by sum = values-sum d degree _ _ is by sum
+aggregate-φ-end d n r K L w whole constantTerms projections ψ ω α δ e degree is by sum = values-sum d degree _ _ is by sum
 
 -- the constants stand at place functionSize
 pub constant-end : (d n r K : ℕ) (whole α δ b″ : List ℤ) {wholes seconds out : List ℤ} → Degree d

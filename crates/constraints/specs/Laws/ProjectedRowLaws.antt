@@ -29,21 +29,21 @@ use Rattle.constraints.specs.Known.Facts.{ProjectionFacts}
 use Rattle.constraints.specs.Laws.SizeLaws.{witness-small}
 use Rattle.constraints.specs.Accumulator.{SmallFive, AddedFive}
 use Rattle.constraints.specs.Laws.AccumulatorLaws.{Turning, turning-step}
-use Rattle.constraints.specs.RowGroups.{Coded, fourSum, WeightedSum, SumsOf}
+use Rattle.constraints.specs.RowGroups.{Coded, fourSum, WeightedSum, OmegaSums}
 use Rattle.constraints.specs.ProjectedRows.{partial, Summed}
 
-pub summed-start : (d m w : ℕ) (rows ω : List ℤ) (e : ℕ) → d ≤ 64 → Summed d m w rows ω e 0 (replicate 320 (pos 0))
+pub summed-start : (d m w : ℕ) (projections ω : List ℤ) (e : ℕ) → d ≤ 64 → Summed d m w projections ω e 0 (replicate 320 (pos 0))
 unfolding partial
-summed-start d m w rows ω e small =
+summed-start d m w projections ω e small =
     record {
       size = refl;
       cell = λ y k h l.
           record { value = getD-replicate 320 (y * 5 + k) (pos 0) (pos 0) (omega (arith, h, l, small)); small = omega arith };
     }
 
-module _ (d m w : ℕ) (rows ω : List ℤ) (e : ℕ) where
-  pub turning-start : {j : ℕ} (more : ℕ) {acc : List ℤ} → Summed d m w rows ω e j acc
-      → Turning d (partial d m w rows ω e j) (partial d m w rows ω e (j + more)) j more 0 acc
+module _ (d m w : ℕ) (projections ω : List ℤ) (e : ℕ) where
+  pub turning-start : {j : ℕ} (more : ℕ) {acc : List ℤ} → Summed d m w projections ω e j acc
+      → Turning d (partial d m w projections ω e j) (partial d m w projections ω e (j + more)) j more 0 acc
   turning-start more summed =
       record {
         within = omega arith;
@@ -52,32 +52,32 @@ module _ (d m w : ℕ) (rows ω : List ℤ) (e : ℕ) where
         left = λ z k l b f. summed .cell z k b f;
       }
 
-  pub turning-end : {j more y : ℕ} {acc : List ℤ} → Turning d (partial d m w rows ω e j) (partial d m w rows ω e (j + more)) j more y acc
-      → d ≤ y → Summed d m w rows ω e (j + more) acc
+  pub turning-end : {j more y : ℕ} {acc : List ℤ} → Turning d (partial d m w projections ω e j) (partial d m w projections ω e (j + more)) j more y acc
+      → d ≤ y → Summed d m w projections ω e (j + more) acc
   turning-end turning h =
       record { size = turning .size; cell = λ y k l b. turning .done y k (omega (arith, l, h)) b }
 
   -- one row more
-  pub partial-one : (j y k : ℕ) → partial d m w rows ω e j y k +ℤ (getD ω (k * w + j) (pos 0) *ℤ getD rows ((j * m + e) * d + y) (pos 0))
-      ≡ partial d m w rows ω e (j + 1) y k
+  pub partial-one : (j y k : ℕ) → partial d m w projections ω e j y k +ℤ (getD ω (k * w + j) (pos 0) *ℤ getD projections ((j * m + e) * d + y) (pos 0))
+      ≡ partial d m w projections ω e (j + 1) y k
   unfolding partial
   partial-one j y k = rw add-one refl
 
   -- four rows more, by the table
   pub partial-four : (g y k : ℕ) {c : ℕ} {s : ℤ} → WeightedSum ω (k * w + g * 4) c s
-      → Coded c (getD rows ((g * 4 * m + e) * d + y) (pos 0)) (getD rows ((g * 4 * m + e) * d + y + m * d) (pos 0))
-      (getD rows ((g * 4 * m + e) * d + y + m * d + m * d) (pos 0)) (getD rows ((g * 4 * m + e) * d + y + m * d + m * d + m * d) (pos 0))
-      → partial d m w rows ω e (g * 4) y k +ℤ s ≡ partial d m w rows ω e (g * 4 + 4) y k
+      → Coded c (getD projections ((g * 4 * m + e) * d + y) (pos 0)) (getD projections ((g * 4 * m + e) * d + y + m * d) (pos 0))
+      (getD projections ((g * 4 * m + e) * d + y + m * d + m * d) (pos 0)) (getD projections ((g * 4 * m + e) * d + y + m * d + m * d + m * d) (pos 0))
+      → partial d m w projections ω e (g * 4) y k +ℤ s ≡ partial d m w projections ω e (g * 4 + 4) y k
   unfolding fourSum
   partial-four g y k {c} {s} weighted coded =
       let j = g * 4 in
       let at = (j * m + e) * d + y in
       let step = m * d in
-      let p = partial d m w rows ω e j y k in
-      let a = getD ω (k * w + j) (pos 0) *ℤ getD rows at (pos 0) in
-      let b = getD ω (k * w + j + 1) (pos 0) *ℤ getD rows (at + step) (pos 0) in
-      let f = getD ω (k * w + j + 2) (pos 0) *ℤ getD rows (at + step + step) (pos 0) in
-      let h = getD ω (k * w + j + 3) (pos 0) *ℤ getD rows (at + step + step + step) (pos 0) in
+      let p = partial d m w projections ω e j y k in
+      let a = getD ω (k * w + j) (pos 0) *ℤ getD projections at (pos 0) in
+      let b = getD ω (k * w + j + 1) (pos 0) *ℤ getD projections (at + step) (pos 0) in
+      let f = getD ω (k * w + j + 2) (pos 0) *ℤ getD projections (at + step + step) (pos 0) in
+      let h = getD ω (k * w + j + 3) (pos 0) *ℤ getD projections (at + step + step + step) (pos 0) in
       let sum : s ≡ pos 0 +ℤ a +ℤ b +ℤ f +ℤ h =
       weighted .value ∙ rw (coded .first, coded .second, coded .third, coded .fourth) refl
       in
@@ -98,15 +98,15 @@ module _ (d m w : ℕ) (rows ω : List ℤ) (e : ℕ) where
       )
 
       next : (y k j i a p : ℕ) → j ≡ i + 1 → a ≡ k * w + i → p ≡ (i * m + e) * d + y
-          → partial d m w rows ω e j y k ≡ partial d m w rows ω e i y k +ℤ (getD ω a (pos 0) *ℤ getD rows p (pos 0))
+          → partial d m w projections ω e j y k ≡ partial d m w projections ω e i y k +ℤ (getD ω a (pos 0) *ℤ getD projections p (pos 0))
       next y k j i a p q h l = rw (q, h, l) (sym (partial-one i y k))
 
-      four-rows : (y k j : ℕ) → partial d m w rows ω e (j + 4) y k
-          ≡ partial d m w rows ω e j y k
-          +ℤ (getD ω (k * w + j) (pos 0) *ℤ getD rows ((j * m + e) * d + y) (pos 0))
-          +ℤ (getD ω (k * w + j + 1) (pos 0) *ℤ getD rows ((j * m + e) * d + y + m * d) (pos 0))
-          +ℤ (getD ω (k * w + j + 2) (pos 0) *ℤ getD rows ((j * m + e) * d + y + m * d + m * d) (pos 0))
-          +ℤ (getD ω (k * w + j + 3) (pos 0) *ℤ getD rows ((j * m + e) * d + y + m * d + m * d + m * d) (pos 0))
+      four-rows : (y k j : ℕ) → partial d m w projections ω e (j + 4) y k
+          ≡ partial d m w projections ω e j y k
+          +ℤ (getD ω (k * w + j) (pos 0) *ℤ getD projections ((j * m + e) * d + y) (pos 0))
+          +ℤ (getD ω (k * w + j + 1) (pos 0) *ℤ getD projections ((j * m + e) * d + y + m * d) (pos 0))
+          +ℤ (getD ω (k * w + j + 2) (pos 0) *ℤ getD projections ((j * m + e) * d + y + m * d + m * d) (pos 0))
+          +ℤ (getD ω (k * w + j + 3) (pos 0) *ℤ getD projections ((j * m + e) * d + y + m * d + m * d + m * d) (pos 0))
       four-rows y k j =
           let at = (j * m + e) * d + y in
           let step = m * d in
@@ -119,35 +119,35 @@ module _ (d m w : ℕ) (rows ω : List ℤ) (e : ℕ) where
 
   -- modulo q they are the coefficients of the weighted sum
   partial-red : (j y k : ℕ) → y < d
-      → red (partial d m w rows ω e j y k)
-      ≡ coeff Zq (sum (R d) j (λ i. R d .mul (number d (getD ω (k * w + i) (pos 0))) (el d rows (i * m + e)))) y
+      → red (partial d m w projections ω e j y k)
+      ≡ coeff Zq (sum (R d) j (λ i. R d .mul (number d (getD ω (k * w + i) (pos 0))) (el d projections (i * m + e)))) y
   unfolding partial sum number
   partial-red zero y k l = red-zero ∙ sym (coeff-zero Zq d y)
   partial-red (suc j) y k l =
       let c = getD ω (k * w + j) (pos 0) in
-      let x = getD rows ((j * m + e) * d + y) (pos 0) in
-      red-add (partial d m w rows ω e j y k) (c *ℤ x)
+      let x = getD projections ((j * m + e) * d + y) (pos 0) in
+      red-add (partial d m w projections ω e j y k) (c *ℤ x)
       ∙ ap₂ (Zq .add) (partial-red j y k l)
       (red-mul c x
-      ∙ ap (Zq .mul (red c)) (sym (coeff-el d rows (j * m + e) y l))
-      ∙ sym (coeff-constant-mul Zq (red c) (el d rows (j * m + e)) y))
+      ∙ ap (Zq .mul (red c)) (sym (coeff-el d projections (j * m + e) y l))
+      ∙ sym (coeff-constant-mul Zq (red c) (el d projections (j * m + e)) y))
       ∙ sym (coeff-add Zq _ _ y)
 
-  summed-element : {acc : List ℤ} → Summed d m w rows ω e w acc → (k : ℕ) → k < 5
+  summed-element : {acc : List ℤ} → Summed d m w projections ω e w acc → (k : ℕ) → k < 5
       → tab 64 (upto d (λ y. centred (getD acc (y * 5 + k) (pos 0))) (pos 0))
-      ≡ array d (sum (R d) w (λ i. R d .mul (number d (getD ω (k * w + i) (pos 0))) (el d rows (i * m + e))))
+      ≡ array d (sum (R d) w (λ i. R d .mul (number d (getD ω (k * w + i) (pos 0))) (el d projections (i * m + e))))
   summed-element {acc} summed k h =
       sym (array-fill d _ _ (λ y l.
       ap cent (sym (ap red (summed .cell y k l h .value) ∙ partial-red w y k l)) ∙ cent-red (getD acc (y * 5 + k) (pos 0))))
 
 -- the elements of the five functions
-pub row-end : (d n r w : ℕ) (rows ω : List ℤ) (e : ℕ) {acc : List ℤ} → Summed d (r * n) w rows ω e w acc
+pub row-end : (d n r w : ℕ) (projections ω : List ℤ) (e : ℕ) {acc : List ℤ} → Summed d (r * n) w projections ω e w acc
     → tab 5 (λ k. tab 64 (upto d (λ y. centred (getD acc (y * 5 + k) (pos 0))) (pos 0)))
-    ≡ tab 5 (λ k. array d (projectionEntry d n r w rows ω k e))
+    ≡ tab 5 (λ k. array d (projectionEntry d n r w projections ω k e))
 unfolding projectionEntry
-row-end d n r w rows ω e summed = tab-cong 5 _ _ (λ k h. summed-element d (r * n) w rows ω e summed k h)
+row-end d n r w projections ω e summed = tab-cong 5 _ _ (λ k h. summed-element d (r * n) w projections ω e summed k h)
 
-module _ {d n r w : ℕ} {rows ω : List ℤ} (facts : ProjectionFacts d n r w rows ω) where
+module _ {d n r w : ℕ} {projections ω : List ℤ} (facts : ProjectionFacts d n r w projections ω) where
   pub step-small : r * n * d ≤ 262144
   step-small = mul-le-mul (witness-small (facts .shaped)) (facts .shaped .degree .small)
 
@@ -161,18 +161,18 @@ module _ {d n r w : ℕ} {rows ω : List ℤ} (facts : ProjectionFacts d n r w r
       let at : (j * (r * n) + e) * d ≤ 1052672 * 64 = mul-le-mul element (facts .shaped .degree .small) in
       (omega (arith, before), element, omega (arith, at))
 
-  pub element-fits : {j e : ℕ} → j < w → e < r * n → (j * (r * n) + e) * d + d ≤ length rows
+  pub element-fits : {j e : ℕ} → j < w → e < r * n → (j * (r * n) + e) * d + d ≤ length projections
   unfolding projectionLength
-  element-fits {j} {e} h l = omega (arith, facts .rows-length, mul-le-mul-right d l, mul-le-mul-right (r * n * d) h)
+  element-fits {j} {e} h l = omega (arith, facts .projections-length, mul-le-mul-right d l, mul-le-mul-right (r * n * d) h)
 
-  pub element-place : {j e y : ℕ} → j < w → e < r * n → y < d → (j * (r * n) + e) * d + y < length rows
+  pub element-place : {j e y : ℕ} → j < w → e < r * n → y < d → (j * (r * n) + e) * d + y < length projections
   element-place {j} {e} {y} h l b = omega (arith, b, element-fits {j = j} {e = e} h l)
 
   -- the rows of group g
   pub group-row : {g : ℕ} → g < w / 4 → g * 4 < w
   group-row h = omega (arith, h)
 
-  pub group-place : {g e : ℕ} → g < w / 4 → e < r * n → (g * 4 * (r * n) + e) * d + d + r * n * d + r * n * d + r * n * d ≤ length rows
+  pub group-place : {g e : ℕ} → g < w / 4 → e < r * n → (g * 4 * (r * n) + e) * d + d + r * n * d + r * n * d + r * n * d ≤ length projections
   group-place {g} {e} h l =
       let row : g * 4 + 3 < w = omega (arith, h) in
       omega (arith, element-fits {j = g * 4 + 3} row l)
@@ -180,25 +180,25 @@ module _ {d n r w : ℕ} {rows ω : List ℤ} (facts : ProjectionFacts d n r w r
 pub weight-place : (w k j : ℕ) → k < 5 → j < w → w ≤ 256 → (k * w ≤ 1024) × (k * w + j < 5 * w)
 weight-place w k j h l small = (omega (arith, mul-le-mul-right w h, small), omega (arith, mul-le-mul-right w h, l))
 
-pub table-place : {w : ℕ} {ω sums : List ℤ} → SumsOf w ω sums → w ≤ 256 → {g c : ℕ} → g < w / 4 → c < 81
-    → ((g * 81 + c) * 5 + 5 ≤ 25920) × SmallFive 8589934592 sums ((g * 81 + c) * 5)
+pub table-place : {w : ℕ} {ω omegaSums : List ℤ} → OmegaSums w ω omegaSums → w ≤ 256 → {g c : ℕ} → g < w / 4 → c < 81
+    → ((g * 81 + c) * 5 + 5 ≤ 25920) × SmallFive 8589934592 omegaSums ((g * 81 + c) * 5)
 table-place table small {g} {c} h l =
     (omega (arith, small, h, l), record { small = λ k b. table .entry g c k h l b .small })
 
-module _ (d m w : ℕ) (rows ω : List ℤ) (e : ℕ) where
-  pub row-step : {j y : ℕ} {acc new : List ℤ} → Turning d (partial d m w rows ω e j) (partial d m w rows ω e (j + 1)) j 1 y acc → y < d
-      → mag (getD rows ((j * m + e) * d + y) (pos 0)) < 2 ^ 31
-      → AddedFive 2147483648 (λ k. getD ω (k * w + j) (pos 0) *ℤ toZ w32 (ofZ w32 (getD rows ((j * m + e) * d + y) (pos 0)))) (y * 5) acc 5 new
-      → Turning d (partial d m w rows ω e j) (partial d m w rows ω e (j + 1)) j 1 (y + 1) new
+module _ (d m w : ℕ) (projections ω : List ℤ) (e : ℕ) where
+  pub row-step : {j y : ℕ} {acc new : List ℤ} → Turning d (partial d m w projections ω e j) (partial d m w projections ω e (j + 1)) j 1 y acc → y < d
+      → mag (getD projections ((j * m + e) * d + y) (pos 0)) < 2 ^ 31
+      → AddedFive 2147483648 (λ k. getD ω (k * w + j) (pos 0) *ℤ toZ w32 (ofZ w32 (getD projections ((j * m + e) * d + y) (pos 0)))) (y * 5) acc 5 new
+      → Turning d (partial d m w projections ω e j) (partial d m w projections ω e (j + 1)) j 1 (y + 1) new
   row-step {j} {y} turning h read added =
       turning-step turning h added
-      (λ k l. rw (word (getD rows ((j * m + e) * d + y) (pos 0)) read) (partial-one d m w rows ω e j y k))
+      (λ k l. rw (word (getD projections ((j * m + e) * d + y) (pos 0)) read) (partial-one d m w projections ω e j y k))
 
-  pub group-step : {sums : List ℤ} → SumsOf w ω sums → {g c y : ℕ} {acc new : List ℤ} → g < w / 4
-      → Turning d (partial d m w rows ω e (g * 4)) (partial d m w rows ω e (g * 4 + 4)) (g * 4) 4 y acc → y < d
-      → Coded c (getD rows ((g * 4 * m + e) * d + y) (pos 0)) (getD rows ((g * 4 * m + e) * d + y + m * d) (pos 0))
-      (getD rows ((g * 4 * m + e) * d + y + m * d + m * d) (pos 0)) (getD rows ((g * 4 * m + e) * d + y + m * d + m * d + m * d) (pos 0))
-      → AddedFive 8589934592 (λ k. getD sums ((g * 81 + c) * 5 + k) (pos 0)) (y * 5) acc 5 new
-      → Turning d (partial d m w rows ω e (g * 4)) (partial d m w rows ω e (g * 4 + 4)) (g * 4) 4 (y + 1) new
+  pub group-step : {omegaSums : List ℤ} → OmegaSums w ω omegaSums → {g c y : ℕ} {acc new : List ℤ} → g < w / 4
+      → Turning d (partial d m w projections ω e (g * 4)) (partial d m w projections ω e (g * 4 + 4)) (g * 4) 4 y acc → y < d
+      → Coded c (getD projections ((g * 4 * m + e) * d + y) (pos 0)) (getD projections ((g * 4 * m + e) * d + y + m * d) (pos 0))
+      (getD projections ((g * 4 * m + e) * d + y + m * d + m * d) (pos 0)) (getD projections ((g * 4 * m + e) * d + y + m * d + m * d + m * d) (pos 0))
+      → AddedFive 8589934592 (λ k. getD omegaSums ((g * 81 + c) * 5 + k) (pos 0)) (y * 5) acc 5 new
+      → Turning d (partial d m w projections ω e (g * 4)) (partial d m w projections ω e (g * 4 + 4)) (g * 4) 4 (y + 1) new
   group-step table {g} {c} {y} l turning h coded added =
-      turning-step turning h added (λ k b. partial-four d m w rows ω e g y k (table .entry g c k l (coded .below) b) coded)
+      turning-step turning h added (λ k b. partial-four d m w projections ω e g y k (table .entry g c k l (coded .below) b) coded)

@@ -17,10 +17,10 @@ use mir.Val.{SFits, toZ, ofZ}
 use mir.Facts.{toZ-ofZ}
 use Rattle.integers.specs.Laws.Bridge.{P, N, zarith, natAbs-pn, pn-min, pos-pn, add-pn, sub-pn, abs-bnd, mul-bnd}
 use Rattle.residues.specs.Laws.Centring.{held}
-use Rattle.residues.specs.Range.{projections}
+use Rattle.residues.specs.Range.{projectionEntries}
 use Rattle.residues.specs.Laws.RangeLaws.{allWithin-at}
 use Rattle.residues.specs.Laws.Words.{word}
-use Rattle.constraints.specs.RowGroups.{decode, Coded, Codes, CodesOf, fourSum, Term, WeightedSum, SumsOf}
+use Rattle.constraints.specs.RowGroups.{decode, Coded, Codes, CodesOf, fourSum, Summand, WeightedSum, OmegaSums}
 
 pub decode-small : (c : ℕ) → natAbs (decode c) ≤ 1
 unfolding decode
@@ -50,15 +50,15 @@ coded-by t₀ t₁ t₂ t₃ c (h₀, e₀) (h₁, e₁) (h₂, e₂) (h₃, e�
       fourth = rw g (sym e₃);
     }
 
-pub codes-start : (rows : List ℤ) (at step from : ℕ) (codes : List ℕ) → length codes ≡ 4096 → Codes rows at step from codes 0 codes
-codes-start rows at step from codes e =
+pub codes-start : (projections : List ℤ) (at step from : ℕ) (codes : List ℕ) → length codes ≡ 4096 → Codes projections at step from codes 0 codes
+codes-start projections at step from codes e =
     record { size = e; code = λ y h. let no : ⊥ = omega arith in absurd no; before = λ i h. refl }
 
-pub codes-step : {rows : List ℤ} {at step from : ℕ} {old : List ℕ} {m : ℕ} {new : List ℕ} {c : ℕ} → Codes rows at step from old m new → from + m < 4096
-    → Coded c (getD rows (at + m) (pos 0)) (getD rows (at + m + step) (pos 0)) (getD rows (at + m + step + step) (pos 0))
-    (getD rows (at + m + step + step + step) (pos 0))
-    → Codes rows at step from old (m + 1) (set new (from + m) c)
-codes-step {rows} {at} {step} {from} {m} {new} {c} sofar inside coded =
+pub codes-step : {projections : List ℤ} {at step from : ℕ} {old : List ℕ} {m : ℕ} {new : List ℕ} {c : ℕ} → Codes projections at step from old m new → from + m < 4096
+    → Coded c (getD projections (at + m) (pos 0)) (getD projections (at + m + step) (pos 0)) (getD projections (at + m + step + step) (pos 0))
+    (getD projections (at + m + step + step + step) (pos 0))
+    → Codes projections at step from old (m + 1) (set new (from + m) c)
+codes-step {projections} {at} {step} {from} {m} {new} {c} sofar inside coded =
     record {
       size = length-set new (from + m) c ∙ sofar .size;
       code = λ y h. place y h (ltb y m) refl;
@@ -66,8 +66,8 @@ codes-step {rows} {at} {step} {from} {m} {new} {c} sofar inside coded =
     }
   where
     place : (y : ℕ) → y < m + 1 → (t : Bool) → ltb y m ≡ t
-        → Coded (getD (set new (from + m) c) (from + y) 0) (getD rows (at + y) (pos 0)) (getD rows (at + y + step) (pos 0))
-        (getD rows (at + y + step + step) (pos 0)) (getD rows (at + y + step + step + step) (pos 0))
+        → Coded (getD (set new (from + m) c) (from + y) 0) (getD projections (at + y) (pos 0)) (getD projections (at + y + step) (pos 0))
+        (getD projections (at + y + step + step) (pos 0)) (getD projections (at + y + step + step + step) (pos 0))
     place y h true e =
         let less : y < m = ltb-true y m e in
         rw (getD-set-other new (from + m) (from + y) c 0 (λ e. omega arith)) (sofar .code y less)
@@ -75,17 +75,17 @@ codes-step {rows} {at} {step} {from} {m} {new} {c} sofar inside coded =
         let same : y ≡ m = omega (arith, h, ltb-false y m e) in
         rw (same, getD-set-same new (from + m) c 0 (omega (arith, inside, sofar .size))) coded
 
-pub groups-start : (d m : ℕ) (rows : List ℤ) (e : ℕ) (codes : List ℕ) → length codes ≡ 4096 → CodesOf d m rows e 0 codes
-groups-start d m rows e codes h = record { size = h; code = λ g y l b. let no : ⊥ = omega arith in absurd no }
+pub groups-start : (d m : ℕ) (projections : List ℤ) (e : ℕ) (codes : List ℕ) → length codes ≡ 4096 → CodesOf d m projections e 0 codes
+groups-start d m projections e codes h = record { size = h; code = λ g y l b. let no : ⊥ = omega arith in absurd no }
 
-pub groups-step : {d m : ℕ} {rows : List ℤ} {e g : ℕ} {codes new : List ℕ} → d ≤ 64 → CodesOf d m rows e g codes
-    → Codes rows ((g * 4 * m + e) * d) (m * d) (g * 64) codes d new → CodesOf d m rows e (g + 1) new
-groups-step {d} {m} {rows} {e} {g} {codes} {new} small sofar written =
+pub groups-step : {d m : ℕ} {projections : List ℤ} {e g : ℕ} {codes new : List ℕ} → d ≤ 64 → CodesOf d m projections e g codes
+    → Codes projections ((g * 4 * m + e) * d) (m * d) (g * 64) codes d new → CodesOf d m projections e (g + 1) new
+groups-step {d} {m} {projections} {e} {g} {codes} {new} small sofar written =
     record { size = written .size; code = λ h y l b. place h y l b (ltb h g) refl }
   where
     place : (h y : ℕ) → h < g + 1 → y < d → (t : Bool) → ltb h g ≡ t
-        → Coded (getD new (h * 64 + y) 0) (getD rows ((h * 4 * m + e) * d + y) (pos 0)) (getD rows ((h * 4 * m + e) * d + y + m * d) (pos 0))
-        (getD rows ((h * 4 * m + e) * d + y + m * d + m * d) (pos 0)) (getD rows ((h * 4 * m + e) * d + y + m * d + m * d + m * d) (pos 0))
+        → Coded (getD new (h * 64 + y) 0) (getD projections ((h * 4 * m + e) * d + y) (pos 0)) (getD projections ((h * 4 * m + e) * d + y + m * d) (pos 0))
+        (getD projections ((h * 4 * m + e) * d + y + m * d + m * d) (pos 0)) (getD projections ((h * 4 * m + e) * d + y + m * d + m * d + m * d) (pos 0))
     place h y l b true q =
         let less : h < g = ltb-true h g q in
         rw (written .before (h * 64 + y) (omega (arith, less, b, small))) (sofar .code h y less b)
@@ -116,10 +116,10 @@ pub signed-fits : (a x y : ℤ) → natAbs a < 4611686018427387904 → SFits w32
 signed-fits a x y g h k = omega (zarith, natAbs-pn a, add-pn a (x *ℤ y), mul-bnd x y (abs-bnd h) (abs-bnd k))
 
 -- an entry that was tested, read back from its bits
-pub entry-one : (rows : List ℤ) (i : ℕ) → projections rows ≡ true → mag (getD rows i (pos 0)) < 2 ^ 31
-    → natAbs (toZ w32 (ofZ w32 (getD rows i (pos 0)))) ≤ 1
-unfolding projections
-entry-one rows i tested read = rw (word (getD rows i (pos 0)) read) (allWithin-at 1 rows tested i)
+pub entry-one : (projections : List ℤ) (i : ℕ) → projectionEntries projections ≡ true → mag (getD projections i (pos 0)) < 2 ^ 31
+    → natAbs (toZ w32 (ofZ w32 (getD projections i (pos 0)))) ≤ 1
+unfolding projectionEntries
+entry-one projections i tested read = rw (word (getD projections i (pos 0)) read) (allWithin-at 1 projections tested i)
 
 -- ---- weighted sums
 
@@ -131,9 +131,9 @@ weighed a c x b h fits one =
     rw (natAbs-pn s) (omega (zarith, h, natAbs-pn a, add-pn a (c *ℤ x), pn-min s, product))
 
 -- what `add_signed` returns, on numbers read back from their bits
-pub term-of : (ω : List ℤ) (at c : ℕ) (a x : ℤ) {r : ℤ} → mag (getD ω at (pos 0)) < 2 ^ 31 → mag x < 2 ^ 31 → x ≡ decode c → mag r < 2 ^ 63
-    → r ≡ a +ℤ (toZ w32 (ofZ w32 (getD ω at (pos 0))) *ℤ toZ w32 (ofZ w32 x)) → Term ω at c a (held r)
-term-of ω at c a x {r} read fits is ok e =
+pub summand-of : (ω : List ℤ) (at c : ℕ) (a x : ℤ) {r : ℤ} → mag (getD ω at (pos 0)) < 2 ^ 31 → mag x < 2 ^ 31 → x ≡ decode c → mag r < 2 ^ 63
+    → r ≡ a +ℤ (toZ w32 (ofZ w32 (getD ω at (pos 0))) *ℤ toZ w32 (ofZ w32 x)) → Summand ω at c a (held r)
+summand-of ω at c a x {r} read fits is ok e =
     let weight = getD ω at (pos 0) in
     let value : held r ≡ a +ℤ (weight *ℤ decode c) =
     toZ-ofZ {w = w64} {z = r} (record { sfits = ok }) ∙ e ∙ rw (word weight read, word x fits, is) refl
@@ -144,11 +144,11 @@ term-of ω at c a x {r} read fits is ok e =
     }
 
 -- the sums that four calls return, each read back from its bits
-pub four-terms : (ω : List ℤ) (at c : ℕ) {s₀ s₁ s₂ s₃ : ℤ} → mag s₀ < 2 ^ 63 → mag s₁ < 2 ^ 63 → mag s₂ < 2 ^ 63
-    → Term ω at c (pos 0) s₀ → Term ω (at + 1) (c / 3) (held s₀) s₁ → Term ω (at + 2) (c / 9) (held s₁) s₂
-    → Term ω (at + 3) (c / 27) (held s₂) s₃ → WeightedSum ω at c s₃
+pub four-summands : (ω : List ℤ) (at c : ℕ) {s₀ s₁ s₂ s₃ : ℤ} → mag s₀ < 2 ^ 63 → mag s₁ < 2 ^ 63 → mag s₂ < 2 ^ 63
+    → Summand ω at c (pos 0) s₀ → Summand ω (at + 1) (c / 3) (held s₀) s₁ → Summand ω (at + 2) (c / 9) (held s₁) s₂
+    → Summand ω (at + 3) (c / 27) (held s₂) s₃ → WeightedSum ω at c s₃
 unfolding fourSum
-four-terms ω at c {s₀} {s₁} {s₂} {s₃} f₀ f₁ f₂ a₀ a₁ a₂ a₃ =
+four-summands ω at c {s₀} {s₁} {s₂} {s₃} f₀ f₁ f₂ a₀ a₁ a₂ a₃ =
     let h₀ : held s₀ ≡ s₀ = toZ-ofZ {w = w64} {z = s₀} (record { sfits = f₀ }) in
     let h₁ : held s₁ ≡ s₁ = toZ-ofZ {w = w64} {z = s₁} (record { sfits = f₁ }) in
     let h₂ : held s₂ ≡ s₂ = toZ-ofZ {w = w64} {z = s₂} (record { sfits = f₂ }) in
@@ -162,34 +162,34 @@ four-terms ω at c {s₀} {s₁} {s₂} {s₃} f₀ f₁ f₂ a₀ a₁ a₂ a�
 
 -- ---- the table
 
-pub record Tabled (w : ℕ) (ω : List ℤ) (i : ℕ) (sums : List ℤ) : Type 0 where
+pub record Tabled (w : ℕ) (ω : List ℤ) (i : ℕ) (omegaSums : List ℤ) : Type 0 where
   pub within : i ≤ w / 4 * 405
-  pub size : length sums ≡ 25920
-  pub entry : (j : ℕ) → j < i → WeightedSum ω (j % 5 * w + j / 5 / 81 * 4) (j / 5 % 81) (getD sums j (pos 0))
+  pub size : length omegaSums ≡ 25920
+  pub entry : (j : ℕ) → j < i → WeightedSum ω (j % 5 * w + j / 5 / 81 * 4) (j / 5 % 81) (getD omegaSums j (pos 0))
 
-pub tabled-start : (w : ℕ) (ω sums : List ℤ) → length sums ≡ 25920 → Tabled w ω 0 sums
-tabled-start w ω sums e = record { within = omega arith; size = e; entry = λ j h. let no : ⊥ = omega arith in absurd no }
+pub tabled-start : (w : ℕ) (ω omegaSums : List ℤ) → length omegaSums ≡ 25920 → Tabled w ω 0 omegaSums
+tabled-start w ω omegaSums e = record { within = omega arith; size = e; entry = λ j h. let no : ⊥ = omega arith in absurd no }
 
-module _ {w : ℕ} {ω sums : List ℤ} {i : ℕ} (tabled : Tabled w ω i sums) where
+module _ {w : ℕ} {ω omegaSums : List ℤ} {i : ℕ} (tabled : Tabled w ω i omegaSums) where
   pub tabled-step : {s : ℤ} → w ≤ 256 → i < w / 4 * 405 → mag s < 2 ^ 63 → WeightedSum ω (i % 5 * w + i / 5 / 81 * 4) (i / 5 % 81) s
-      → Tabled w ω (i + 1) (set sums i (toZ w64 (ofZ w64 s)))
+      → Tabled w ω (i + 1) (set omegaSums i (toZ w64 (ofZ w64 s)))
   tabled-step {s} h l fits is =
-      record { within = omega arith; size = length-set sums i _ ∙ tabled .size; entry = λ j b. at-place j b (ltb j i) refl }
+      record { within = omega arith; size = length-set omegaSums i _ ∙ tabled .size; entry = λ j b. at-place j b (ltb j i) refl }
     where
       at-place : (j : ℕ) → j < i + 1 → (t : Bool) → ltb j i ≡ t
-          → WeightedSum ω (j % 5 * w + j / 5 / 81 * 4) (j / 5 % 81) (getD (set sums i (toZ w64 (ofZ w64 s))) j (pos 0))
+          → WeightedSum ω (j % 5 * w + j / 5 / 81 * 4) (j / 5 % 81) (getD (set omegaSums i (toZ w64 (ofZ w64 s))) j (pos 0))
       at-place j b true e =
           let before : j < i = ltb-true j i e in
-          rw (getD-set-other sums i j (toZ w64 (ofZ w64 s)) (pos 0) (λ e. omega arith)) (tabled .entry j before)
+          rw (getD-set-other omegaSums i j (toZ w64 (ofZ w64 s)) (pos 0) (λ e. omega arith)) (tabled .entry j before)
       at-place j b false e =
           let same : j ≡ i = omega (arith, b, ltb-false j i e) in
-          let inside : i < length sums = omega (arith, h, l, tabled .size) in
-          rw (same, getD-set-same sums i (toZ w64 (ofZ w64 s)) (pos 0) inside, toZ-ofZ {w = w64} {z = s} (record { sfits = fits })) is
+          let inside : i < length omegaSums = omega (arith, h, l, tabled .size) in
+          rw (same, getD-set-same omegaSums i (toZ w64 (ofZ w64 s)) (pos 0) inside, toZ-ofZ {w = w64} {z = s} (record { sfits = fits })) is
 
-  pub tabled-end : w / 4 * 405 ≤ i → SumsOf w ω sums
+  pub tabled-end : w / 4 * 405 ≤ i → OmegaSums w ω omegaSums
   tabled-end h = record { entry = λ g c k l b f. place g c k l b f }
     where
-      place : (g c k : ℕ) → g < w / 4 → c < 81 → k < 5 → WeightedSum ω (k * w + g * 4) c (getD sums ((g * 81 + c) * 5 + k) (pos 0))
+      place : (g c k : ℕ) → g < w / 4 → c < 81 → k < 5 → WeightedSum ω (k * w + g * 4) c (getD omegaSums ((g * 81 + c) * 5 + k) (pos 0))
       place g c k l b f =
           let j = (g * 81 + c) * 5 + k in
           let inside : j < i = omega (arith, h, l, b, f) in

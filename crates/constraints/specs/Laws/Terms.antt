@@ -1,6 +1,6 @@
--- The terms that the loops over constraints add, with the constraints `step` numbers apart, and the places that they read.
---     termTerm, term-step, term-end        Σ_l ψ_kl f'_l at place e
---     wholeTerm, whole-step, whole-end     Σ_k α_k f_k at place e
+-- The summands that the loops over constraints add, with the constraints `step` numbers apart, and the places that they read.
+--     termSummand, term-step, term-end        Σ_l ψ_kl f'_l at place e
+--     wholeSummand, whole-step, whole-end     Σ_k α_k f_k at place e
 use mathlib.Core.Path.{_≡_, refl, _∙_}
 use mathlib.Core.List.{List}
 use Prim.Native.Nat.{ℕ, _+_, _-_, _*_, _^_, _≤_, _<_}
@@ -20,7 +20,7 @@ use Rattle.ring.specs.Laws.Loops.{Summed, summed-step}
 use Rattle.residues.specs.Laws.Words.{word}
 use Rattle.fold.specs.Sizes.{functionSize}
 use Rattle.fold.specs.Statement.{termAt, wholeAt}
-use Rattle.fold.specs.Refusals.{termLength, wholeLength}
+use Rattle.fold.specs.Refusals.{constantTermsLength, wholeLength}
 use Rattle.fold.specs.Entries.{termEntry, wholeEntry}
 use Rattle.constraints.specs.Known.Facts.{TermFacts, WholeFacts}
 use Rattle.constraints.specs.Laws.SizeLaws.{function-small, numbers-small}
@@ -38,78 +38,78 @@ product-small h k = mul-le-mul h k
 
 -- ---- the constant-term constraints
 
-unfoldable pub termTerm : (d : ℕ) (term ψ : List ℤ) (step first e : ℕ) → ℕ → R d .Carrier
-termTerm d term ψ step first e i = R d .mul (number d (getD ψ (first + i) (pos 0))) (el d (drop (i * step) term) e)
+unfoldable pub termSummand : (d : ℕ) (constantTerms ψ : List ℤ) (step first e : ℕ) → ℕ → R d .Carrier
+termSummand d constantTerms ψ step first e i = R d .mul (number d (getD ψ (first + i) (pos 0))) (el d (drop (i * step) constantTerms) e)
 
-module _ {d : ℕ} (term ψ : List ℤ) (step first e : ℕ) {L j : ℕ} {acc : List ℤ}
-    (running : Summed d L (termTerm d term ψ step first e) j acc) where
+module _ {d : ℕ} (constantTerms ψ : List ℤ) (step first e : ℕ) {L j : ℕ} {acc : List ℤ}
+    (running : Summed d L (termSummand d constantTerms ψ step first e) j acc) where
   -- one turn of the loop
   pub term-step : {at : ℕ} {entry weighted next : List ℤ} → Degree d → j < L → at ≡ j * step
       → mag (getD ψ (first + j) (pos 0)) < 2 ^ 31
-      → entry ≡ array d (el d (take (length term - at) (drop at term)) e)
+      → entry ≡ array d (el d (take (length constantTerms - at) (drop at constantTerms)) e)
       → weighted ≡ array d (R d .mul (number d (toZ w32 (ofZ w32 (getD ψ (first + j) (pos 0))))) (lift d entry))
       → next ≡ array d (R d .add (lift d acc) (lift d weighted))
-      → Summed d L (termTerm d term ψ step first e) (j + 1) next
-  unfolding termTerm
+      → Summed d L (termSummand d constantTerms ψ step first e) (j + 1) next
+  unfolding termSummand
   term-step {at} {entry} {weighted} {next} degree h place small is scaled added =
       summed-step running degree h
       (scaled
       ∙ rw (
         word (getD ψ (first + j) (pos 0)) small,
         is,
-        lift-array d (el d (take (length term - at) (drop at term)) e) (degree .small),
-        rest-all term at,
+        lift-array d (el d (take (length constantTerms - at) (drop at constantTerms)) e) (degree .small),
+        rest-all constantTerms at,
         place,
       ) refl)
       added
 
-pub term-end : (d n r L : ℕ) (term ψ : List ℤ) (k e : ℕ) {size : ℕ} {acc : List ℤ} → size ≡ functionSize n r
-    → acc ≡ array d (sum (R d) L (termTerm d term ψ (size * d + 1) (k * L) e)) → acc ≡ array d (termEntry d n r L term ψ k e)
-unfolding termTerm termEntry termAt
-term-end d n r L term ψ k e is held = held ∙ rw is refl
+pub term-end : (d n r L : ℕ) (constantTerms ψ : List ℤ) (k e : ℕ) {size : ℕ} {acc : List ℤ} → size ≡ functionSize n r
+    → acc ≡ array d (sum (R d) L (termSummand d constantTerms ψ (size * d + 1) (k * L) e)) → acc ≡ array d (termEntry d n r L constantTerms ψ k e)
+unfolding termSummand termEntry termAt
+term-end d n r L constantTerms ψ k e is held = held ∙ rw is refl
 
-module _ {d n r L : ℕ} {term ψ : List ℤ} (facts : TermFacts d n r L term ψ) {size : ℕ} (is : size ≡ functionSize n r) where
+module _ {d n r L : ℕ} {constantTerms ψ : List ℤ} (facts : TermFacts d n r L constantTerms ψ) {size : ℕ} (is : size ≡ functionSize n r) where
   pub term-step-small : size * d ≤ 270848
   term-step-small = rw is (numbers-small (facts .shaped))
 
   -- constraint j ends within the list
-  term-room : {j : ℕ} → j < L → j * (size * d + 1) + (size * d + 1) ≤ length term
-  unfolding termLength
-  term-room {j} h = rw is (omega (arith, facts .term-length, mul-le-mul-right (functionSize n r * d + 1) h))
+  term-room : {j : ℕ} → j < L → j * (size * d + 1) + (size * d + 1) ≤ length constantTerms
+  unfolding constantTermsLength
+  term-room {j} h = rw is (omega (arith, facts .constant-terms-length, mul-le-mul-right (functionSize n r * d + 1) h))
 
-  term-small : length term ≤ 8667168
-  unfolding termLength
+  term-small : length constantTerms ≤ 8667168
+  unfolding constantTermsLength
   term-small =
       let one : functionSize n r * d + 1 ≤ 270849 = omega (arith, numbers-small (facts .shaped)) in
-      omega (arith, facts .term-length, product-small (facts .term-count) one)
+      omega (arith, facts .constant-terms-length, product-small (facts .term-count) one)
 
   -- element e of constraint j, and the rest of the list from it on
-  pub term-place : {j e at : ℕ} → j < L → e < functionSize n r → at ≡ j * (size * d + 1) → at + (e * d + d) ≤ length term
+  pub term-place : {j e at : ℕ} → j < L → e < functionSize n r → at ≡ j * (size * d + 1) → at + (e * d + d) ≤ length constantTerms
   term-place {j} {e} {at} h l place =
       let below : e < size = omega (arith, is, l) in
       omega (arith, term-room h, place, mul-le-mul-right d below)
 
   -- constraint j from place `at` on
-  pub term-inside : {j at : ℕ} → j < L → at ≡ j * (size * d + 1) → (at + (size * d + 1) ≤ length term) × (length term ≤ 8667168)
+  pub term-inside : {j at : ℕ} → j < L → at ≡ j * (size * d + 1) → (at + (size * d + 1) ≤ length constantTerms) × (length constantTerms ≤ 8667168)
   term-inside {j} {at} h place = (omega (arith, term-room h, place), term-small)
 
-pub ψ-place : {d n r L : ℕ} {term ψ : List ℤ} → TermFacts d n r L term ψ → {k j : ℕ}
+pub ψ-place : {d n r L : ℕ} {constantTerms ψ : List ℤ} → TermFacts d n r L constantTerms ψ → {k j : ℕ}
     → k < 5 → j < L → (k * L + j < length ψ) × (k * L + j < 160)
 ψ-place {L} facts {k} {j} h l = (rw (facts .ψ-length) (block-fits 5 L k j h l), omega (arith, block-fits 5 L k j h l, facts .term-count))
 
 -- ---- the whole constraints
 
-unfoldable pub wholeTerm : (d : ℕ) (whole α : List ℤ) (step e : ℕ) → ℕ → R d .Carrier
-wholeTerm d whole α step e k = R d .mul (el d α k) (el d (drop (k * step) whole) e)
+unfoldable pub wholeSummand : (d : ℕ) (whole α : List ℤ) (step e : ℕ) → ℕ → R d .Carrier
+wholeSummand d whole α step e k = R d .mul (el d α k) (el d (drop (k * step) whole) e)
 
-module _ {d : ℕ} (whole α : List ℤ) (step e : ℕ) {K k : ℕ} {acc : List ℤ} (running : Summed d K (wholeTerm d whole α step e) k acc) where
+module _ {d : ℕ} (whole α : List ℤ) (step e : ℕ) {K k : ℕ} {acc : List ℤ} (running : Summed d K (wholeSummand d whole α step e) k acc) where
   pub whole-step : {at : ℕ} {entry weight weighted next : List ℤ} → Degree d → k < K → at ≡ k * step
       → entry ≡ array d (el d (take (length whole - at) (drop at whole)) e)
       → weight ≡ array d (el d α k)
       → weighted ≡ array d (R d .mul (lift d weight) (lift d entry))
       → next ≡ array d (R d .add (lift d acc) (lift d weighted))
-      → Summed d K (wholeTerm d whole α step e) (k + 1) next
-  unfolding wholeTerm
+      → Summed d K (wholeSummand d whole α step e) (k + 1) next
+  unfolding wholeSummand
   whole-step {at} degree h place is by product added =
       summed-step running degree h
       (product
@@ -124,8 +124,8 @@ module _ {d : ℕ} (whole α : List ℤ) (step e : ℕ) {K k : ℕ} {acc : List 
       added
 
 pub whole-end : (d n r K : ℕ) (whole α : List ℤ) (e : ℕ) {size : ℕ} {acc : List ℤ} → size ≡ functionSize n r
-    → acc ≡ array d (sum (R d) K (wholeTerm d whole α ((size + 1) * d) e)) → acc ≡ array d (wholeEntry d n r K whole α e)
-unfolding wholeTerm wholeEntry wholeAt
+    → acc ≡ array d (sum (R d) K (wholeSummand d whole α ((size + 1) * d) e)) → acc ≡ array d (wholeEntry d n r K whole α e)
+unfolding wholeSummand wholeEntry wholeAt
 whole-end d n r K whole α e is held = held ∙ rw is refl
 
 module _ {d n r K : ℕ} {whole α : List ℤ} (facts : WholeFacts d n r K whole α) {size : ℕ} (is : size ≡ functionSize n r) where

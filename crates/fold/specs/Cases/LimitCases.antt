@@ -63,7 +63,7 @@ module _ (d n r K L w κ κ₁ κ₂ b b₁ b₂ t₁ t₂ : ℕ) where
   abbrev pub statement : (bound target : ℕ) → Statement
   statement bound target =
       record {
-        relation = record { d = d; n = n; r = r; K = K; L = L; bound = bound; whole = []; term = [] };
+        relation = record { d = d; n = n; r = r; K = K; L = L; bound = bound; whole = []; constantTerms = [] };
         w = w;
         tz = 2;
         κ = κ;

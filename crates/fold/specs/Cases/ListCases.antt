@@ -110,7 +110,7 @@ messages = 4 ∷ 3 ∷ 10 ∷ 6 ∷ []
 abbrev pub statement : (ℕ → List ℤ) → Statement
 statement x =
     record {
-      relation = record { d = 2; n = 2; r = 2; K = 3; L = 2; bound = 5; whole = x 4; term = x 5 };
+      relation = record { d = 2; n = 2; r = 2; K = 3; L = 2; bound = 5; whole = x 4; constantTerms = x 5 };
       w = 3;
       tz = 2;
       κ = 1;

@@ -22,7 +22,7 @@ module _ (d r κ b t₁ t₂ bound : ℕ) where
   abbrev pub statement : Statement
   statement =
       record {
-        relation = record { d = d; n = 1; r = r; K = 0; L = 0; bound = bound; whole = []; term = [] };
+        relation = record { d = d; n = 1; r = r; K = 0; L = 0; bound = bound; whole = []; constantTerms = [] };
         w = 0;
         tz = 2;
         κ = κ;

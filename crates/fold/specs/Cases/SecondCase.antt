@@ -21,7 +21,7 @@ use Rattle.fold.specs.Honest.{honestTranscript, honestOpening}
 use Rattle.fold.specs.Refusals.{verifyTests, proverTests, nextTests}
 use Rattle.fold.specs.Chunks.{padded, unpadded}
 use Rattle.fold.specs.NextInstance.{nextWhole}
-use Rattle.fold.specs.Cases.SecondCaseNumbers.{whole, term, statement, witness, draws}
+use Rattle.fold.specs.Cases.SecondCaseNumbers.{whole, constantTerms, statement, witness, draws}
 use Rattle.fold.specs.Cases.SecondCaseNumbers.{u₁, p, b″, u₂, opening, least-bound, squared-length}
 use Rattle.fold.specs.Cases.SecondCaseNumbers.{z-changed, t-changed, g-changed, h-changed, b″-changed-0, b″-changed-1}
 use Rattle.fold.specs.Cases.SecondCaseNumbers.{u₁-of-g-changed, u₂-of-h-changed, next-witness}
@@ -59,7 +59,7 @@ wholly-met (suc zero) h = refl
 wholly-met (suc (suc k)) h = absurd (omega arith)
 
 met-in-constant-term
-    : (l : ℕ) → l < 3 → ct Zq (value (R 2) 3 5 (function 2 5 3 (termAt 2 5 3 term l)) (part 2 5 witness)) ≡ red (termConstant 2 5 3 term l)
+    : (l : ℕ) → l < 3 → ct Zq (value (R 2) 3 5 (function 2 5 3 (termAt 2 5 3 constantTerms l)) (part 2 5 witness)) ≡ red (termConstant 2 5 3 constantTerms l)
 unfolding fold-computes
 met-in-constant-term zero h = refl
 met-in-constant-term (suc zero) h = refl

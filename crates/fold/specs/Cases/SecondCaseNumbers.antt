@@ -19,8 +19,8 @@ whole =
     ∷ + 876744039 ∷ - 2147483598 ∷ + 2147483598 ∷ + 3 ∷ - 2147483598 ∷ - 1117500505 ∷ - 2147483598 ∷ + 0 ∷ - 2147483598 ∷ + 0
     ∷ + 1836976300 ∷ + 1542042238 ∷ []
 
-abbrev pub term : List ℤ
-term =
+abbrev pub constantTerms : List ℤ
+constantTerms =
     + 3 ∷ - 2147483598 ∷ + 470925064 ∷ - 2147483598 ∷ + 1 ∷ - 2147483598 ∷ + 0 ∷ + 3 ∷ + 930253866 ∷ - 2147483598 ∷ + 2 ∷ + 2
     ∷ - 2147483598 ∷ - 50346850 ∷ - 2096191713 ∷ + 1284234549 ∷ + 2147483598 ∷ + 8761737 ∷ + 1 ∷ + 2147483598 ∷ - 2147483598
     ∷ - 2147483598 ∷ + 1305082768 ∷ + 2147483598 ∷ - 1120341056 ∷ - 2147483598 ∷ - 1216064200 ∷ - 2147483598 ∷ + 17306219
@@ -110,7 +110,7 @@ c = + 1 ∷ + 0 ∷ + 1 ∷ + 0 ∷ + 1 ∷ - 1 ∷ []
 abbrev pub statement : (bound target : ℕ) → Statement
 statement bound target =
     record {
-      relation = record { d = 2; n = 5; r = 3; K = 2; L = 3; bound = bound; whole = whole; term = term };
+      relation = record { d = 2; n = 5; r = 3; K = 2; L = 3; bound = bound; whole = whole; constantTerms = constantTerms };
       w = 4;
       tz = 2;
       κ = 2;

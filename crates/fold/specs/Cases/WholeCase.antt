@@ -25,7 +25,7 @@ whole = + 1 ∷ + 0 ∷ + 0 ∷ + 0 ∷ - 3 ∷ + 4 ∷ []
 abbrev pub case : (target : ℕ) → Statement
 case target =
     record {
-      relation = record { d = 2; n = 1; r = 1; K = 1; L = 0; bound = 5; whole = whole; term = [] };
+      relation = record { d = 2; n = 1; r = 1; K = 1; L = 0; bound = 5; whole = whole; constantTerms = [] };
       w = 0;
       tz = 2;
       κ = 1;

@@ -8,12 +8,12 @@ use mathlib.Core.List.{List}
 use Prim.Native.Nat.{ℕ, _*_}
 use lib.ListN.{length}
 use lib.IntN.{ℤ}
-use Rattle.residues.specs.Range.{projections}
+use Rattle.residues.specs.Range.{projectionEntries}
 use Rattle.fold.specs.Sizes.{five, tSize, garbageSize, openingSize}
 use Rattle.fold.specs.Statement.{Relation}
 use Rattle.fold.specs.Statement.{Statement, Draws, Transcript}
 use Rattle.fold.specs.Answers.{firstFailing}
-use Rattle.fold.specs.Refusals.{allOf, lengths, wholeLength, termLength, projectionLength, sizeTests}
+use Rattle.fold.specs.Refusals.{allOf, lengths, wholeLength, constantTermsLength, projectionLength, sizeTests}
 use Rattle.fold.specs.Refusals.{commitBounds, projectBounds, aggregateBounds, garbageBounds, amortizeBounds}
 use Rattle.fold.specs.Refusals.{commitTests, projectTests, aggregateTests, garbageTests, amortizeTests, verifyTests}
 use Rattle.fold.specs.Laws.RefusalLaws.{refusal-passes, early-passes, allOf-all, allOf-drop, sized-iff}
@@ -52,65 +52,65 @@ commit-facts {d} {n} {r} {κ} {κ₁} {b₁} {b₂} {t₁} {t₂} {A} {B} {C} {s
 
 -- ---- message 2
 
-pub record ProjectFacts (d n r w : ℕ) (rows s p : List ℤ) : Type 0 where
+pub record ProjectFacts (d n r w : ℕ) (projections s p : List ℤ) : Type 0 where
   pub limits : ProjectLimits d n r w
-  pub rows-length : length rows ≡ projectionLength d n r w
+  pub projections-length : length projections ≡ projectionLength d n r w
   pub s-length : length s ≡ r * n * d
   pub p-length : length p ≡ w
-  pub rows-entries : projections rows ≡ true
+  pub projections-entries : projectionEntries projections ≡ true
 
-pub project-facts : {d n r w : ℕ} {rows s p : List ℤ}
-    → firstFailing (projectTests d n r w rows s p) ≡ 0
-    → ProjectFacts d n r w rows s p
+pub project-facts : {d n r w : ℕ} {projections s p : List ℤ}
+    → firstFailing (projectTests d n r w projections s p) ≡ 0
+    → ProjectFacts d n r w projections s p
 unfolding projectTests
-project-facts {d} {n} {r} {w} {rows} {s} {p} e =
-    let passed = refusal-passes (projectTests d n r w rows s p) refl e in
+project-facts {d} {n} {r} {w} {projections} {s} {p} e =
+    let passed = refusal-passes (projectTests d n r w projections s p) refl e in
     let lengths = allOf-all _ (passed .1 .1 .0) in
     record {
       limits = project-limits d n r w (early-passes (projectBounds d n r w) _ refl e);
-      rows-length = sized-iff rows _ .0 (lengths .0);
+      projections-length = sized-iff projections _ .0 (lengths .0);
       s-length = sized-iff s _ .0 (lengths .1 .0);
       p-length = sized-iff p _ .0 (lengths .1 .1 .0);
-      rows-entries = passed .1 .1 .1 .1 .0;
+      projections-entries = passed .1 .1 .1 .1 .0;
     }
 
 -- ---- message 3
 
-pub record AggregateFacts (d n r L w : ℕ) (term rows ψ ω s b″ : List ℤ) : Type 0 where
+pub record AggregateFacts (d n r L w : ℕ) (constantTerms projections ψ ω s b″ : List ℤ) : Type 0 where
   pub limits : AggregateLimits d n r L w
-  pub term-length : length term ≡ termLength d n r L
-  pub rows-length : length rows ≡ projectionLength d n r w
+  pub constant-terms-length : length constantTerms ≡ constantTermsLength d n r L
+  pub projections-length : length projections ≡ projectionLength d n r w
   pub ψ-length : length ψ ≡ five * L
   pub ω-length : length ω ≡ five * w
   pub s-length : length s ≡ r * n * d
   pub b″-length : length b″ ≡ five * d
-  pub rows-entries : projections rows ≡ true
+  pub projections-entries : projectionEntries projections ≡ true
 
-pub aggregate-facts : {d n r L w : ℕ} {term rows ψ ω s b″ : List ℤ}
-    → firstFailing (aggregateTests d n r L w term rows ψ ω s b″) ≡ 0
-    → AggregateFacts d n r L w term rows ψ ω s b″
+pub aggregate-facts : {d n r L w : ℕ} {constantTerms projections ψ ω s b″ : List ℤ}
+    → firstFailing (aggregateTests d n r L w constantTerms projections ψ ω s b″) ≡ 0
+    → AggregateFacts d n r L w constantTerms projections ψ ω s b″
 unfolding aggregateTests
-aggregate-facts {d} {n} {r} {L} {w} {term} {rows} {ψ} {ω} {s} {b″} e =
-    let passed = refusal-passes (aggregateTests d n r L w term rows ψ ω s b″) refl e in
+aggregate-facts {d} {n} {r} {L} {w} {constantTerms} {projections} {ψ} {ω} {s} {b″} e =
+    let passed = refusal-passes (aggregateTests d n r L w constantTerms projections ψ ω s b″) refl e in
     let lengths = allOf-all _ (passed .1 .1 .0) in
     record {
       limits = aggregate-limits d n r L w (early-passes (aggregateBounds d n r L w) _ refl e);
-      term-length = sized-iff term _ .0 (lengths .0);
-      rows-length = sized-iff rows _ .0 (lengths .1 .0);
+      constant-terms-length = sized-iff constantTerms _ .0 (lengths .0);
+      projections-length = sized-iff projections _ .0 (lengths .1 .0);
       ψ-length = sized-iff ψ _ .0 (lengths .1 .1 .0);
       ω-length = sized-iff ω _ .0 (lengths .1 .1 .1 .0);
       s-length = sized-iff s _ .0 (lengths .1 .1 .1 .1 .0);
       b″-length = sized-iff b″ _ .0 (lengths .1 .1 .1 .1 .1 .0);
-      rows-entries = passed .1 .1 .1 .1 .0;
+      projections-entries = passed .1 .1 .1 .1 .0;
     }
 
 -- ---- message 4
 
-pub record GarbageFacts (d n r K L w κ₂ b₁ t₁ : ℕ) (whole term rows ψ ω α δ D s hs u₂ : List ℤ) : Type 0 where
+pub record GarbageFacts (d n r K L w κ₂ b₁ t₁ : ℕ) (whole constantTerms projections ψ ω α δ D s hs u₂ : List ℤ) : Type 0 where
   pub limits : GarbageLimits d n r K L w κ₂ b₁ t₁
   pub whole-length : length whole ≡ wholeLength d n r K
-  pub term-length : length term ≡ termLength d n r L
-  pub rows-length : length rows ≡ projectionLength d n r w
+  pub constant-terms-length : length constantTerms ≡ constantTermsLength d n r L
+  pub projections-length : length projections ≡ projectionLength d n r w
   pub ψ-length : length ψ ≡ five * L
   pub ω-length : length ω ≡ five * w
   pub α-length : length α ≡ K * d
@@ -119,20 +119,20 @@ pub record GarbageFacts (d n r K L w κ₂ b₁ t₁ : ℕ) (whole term rows ψ 
   pub s-length : length s ≡ r * n * d
   pub hs-length : length hs ≡ garbageSize r t₁ * d
   pub u₂-length : length u₂ ≡ κ₂ * d
-  pub rows-entries : projections rows ≡ true
+  pub projections-entries : projectionEntries projections ≡ true
 
-pub garbage-facts : {d n r K L w κ₂ b₁ t₁ : ℕ} {whole term rows ψ ω α δ D s hs u₂ : List ℤ}
-    → firstFailing (garbageTests d n r K L w κ₂ b₁ t₁ whole term rows ψ ω α δ D s hs u₂) ≡ 0
-    → GarbageFacts d n r K L w κ₂ b₁ t₁ whole term rows ψ ω α δ D s hs u₂
+pub garbage-facts : {d n r K L w κ₂ b₁ t₁ : ℕ} {whole constantTerms projections ψ ω α δ D s hs u₂ : List ℤ}
+    → firstFailing (garbageTests d n r K L w κ₂ b₁ t₁ whole constantTerms projections ψ ω α δ D s hs u₂) ≡ 0
+    → GarbageFacts d n r K L w κ₂ b₁ t₁ whole constantTerms projections ψ ω α δ D s hs u₂
 unfolding garbageTests
-garbage-facts {d} {n} {r} {K} {L} {w} {κ₂} {b₁} {t₁} {whole} {term} {rows} {ψ} {ω} {α} {δ} {D} {s} {hs} {u₂} e =
-    let passed = refusal-passes (garbageTests d n r K L w κ₂ b₁ t₁ whole term rows ψ ω α δ D s hs u₂) refl e in
+garbage-facts {d} {n} {r} {K} {L} {w} {κ₂} {b₁} {t₁} {whole} {constantTerms} {projections} {ψ} {ω} {α} {δ} {D} {s} {hs} {u₂} e =
+    let passed = refusal-passes (garbageTests d n r K L w κ₂ b₁ t₁ whole constantTerms projections ψ ω α δ D s hs u₂) refl e in
     let lengths = allOf-all _ (passed .1 .1 .1 .1 .0) in
     record {
       limits = garbage-limits d n r K L w κ₂ b₁ t₁ (early-passes (garbageBounds d n r K L w κ₂ b₁ t₁) _ refl e);
       whole-length = sized-iff whole _ .0 (lengths .0);
-      term-length = sized-iff term _ .0 (lengths .1 .0);
-      rows-length = sized-iff rows _ .0 (lengths .1 .1 .0);
+      constant-terms-length = sized-iff constantTerms _ .0 (lengths .1 .0);
+      projections-length = sized-iff projections _ .0 (lengths .1 .1 .0);
       ψ-length = sized-iff ψ _ .0 (lengths .1 .1 .1 .0);
       ω-length = sized-iff ω _ .0 (lengths .1 .1 .1 .1 .0);
       α-length = sized-iff α _ .0 (lengths .1 .1 .1 .1 .1 .0);
@@ -141,7 +141,7 @@ garbage-facts {d} {n} {r} {K} {L} {w} {κ₂} {b₁} {t₁} {whole} {term} {rows
       s-length = sized-iff s _ .0 (lengths .1 .1 .1 .1 .1 .1 .1 .1 .0);
       hs-length = sized-iff hs _ .0 (lengths .1 .1 .1 .1 .1 .1 .1 .1 .1 .0);
       u₂-length = sized-iff u₂ _ .0 (lengths .1 .1 .1 .1 .1 .1 .1 .1 .1 .1 .0);
-      rows-entries = passed .1 .1 .1 .1 .1 .1 .0;
+      projections-entries = passed .1 .1 .1 .1 .1 .1 .0;
     }
 
 -- ---- message 5; z has two digits
@@ -170,8 +170,8 @@ amortize-facts {d} {n} {r} {b} {c} {s} {zs} e =
 
 module _ (𝓢 : Statement) (𝓓 : Draws) (𝓣 : Transcript) where
   open Statement 𝓢 using (relation, w, tz, κ, κ₁, κ₂, b, b₁, b₂, t₁, t₂, target, A, B, C, D)
-  open Relation relation using (d, n, r, K, L, bound, whole, term)
-  open Draws 𝓓 using (projections as rows, ψ, ω, α, δ, c)
+  open Relation relation using (d, n, r, K, L, bound, whole, constantTerms)
+  open Draws 𝓓 using (projections, ψ, ω, α, δ, c)
   open Transcript 𝓣 using (u₁, p, b″, u₂)
 
   -- the lengths of the statement's lists, of the draws and of the messages
@@ -185,8 +185,8 @@ module _ (𝓢 : Statement) (𝓓 : Draws) (𝓣 : Transcript) where
     pub C-length : length C ≡ κ₁ * garbageSize r t₂ * d
     pub D-length : length D ≡ κ₂ * garbageSize r t₁ * d
     pub whole-length : length whole ≡ wholeLength d n r K
-    pub term-length : length term ≡ termLength d n r L
-    pub rows-length : length rows ≡ projectionLength d n r w
+    pub constant-terms-length : length constantTerms ≡ constantTermsLength d n r L
+    pub projections-length : length projections ≡ projectionLength d n r w
     pub ψ-length : length ψ ≡ five * L
     pub ω-length : length ω ≡ five * w
     pub α-length : length α ≡ K * d
@@ -206,8 +206,8 @@ module _ (𝓢 : Statement) (𝓓 : Draws) (𝓣 : Transcript) where
         C-length = sized-iff C _ .0 (each .1 .1 .1 .1 .1 .1 .0);
         D-length = sized-iff D _ .0 (each .1 .1 .1 .1 .1 .1 .1 .0);
         whole-length = sized-iff whole _ .0 (each .1 .1 .1 .1 .1 .1 .1 .1 .0);
-        term-length = sized-iff term _ .0 (each .1 .1 .1 .1 .1 .1 .1 .1 .1 .0);
-        rows-length = sized-iff rows _ .0 (each .1 .1 .1 .1 .1 .1 .1 .1 .1 .1 .0);
+        constant-terms-length = sized-iff constantTerms _ .0 (each .1 .1 .1 .1 .1 .1 .1 .1 .1 .0);
+        projections-length = sized-iff projections _ .0 (each .1 .1 .1 .1 .1 .1 .1 .1 .1 .1 .0);
         ψ-length = sized-iff ψ _ .0 (each .1 .1 .1 .1 .1 .1 .1 .1 .1 .1 .1 .0);
         ω-length = sized-iff ω _ .0 (each .1 .1 .1 .1 .1 .1 .1 .1 .1 .1 .1 .1 .0);
         α-length = sized-iff α _ .0 (each .1 .1 .1 .1 .1 .1 .1 .1 .1 .1 .1 .1 .1 .0);
@@ -219,7 +219,7 @@ module _ (𝓢 : Statement) (𝓓 : Draws) (𝓣 : Transcript) where
     pub limits : VerifyLimits d n r K L w κ κ₁ κ₂ b b₁ b₂ t₁ t₂ bound target
     pub lists : Lengths
     pub o-length : length o ≡ openingSize tz n r κ t₁ t₂ * d
-    pub rows-entries : projections rows ≡ true
+    pub projections-entries : projectionEntries projections ≡ true
 
   pub verify-facts : (o : List ℤ) → firstFailing (verifyTests 𝓢 𝓓 𝓣 o) ≡ 0 → VerifyFacts o
   unfolding verifyTests
@@ -232,5 +232,5 @@ module _ (𝓢 : Statement) (𝓓 : Draws) (𝓣 : Transcript) where
             (early-passes (sizeTests 𝓢 𝓓) _ refl e) (passed .1 .1 .1 .1 .0, tt);
         lists = lengths-known (allOf-drop 1 _ sizes);
         o-length = sized-iff o _ .0 (allOf-all _ sizes .0);
-        rows-entries = passed .1 .1 .1 .1 .1 .1 .1 .0;
+        projections-entries = passed .1 .1 .1 .1 .1 .1 .1 .0;
       }

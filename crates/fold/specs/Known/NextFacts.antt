@@ -6,7 +6,7 @@ use Prim.Native.Nat.{ℕ, _≤_}
 use lib.ListN.{length}
 use borrow.Author.Tests.{leb-true}
 use lib.IntN.{ℤ}
-use Rattle.residues.specs.Range.{projections}
+use Rattle.residues.specs.Range.{projectionEntries}
 use Rattle.fold.specs.Sizes.{restSize, nextRank, nextParts, nextCount}
 use Rattle.fold.specs.Statement.{Relation}
 use Rattle.fold.specs.Statement.{Statement, Draws, Transcript}
@@ -20,7 +20,7 @@ use Rattle.fold.specs.Known.CallFacts.{Lengths, lengths-known}
 module _ (𝓢 : Statement) (𝓓 : Draws) (𝓣 : Transcript) (ν μ : ℕ) (out : List ℤ) where
   open Statement 𝓢 using (relation, w, tz, κ, κ₁, κ₂, b, b₁, b₂, t₁, t₂, target)
   open Relation relation using (d, n, r, K, L, bound)
-  open Draws 𝓓 using (projections as rows)
+  open Draws 𝓓 using (projections)
 
   pub record NextFacts : Type 0 where
     pub limits : VerifyLimits d n r K L w κ κ₁ κ₂ b b₁ b₂ t₁ t₂ bound target
@@ -28,7 +28,7 @@ module _ (𝓢 : Statement) (𝓓 : Draws) (𝓣 : Transcript) (ν μ : ℕ) (ou
     pub cut : ChunkLimits tz ν μ
     pub rank-small : nextRank n ν (restSize r κ t₁ t₂) μ ≤ 256
     pub out-length : length out ≡ wholeLength d (nextRank n ν (restSize r κ t₁ t₂) μ) (nextParts tz ν μ) (nextCount κ κ₁ κ₂)
-    pub rows-entries : projections rows ≡ true
+    pub projections-entries : projectionEntries projections ≡ true
 
   pub next-facts : firstFailing (nextTests 𝓢 𝓓 𝓣 ν μ out) ≡ 0 → NextFacts
   unfolding nextTests
@@ -41,5 +41,5 @@ module _ (𝓢 : Statement) (𝓓 : Draws) (𝓣 : Transcript) (ν μ : ℕ) (ou
         cut = chunk-limits tz ν μ (row 5);
         rank-small = leb-true _ 256 (row 11);
         out-length = sized-iff out _ .0 (allOf-head _ _ (row 7));
-        rows-entries = row 9;
+        projections-entries = row 9;
       }

@@ -31,7 +31,7 @@ use Rattle.fold.specs.Laws.TestLaws.{passing, none-fails, holds, First, 
 
 module _ (𝓢 : Statement) (𝓓 : Draws) (𝓣 : Transcript) (o : List ℤ) where
   open Statement 𝓢 using (relation, w, tz, κ, κ₁, κ₂, b, b₁, b₂, t₁, t₂, target, A, B, C, D)
-  open Relation relation using (d, n, r, K, L, bound, whole, term)
+  open Relation relation using (d, n, r, K, L, bound, whole, constantTerms)
   open Draws 𝓓 using (projections, ψ, ω, α, δ, c)
   open Transcript 𝓣 using (u₁, p, b″, u₂)
 
@@ -43,7 +43,7 @@ module _ (𝓢 : Statement) (𝓓 : Draws) (𝓣 : Transcript) (o : List ℤ) wh
     pub constant-term : (k : ℕ) → k < five
         → ct Zq (el d b″ k)
         ≡ Zq .add
-        (sum Zq L (λ l. Zq .mul (red (getD ψ (k * L + l) (pos 0))) (red (termConstant d n r term l))))
+        (sum Zq L (λ l. Zq .mul (red (getD ψ (k * L + l) (pos 0))) (red (termConstant d n r constantTerms l))))
         (sum Zq w (λ j. Zq .mul (red (getD ω (k * w + j) (pos 0))) (red (getD p j (pos 0)))))
     -- "u1 equation"
     pub first-outer : (k : ℕ) → k < κ₁ → outer₁ d r κ t₁ t₂ B C k (tBlock 𝓢 𝓓 𝓣 o) (gBlock 𝓢 𝓓 𝓣 o) ≡ el d u₁ k

@@ -55,21 +55,21 @@ sum-numbers d n r f = sum-blocks Zq (r * n) d f ∙ sum-blocks Zq r n (λ x. sum
 
 module _ (d n r w : ℕ) (projections s : List ℤ) (positive : 0 < d) where
   -- the product of entries of row j and of the witness
-  term : ℕ → ℕ → ℤ
-  term j y = getD projections (j * (r * n * d) + y) (pos 0) *ℤ getD s y (pos 0)
+  summand : ℕ → ℕ → ℤ
+  summand j y = getD projections (j * (r * n * d) + y) (pos 0) *ℤ getD s y (pos 0)
 
-  red-p : (j : ℕ) → j < w → red (getD (p d n r w projections s) j (pos 0)) ≡ sum Zq (r * n * d) (λ y. red (term j y))
-  unfolding p term
+  red-p : (j : ℕ) → j < w → red (getD (p d n r w projections s) j (pos 0)) ≡ sum Zq (r * n * d) (λ y. red (summand j y))
+  unfolding p summand
   red-p j h =
-      ap red (getD-tab w (λ j. centred (sum ℤ-ring (r * n * d) (term j))) j (pos 0) h)
-      ∙ red-centred (sum ℤ-ring (r * n * d) (term j))
-      ∙ red-sum (r * n * d) (term j)
+      ap red (getD-tab w (λ j. centred (sum ℤ-ring (r * n * d) (summand j))) j (pos 0) h)
+      ∙ red-centred (sum ℤ-ring (r * n * d) (summand j))
+      ∙ red-sum (r * n * d) (summand j)
 
   product : ℕ → ℕ → ℕ → R d .Carrier
   product j i k = R d .mul (conjugate Zq (el d projections ((j * r + i) * n + k))) (part d n s i k)
 
-  ct-product : (j i k : ℕ) → ct Zq (product j i k) ≡ sum Zq d (λ c. red (term j ((i * n + k) * d + c)))
-  unfolding term product part
+  ct-product : (j i k : ℕ) → ct Zq (product j i k) ≡ sum Zq d (λ c. red (summand j ((i * n + k) * d + c)))
+  unfolding summand product part
   ct-product j i k =
       ct-conjugate Zq (el d projections ((j * r + i) * n + k)) (el d s (i * n + k)) positive ∙ sum-cong Zq d _ _ entry
     where
@@ -98,29 +98,29 @@ module _ (d n r w : ℕ) (projections s : List ℤ) (positive : 0 < d) where
       ap (λ u. ct Zq u) (value-projection j)
       ∙ ct-sum Zq r (λ i. sum (R d) n (λ k. product j i k))
       ∙ sum-cong Zq r _ _ (λ i _. ct-sum Zq n (λ k. product j i k) ∙ sum-cong Zq n _ _ (λ k _. ct-product j i k))
-      ∙ sym (sum-numbers d n r (λ y. red (term j y)))
+      ∙ sym (sum-numbers d n r (λ y. red (summand j y)))
       ∙ sym (red-p j h)
 
 module _ (𝓡 : Relation) (s : List ℤ) (meets : Meets 𝓡 s) (w : ℕ) (projections ψ ω : List ℤ) where
-  open Relation 𝓡 using (d, n, r, K, L, whole, term as terms)
+  open Relation 𝓡 using (d, n, r, K, L, whole, constantTerms)
 
   pub ct-second : 0 < d → (k : ℕ)
-      → ct Zq (value (R d) r n (second d n r L w terms projections ψ ω k) (part d n s))
+      → ct Zq (value (R d) r n (second d n r L w constantTerms projections ψ ω k) (part d n s))
       ≡ Zq .add
-      (sum Zq L (λ l. Zq .mul (red (getD ψ (k * L + l) (pos 0))) (red (termConstant d n r terms l))))
+      (sum Zq L (λ l. Zq .mul (red (getD ψ (k * L + l) (pos 0))) (red (termConstant d n r constantTerms l))))
       (sum Zq w (λ j. Zq .mul (red (getD ω (k * w + j) (pos 0))) (red (getD (p d n r w projections s) j (pos 0)))))
   unfolding number
   ct-second positive k =
       ap (λ u. ct Zq u) (value-plus (R d) r n given projected (part d n s))
       ∙ ct-add Zq (value (R d) r n given (part d n s)) (value (R d) r n projected (part d n s))
       ∙ ap₂ (Zq .add)
-      (scaled L ψ (k * L) (λ l. function d n r (termAt d n r terms l))
+      (scaled L ψ (k * L) (λ l. function d n r (termAt d n r constantTerms l))
       ∙ sum-cong Zq L _ _ (λ l h. ap (Zq .mul _) (meets .in-constant-term l h)))
       (scaled w ω (k * w) (projection d n r projections)
       ∙ sum-cong Zq w _ _ (λ j h. ap (Zq .mul _) (ct-projection d n r w projections s positive j h)))
     where
       given : Function (R d)
-      given = combination (R d) L (λ l. number d (getD ψ (k * L + l) (pos 0))) (λ l. function d n r (termAt d n r terms l))
+      given = combination (R d) L (λ l. number d (getD ψ (k * L + l) (pos 0))) (λ l. function d n r (termAt d n r constantTerms l))
 
       projected : Function (R d)
       projected = combination (R d) w (λ j. number d (getD ω (k * w + j) (pos 0))) (projection d n r projections)
@@ -135,17 +135,17 @@ module _ (𝓡 : Relation) (s : List ℤ) (meets : Meets 𝓡 s) (w : ℕ) (proj
           ∙ sum-cong Zq m _ _ (λ l _. ct-constant-mul Zq (red (getD xs (a + l) (pos 0))) (value (R d) r n (f l) (part d n s)))
 
   pub value-aggregate : (α δ : List ℤ)
-      → value (R d) r n (aggregate d n r K L w whole terms projections ψ ω α δ) (part d n s)
-      ≡ aggregateConstant d n r K whole α δ (b″ d n r L w terms projections ψ ω s)
+      → value (R d) r n (aggregate d n r K L w whole constantTerms projections ψ ω α δ) (part d n s)
+      ≡ aggregateConstant d n r K whole α δ (b″ d n r L w constantTerms projections ψ ω s)
   unfolding aggregateConstant b″
   value-aggregate α δ =
       value-plus (R d) r n
       (combination (R d) K (el d α) (λ k. function d n r (wholeAt d n r whole k)))
-      (combination (R d) five (el d δ) (second d n r L w terms projections ψ ω))
+      (combination (R d) five (el d δ) (second d n r L w constantTerms projections ψ ω))
       (part d n s)
       ∙ ap₂ (R d .add)
       (value-combination (R d) r n K (el d α) (λ k. function d n r (wholeAt d n r whole k)) (part d n s)
       ∙ sum-cong (R d) K _ _ (λ k h. ap (R d .mul (el d α k)) (meets .wholly k h)))
-      (value-combination (R d) r n five (el d δ) (second d n r L w terms projections ψ ω) (part d n s)
+      (value-combination (R d) r n five (el d δ) (second d n r L w constantTerms projections ψ ω) (part d n s)
       ∙ sum-cong (R d) five _ _ (λ k h. ap (R d .mul (el d δ k))
-      (sym (el-elements d five (λ k. value (R d) r n (second d n r L w terms projections ψ ω k) (part d n s)) k h))))
+      (sym (el-elements d five (λ k. value (R d) r n (second d n r L w constantTerms projections ψ ω k) (part d n s)) k h))))

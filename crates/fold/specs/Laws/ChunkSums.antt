@@ -28,7 +28,7 @@ module _ (𝓡 : CommRing) where
   open CommRing 𝓡 using (Carrier as C, zero as 𝟘, add as _⊕_, mul as _⊗_)
   open CommRing 𝓡 using (add-zero, mul-assoc)
 
-  -- terms from m on are zero
+  -- summands from m on are zero
   pub sum-short : (m n : ℕ) (f : ℕ → C) → m ≤ n → ((k : ℕ) → m ≤ k → k < n → f k ≡ 𝟘) → sum 𝓡 n f ≡ sum 𝓡 m f
   sum-short m n f l h =
       ap (λ j. sum 𝓡 j f) (sym (add-sub-of-le l))
@@ -36,7 +36,7 @@ module _ (𝓡 : CommRing) where
       ∙ ap (λ y. sum 𝓡 m f ⊕ y) (sum-vanish 𝓡 (n - m) _ (λ k b. h (m + k) (omega arith) (omega arith)))
       ∙ add-zero (sum 𝓡 m f)
 
-  -- a sum over i ≤ j whose mixed terms stand for two
+  -- a sum over i ≤ j whose mixed summands stand for two
   pub rows-full : (r : ℕ) (a f : ℕ → ℕ → C) → ((i : ℕ) → i < r → a i i ≡ f i i) → ((i j : ℕ) → i < j → j < r → a i j ≡ f i j ⊕ f j i)
       → rows 𝓡 r a ≡ sum 𝓡 r (λ i. sum 𝓡 r (λ j. f i j))
   rows-full r a f e h =

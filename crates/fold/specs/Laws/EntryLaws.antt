@@ -77,30 +77,30 @@ module _ (d n r : ℕ) where
           ap (λ p. R d .mul (number d (getD ω (k * w + j) (pos 0))) (conjugate Zq (el d projections p))) (place j)
           ∙ sym (conjugate-constant-mul Zq (red (getD ω (k * w + j) (pos 0))) (el d projections (j * (r * n) + (i * n + y))))
 
-  module _ (L w : ℕ) (term projections ψ ω : List ℤ) where
-    pub second-a : (k i j : ℕ) → second d n r L w term projections ψ ω k .a i j ≡ secondA d n r L term ψ k (pair r i j)
+  module _ (L w : ℕ) (constantTerms projections ψ ω : List ℤ) where
+    pub second-a : (k i j : ℕ) → second d n r L w constantTerms projections ψ ω k .a i j ≡ secondA d n r L constantTerms ψ k (pair r i j)
     unfolding secondA termEntry
     second-a k i j =
-        ap (R d .add (termEntry d n r L term ψ k (pair r i j)))
+        ap (R d .add (termEntry d n r L constantTerms ψ k (pair r i j)))
         (sum-vanish (R d) w _ (λ l _. mul-zero (R d) (number d (getD ω (k * w + l) (pos 0)))))
-        ∙ R d .add-zero (termEntry d n r L term ψ k (pair r i j))
+        ∙ R d .add-zero (termEntry d n r L constantTerms ψ k (pair r i j))
 
-    pub second-φ : (k i y : ℕ) → second d n r L w term projections ψ ω k .φ i y ≡ secondΦ d n r L w term projections ψ ω k (i * n + y)
+    pub second-φ : (k i y : ℕ) → second d n r L w constantTerms projections ψ ω k .φ i y ≡ secondΦ d n r L w constantTerms projections ψ ω k (i * n + y)
     unfolding secondΦ termEntry
     second-φ k i y =
-        ap (R d .add (termEntry d n r L term ψ k (pairs r + (i * n + y)))) (conjugate-projections w projections ω k i y)
+        ap (R d .add (termEntry d n r L constantTerms ψ k (pairs r + (i * n + y)))) (conjugate-projections w projections ω k i y)
 
     module _ (K : ℕ) (whole α δ : List ℤ) where
       pub aggregate-a : (i j : ℕ)
-          → aggregate d n r K L w whole term projections ψ ω α δ .a i j ≡ aggregateA d n r K L whole term ψ α δ (pair r i j)
+          → aggregate d n r K L w whole constantTerms projections ψ ω α δ .a i j ≡ aggregateA d n r K L whole constantTerms ψ α δ (pair r i j)
       unfolding aggregateA wholeEntry
       aggregate-a i j =
           ap (R d .add (wholeEntry d n r K whole α (pair r i j)))
           (sum-cong (R d) five _ _ (λ k _. ap (R d .mul (el d δ k)) (second-a k i j)))
 
       pub aggregate-φ : (i y : ℕ)
-          → aggregate d n r K L w whole term projections ψ ω α δ .φ i y
-          ≡ aggregateΦ d n r K L w whole term projections ψ ω α δ (i * n + y)
+          → aggregate d n r K L w whole constantTerms projections ψ ω α δ .φ i y
+          ≡ aggregateΦ d n r K L w whole constantTerms projections ψ ω α δ (i * n + y)
       unfolding aggregateΦ wholeEntry
       aggregate-φ i y =
           ap (R d .add (wholeEntry d n r K whole α (pairs r + (i * n + y))))
@@ -146,12 +146,12 @@ module _ (d n r : ℕ) where
   el-inners s i j h l = el-triangle (g d n s) i j h l
 
   -- the value of f''_k, which message 3 holds
-  pub second-value : (L w : ℕ) (term projections ψ ω s gs : List ℤ) (k : ℕ)
+  pub second-value : (L w : ℕ) (constantTerms projections ψ ω s gs : List ℤ) (k : ℕ)
       → ((i j : ℕ) → i ≤ j → j < r → el d gs (pair r i j) ≡ g d n s i j)
-      → value (R d) r n (second d n r L w term projections ψ ω k) (part d n s)
+      → value (R d) r n (second d n r L w constantTerms projections ψ ω k) (part d n s)
       ≡ R d .add
-      (sum (R d) (pairs r) (λ p. R d .mul (secondA d n r L term ψ k p) (el d gs p)))
-      (sum (R d) (r * n) (λ e. R d .mul (secondΦ d n r L w term projections ψ ω k e) (el d s e)))
-  second-value L w term projections ψ ω s gs k inners =
-      value-places (second d n r L w term projections ψ ω k) (secondA d n r L term ψ k) (secondΦ d n r L w term projections ψ ω k) s gs
-      (λ i j _ _. second-a L w term projections ψ ω k i j) (λ i y _ _. second-φ L w term projections ψ ω k i y) inners
+      (sum (R d) (pairs r) (λ p. R d .mul (secondA d n r L constantTerms ψ k p) (el d gs p)))
+      (sum (R d) (r * n) (λ e. R d .mul (secondΦ d n r L w constantTerms projections ψ ω k e) (el d s e)))
+  second-value L w constantTerms projections ψ ω s gs k inners =
+      value-places (second d n r L w constantTerms projections ψ ω k) (secondA d n r L constantTerms ψ k) (secondΦ d n r L w constantTerms projections ψ ω k) s gs
+      (λ i j _ _. second-a L w constantTerms projections ψ ω k i j) (λ i y _ _. second-φ L w constantTerms projections ψ ω k i y) inners

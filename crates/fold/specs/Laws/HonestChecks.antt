@@ -49,7 +49,7 @@ pub record Shaped (𝓢 : Statement) : Type 0 where
 
 module _ (𝓢 : Statement) (𝓓 : Draws) (s : List ℤ) where
   open Statement 𝓢 using (relation, w, tz, κ, κ₁, κ₂, b, b₁, b₂, t₁, t₂, target, A, B, C, D)
-  open Relation relation using (d, n, r, K, L, whole, term)
+  open Relation relation using (d, n, r, K, L, whole, constantTerms)
   open Draws 𝓓 using (projections, ψ, ω, α, δ, c)
 
   abbrev o : List ℤ
@@ -120,11 +120,11 @@ module _ (𝓢 : Statement) (𝓓 : Draws) (s : List ℤ) where
     test : (u v : R d .Carrier) → u ≡ v → same d u v ≡ true
     test u v e = same-iff d u v .1 e
 
-    pub passes₂ : Meets relation s → check₂ d n r L w term ψ ω (𝓣 .p) (𝓣 .b″) ≡ true
+    pub passes₂ : Meets relation s → check₂ d n r L w constantTerms ψ ω (𝓣 .p) (𝓣 .b″) ≡ true
     unfolding check₂ Messages.b″
     passes₂ meets =
         true-every five _ (λ k h. eq-eqb _ _ (ap (λ x. x .val)
-        (ap (λ u. ct Zq u) (el-elements d five (λ k. value (R d) r n (Messages.second d n r L w term projections ψ ω k) (part d n s)) k h)
+        (ap (λ u. ct Zq u) (el-elements d five (λ k. value (R d) r n (Messages.second d n r L w constantTerms projections ψ ω k) (part d n s)) k h)
         ∙ ct-second relation s meets w projections ψ ω (sizes .degree) k)))
 
     pub passes₃ : check₃ d r κ κ₁ t₁ t₂ B C (𝓣 .u₁) (tBlock 𝓢 𝓓 𝓣 o) (gBlock 𝓢 𝓓 𝓣 o) ≡ true

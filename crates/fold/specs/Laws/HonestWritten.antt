@@ -28,12 +28,12 @@ left n new before e is = is ∙ rw (written-zero n e) refl
 
 module _ (𝓢 : Statement) (𝓓 : Draws) (s : List ℤ) where
   open Statement 𝓢 using (relation, w, tz, κ, κ₁, κ₂, b, b₁, b₂, t₁, t₂, A, B, C, D)
-  open Relation relation using (d, n, r, K, L, whole, term)
+  open Relation relation using (d, n, r, K, L, whole, constantTerms)
   open Draws 𝓓 using (projections, ψ, ω, α, δ, c)
 
   pub tested : (t g u₁ h u₂ z : List ℤ)
       → Written ≡ answered (firstFailing (commitTests d n r κ κ₁ b₁ b₂ t₁ t₂ A B C s t g u₁)) Written
-      → Written ≡ answered (firstFailing (garbageTests d n r K L w κ₂ b₁ t₁ whole term projections ψ ω α δ D s h u₂)) Written
+      → Written ≡ answered (firstFailing (garbageTests d n r K L w κ₂ b₁ t₁ whole constantTerms projections ψ ω α δ D s h u₂)) Written
       → Written ≡ answered (firstFailing (amortizeTests d n r tz b c s z)) Written
       → firstFailing (boundTests 𝓢 𝓓) ≡ 0 → firstFailing (proverTests 𝓢 𝓓 s) ≡ 0
   tested t g u₁ h u₂ z one four five bounds =

@@ -139,9 +139,9 @@ pub length-p : (d n r w : ℕ) (projections s : List ℤ) → length (Messages.p
 unfolding Messages.p
 length-p d n r w projections s = length-tab w _
 
-pub length-b″ : (d n r L w : ℕ) (term projections ψ ω s : List ℤ) → length (Messages.b″ d n r L w term projections ψ ω s) ≡ 5 * d
+pub length-b″ : (d n r L w : ℕ) (constantTerms projections ψ ω s : List ℤ) → length (Messages.b″ d n r L w constantTerms projections ψ ω s) ≡ 5 * d
 unfolding Messages.b″
-length-b″ d n r L w term projections ψ ω s = length-elements d 5 _
+length-b″ d n r L w constantTerms projections ψ ω s = length-elements d 5 _
 
 pub length-u₂ : (d r κ₂ t₁ : ℕ) (D x : List ℤ) → length (Messages.u₂ d r κ₂ t₁ D x) ≡ κ₂ * d
 unfolding Messages.u₂

@@ -81,10 +81,10 @@ pub coefficients-u₁ : (d r κ κ₁ t₁ t₂ : ℕ) (B C x y : List ℤ) → 
 unfolding Messages.u₁
 coefficients-u₁ d r κ κ₁ t₁ t₂ B C x y = coefficients-elements d κ₁ _
 
-pub coefficients-b″ : (d n r L w : ℕ) (term projections ψ ω s : List ℤ)
-    → coefficients (Messages.b″ d n r L w term projections ψ ω s) ≡ true
+pub coefficients-b″ : (d n r L w : ℕ) (constantTerms projections ψ ω s : List ℤ)
+    → coefficients (Messages.b″ d n r L w constantTerms projections ψ ω s) ≡ true
 unfolding Messages.b″
-coefficients-b″ d n r L w term projections ψ ω s = coefficients-elements d five _
+coefficients-b″ d n r L w constantTerms projections ψ ω s = coefficients-elements d five _
 
 pub coefficients-u₂ : (d r κ₂ t₁ : ℕ) (D x : List ℤ) → coefficients (Messages.u₂ d r κ₂ t₁ D x) ≡ true
 unfolding Messages.u₂

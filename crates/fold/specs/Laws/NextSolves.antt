@@ -36,13 +36,13 @@ use Rattle.fold.specs.Laws.NextOrder.{Each, each, each-of}
 -- "the checks on projection and constant terms pass"
 module _ (𝓢 : Statement) (𝓓 : Draws) (𝓣 : Transcript) where
   open Statement 𝓢 using (relation, w)
-  open Relation relation using (d, n, r, L, bound, term)
+  open Relation relation using (d, n, r, L, bound, constantTerms)
   open Draws 𝓓 using (ψ, ω)
   open Transcript 𝓣 using (p, b″)
 
   pub record FirstChecks : Type 0 where
     pub projection : check₁ w bound p ≡ true
-    pub constant-terms : check₂ d n r L w term ψ ω p b″ ≡ true
+    pub constant-terms : check₂ d n r L w constantTerms ψ ω p b″ ≡ true
 
 -- the squared norm of a list, from two places where it is cut
 normSq-cut : (xs : List ℤ) (a k : ℕ) → normSq xs ≡ normSq (take a xs) + (normSq (take k (drop a xs)) + normSq (drop (a + k) xs))

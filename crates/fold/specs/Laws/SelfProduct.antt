@@ -143,8 +143,8 @@ module _ (𝓡 : CommRing) (tz n ν m μ : ℕ) (some-ν : 0 < ν) (β x : ℕ �
       ≡ inner 𝓡 n (λ k. sum 𝓡 tz (λ e. β e ⊗ x (e * n + k))) (λ k. sum 𝓡 tz (λ e. β e ⊗ x (e * n + k)))
   unfolding product nextParts
   self-product a one two =
-      rows-full 𝓡 (nextParts tz ν μ) _ term (λ s _. ap (λ y. y ⊗ product s s) (one s)) (λ s s′ l _. doubled s s′ l)
-      ∙ grid-sum 𝓡 tz ν (nextParts tz ν μ) term (omega arith)
+      rows-full 𝓡 (nextParts tz ν μ) _ summand (λ s _. ap (λ y. y ⊗ product s s) (one s)) (λ s s′ l _. doubled s s′ l)
+      ∙ grid-sum 𝓡 tz ν (nextParts tz ν μ) summand (omega arith)
       (λ s s′ h. ap (λ y. y ⊗ product s s′) (weight-low 𝓡 tz ν β s s′ h) ∙ zero-mul 𝓡 (product s s′))
       (λ s s′ h. ap (λ y. y ⊗ product s s′) (weight-high 𝓡 tz ν β s s′ h) ∙ zero-mul 𝓡 (product s s′))
       (λ e i e′ i′ l l′ ne. ap (λ y. y ⊗ product (e * ν + i) (e′ * ν + i′)) (weight-other 𝓡 tz ν β e i e′ i′ l l′ ne) ∙ zero-mul 𝓡 _)
@@ -154,10 +154,10 @@ module _ (𝓡 : CommRing) (tz n ν m μ : ℕ) (some-ν : 0 < ν) (β x : ℕ �
       ∙ ap (λ y. β e ⊗ β e′ ⊗ y) (digit-product e e′ h h′)))
       ∙ sym (joined-square 𝓡 tz n β x)
     where
-      term : ℕ → ℕ → C
-      term s s′ = weight 𝓡 tz ν β s s′ ⊗ product s s′
+      summand : ℕ → ℕ → C
+      summand s s′ = weight 𝓡 tz ν β s s′ ⊗ product s s′
 
-      doubled : (s s′ : ℕ) → s < s′ → a s s′ ⊗ product s s′ ≡ term s s′ ⊕ term s′ s
+      doubled : (s s′ : ℕ) → s < s′ → a s s′ ⊗ product s s′ ≡ summand s s′ ⊕ summand s′ s
       doubled s s′ l =
           ap (λ y. y ⊗ product s s′) (two s s′ l)
           ∙ add-mul 𝓡 (weight 𝓡 tz ν β s s′) (weight 𝓡 tz ν β s s′) (product s s′)

@@ -70,7 +70,7 @@ module _ (𝓢 : Statement) (𝓓 : Draws) where
 
 module _ (𝓢 : Statement) (𝓓 : Draws) (s : List ℤ) where
   open Statement 𝓢 using (relation, w, tz, κ, κ₁, κ₂, b, b₁, b₂, t₁, t₂, A, B, C, D)
-  open Relation relation using (d, n, r, L, term)
+  open Relation relation using (d, n, r, L, constantTerms)
   open Draws 𝓓 using (projections, ψ, ω, c)
 
   abbrev 𝓣 : Transcript
@@ -101,7 +101,7 @@ module _ (𝓢 : Statement) (𝓓 : Draws) (s : List ℤ) where
           allOf-cons _ _ (sized-iff _ _ .1 length-honestOpening)
           (allOf-cons _ _ (sized-iff _ _ .1 (length-u₁ d r κ κ₁ t₁ t₂ B C _ _))
           (allOf-cons _ _ (sized-iff _ _ .1 (length-p d n r w projections s))
-          (allOf-cons _ _ (sized-iff _ _ .1 (length-b″ d n r L w term projections ψ ω s))
+          (allOf-cons _ _ (sized-iff _ _ .1 (length-b″ d n r L w constantTerms projections ψ ω s))
           (allOf-cons _ _ (sized-iff _ _ .1 (length-u₂ d r κ₂ t₁ D _)) (allOf-tail _ _ (material .0))))))
 
       ranges-hold : allOf (coefficients o ∷ ranges 𝓢 𝓓 𝓣) ≡ true
@@ -109,7 +109,7 @@ module _ (𝓢 : Statement) (𝓓 : Draws) (s : List ℤ) where
           allOf-cons _ _ (coefficients-honestOpening (base-fits b (bases .0)) (base-fits b₁ (bases .1 .0)) (base-fits b₂ (bases .1 .1 .0)))
           (allOf-cons _ _ (coefficients-u₁ d r κ κ₁ t₁ t₂ B C _ _)
           (allOf-cons _ _ (coefficients-p d n r w projections s)
-          (allOf-cons _ _ (coefficients-b″ d n r L w term projections ψ ω s)
+          (allOf-cons _ _ (coefficients-b″ d n r L w constantTerms projections ψ ω s)
           (allOf-cons _ _ (coefficients-u₂ d r κ₂ t₁ D _) (allOf-tail _ _ (material .1 .0))))))
 
   -- the statement, the draws and the witness are not refused: nor are they, with the honest messages, by the verifier

@@ -62,18 +62,18 @@ pub commit-rising : (d n r κ κ₁ b₁ b₂ t₁ t₂ : ℕ) (A B C s ts gs u�
 unfolding commitTests
 commit-rising d n r κ κ₁ b₁ b₂ t₁ t₂ A B C s ts gs u₁ = refl
 
-pub project-rising : (d n r w : ℕ) (rows s p : List ℤ) → rising 0 (projectTests d n r w rows s p) ≡ true
+pub project-rising : (d n r w : ℕ) (projections s p : List ℤ) → rising 0 (projectTests d n r w projections s p) ≡ true
 unfolding projectTests
-project-rising d n r w rows s p = refl
+project-rising d n r w projections s p = refl
 
-pub aggregate-rising : (d n r L w : ℕ) (term rows ψ ω s b″ : List ℤ) → rising 0 (aggregateTests d n r L w term rows ψ ω s b″) ≡ true
+pub aggregate-rising : (d n r L w : ℕ) (constantTerms projections ψ ω s b″ : List ℤ) → rising 0 (aggregateTests d n r L w constantTerms projections ψ ω s b″) ≡ true
 unfolding aggregateTests
-aggregate-rising d n r L w term rows ψ ω s b″ = refl
+aggregate-rising d n r L w constantTerms projections ψ ω s b″ = refl
 
-pub garbage-rising : (d n r K L w κ₂ b₁ t₁ : ℕ) (whole term rows ψ ω α δ D s hs u₂ : List ℤ)
-    → rising 0 (garbageTests d n r K L w κ₂ b₁ t₁ whole term rows ψ ω α δ D s hs u₂) ≡ true
+pub garbage-rising : (d n r K L w κ₂ b₁ t₁ : ℕ) (whole constantTerms projections ψ ω α δ D s hs u₂ : List ℤ)
+    → rising 0 (garbageTests d n r K L w κ₂ b₁ t₁ whole constantTerms projections ψ ω α δ D s hs u₂) ≡ true
 unfolding garbageTests
-garbage-rising d n r K L w κ₂ b₁ t₁ whole term rows ψ ω α δ D s hs u₂ = refl
+garbage-rising d n r K L w κ₂ b₁ t₁ whole constantTerms projections ψ ω α δ D s hs u₂ = refl
 
 pub amortize-rising : (d n r tz b : ℕ) (c s zs : List ℤ) → rising 0 (amortizeTests d n r tz b c s zs) ≡ true
 unfolding amortizeTests

@@ -33,8 +33,8 @@ a & b = (a, b)
 
 module _ (𝓢 : Statement) (𝓓 : Draws) (s : List ℤ) (taken : firstFailing (proverTests 𝓢 𝓓 s) ≡ 0) where
   open Statement 𝓢 using (relation, w, tz, κ, κ₁, κ₂, b, b₁, b₂, t₁, t₂, target, A, B, C, D)
-  open Relation relation using (d, n, r, K, L, bound, whole, term)
-  open Draws 𝓓 using (projections as rows, ψ, ω, α, δ, c)
+  open Relation relation using (d, n, r, K, L, bound, whole, constantTerms)
+  open Draws 𝓓 using (projections, ψ, ω, α, δ, c)
 
   tests : Passes (proverTests 𝓢 𝓓 s)
   unfolding proverTests
@@ -80,53 +80,53 @@ module _ (𝓢 : Statement) (𝓓 : Draws) (s : List ℤ) (taken : firstFailing 
       & tt)
 
   -- message 2
-  pub project-taken : (p : List ℤ) → length p ≡ w → firstFailing (projectTests d n r w rows s p) ≡ 0
+  pub project-taken : (p : List ℤ) → length p ≡ w → firstFailing (projectTests d n r w projections s p) ≡ 0
   unfolding proverTests projectTests
   project-taken p p-size =
       let (n-in, (r-in, (_, (_, w-in)))) = counts in
-      let (s-long, (_, (_, (_, (_, (_, (_, (rows-long, _)))))))) = lengths in
-      let (s-in, (_, (_, (_, (_, (_, (_, (rows-in, _)))))))) = ranges in
-      passes-refusal (projectTests d n r w rows s p)
+      let (s-long, (_, (_, (_, (_, (_, (_, (projections-long, _)))))))) = lengths in
+      let (s-in, (_, (_, (_, (_, (_, (_, (projections-in, _)))))))) = ranges in
+      passes-refusal (projectTests d n r w projections s p)
       (tests .0
       & all-allOf _ (n-in & r-in & w-in)
-      & all-allOf _ (rows-long & s-long & sized-iff p _ .1 p-size & tt)
-      & all-allOf _ (rows-in & s-in & tt)
+      & all-allOf _ (projections-long & s-long & sized-iff p _ .1 p-size & tt)
+      & all-allOf _ (projections-in & s-in & tt)
       & tests .1 .1 .1 .1 .1 .1 .1 .0
       & tt)
 
   -- message 3
-  pub aggregate-taken : (b″ : List ℤ) → length b″ ≡ five * d → firstFailing (aggregateTests d n r L w term rows ψ ω s b″) ≡ 0
+  pub aggregate-taken : (b″ : List ℤ) → length b″ ≡ five * d → firstFailing (aggregateTests d n r L w constantTerms projections ψ ω s b″) ≡ 0
   unfolding proverTests aggregateTests
   aggregate-taken b″ b″-size =
       let (n-in, (r-in, (_, L-w-in))) = counts in
-      let (s-long, (_, (_, (_, (_, (_, (term-long, (rows-long, (ψ-long, (ω-long, _)))))))))) = lengths in
-      let (s-in, (_, (_, (_, (_, (_, (term-in, (rows-in, (ψ-in, (ω-in, _)))))))))) = ranges in
-      passes-refusal (aggregateTests d n r L w term rows ψ ω s b″)
+      let (s-long, (_, (_, (_, (_, (_, (constant-terms-long, (projections-long, (ψ-long, (ω-long, _)))))))))) = lengths in
+      let (s-in, (_, (_, (_, (_, (_, (constant-terms-in, (projections-in, (ψ-in, (ω-in, _)))))))))) = ranges in
+      passes-refusal (aggregateTests d n r L w constantTerms projections ψ ω s b″)
       (tests .0
       & all-allOf _ (n-in & r-in & L-w-in)
-      & all-allOf _ (term-long & rows-long & ψ-long & ω-long & s-long & sized-iff b″ _ .1 b″-size & tt)
-      & all-allOf _ (term-in & rows-in & ψ-in & ω-in & s-in & tt)
+      & all-allOf _ (constant-terms-long & projections-long & ψ-long & ω-long & s-long & sized-iff b″ _ .1 b″-size & tt)
+      & all-allOf _ (constant-terms-in & projections-in & ψ-in & ω-in & s-in & tt)
       & tests .1 .1 .1 .1 .1 .1 .1 .0
       & tt)
 
   -- message 4
   pub garbage-taken : (hs u₂ : List ℤ) → length hs ≡ garbageSize r t₁ * d → length u₂ ≡ κ₂ * d
-      → firstFailing (garbageTests d n r K L w κ₂ b₁ t₁ whole term rows ψ ω α δ D s hs u₂) ≡ 0
+      → firstFailing (garbageTests d n r K L w κ₂ b₁ t₁ whole constantTerms projections ψ ω α δ D s hs u₂) ≡ 0
   unfolding proverTests garbageTests
   garbage-taken hs u₂ h-size u₂-size =
       let (_, (_, (κ₂-in, _))) = ranks in
       let (_, (b₁-in, (_, (t₁-in, _)))) = bases in
-      let (s-long, (_, (_, (_, (D-long, (whole-long, (term-long, (rows-long, (ψ-long, (ω-long, (α-long, (δ-long, _)))))))))))) = lengths in
-      let (s-in, (_, (_, (_, (D-in, (whole-in, (term-in, (rows-in, (ψ-in, (ω-in, (α-in, (δ-in, _)))))))))))) = ranges in
+      let (s-long, (_, (_, (_, (D-long, (whole-long, (constant-terms-long, (projections-long, (ψ-long, (ω-long, (α-long, (δ-long, _)))))))))))) = lengths in
+      let (s-in, (_, (_, (_, (D-in, (whole-in, (constant-terms-in, (projections-in, (ψ-in, (ω-in, (α-in, (δ-in, _)))))))))))) = ranges in
       let h-long = sized-iff hs _ .1 h-size in
       let u₂-long = sized-iff u₂ _ .1 u₂-size in
-      passes-refusal (garbageTests d n r K L w κ₂ b₁ t₁ whole term rows ψ ω α δ D s hs u₂)
+      passes-refusal (garbageTests d n r K L w κ₂ b₁ t₁ whole constantTerms projections ψ ω α δ D s hs u₂)
       (tests .0
       & tests .1 .0
       & κ₂-in
       & all-allOf _ (b₁-in & t₁-in & tt)
-      & all-allOf _ (whole-long & term-long & rows-long & ψ-long & ω-long & α-long & δ-long & D-long & s-long & h-long & u₂-long & tt)
-      & all-allOf _ (whole-in & term-in & rows-in & ψ-in & ω-in & α-in & δ-in & D-in & s-in & tt)
+      & all-allOf _ (whole-long & constant-terms-long & projections-long & ψ-long & ω-long & α-long & δ-long & D-long & s-long & h-long & u₂-long & tt)
+      & all-allOf _ (whole-in & constant-terms-in & projections-in & ψ-in & ω-in & α-in & δ-in & D-in & s-in & tt)
       & tests .1 .1 .1 .1 .1 .1 .1 .0
       & tt)
 
@@ -153,22 +153,22 @@ all-first (suc k) [] e = tt
 all-first (suc k) (t ∷ ts) e = (allOf-head t ts e, all-first k ts (allOf-tail t ts e))
 
 -- row 7 or row 8 of three messages: a test for each list that they are lent to read
-lists : {A B C s whole term rows ψ ω α δ D c : Bool} → All (A ∷ B ∷ C ∷ s ∷ [])
-    → All (whole ∷ term ∷ rows ∷ ψ ∷ ω ∷ α ∷ δ ∷ D ∷ []) → All (c ∷ [])
-    → All (s ∷ A ∷ B ∷ C ∷ D ∷ whole ∷ term ∷ rows ∷ ψ ∷ ω ∷ α ∷ δ ∷ c ∷ [])
-lists (A, (B, (C, (s, _)))) (whole, (term, (rows, (ψ, (ω, (α, (δ, (D, _)))))))) five =
-    (s, (A, (B, (C, (D, (whole, (term, (rows, (ψ, (ω, (α, (δ, five))))))))))))
+lists : {A B C s whole constantTerms projections ψ ω α δ D c : Bool} → All (A ∷ B ∷ C ∷ s ∷ [])
+    → All (whole ∷ constantTerms ∷ projections ∷ ψ ∷ ω ∷ α ∷ δ ∷ D ∷ []) → All (c ∷ [])
+    → All (s ∷ A ∷ B ∷ C ∷ D ∷ whole ∷ constantTerms ∷ projections ∷ ψ ∷ ω ∷ α ∷ δ ∷ c ∷ [])
+lists (A, (B, (C, (s, _)))) (whole, (constantTerms, (projections, (ψ, (ω, (α, (δ, (D, _)))))))) five =
+    (s, (A, (B, (C, (D, (whole, (constantTerms, (projections, (ψ, (ω, (α, (δ, five))))))))))))
 
 -- whatever they write to, where messages 1, 4 and 5 refuse nothing and row 6 holds, the statement, the draws and the witness are taken
 module _ (𝓢 : Statement) (𝓓 : Draws) (s : List ℤ) where
   open Statement 𝓢 using (relation, w, tz, κ, κ₁, κ₂, b, b₁, b₂, t₁, t₂, A, B, C, D)
-  open Relation relation using (d, n, r, K, L, whole, term)
-  open Draws 𝓓 using (projections as rows, ψ, ω, α, δ, c)
+  open Relation relation using (d, n, r, K, L, whole, constantTerms)
+  open Draws 𝓓 using (projections, ψ, ω, α, δ, c)
 
   -- ts, gs, u₁, hs, u₂ and zs are what messages 1, 4 and 5 were lent to write to
   pub messages-test-all : (ts gs u₁ hs u₂ zs : List ℤ)
       → firstFailing (commitTests d n r κ κ₁ b₁ b₂ t₁ t₂ A B C s ts gs u₁) ≡ 0
-      → firstFailing (garbageTests d n r K L w κ₂ b₁ t₁ whole term rows ψ ω α δ D s hs u₂) ≡ 0
+      → firstFailing (garbageTests d n r K L w κ₂ b₁ t₁ whole constantTerms projections ψ ω α δ D s hs u₂) ≡ 0
       → firstFailing (amortizeTests d n r tz b c s zs) ≡ 0
       → firstFailing (boundTests 𝓢 𝓓) ≡ 0
       → firstFailing (proverTests 𝓢 𝓓 s) ≡ 0
@@ -177,7 +177,7 @@ module _ (𝓢 : Statement) (𝓓 : Draws) (s : List ℤ) where
       let (_, (_, (ranks₁, (digits₁, (lengths₁, (ranges₁, _)))))) =
       refusal-passes (commitTests d n r κ κ₁ b₁ b₂ t₁ t₂ A B C s ts gs u₁) refl one in
       let (degree, (sizes, (rank₂, (_, (lengths₄, (ranges₄, (entries, _))))))) =
-      refusal-passes (garbageTests d n r K L w κ₂ b₁ t₁ whole term rows ψ ω α δ D s hs u₂) refl four in
+      refusal-passes (garbageTests d n r K L w κ₂ b₁ t₁ whole constantTerms projections ψ ω α δ D s hs u₂) refl four in
       let (_, (_, (base₅, (lengths₅, (ranges₅, (challenges, _)))))) = refusal-passes (amortizeTests d n r tz b c s zs) refl five in
       let (bound, _) = refusal-passes (boundTests 𝓢 𝓓) refl bounds in
       let (rank, (rank₁, _)) = allOf-all _ ranks₁ in

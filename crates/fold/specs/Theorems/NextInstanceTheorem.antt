@@ -13,7 +13,7 @@ use lib.ListN.{length, getD}
 use lib.IntN.{ℤ, pos, natAbs}
 use borrow.Author.Tests.{ltb-true, ltb-false}
 use Rattle.integers.specs.Sums.{sq, normSq}
-use Rattle.integers.specs.Laws.SumLaws.{normSq-term}
+use Rattle.integers.specs.Laws.SumLaws.{normSq-summand}
 use Rattle.residues.specs.Range.{coefficients}
 use Rattle.residues.specs.Laws.RangeLaws.{coefficients-of}
 use Rattle.fold.specs.declared.Verdict.the-variants.{Accepted}
@@ -37,7 +37,7 @@ use Rattle.fold.specs.Laws.NextSolves.{FirstChecks, solved, accepts-of}
 -- a list of at most that squared length is in range
 short-coefficients : (xs : List ℤ) → normSq xs ≤ 999999999999999 → coefficients xs ≡ true
 unfolding sq
-short-coefficients xs h = coefficients-of xs (λ i l. small (natAbs (getD xs i (pos 0))) (omega (arith, normSq-term xs i l)))
+short-coefficients xs h = coefficients-of xs (λ i l. small (natAbs (getD xs i (pos 0))) (omega (arith, normSq-summand xs i l)))
   where
     small : (x : ℕ) → x * x ≤ 999999999999999 → x ≤ 2147483598
     small x b = pick (ltb 2147483598 x) refl

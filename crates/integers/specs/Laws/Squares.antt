@@ -49,7 +49,7 @@ sq-difference x y =
 
 -- ---- Cauchy-Schwarz
 
--- twice one term times a sum
+-- twice one summand times a sum
 cross : (n : ℕ) (w x : ℕ → ℕ) (a b : ℕ)
     → 2 * (total n (λ e. w e * x e) * (a * b)) ≤ total n (λ e. w e * w e) * (b * b) + a * a * total n (λ e. x e * x e)
 unfolding total

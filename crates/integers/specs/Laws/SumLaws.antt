@@ -11,7 +11,7 @@ use lib.IntN.{ℤ, pos}
 use Rattle.integers.specs.Lists.{tab}
 use Rattle.integers.specs.Sums.{total, sq, normSq}
 
--- ---- one more term
+-- ---- one more summand
 
 pub total-suc : (n : ℕ) (f : ℕ → ℕ) → total (suc n) f ≡ total n f + f n
 unfolding total
@@ -55,14 +55,14 @@ total-bound n c f h = omega (arith, total-mono n f (λ i. c) h, total-const n c)
 pub total-zeros : (n : ℕ) (f : ℕ → ℕ) → ((i : ℕ) → i < n → f i ≡ 0) → total n f ≡ 0
 total-zeros n f h = omega (arith, total-cong n f (λ i. 0) h, total-const n 0)
 
--- ---- a part of the terms
+-- ---- a part of the summands
 
 pub total-split : (m n : ℕ) (f : ℕ → ℕ) → total (m + n) f ≡ total m f + total n (λ i. f (m + i))
 unfolding total
 total-split m zero f = rw (add-zero m) (omega arith)
 total-split m (suc n) f = rw add-suc (omega (arith, total-split m n f))
 
--- the first term apart
+-- the first summand apart
 pub total-first : (n : ℕ) (f : ℕ → ℕ) → total (suc n) f ≡ f 0 + total n (λ i. f (suc i))
 unfolding total
 total-first zero f = omega arith
@@ -71,8 +71,8 @@ total-first (suc n) f = omega (arith, total-first n f)
 pub total-part : (m n : ℕ) (f : ℕ → ℕ) → m ≤ n → total m f ≤ total n f
 total-part m n f h = omega (arith, total-split m (n - m) f, ap (λ (k : ℕ). total k f) (add-sub-of-le h))
 
-pub total-term : (n : ℕ) (f : ℕ → ℕ) (i : ℕ) → i < n → f i ≤ total n f
-total-term n f i h = omega (arith, total-part (suc i) n f h, total-suc i f)
+pub total-summand : (n : ℕ) (f : ℕ → ℕ) (i : ℕ) → i < n → f i ≤ total n f
+total-summand n f i h = omega (arith, total-part (suc i) n f h, total-suc i f)
 
 -- ---- sums of sums
 
@@ -81,7 +81,7 @@ unfolding total
 total-swap zero m f = sym (total-zeros m (λ j. 0) (λ j h. refl))
 total-swap (suc n) m f = omega (arith, total-swap n m f, total-sum m (λ j. total n (λ i. f i j)) (f n))
 
--- n blocks of m terms
+-- n blocks of m summands
 pub total-blocks : (n m : ℕ) (f : ℕ → ℕ) → total (n * m) f ≡ total n (λ i. total m (λ j. f (i * m + j)))
 unfolding total
 total-blocks zero m f = rw zero-mul
@@ -109,8 +109,8 @@ normSq-take xs (suc i) h = omega (arith, normSq-take xs i (omega arith), normSq-
 pub normSq-total : (xs : List ℤ) → normSq xs ≡ total (length xs) (λ i. sq (getD xs i (pos 0)))
 normSq-total xs = rw take-length at (normSq-take xs (length xs) (omega arith))
 
-pub normSq-term : (xs : List ℤ) (i : ℕ) → i < length xs → sq (getD xs i (pos 0)) ≤ normSq xs
-normSq-term xs i h = omega (arith, normSq-total xs, total-term (length xs) (λ j. sq (getD xs j (pos 0))) i h)
+pub normSq-summand : (xs : List ℤ) (i : ℕ) → i < length xs → sq (getD xs i (pos 0)) ≤ normSq xs
+normSq-summand xs i h = omega (arith, normSq-total xs, total-summand (length xs) (λ j. sq (getD xs j (pos 0))) i h)
 
 pub normSq-tab : (n : ℕ) (f : ℕ → ℤ) → normSq (tab n f) ≡ total n (λ i. sq (f i))
 unfolding total normSq tab

@@ -9,7 +9,7 @@ use Rattle.algebra.specs.Triangle.{start, pairs-count}
 use Rattle.fold.specs.declared.Verdict.the-variants.{Accepted}
 use Rattle.fold.specs.declared.Answer.the-variants.{Judged}
 use Rattle.fold.specs.Sizes.{pairs, functionSize, tSize, garbageSize, restSize, openingSize}
-use Rattle.fold.specs.Refusals.{wholeLength, termLength, projectionLength}
+use Rattle.fold.specs.Refusals.{wholeLength, constantTermsLength, projectionLength}
 use Rattle.fold.specs.Cases.WholeCase.{whole-case}
 use Rattle.sheet.specs.Reading.{size, sizesOf, foldSizes}
 use Rattle.sheet.specs.Field.{fieldText, signedText, columns, columnByte, minusDue}
@@ -23,7 +23,7 @@ use Rattle.judge.specs.Theorems.JudgeTheorem.{sheetVerdict, sheet-judged
 -- the lists of the sheet are those of the case
 whole-verdict : sheetVerdict (sizesOf header) numbers ≡ Accepted
 unfolding size sizesOf foldSizes listAt listLengths pairs pairs-count start functionSize tSize garbageSize restSize openingSize
-    wholeLength termLength projectionLength
+    wholeLength constantTermsLength projectionLength
 whole-verdict = whole-case .accepted
 
 whole-length : length (sheetText header numbers) ≡ 1345

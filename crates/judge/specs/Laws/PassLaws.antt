@@ -22,7 +22,7 @@ use Rattle.sheet.specs.Lists.{listLengths, listAt}
 use Rattle.sheet.specs.Sections.{total}
 use Rattle.sheet.specs.Laws.ListLaws.{length-list, coefficients-list, list-coefficients, lengths-total}
 use Rattle.sheet.specs.Laws.HeaderLaws.{header-passes}
-use Rattle.sheet.specs.Reading.{headerTests, sizesOf, foldSizes, rowsIn, challengesIn, numberTests}
+use Rattle.sheet.specs.Reading.{headerTests, sizesOf, foldSizes, projectionsIn, challengesIn, numberTests}
 use Rattle.judge.specs.Judging.{sheetStatement, sheetDraws, sheetTranscript, sheetOpening}
 
 -- facts of a list's tests, one after another
@@ -94,10 +94,10 @@ module _ (h xs : List ℤ) (header : Passes (headerTests h)) (count : length xs 
   range-to : testOf 8 tests ≡ true → coefficients xs ≡ true
   unfolding verifyTests every all tab allOf listLengths
   range-to e =
-      let (o, (u₁, (p, (b″, (u₂, (A, (B, (C, (D, (whole, (term, (rows, (ψ, (ω, (α, (δ, (c, _))))))))))))))))) = allOf-all lists e in
+      let (o, (u₁, (p, (b″, (u₂, (A, (B, (C, (D, (whole, (constantTerms, (projections, (ψ, (ω, (α, (δ, (c, _))))))))))))))))) = allOf-all lists e in
       let test : ℕ → Bool = λ k. coefficients (listAt (listLengths (sizesOf h)) xs k) in
       list-coefficients (listLengths (sizesOf h)) xs (omega (arith, count, lengths-total (sizesOf h)))
-      (every-true 17 test (all-allOf (tab 17 test) (A & B & C & D & whole & term & u₁ & rows & p & ψ & ω & b″ & α & δ & u₂ & c & o & tt)))
+      (every-true 17 test (all-allOf (tab 17 test) (A & B & C & D & whole & constantTerms & u₁ & projections & p & ψ & ω & b″ & α & δ & u₂ & c & o & tt)))
 
   range-back : coefficients xs ≡ true → testOf 8 tests ≡ true
   unfolding verifyTests
@@ -127,7 +127,7 @@ module _ (h xs : List ℤ) (header : Passes (headerTests h)) (count : length xs 
 
   -- the verifier refuses the numbers as the reader does
   pub same-refusal : firstFailing tests ≡ firstFailing (numberTests (sizesOf h) xs)
-  unfolding verifyTests numberTests rowsIn challengesIn foldSizes
+  unfolding verifyTests numberTests projectionsIn challengesIn foldSizes
   same-refusal =
       after-passes (take 6 tests) (drop 6 tests) early
       ∙ ap (λ (t : Bool). firstFailing ((8, t) ∷ drop 1 (numberTests (sizesOf h) xs))) same-range

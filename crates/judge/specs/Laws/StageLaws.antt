@@ -7,7 +7,7 @@ use lib.IntN.{ℤ}
 use Rattle.fold.specs.declared.Sizes.{Sizes}
 use Rattle.fold.specs.declared.Answer.{Answer}
 use Rattle.fold.specs.Sizes.{tSize, garbageSize, openingSize}
-use Rattle.fold.specs.Refusals.{wholeLength, termLength, projectionLength}
+use Rattle.fold.specs.Refusals.{wholeLength, constantTermsLength, projectionLength}
 use Rattle.fold.specs.Arguments.{statementOf, drawsOf, transcriptOf}
 use Rattle.fold.specs.Verification.{verification}
 use Rattle.sheet.specs.declared.sizes.SheetSizes.{SheetSizes}
@@ -42,28 +42,28 @@ pub cut-last : {k m : ℕ} (xs : List ℤ) {l : List ℤ} → k ≡ m → l ≡ 
 cut-last xs e f = rw (← e) f
 
 module _ (s : SheetSizes) {answer : Answer} (A B C D : List ℤ) where
-  module _ (whole term u₁ rows : List ℤ) where
+  module _ (whole constantTerms u₁ projections : List ℤ) where
     pub last-stage : (p ψ ω b″ : List ℤ) {xs α δ u₂ c o y₁ y₂ y₃ y₄ : List ℤ}
         → Cut (s .k * s .d) xs α y₁ → Cut (5 * s .d) y₁ δ y₂ → Cut (s .kappa2 * s .d) y₂ u₂ y₃ → Cut (s .r * s .d) y₃ c y₄
         → o ≡ take (openingSize 2 (s .n) (s .r) (s .kappa) (s .t1) (s .t2) * s .d) y₄
         → {sizes : Sizes} → sizes ≡ foldSizes s
-        → answer ≡ verification (statementOf sizes A B C D whole term) (drawsOf rows ψ ω α δ c) (transcriptOf u₁ p b″ u₂) o
-        → answer ≡ lastStage s A B C D whole term u₁ rows p ψ ω b″ xs
+        → answer ≡ verification (statementOf sizes A B C D whole constantTerms) (drawsOf projections ψ ω α δ c) (transcriptOf u₁ p b″ u₂) o
+        → answer ≡ lastStage s A B C D whole constantTerms u₁ projections p ψ ω b″ xs
     unfolding lastStage
     last-stage p ψ ω b″ c₁ c₂ c₃ c₄ c₅ q e =
         e ∙ rw (q, c₅, c₄ .first, c₄ .left, c₃ .first, c₃ .left, c₂ .first, c₂ .left, c₁ .first, c₁ .left) refl
 
     pub number-stage : {xs p ψ ω b″ y₁ y₂ y₃ y₄ : List ℤ}
         → Cut (s .w) xs p y₁ → Cut (5 * s .l) y₁ ψ y₂ → Cut (5 * s .w) y₂ ω y₃ → Cut (5 * s .d) y₃ b″ y₄
-        → answer ≡ lastStage s A B C D whole term u₁ rows p ψ ω b″ y₄ → answer ≡ numberStage s A B C D whole term u₁ rows xs
+        → answer ≡ lastStage s A B C D whole constantTerms u₁ projections p ψ ω b″ y₄ → answer ≡ numberStage s A B C D whole constantTerms u₁ projections xs
     unfolding numberStage
     number-stage c₁ c₂ c₃ c₄ e =
         e ∙ rw (c₄ .first, c₄ .left, c₃ .first, c₃ .left, c₂ .first, c₂ .left, c₁ .first, c₁ .left) refl
 
-  pub constraint-stage : {xs whole term u₁ rows y₁ y₂ y₃ y₄ : List ℤ}
-      → Cut (wholeLength (s .d) (s .n) (s .r) (s .k)) xs whole y₁ → Cut (termLength (s .d) (s .n) (s .r) (s .l)) y₁ term y₂
-      → Cut (s .kappa1 * s .d) y₂ u₁ y₃ → Cut (projectionLength (s .d) (s .n) (s .r) (s .w)) y₃ rows y₄
-      → answer ≡ numberStage s A B C D whole term u₁ rows y₄ → answer ≡ constraintStage s A B C D xs
+  pub constraint-stage : {xs whole constantTerms u₁ projections y₁ y₂ y₃ y₄ : List ℤ}
+      → Cut (wholeLength (s .d) (s .n) (s .r) (s .k)) xs whole y₁ → Cut (constantTermsLength (s .d) (s .n) (s .r) (s .l)) y₁ constantTerms y₂
+      → Cut (s .kappa1 * s .d) y₂ u₁ y₃ → Cut (projectionLength (s .d) (s .n) (s .r) (s .w)) y₃ projections y₄
+      → answer ≡ numberStage s A B C D whole constantTerms u₁ projections y₄ → answer ≡ constraintStage s A B C D xs
   unfolding constraintStage
   constraint-stage c₁ c₂ c₃ c₄ e =
       e ∙ rw (c₄ .first, c₄ .left, c₃ .first, c₃ .left, c₂ .first, c₂ .left, c₁ .first, c₁ .left) refl

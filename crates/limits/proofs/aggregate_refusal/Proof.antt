@@ -34,8 +34,8 @@ returns-2 c =
     let bounds = aggregateBounds (m .d) (m .n) (m .r) (a .l) (a .w) in
     unfit bounds 7 _ _ refl (c3 .aggregate-bounds .ensures) (c2 .if1 .left) fits (c .if2 .taken)
 
-rows-in-range-requires : tie.Need-rows-in-range-requires
-rows-in-range-requires c κs = c .before .are-projection-entries .ensures
+projections-in-range-requires : tie.Need-projections-in-range-requires
+projections-in-range-requires c κs = c .before .are-projection-entries .ensures
 
 returns-3 : tie.Need-returns-3
 unfolding aggregateTests
@@ -58,7 +58,7 @@ returns-3 c =
     let bounds = aggregateBounds (m .d) (m .n) (m .r) (a .l) (a .w) in
     fit bounds 7 _ _ refl (c11 .aggregate-bounds .ensures) (c10 .if1 .left) fits (c8 .if2 .left)
     (row 8 _
-    (c6 .are-coefficients .ensures & c5 .rows-in-range .ensures & c4 .are-coefficients2 .ensures
+    (c6 .are-coefficients .ensures & c5 .projections-in-range .ensures & c4 .are-coefficients2 .ensures
     & c3 .are-coefficients3 .ensures & c2 .are-coefficients4 .ensures & end) (c .first2 .ensures)
     (single 9 _ (c7 .are-projection-entries .ensures) (c1 .first .ensures) none))
 
@@ -72,7 +72,7 @@ aggregate-refusal-spec =
     returns-2
     (λ c κs. tt)
     (λ c κs. tt)
-    rows-in-range-requires
+    projections-in-range-requires
     (λ c κs. tt)
     (λ c κs. tt)
     (λ c κs. tt)

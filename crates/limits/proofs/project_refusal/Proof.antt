@@ -33,8 +33,8 @@ returns-2 c =
     let fits = c1 .project-lengths .ensures in
     unfit (projectBounds (m .d) (m .n) (m .r) (a .w)) 7 _ _ refl (c3 .project-bounds .ensures) (c2 .if1 .left) fits (c .if2 .taken)
 
-rows-in-range-requires : tie.Need-rows-in-range-requires
-rows-in-range-requires c κs = c .are-projection-entries .ensures
+projections-in-range-requires : tie.Need-projections-in-range-requires
+projections-in-range-requires c κs = c .are-projection-entries .ensures
 
 returns-3 : tie.Need-returns-3
 unfolding projectTests
@@ -52,7 +52,7 @@ returns-3 c =
     let m = a .shape in
     let fits = c6 .project-lengths .ensures in
     fit (projectBounds (m .d) (m .n) (m .r) (a .w)) 7 _ _ refl (c8 .project-bounds .ensures) (c7 .if1 .left) fits (c5 .if2 .left)
-    (row 8 _ (c3 .rows-in-range .ensures & c2 .are-coefficients .ensures & end) (c .first2 .ensures)
+    (row 8 _ (c3 .projections-in-range .ensures & c2 .are-coefficients .ensures & end) (c .first2 .ensures)
     (single 9 _ (c4 .are-projection-entries .ensures) (c1 .first .ensures) none))
 
 pub project-refusal-spec : {M : Type 1} → statement M
@@ -64,7 +64,7 @@ project-refusal-spec =
     project-lengths-requires
     returns-2
     (λ c κs. tt)
-    rows-in-range-requires
+    projections-in-range-requires
     (λ c κs. tt)
     (λ c κs. tt)
     (λ c κs. tt)

@@ -8,7 +8,7 @@ use lib.Dec.{leb, eqb, lit≤}
 use lib.ListN.{take, drop}
 use lib.IntN.{ℤ, pos}
 use borrow.Author.Tests.{le-leb}
-use Rattle.residues.specs.Range.{coefficients, projections, challenge}
+use Rattle.residues.specs.Range.{coefficients, projectionEntries, challenge}
 use Rattle.residues.specs.Laws.RangeLaws.{allWithin-mono}
 use Rattle.ring.specs.Laws.ElementEquality.{every-zero, every-next}
 use Rattle.fold.specs.Refusals.{allOf, anyOf, between, degree, challenges}
@@ -76,9 +76,9 @@ unfolding degree
 degree-tests d = either-anyOf (eqb d 2) (eqb d 4 ∷ eqb d 8 ∷ eqb d 16 ∷ eqb d 32 ∷ eqb d 64 ∷ [])
 
 -- -1, 0 and 1 are in coefficient range: row 9 gives row 8
-pub projections-coefficients : (xs : List ℤ) → projections xs ≡ true → coefficients xs ≡ true
-unfolding projections coefficients
-projections-coefficients xs e = allWithin-mono 1 2147483598 xs (lit≤ tt) e
+pub projection-entries-coefficients : (xs : List ℤ) → projectionEntries xs ≡ true → coefficients xs ≡ true
+unfolding projectionEntries coefficients
+projection-entries-coefficients xs e = allWithin-mono 1 2147483598 xs (lit≤ tt) e
 
 -- ---- the loop of `challenges`: all says that the first i elements keep the rule, and one is the test of the next
 

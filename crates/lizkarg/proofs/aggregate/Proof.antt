@@ -6,12 +6,12 @@ use Rattle.lizkarg.proofs.aggregate.Tie as tie
 returns : tie.Need-returns
 returns c = aggregate-refused _ _ _ _ _ _ _ _ _ (c .before .aggregate-refusal .ensures) (c .if1 .taken)
 
-write-b2-requires : tie.Need-write-b2-requires
-write-b2-requires c κs =
+write-second-b-requires : tie.Need-write-second-b-requires
+write-second-b-requires c κs =
     (aggregate-facts _ _ _ _ _ _ _ _ _ (c .before .before .aggregate-refusal .ensures) (c .before .if1 .left), aggregate-room _ _ _ _ _ _ _ _ _ (c .before .before .aggregate-refusal .ensures) (c .before .if1 .left))
 
 returns-2 : tie.Need-returns-2
-returns-2 c = aggregate-written _ _ _ _ _ _ _ _ _ (c .before .before .before .before .aggregate-refusal .ensures) (c .before .before .before .if1 .left) (c .before .write-b2 .ensures)
+returns-2 c = aggregate-written _ _ _ _ _ _ _ _ _ (c .before .before .before .before .aggregate-refusal .ensures) (c .before .before .before .if1 .left) (c .before .write-second-b .ensures)
 
 pub aggregate-spec : {M : Type 1} → statement M
 aggregate-spec =
@@ -20,6 +20,6 @@ aggregate-spec =
     (λ c κs. tt)
     (λ c. search needs)
     returns
-    write-b2-requires
+    write-second-b-requires
     (λ c. search needs)
     returns-2)

@@ -130,73 +130,73 @@ module _ (sizes : CommitSizes) (A B C s t g u : List ℤ) {x : ℕ} (number : x 
 
 -- ---- message 2
 
-module _ {shape : Shape} {w : ℕ} {rows s v : List ℤ} {x : ℕ} (number : x ≡ projectRefusal shape w rows s v) where
-  pub project-refused : (x ≡ 0 → ⊥) → Projected shape w rows s v (Refused x) v
+module _ {shape : Shape} {w : ℕ} {projections s v : List ℤ} {x : ℕ} (number : x ≡ projectRefusal shape w projections s v) where
+  pub project-refused : (x ≡ 0 → ⊥) → Projected shape w projections s v (Refused x) v
   project-refused some =
-      record { answer-is = refused Written number some; p-is = kept (p (shape .d) (shape .n) (shape .r) w rows s) v number some }
+      record { answer-is = refused Written number some; p-is = kept (p (shape .d) (shape .n) (shape .r) w projections s) v number some }
 
-  pub project-facts : x ≡ 0 → ProjectFacts shape w rows s v
+  pub project-facts : x ≡ 0 → ProjectFacts shape w projections s v
   project-facts none =
       let facts = CallFacts.project-facts (sym number ∙ none) in
       record {
         shaped = facts .limits .shaped;
-        entries = facts .rows-entries;
-        matrix = facts .rows-length;
+        entries = facts .projections-entries;
+        matrix = facts .projections-length;
         witness = facts .s-length;
         output = facts .p-length;
       }
 
-  pub project-written : {v′ : List ℤ} → x ≡ 0 → v′ ≡ p (shape .d) (shape .n) (shape .r) w rows s → Projected shape w rows s v Written v′
+  pub project-written : {v′ : List ℤ} → x ≡ 0 → v′ ≡ p (shape .d) (shape .n) (shape .r) w projections s → Projected shape w projections s v Written v′
   project-written none new = record { answer-is = answers Written (sym number ∙ none); p-is = writes v (sym number ∙ none) new }
 
 -- ---- message 3
 
-module _ (shape : Shape) (L w : ℕ) (term rows ψ ω s v : List ℤ) {x : ℕ} (number : x ≡ aggregateRefusal shape L w term rows ψ ω s v) where
-  pub aggregate-refused : (x ≡ 0 → ⊥) → Aggregated shape L w term rows ψ ω s v (Refused x) v
+module _ (shape : Shape) (L w : ℕ) (constantTerms projections ψ ω s v : List ℤ) {x : ℕ} (number : x ≡ aggregateRefusal shape L w constantTerms projections ψ ω s v) where
+  pub aggregate-refused : (x ≡ 0 → ⊥) → Aggregated shape L w constantTerms projections ψ ω s v (Refused x) v
   aggregate-refused some =
       record {
         answer-is = refused Written number some;
-        b-is = kept (b″ (shape .d) (shape .n) (shape .r) L w term rows ψ ω s) v number some;
+        b-is = kept (b″ (shape .d) (shape .n) (shape .r) L w constantTerms projections ψ ω s) v number some;
       }
 
-  pub aggregate-facts : x ≡ 0 → ValueFacts (shape .d) (shape .n) (shape .r) L w term rows ψ ω s
+  pub aggregate-facts : x ≡ 0 → ValueFacts (shape .d) (shape .n) (shape .r) L w constantTerms projections ψ ω s
   aggregate-facts none = AggregationFacts.value-facts (CallFacts.aggregate-facts {b″ = v} (sym number ∙ none))
 
   pub aggregate-room : x ≡ 0 → length v ≡ 5 * shape .d
   aggregate-room none = CallFacts.aggregate-facts {b″ = v} (sym number ∙ none) .b″-length
 
-  pub aggregate-written : {v′ : List ℤ} → x ≡ 0 → v′ ≡ b″ (shape .d) (shape .n) (shape .r) L w term rows ψ ω s
-      → Aggregated shape L w term rows ψ ω s v Written v′
+  pub aggregate-written : {v′ : List ℤ} → x ≡ 0 → v′ ≡ b″ (shape .d) (shape .n) (shape .r) L w constantTerms projections ψ ω s
+      → Aggregated shape L w constantTerms projections ψ ω s v Written v′
   aggregate-written none new = record { answer-is = answers Written (sym number ∙ none); b-is = writes v (sym number ∙ none) new }
 
 -- ---- message 4
 
-module _ (sizes : GarbageSizes) (whole term rows ψ ω α δ D s h u : List ℤ) {x : ℕ}
-    (number : x ≡ garbageRefusal sizes whole term rows ψ ω α δ D s h u) where
+module _ (sizes : GarbageSizes) (whole constantTerms projections ψ ω α δ D s h u : List ℤ) {x : ℕ}
+    (number : x ≡ garbageRefusal sizes whole constantTerms projections ψ ω α δ D s h u) where
   garbage-found : x ≡ 0
       → CallFacts.GarbageFacts (sizes .d) (sizes .n) (sizes .r) (sizes .k) (sizes .l) (sizes .w) (sizes .kappa2) (sizes .b1) (sizes .t1)
-      whole term rows ψ ω α δ D s h u
+      whole constantTerms projections ψ ω α δ D s h u
   garbage-found none = CallFacts.garbage-facts (sym number ∙ none)
 
-  pub garbage-refused : (x ≡ 0 → ⊥) → GarbageCommitted sizes whole term rows ψ ω α δ D s h u (Refused x) h u
+  pub garbage-refused : (x ≡ 0 → ⊥) → GarbageCommitted sizes whole constantTerms projections ψ ω α δ D s h u (Refused x) h u
   garbage-refused some =
       record {
         answer-is = refused Written number some;
-        h-is = kept (hOf sizes whole term rows ψ ω α δ s) h number some;
-        u-is = kept (u₂ (sizes .d) (sizes .r) (sizes .kappa2) (sizes .t1) D (hOf sizes whole term rows ψ ω α δ s)) u number some;
+        h-is = kept (hOf sizes whole constantTerms projections ψ ω α δ s) h number some;
+        u-is = kept (u₂ (sizes .d) (sizes .r) (sizes .kappa2) (sizes .t1) D (hOf sizes whole constantTerms projections ψ ω α δ s)) u number some;
       }
 
   pub garbage-h : x ≡ 0
-      → HFacts (sizes .d) (sizes .n) (sizes .r) (sizes .k) (sizes .l) (sizes .w) (sizes .b1) (sizes .t1) whole term rows ψ ω α δ s h
+      → HFacts (sizes .d) (sizes .n) (sizes .r) (sizes .k) (sizes .l) (sizes .w) (sizes .b1) (sizes .t1) whole constantTerms projections ψ ω α δ s h
   garbage-h none = AggregationFacts.h-facts (garbage-found none)
 
   pub garbage-u : {h′ : List ℤ} → x ≡ 0 → length h′ ≡ length h
       → AggregationFacts.OuterFacts (sizes .d) (sizes .r) (sizes .kappa2) (sizes .t1) D h′ u
   garbage-u none long = AggregationFacts.outer-facts (garbage-found none) long
 
-  pub garbage-written : {h′ u′ : List ℤ} → x ≡ 0 → h′ ≡ hOf sizes whole term rows ψ ω α δ s
+  pub garbage-written : {h′ u′ : List ℤ} → x ≡ 0 → h′ ≡ hOf sizes whole constantTerms projections ψ ω α δ s
       → u′ ≡ u₂ (sizes .d) (sizes .r) (sizes .kappa2) (sizes .t1) D h′
-      → GarbageCommitted sizes whole term rows ψ ω α δ D s h u Written h′ u′
+      → GarbageCommitted sizes whole constantTerms projections ψ ω α δ D s h u Written h′ u′
   garbage-written none h-new u-new =
       let zero-is = sym number ∙ none in
       record {

@@ -35,18 +35,18 @@ front n = take n (replicate 32768 (pos 77))
 -- ---- kind 1
 
 module _ {sizes : Sizes} {ν μ : ℕ} {code : CAnswer} {out′ : List ℤ} where
-  pub next-of-lists : (lists : List ℤ) {out A B C D whole term u₁ rows p ψ ω b″ α δ u₂ c : List ℤ}
+  pub next-of-lists : (lists : List ℤ) {out A B C D whole constantTerms u₁ projections p ψ ω b″ α δ u₂ c : List ℤ}
       → A ≡ nthList 0 lists → B ≡ nthList 1 lists → C ≡ nthList 2 lists → D ≡ nthList 3 lists
-      → whole ≡ nthList 4 lists → term ≡ nthList 5 lists → u₁ ≡ nthList 6 lists → rows ≡ nthList 7 lists
+      → whole ≡ nthList 4 lists → constantTerms ≡ nthList 5 lists → u₁ ≡ nthList 6 lists → projections ≡ nthList 7 lists
       → p ≡ nthList 8 lists → ψ ≡ nthList 9 lists → ω ≡ nthList 10 lists → b″ ≡ nthList 11 lists
       → α ≡ nthList 12 lists → δ ≡ nthList 13 lists → u₂ ≡ nthList 14 lists → c ≡ nthList 15 lists
       → Coded
-      (λ answer. NextCalled (statementOf sizes A B C D whole term) (drawsOf rows ψ ω α δ c) (transcriptOf u₁ p b″ u₂) ν μ out answer out′) code
+      (λ answer. NextCalled (statementOf sizes A B C D whole constantTerms) (drawsOf projections ψ ω α δ c) (transcriptOf u₁ p b″ u₂) ν μ out answer out′) code
       → NextOfLists sizes ν μ lists out code out′
-  next-of-lists lists {out = out} A B C D whole term u₁ rows p ψ ω b″ α δ u₂ c called =
+  next-of-lists lists {out = out} A B C D whole constantTerms u₁ projections p ψ ω b″ α δ u₂ c called =
       coe 0 1
       (i. Coded
-      (λ answer. NextCalled (statementOf sizes (A i) (B i) (C i) (D i) (whole i) (term i)) (drawsOf (rows i) (ψ i) (ω i) (α i) (δ i) (c i))
+      (λ answer. NextCalled (statementOf sizes (A i) (B i) (C i) (D i) (whole i) (constantTerms i)) (drawsOf (projections i) (ψ i) (ω i) (α i) (δ i) (c i))
       (transcriptOf (u₁ i) (p i) (b″ i) (u₂ i)) ν μ out answer out′)
       code)
       called
@@ -79,35 +79,35 @@ module _ {sizes : Sizes} {s lengths m : List ℤ} {code : CAnswer} {m′ : List 
         keeps = keeps;
       }
 
-  pub projecting : {rows p′ : List ℤ} {n : ℕ} → n ≡ sizeAt 32768 lengths 5
-      → Coded (λ answer. Projected (shapeOf sizes) (sizes .w) rows s (front n) answer p′) code → m′ ≡ kept m lengths 5 p′
-      → Projecting sizes rows s lengths m code m′
-  projecting {rows} {p′} n called keeps =
+  pub projecting : {projections p′ : List ℤ} {n : ℕ} → n ≡ sizeAt 32768 lengths 5
+      → Coded (λ answer. Projected (shapeOf sizes) (sizes .w) projections s (front n) answer p′) code → m′ ≡ kept m lengths 5 p′
+      → Projecting sizes projections s lengths m code m′
+  projecting {projections} {p′} n called keeps =
       let p = blank-is 32768 lengths 5 n in
       record {
         p′ = p′;
-        called = coe 0 1 (i. Coded (λ answer. Projected (shapeOf sizes) (sizes .w) rows s (p i) answer p′) code) called;
+        called = coe 0 1 (i. Coded (λ answer. Projected (shapeOf sizes) (sizes .w) projections s (p i) answer p′) code) called;
         keeps = keeps;
       }
 
-  pub aggregating : {term rows ψ draws ω b′ : List ℤ} {n : ℕ} → ω ≡ nthList 0 draws
+  pub aggregating : {constantTerms projections ψ draws ω b′ : List ℤ} {n : ℕ} → ω ≡ nthList 0 draws
       → n ≡ sizeAt 32768 lengths 6
-      → Coded (λ answer. Aggregated (shapeOf sizes) (sizes .l) (sizes .w) term rows ψ ω s (front n) answer b′) code → m′ ≡ kept m lengths 6 b′
-      → Aggregating sizes term rows ψ draws s lengths m code m′
-  aggregating {term} {rows} {ψ} {b′ = b′} ω n called keeps =
+      → Coded (λ answer. Aggregated (shapeOf sizes) (sizes .l) (sizes .w) constantTerms projections ψ ω s (front n) answer b′) code → m′ ≡ kept m lengths 6 b′
+      → Aggregating sizes constantTerms projections ψ draws s lengths m code m′
+  aggregating {constantTerms} {projections} {ψ} {b′ = b′} ω n called keeps =
       let b = blank-is 32768 lengths 6 n in
       record {
         b′ = b′;
-        called = coe 0 1 (i. Coded (λ answer. Aggregated (shapeOf sizes) (sizes .l) (sizes .w) term rows ψ (ω i) s (b i) answer b′) code) called;
+        called = coe 0 1 (i. Coded (λ answer. Aggregated (shapeOf sizes) (sizes .l) (sizes .w) constantTerms projections ψ (ω i) s (b i) answer b′) code) called;
         keeps = keeps;
       }
 
-  pub garbage-committing : {setup whole term rows ψ draws ω α δ D h′ u′ : List ℤ} {k n : ℕ}
+  pub garbage-committing : {setup whole constantTerms projections ψ draws ω α δ D h′ u′ : List ℤ} {k n : ℕ}
       → ω ≡ nthList 0 draws → α ≡ nthList 1 draws → δ ≡ nthList 2 draws → D ≡ nthList 3 setup
       → k ≡ sizeAt 32768 lengths 3 → n ≡ sizeAt 32768 lengths 7
-      → Coded (λ answer. GarbageCommitted (garbageSizesOf sizes) whole term rows ψ ω α δ D s (front k) (front n) answer h′ u′) code
-      → m′ ≡ kept (kept m lengths 3 h′) lengths 7 u′ → GarbageCommitting sizes setup whole term rows ψ draws s lengths m code m′
-  garbage-committing {whole = whole} {term = term} {rows = rows} {ψ = ψ} {h′ = h′} {u′ = u′} ω α δ D k n called keeps =
+      → Coded (λ answer. GarbageCommitted (garbageSizesOf sizes) whole constantTerms projections ψ ω α δ D s (front k) (front n) answer h′ u′) code
+      → m′ ≡ kept (kept m lengths 3 h′) lengths 7 u′ → GarbageCommitting sizes setup whole constantTerms projections ψ draws s lengths m code m′
+  garbage-committing {whole = whole} {constantTerms = constantTerms} {projections = projections} {ψ = ψ} {h′ = h′} {u′ = u′} ω α δ D k n called keeps =
       let h = blank-is 32768 lengths 3 k in
       let u = blank-is 32768 lengths 7 n in
       record {
@@ -115,7 +115,7 @@ module _ {sizes : Sizes} {s lengths m : List ℤ} {code : CAnswer} {m′ : List 
         u′ = u′;
         called =
             coe 0 1
-            (i. Coded (λ answer. GarbageCommitted (garbageSizesOf sizes) whole term rows ψ (ω i) (α i) (δ i) (D i) s (h i) (u i) answer h′ u′) code)
+            (i. Coded (λ answer. GarbageCommitted (garbageSizesOf sizes) whole constantTerms projections ψ (ω i) (α i) (δ i) (D i) s (h i) (u i) answer h′ u′) code)
             called;
         keeps = keeps;
       }
@@ -132,45 +132,45 @@ module _ {sizes : Sizes} {s lengths m : List ℤ} {code : CAnswer} {m′ : List 
       }
 
 -- what the verifier and the next instance are given after a fold
-module _ (sizes : Sizes) (setup whole term rows ψ draws lengths m : List ℤ) {A B C D ω α δ c u₁ p b″ u₂ : List ℤ}
+module _ (sizes : Sizes) (setup whole constantTerms projections ψ draws lengths m : List ℤ) {A B C D ω α δ c u₁ p b″ u₂ : List ℤ}
     (A-is : A ≡ nthList 0 setup) (B-is : B ≡ nthList 1 setup) (C-is : C ≡ nthList 2 setup) (D-is : D ≡ nthList 3 setup)
     (ω-is : ω ≡ nthList 0 draws) (α-is : α ≡ nthList 1 draws) (δ-is : δ ≡ nthList 2 draws) (c-is : c ≡ nthList 3 draws)
     (u₁-is : u₁ ≡ messageOf m lengths 4) (p-is : p ≡ messageOf m lengths 5) (b″-is : b″ ≡ messageOf m lengths 6)
     (u₂-is : u₂ ≡ messageOf m lengths 7) where
   pub verdict-of : {opening : List ℤ} {code : CAnswer} → opening ≡ openingOf m lengths
       → code
-      ≡ codeOf (verification (statementOf sizes A B C D whole term) (drawsOf rows ψ ω α δ c) (transcriptOf u₁ p b″ u₂) opening)
-      → code ≡ verdictOf sizes setup whole term rows ψ draws lengths m
+      ≡ codeOf (verification (statementOf sizes A B C D whole constantTerms) (drawsOf projections ψ ω α δ c) (transcriptOf u₁ p b″ u₂) opening)
+      → code ≡ verdictOf sizes setup whole constantTerms projections ψ draws lengths m
   verdict-of opening-is e =
       e
       ∙ (λ i. codeOf
-      (verification (statementOf sizes (A-is i) (B-is i) (C-is i) (D-is i) whole term)
-      (drawsOf rows ψ (ω-is i) (α-is i) (δ-is i) (c-is i)) (transcriptOf (u₁-is i) (p-is i) (b″-is i) (u₂-is i)) (opening-is i)))
+      (verification (statementOf sizes (A-is i) (B-is i) (C-is i) (D-is i) whole constantTerms)
+      (drawsOf projections ψ (ω-is i) (α-is i) (δ-is i) (c-is i)) (transcriptOf (u₁-is i) (p-is i) (b″-is i) (u₂-is i)) (opening-is i)))
 
   pub next-of-fold : {ν μ : ℕ} {out out′ : List ℤ} {code : CAnswer}
       → Coded
-      (λ answer. NextCalled (statementOf sizes A B C D whole term) (drawsOf rows ψ ω α δ c) (transcriptOf u₁ p b″ u₂) ν μ out answer out′) code
-      → NextOfFold sizes ν μ setup whole term rows ψ draws lengths m out code out′
+      (λ answer. NextCalled (statementOf sizes A B C D whole constantTerms) (drawsOf projections ψ ω α δ c) (transcriptOf u₁ p b″ u₂) ν μ out answer out′) code
+      → NextOfFold sizes ν μ setup whole constantTerms projections ψ draws lengths m out code out′
   next-of-fold {ν} {μ} {out} {out′} {code} called =
       coe 0 1
       (i. Coded
-      (λ answer. NextCalled (statementOf sizes (A-is i) (B-is i) (C-is i) (D-is i) whole term)
-      (drawsOf rows ψ (ω-is i) (α-is i) (δ-is i) (c-is i)) (transcriptOf (u₁-is i) (p-is i) (b″-is i) (u₂-is i)) ν μ out answer out′)
+      (λ answer. NextCalled (statementOf sizes (A-is i) (B-is i) (C-is i) (D-is i) whole constantTerms)
+      (drawsOf projections ψ (ω-is i) (α-is i) (δ-is i) (c-is i)) (transcriptOf (u₁-is i) (p-is i) (b″-is i) (u₂-is i)) ν μ out answer out′)
       code)
       called
 
 -- ---- kind 3
 
-pub first-run : {sizes : Sizes} {ν μ : ℕ} {lists lengths m m′ out out′ whole term rows ψ draws s : List ℤ} {verdict code : CAnswer}
-    → whole ≡ nthList 4 lists → term ≡ nthList 5 lists → rows ≡ nthList 6 lists → ψ ≡ nthList 7 lists → draws ≡ pastLists 8 lists
-    → s ≡ nthList 12 lists → Folded sizes lists whole term rows ψ draws s lengths m verdict m′
-    → NextOfFold sizes ν μ lists whole term rows ψ draws lengths m′ out code out′ → FirstRun sizes ν μ lists lengths m m′ out out′
-first-run {sizes} {ν} {μ} {lists} {lengths} {m} {m′} {out} {out′} {verdict = verdict} {code = code} whole term rows ψ draws s folded called =
+pub first-run : {sizes : Sizes} {ν μ : ℕ} {lists lengths m m′ out out′ whole constantTerms projections ψ draws s : List ℤ} {verdict code : CAnswer}
+    → whole ≡ nthList 4 lists → constantTerms ≡ nthList 5 lists → projections ≡ nthList 6 lists → ψ ≡ nthList 7 lists → draws ≡ pastLists 8 lists
+    → s ≡ nthList 12 lists → Folded sizes lists whole constantTerms projections ψ draws s lengths m verdict m′
+    → NextOfFold sizes ν μ lists whole constantTerms projections ψ draws lengths m′ out code out′ → FirstRun sizes ν μ lists lengths m m′ out out′
+first-run {sizes} {ν} {μ} {lists} {lengths} {m} {m′} {out} {out′} {verdict = verdict} {code = code} whole constantTerms projections ψ draws s folded called =
     record {
       verdict = verdict;
-      folded = coe 0 1 (i. Folded sizes lists (whole i) (term i) (rows i) (ψ i) (draws i) (s i) lengths m verdict m′) folded;
+      folded = coe 0 1 (i. Folded sizes lists (whole i) (constantTerms i) (projections i) (ψ i) (draws i) (s i) lengths m verdict m′) folded;
       code = code;
-      called = coe 0 1 (i. NextOfFold sizes ν μ lists (whole i) (term i) (rows i) (ψ i) (draws i) lengths m′ out code out′) called;
+      called = coe 0 1 (i. NextOfFold sizes ν μ lists (whole i) (constantTerms i) (projections i) (ψ i) (draws i) lengths m′ out code out′) called;
     }
 
 -- an array that is filled whole
@@ -178,13 +178,13 @@ all-filled : replicate 32768 (pos 77) ≡ filled 32768
 unfolding filled
 all-filled = refl
 
-pub second-run : {sizes : Sizes} {whole s lists rows draws lengths m′ : List ℤ} {verdict : CAnswer} → rows ≡ nthList 4 lists
+pub second-run : {sizes : Sizes} {whole s lists projections draws lengths m′ : List ℤ} {verdict : CAnswer} → projections ≡ nthList 4 lists
     → draws ≡ pastLists 5 lists → lengths ≡ pastLists 9 lists
-    → Folded sizes lists whole [] rows [] draws s lengths (replicate 32768 (pos 77)) verdict m′ → SecondRun sizes whole s lists verdict
-second-run {sizes} {whole} {s} {lists} {m′ = m′} {verdict = verdict} rows draws lengths folded =
+    → Folded sizes lists whole [] projections [] draws s lengths (replicate 32768 (pos 77)) verdict m′ → SecondRun sizes whole s lists verdict
+second-run {sizes} {whole} {s} {lists} {m′ = m′} {verdict = verdict} projections draws lengths folded =
     record {
       m′ = m′;
-      folded = coe 0 1 (i. Folded sizes lists whole [] (rows i) [] (draws i) s (lengths i) (all-filled i) verdict m′) folded;
+      folded = coe 0 1 (i. Folded sizes lists whole [] (projections i) [] (draws i) s (lengths i) (all-filled i) verdict m′) folded;
     }
 
 -- the witness as it is written

@@ -85,67 +85,67 @@ by-order κ κ₁ κ₂ x P inside h = first (ltb x κ) refl
     first true b = h .five (ltb-true x κ b)
     first false b = rest (x - κ) (sym (add-sub-of-le (ltb-false x κ b)))
 
-module _ (s : Sizes) (fits : VerifySized s) (A B C D c whole term rows ψ ω α δ : List ℤ) (𝓣 : Transcript) (ν μ x : ℕ)
+module _ (s : Sizes) (fits : VerifySized s) (A B C D c whole constantTerms projections ψ ω α δ : List ℤ) (𝓣 : Transcript) (ν μ x : ℕ)
     (x-inside : x < nextCount (s .kappa) (s .kappa1) (s .kappa2)) where
   abbrev 𝓢 : Statement
-  𝓢 = statementOf s A B C D whole term
+  𝓢 = statementOf s A B C D whole constantTerms
 
   abbrev 𝓓 : Draws
-  𝓓 = drawsOf rows ψ ω α δ c
+  𝓓 = drawsOf projections ψ ω α δ c
 
   abbrev of : Constraint (s .d)
   of = constraint 𝓢 𝓓 𝓣 ν μ x
 
-  module _ {folded products relation diagonal : List ℤ} (p : ℕ) (inside : p < openingSize 2 (s .n) (s .r) (s .kappa) (s .t1) (s .t2))
-      (tables : Tables (s .d) (s .n) (s .r) (s .k) (s .l) (s .w) whole term rows ψ ω α δ c folded products relation diagonal) where
+  module _ {folded products aggregatedA diagonal : List ℤ} (p : ℕ) (inside : p < openingSize 2 (s .n) (s .r) (s .kappa) (s .t1) (s .t2))
+      (tables : Tables (s .d) (s .n) (s .r) (s .k) (s .l) (s .w) whole constantTerms projections ψ ω α δ c folded products aggregatedA diagonal) where
     at-place : {u : Constraint (s .d)} → of ≡ u → getD (u .table) p (R (s .d) .zero) ≡ getD (of .table) p (R (s .d) .zero)
     at-place e = ap (λ v. getD (v .table) p (R (s .d) .zero)) (sym e)
 
     middle : (y : ℕ) → y < 3 → x ≡ s .kappa + y
-        → coefficientAt s A B C D c folded products relation diagonal x p ≡ middleEntry s folded products relation diagonal y p
+        → coefficientAt s A B C D c folded products aggregatedA diagonal x p ≡ middleEntry s folded products aggregatedA diagonal y p
     middle y l e =
         let rest : x - s .kappa ≡ y = omega arith in
-        step.coefficient-middle s p A B C D c folded products relation diagonal x (omega arith) (omega arith)
-        ∙ ap (λ z. middleEntry s folded products relation diagonal z p) rest
+        step.coefficient-middle s p A B C D c folded products aggregatedA diagonal x (omega arith) (omega arith)
+        ∙ ap (λ z. middleEntry s folded products aggregatedA diagonal z p) rest
 
-    outer : (y : ℕ) → x ≡ s .kappa + 3 + y → coefficientAt s A B C D c folded products relation diagonal x p ≡ outerEntry s B C D y p
+    outer : (y : ℕ) → x ≡ s .kappa + 3 + y → coefficientAt s A B C D c folded products aggregatedA diagonal x p ≡ outerEntry s B C D y p
     outer y e =
         let rest : x - (s .kappa + 3) ≡ y = omega arith in
-        step.coefficient-outer s p A B C D c folded products relation diagonal x (omega arith) (omega arith)
+        step.coefficient-outer s p A B C D c folded products aggregatedA diagonal x (omega arith) (omega arith)
         ∙ ap (λ z. outerEntry s B C D z p) rest
 
-    pub coefficient-is : coefficientAt s A B C D c folded products relation diagonal x p ≡ getD (of .table) p (R (s .d) .zero)
+    pub coefficient-is : coefficientAt s A B C D c folded products aggregatedA diagonal x p ≡ getD (of .table) p (R (s .d) .zero)
     coefficient-is = by-order (s .kappa) (s .kappa1) (s .kappa2) x _ x-inside (record {
       five = λ h.
-          step.coefficient-5 s p A B C D c folded products relation diagonal x h
-          ∙ is-5 s fits A B C D c whole term rows ψ ω α δ 𝓣 ν μ p inside x
+          step.coefficient-5 s p A B C D c folded products aggregatedA diagonal x h
+          ∙ is-5 s fits A B C D c whole constantTerms projections ψ ω α δ 𝓣 ν μ p inside x
           ∙ at-place (constraint-5 𝓢 𝓓 𝓣 ν μ x h);
       six = λ e.
           middle 0 (omega arith) (omega arith)
-          ∙ step.middle-6 s p folded products relation diagonal 0 refl
-          ∙ is-6 s fits A B C D c whole term rows ψ ω α δ 𝓣 ν μ p inside tables
+          ∙ step.middle-6 s p folded products aggregatedA diagonal 0 refl
+          ∙ is-6 s fits A B C D c whole constantTerms projections ψ ω α δ 𝓣 ν μ p inside tables
           ∙ at-place (constraint-6 𝓢 𝓓 𝓣 ν μ x e);
       seven = λ e.
           middle 1 (omega arith) e
-          ∙ step.middle-7 s p folded products relation diagonal 1 (λ n. omega arith) refl
-          ∙ is-7 s fits A B C D c whole term rows ψ ω α δ 𝓣 ν μ p inside tables
+          ∙ step.middle-7 s p folded products aggregatedA diagonal 1 (λ n. omega arith) refl
+          ∙ is-7 s fits A B C D c whole constantTerms projections ψ ω α δ 𝓣 ν μ p inside tables
           ∙ at-place (constraint-7 𝓢 𝓓 𝓣 ν μ x e);
       eight = λ e.
           middle 2 (omega arith) e
-          ∙ step.middle-8 s p folded products relation diagonal 2 (λ n. omega arith) (λ n. omega arith)
-          ∙ is-8 s fits A B C D c whole term rows ψ ω α δ 𝓣 ν μ p inside tables
+          ∙ step.middle-8 s p folded products aggregatedA diagonal 2 (λ n. omega arith) (λ n. omega arith)
+          ∙ is-8 s fits A B C D c whole constantTerms projections ψ ω α δ 𝓣 ν μ p inside tables
           ∙ at-place (constraint-8 𝓢 𝓓 𝓣 ν μ x e);
       three = λ k e l.
           outer k e
           ∙ step.outer-3 s p B C D k l
-          ∙ is-3 s fits A B C D c whole term rows ψ ω α δ 𝓣 ν μ p inside k
+          ∙ is-3 s fits A B C D c whole constantTerms projections ψ ω α δ 𝓣 ν μ p inside k
           ∙ at-place (constraint-3 𝓢 𝓓 𝓣 ν μ x k e l);
       four = λ k e l.
           let rest : s .kappa1 + k - s .kappa1 ≡ k = omega arith in
           outer (s .kappa1 + k) (omega arith)
           ∙ step.outer-4 s p B C D (s .kappa1 + k) (omega arith)
           ∙ ap (λ z. entry4 s D z p) rest
-          ∙ is-4 s fits A B C D c whole term rows ψ ω α δ 𝓣 ν μ p inside k
+          ∙ is-4 s fits A B C D c whole constantTerms projections ψ ω α δ 𝓣 ν μ p inside k
           ∙ at-place (constraint-4 𝓢 𝓓 𝓣 ν μ x k e l);
     })
 

@@ -59,17 +59,17 @@ module _ (s : Sizes) (p : ℕ) where
     unfolding entry7
     entry7-h l h = rw (le-ltb p (tFrom s) l, le-ltb p (hFrom s) h)
 
-  module _ (relation diagonal : List ℤ) where
-    pub entry8-before : p < gFrom s → entry8 s relation diagonal p ≡ R (s .d) .zero
+  module _ (aggregatedA diagonal : List ℤ) where
+    pub entry8-before : p < gFrom s → entry8 s aggregatedA diagonal p ≡ R (s .d) .zero
     unfolding entry8
     entry8-before h = rw (lt-ltb p (gFrom s) h)
 
     pub entry8-g : gFrom s ≤ p → p < hFrom s
-        → entry8 s relation diagonal p ≡ garbageEntry (s .d) (s .b2) (s .t2) relation (p - gFrom s)
+        → entry8 s aggregatedA diagonal p ≡ garbageEntry (s .d) (s .b2) (s .t2) aggregatedA (p - gFrom s)
     unfolding entry8
     entry8-g l h = rw (le-ltb p (gFrom s) l, lt-ltb p (hFrom s) h)
 
-    pub entry8-h : gFrom s ≤ p → hFrom s ≤ p → entry8 s relation diagonal p ≡ garbageEntry (s .d) (s .b1) (s .t1) diagonal (p - hFrom s)
+    pub entry8-h : gFrom s ≤ p → hFrom s ≤ p → entry8 s aggregatedA diagonal p ≡ garbageEntry (s .d) (s .b1) (s .t1) diagonal (p - hFrom s)
     unfolding entry8
     entry8-h l h = rw (le-ltb p (gFrom s) l, le-ltb p (hFrom s) h)
 
@@ -103,16 +103,16 @@ module _ (s : Sizes) (p : ℕ) where
 
   -- ---- the order of the constraints
 
-  module _ (folded products relation diagonal : List ℤ) (y : ℕ) where
-    pub middle-6 : y ≡ 0 → middleEntry s folded products relation diagonal y p ≡ entry6 s products p
+  module _ (folded products aggregatedA diagonal : List ℤ) (y : ℕ) where
+    pub middle-6 : y ≡ 0 → middleEntry s folded products aggregatedA diagonal y p ≡ entry6 s products p
     unfolding middleEntry
     middle-6 h = rw (eq-eqb y 0 h)
 
-    pub middle-7 : (y ≡ 0 → ⊥) → y ≡ 1 → middleEntry s folded products relation diagonal y p ≡ entry7 s folded products p
+    pub middle-7 : (y ≡ 0 → ⊥) → y ≡ 1 → middleEntry s folded products aggregatedA diagonal y p ≡ entry7 s folded products p
     unfolding middleEntry
     middle-7 h l = rw (ne-eqb y 0 h, eq-eqb y 1 l)
 
-    pub middle-8 : (y ≡ 0 → ⊥) → (y ≡ 1 → ⊥) → middleEntry s folded products relation diagonal y p ≡ entry8 s relation diagonal p
+    pub middle-8 : (y ≡ 0 → ⊥) → (y ≡ 1 → ⊥) → middleEntry s folded products aggregatedA diagonal y p ≡ entry8 s aggregatedA diagonal p
     unfolding middleEntry
     middle-8 h l = rw (ne-eqb y 0 h, ne-eqb y 1 l)
 
@@ -125,18 +125,18 @@ module _ (s : Sizes) (p : ℕ) where
     unfolding outerEntry
     outer-4 h = rw (le-ltb y (s .kappa1) h)
 
-  module _ (A B C D c folded products relation diagonal : List ℤ) (x : ℕ) where
-    pub coefficient-5 : x < s .kappa → coefficientAt s A B C D c folded products relation diagonal x p ≡ entry5 s A c x p
+  module _ (A B C D c folded products aggregatedA diagonal : List ℤ) (x : ℕ) where
+    pub coefficient-5 : x < s .kappa → coefficientAt s A B C D c folded products aggregatedA diagonal x p ≡ entry5 s A c x p
     unfolding coefficientAt
     coefficient-5 h = rw (lt-ltb x (s .kappa) h)
 
     pub coefficient-middle : s .kappa ≤ x → x < s .kappa + 3
-        → coefficientAt s A B C D c folded products relation diagonal x p
-        ≡ middleEntry s folded products relation diagonal (x - s .kappa) p
+        → coefficientAt s A B C D c folded products aggregatedA diagonal x p
+        ≡ middleEntry s folded products aggregatedA diagonal (x - s .kappa) p
     unfolding coefficientAt
     coefficient-middle l h = rw (le-ltb x (s .kappa) l, lt-ltb x (s .kappa + 3) h)
 
     pub coefficient-outer : s .kappa ≤ x → s .kappa + 3 ≤ x
-        → coefficientAt s A B C D c folded products relation diagonal x p ≡ outerEntry s B C D (x - (s .kappa + 3)) p
+        → coefficientAt s A B C D c folded products aggregatedA diagonal x p ≡ outerEntry s B C D (x - (s .kappa + 3)) p
     unfolding coefficientAt
     coefficient-outer l h = rw (le-ltb x (s .kappa) l, le-ltb x (s .kappa + 3) h)

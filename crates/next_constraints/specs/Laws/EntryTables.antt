@@ -90,12 +90,12 @@ module _ (s : Sizes) where
 
 -- ---- the checks
 
-module _ (s : Sizes) (fits : VerifySized s) (A B C D c whole term rows ψ ω α δ : List ℤ) (𝓣 : Transcript) (ν μ : ℕ) where
+module _ (s : Sizes) (fits : VerifySized s) (A B C D c whole constantTerms projections ψ ω α δ : List ℤ) (𝓣 : Transcript) (ν μ : ℕ) where
   abbrev 𝓢 : Statement
-  𝓢 = statementOf s A B C D whole term
+  𝓢 = statementOf s A B C D whole constantTerms
 
   abbrev 𝓓 : Draws
-  𝓓 = drawsOf rows ψ ω α δ c
+  𝓓 = drawsOf projections ψ ω α δ c
 
   abbrev Rd : Type 0
   Rd = R (s .d) .Carrier
@@ -222,8 +222,8 @@ module _ (s : Sizes) (fits : VerifySized s) (A B C D c whole term rows ψ ω α 
         long : Blocks noZ noT noG (tab hCount (λ y. el (s .d) D (k * hCount + y)))
         long = record { z-long = zeros-length (2 * s .n); t-long = zeros-length tCount; g-long = zeros-length gCount }
 
-    module _ {folded products relation diagonal : List ℤ}
-        (tables : Tables (s .d) (s .n) (s .r) (s .k) (s .l) (s .w) whole term rows ψ ω α δ c folded products relation diagonal) where
+    module _ {folded products aggregatedA diagonal : List ℤ}
+        (tables : Tables (s .d) (s .n) (s .r) (s .k) (s .l) (s .w) whole constantTerms projections ψ ω α δ c folded products aggregatedA diagonal) where
       t₁-some : 0 < s .t1
       t₁-some = omega (arith, fits .t₁-least)
 
@@ -262,14 +262,14 @@ module _ (s : Sizes) (fits : VerifySized s) (A B C D c whole term rows ψ ω α 
               (garbageTable (s .d) (s .r) (s .b1) (s .t1) (λ i j. R (s .d) .neg (product (s .d) (el (s .d) c) i j)))
           long = record { z-long = z-length _; t-long = zeros-length tCount; g-long = zeros-length gCount }
 
-      pub is-8 : entry8 s relation diagonal p ≡ getD (constraint₈ 𝓢 𝓓 𝓣 ν μ .table) p 𝟘
+      pub is-8 : entry8 s aggregatedA diagonal p ≡ getD (constraint₈ 𝓢 𝓓 𝓣 ν μ .table) p 𝟘
       is-8 = by-place s _ p
-          (λ h. step.entry8-before s p relation diagonal (t-next h) ∙ sym (at-z long p h ∙ zeros-at (s .d) (2 * s .n) p))
-          (λ l h. step.entry8-before s p relation diagonal h ∙ sym (at-t long p l h ∙ zeros-at (s .d) tCount (p - tFrom s)))
-          (λ l h. step.entry8-g s p relation diagonal l h
-          ∙ garbage-entry (s .d) (s .r) (s .b2) (s .t2) relation _ (tables .relation-is) (p - gFrom s) t₂-some (in-g l h)
+          (λ h. step.entry8-before s p aggregatedA diagonal (t-next h) ∙ sym (at-z long p h ∙ zeros-at (s .d) (2 * s .n) p))
+          (λ l h. step.entry8-before s p aggregatedA diagonal h ∙ sym (at-t long p l h ∙ zeros-at (s .d) tCount (p - tFrom s)))
+          (λ l h. step.entry8-g s p aggregatedA diagonal l h
+          ∙ garbage-entry (s .d) (s .r) (s .b2) (s .t2) aggregatedA _ (tables .aggregate-a-is) (p - gFrom s) t₂-some (in-g l h)
           ∙ sym (at-g long p l h))
-          (λ l. step.entry8-h s p relation diagonal (g-first l) l
+          (λ l. step.entry8-h s p aggregatedA diagonal (g-first l) l
           ∙ garbage-entry (s .d) (s .r) (s .b1) (s .t1) diagonal _ (tables .diagonal-is) (p - hFrom s) t₁-some (in-h l)
           ∙ sym (at-h long p l))
         where

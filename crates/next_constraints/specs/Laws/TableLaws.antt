@@ -31,7 +31,7 @@ use Rattle.fold.specs.Laws.WriterLaws.{length-elements, el-pairs}
 use Rattle.fold.specs.PairElements.{pairElements}
 use Rattle.constraints.specs.Laws.AggregatedLaws.{values-product}
 use Rattle.next_constraints.specs.Tables.{TableRoom, Tables}
-use Rattle.next_constraints.specs.Folded.{foldedTerm, foldedSum}
+use Rattle.next_constraints.specs.Folded.{foldedSummand, foldedSum}
 
 -- ---- the two values of a test for i = j
 
@@ -62,18 +62,18 @@ product-end d c i j factor degree is by product times scaled out =
     let counted = scaled ∙ ap₂ (λ x u. array d (R d .mul (number d x) u)) word (ap (lift d) once ∙ lift-array d _ small) in
     out ∙ ap (λ u. array d (R d .neg u)) (ap (lift d) counted ∙ lift-array d _ small)
 
-pub folded-term-end : (d n r K L w : ℕ) (whole term rows ψ ω α δ c : List ℤ) (k i : ℕ) {phi challenge out : List ℤ} → Degree d
-    → phi ≡ array d (aggregateΦ d n r K L w whole term rows ψ ω α δ (i * n + k)) → challenge ≡ array d (el d c i)
+pub folded-summand-end : (d n r K L w : ℕ) (whole constantTerms projections ψ ω α δ c : List ℤ) (k i : ℕ) {phi challenge out : List ℤ} → Degree d
+    → phi ≡ array d (aggregateΦ d n r K L w whole constantTerms projections ψ ω α δ (i * n + k)) → challenge ≡ array d (el d c i)
     → out ≡ array d (R d .mul (lift d phi) (lift d challenge))
-    → out ≡ array d (foldedTerm d n r K L w whole term rows ψ ω α δ c k i)
-unfolding foldedTerm
-folded-term-end d n r K L w whole term rows ψ ω α δ c k i degree is by out = values-product d degree _ _ is by out
+    → out ≡ array d (foldedSummand d n r K L w whole constantTerms projections ψ ω α δ c k i)
+unfolding foldedSummand
+folded-summand-end d n r K L w whole constantTerms projections ψ ω α δ c k i degree is by out = values-product d degree _ _ is by out
 
-pub folded-end : (d n r K L w : ℕ) (whole term rows ψ ω α δ c : List ℤ) (k : ℕ) {out : List ℤ}
-    → out ≡ array d (sum (R d) r (foldedTerm d n r K L w whole term rows ψ ω α δ c k))
-    → out ≡ array d (foldedSum d n r K L w whole term rows ψ ω α δ c k)
+pub folded-end : (d n r K L w : ℕ) (whole constantTerms projections ψ ω α δ c : List ℤ) (k : ℕ) {out : List ℤ}
+    → out ≡ array d (sum (R d) r (foldedSummand d n r K L w whole constantTerms projections ψ ω α δ c k))
+    → out ≡ array d (foldedSum d n r K L w whole constantTerms projections ψ ω α δ c k)
 unfolding foldedSum
-folded-end d n r K L w whole term rows ψ ω α δ c k out = out
+folded-end d n r K L w whole constantTerms projections ψ ω α δ c k out = out
 
 -- ---- the lists read back
 
@@ -87,33 +87,33 @@ el-written d m x old written e h =
     ∙ (rw (zero-mul d, zero-add e) at (el-overs d old (elements d m x) 0 m e within (length-elements d m x) h))
     ∙ el-flat-coeffs d m x e h
 
-folded-sum : (d n r K L w : ℕ) (whole term rows ψ ω α δ c : List ℤ) (k : ℕ)
-    → foldedSum d n r K L w whole term rows ψ ω α δ c k
-    ≡ sum (R d) r (λ i. R d .mul (aggregate d n r K L w whole term rows ψ ω α δ .φ i k) (el d c i))
-unfolding foldedSum foldedTerm
-folded-sum d n r K L w whole term rows ψ ω α δ c k =
-    sum-cong (R d) r _ _ (λ i _. ap (λ u. R d .mul u (el d c i)) (sym (aggregate-φ d n r L w term rows ψ ω K whole α δ i k)))
+folded-sum : (d n r K L w : ℕ) (whole constantTerms projections ψ ω α δ c : List ℤ) (k : ℕ)
+    → foldedSum d n r K L w whole constantTerms projections ψ ω α δ c k
+    ≡ sum (R d) r (λ i. R d .mul (aggregate d n r K L w whole constantTerms projections ψ ω α δ .φ i k) (el d c i))
+unfolding foldedSum foldedSummand
+folded-sum d n r K L w whole constantTerms projections ψ ω α δ c k =
+    sum-cong (R d) r _ _ (λ i _. ap (λ u. R d .mul u (el d c i)) (sym (aggregate-φ d n r L w constantTerms projections ψ ω K whole α δ i k)))
 
 pair-place : (r i j : ℕ) → i ≤ j → j < r → pair r i j < pairs r
 unfolding pairs
 pair-place r i j h l = pair-bound r i j h l
 
-pub tables-of : (d n r K L w : ℕ) (whole term rows ψ ω α δ c : List ℤ) (folded products relation diagonal : List ℤ)
-    {folded′ products′ relation′ diagonal′ : List ℤ}
-    → TableRoom d n r folded products relation diagonal
-    → folded′ ≡ over folded 0 (elements d n (foldedSum d n r K L w whole term rows ψ ω α δ c))
+pub tables-of : (d n r K L w : ℕ) (whole constantTerms projections ψ ω α δ c : List ℤ) (folded products aggregatedA diagonal : List ℤ)
+    {folded′ products′ aggregatedA′ diagonal′ : List ℤ}
+    → TableRoom d n r folded products aggregatedA diagonal
+    → folded′ ≡ over folded 0 (elements d n (foldedSum d n r K L w whole constantTerms projections ψ ω α δ c))
     → products′ ≡ over products 0 (pairElements d r (λ i j. R d .neg (product d (el d c) i j)))
-    → relation′ ≡ over relation 0 (elements d (pairs r) (aggregateA d n r K L whole term ψ α δ))
+    → aggregatedA′ ≡ over aggregatedA 0 (elements d (pairs r) (aggregateA d n r K L whole constantTerms ψ α δ))
     → diagonal′ ≡ over diagonal 0 (pairElements d r (λ i j. cond (eqb i j) (R d .one) (R d .zero)))
-    → Tables d n r K L w whole term rows ψ ω α δ c folded′ products′ relation′ diagonal′
-tables-of d n r K L w whole term rows ψ ω α δ c folded products relation diagonal room φ g a δ′ =
+    → Tables d n r K L w whole constantTerms projections ψ ω α δ c folded′ products′ aggregatedA′ diagonal′
+tables-of d n r K L w whole constantTerms projections ψ ω α δ c folded products aggregatedA diagonal room φ g a δ′ =
     record {
-      folded-is = λ k h. el-written d n _ folded φ k h ∙ folded-sum d n r K L w whole term rows ψ ω α δ c k;
+      folded-is = λ k h. el-written d n _ folded φ k h ∙ folded-sum d n r K L w whole constantTerms projections ψ ω α δ c k;
       products-is = λ i j h l.
           ap (λ (xs : List ℤ). el d xs (pair r i j)) g ∙ el-pairs d r _ products (room .products-length) i j h l;
-      relation-is = λ i j h l.
-          el-written d (pairs r) _ relation a (pair r i j) (pair-place r i j h l)
-          ∙ sym (aggregate-a d n r L w term rows ψ ω K whole α δ i j);
+      aggregate-a-is = λ i j h l.
+          el-written d (pairs r) _ aggregatedA a (pair r i j) (pair-place r i j h l)
+          ∙ sym (aggregate-a d n r L w constantTerms projections ψ ω K whole α δ i j);
       diagonal-is = λ i j h l.
           ap (λ (xs : List ℤ). el d xs (pair r i j)) δ′ ∙ el-pairs d r _ diagonal (room .diagonal-length) i j h l;
     }

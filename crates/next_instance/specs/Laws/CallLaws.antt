@@ -36,12 +36,12 @@ module _ (𝓢 : Statement) (𝓓 : Draws) (𝓣 : Transcript) (ν μ : ℕ) (ou
   written-at e f new = record { answer-is = rw (e, f) refl; out-is = rw (e, f) new }
 
 -- x is the number of the refusal, y that of the first of checks 1 and 2 that fails
-module _ (sizes : Sizes) (A B C D whole term rows ψ ω α δ c u₁ p b″ u₂ : List ℤ) (ν μ : ℕ) (out : List ℤ) where
+module _ (sizes : Sizes) (A B C D whole constantTerms projections ψ ω α δ c u₁ p b″ u₂ : List ℤ) (ν μ : ℕ) (out : List ℤ) where
   abbrev 𝓢 : Statement
-  𝓢 = statementOf sizes A B C D whole term
+  𝓢 = statementOf sizes A B C D whole constantTerms
 
   abbrev 𝓓 : Draws
-  𝓓 = drawsOf rows ψ ω α δ c
+  𝓓 = drawsOf projections ψ ω α δ c
 
   abbrev 𝓣 : Transcript
   𝓣 = transcriptOf u₁ p b″ u₂
@@ -54,10 +54,10 @@ module _ (sizes : Sizes) (A B C D whole term rows ψ ω α δ c u₁ p b″ u₂
       pub call-facts : NextFacts 𝓢 𝓓 𝓣 ν μ out
       call-facts = next-facts 𝓢 𝓓 𝓣 ν μ out (sym number ∙ none)
 
-      pub check-facts : Terms sizes term ψ ω p b″
-      check-facts = terms-known sizes A B C D whole term rows ψ ω α δ c u₁ p b″ u₂ (call-facts .lists)
+      pub check-facts : Terms sizes constantTerms ψ ω p b″
+      check-facts = terms-known sizes A B C D whole constantTerms projections ψ ω α δ c u₁ p b″ u₂ (call-facts .lists)
 
-      module _ {y : ℕ} (asked : y ≡ firstFailing (messageChecksOf sizes term p ψ ω b″)) where
+      module _ {y : ℕ} (asked : y ≡ firstFailing (messageChecksOf sizes constantTerms p ψ ω b″)) where
         first-is : firstChecks 𝓢 𝓓 𝓣 ≡ y
         unfolding firstChecks
         first-is = sym asked

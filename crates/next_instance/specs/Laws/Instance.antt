@@ -28,8 +28,8 @@ use Rattle.next_instance.specs.Known.Facts.{CutFacts}
 use Rattle.next_instance.specs.Written.{constraintOf}
 
 -- the room that the writer gives the four lists
-pub table-room : (s : Sizes) {folded products relation diagonal : List ℤ} → VerifySized s → 16384 ≤ length folded → 8704 ≤ length products
-    → 8704 ≤ length relation → 8704 ≤ length diagonal → TableRoom (s .d) (s .n) (s .r) folded products relation diagonal
+pub table-room : (s : Sizes) {folded products aggregatedA diagonal : List ℤ} → VerifySized s → 16384 ≤ length folded → 8704 ≤ length products
+    → 8704 ≤ length aggregatedA → 8704 ≤ length diagonal → TableRoom (s .d) (s .n) (s .r) folded products aggregatedA diagonal
 table-room s limits e₁ e₂ e₃ e₄ =
     let shaped = limits .shaped in
     let elements = mul-le-mul (shaped .rank-small) (shaped .degree .small) in
@@ -37,12 +37,12 @@ table-room s limits e₁ e₂ e₃ e₄ =
     record {
       folded-length = omega (arith, elements, e₁);
       products-length = omega (arith, pair-elements, e₂);
-      relation-length = omega (arith, pair-elements, e₃);
+      aggregate-a-length = omega (arith, pair-elements, e₃);
       diagonal-length = omega (arith, pair-elements, e₄);
     }
 
-module _ (s : Sizes) (A B C D whole term rows ψ ω α δ c u₁ p b″ u₂ : List ℤ) (ν μ : ℕ) (out : List ℤ) where
-  module _ (facts : NextFacts (statementOf s A B C D whole term) (drawsOf rows ψ ω α δ c) (transcriptOf u₁ p b″ u₂) ν μ out) where
+module _ (s : Sizes) (A B C D whole constantTerms projections ψ ω α δ c u₁ p b″ u₂ : List ℤ) (ν μ : ℕ) (out : List ℤ) where
+  module _ (facts : NextFacts (statementOf s A B C D whole constantTerms) (drawsOf projections ψ ω α δ c) (transcriptOf u₁ p b″ u₂) ν μ out) where
     pub entry-facts : EntryFacts s A B C D c
     entry-facts =
         record {
@@ -58,15 +58,15 @@ module _ (s : Sizes) (A B C D whole term rows ψ ω α δ c u₁ p b″ u₂ : L
     constant-facts =
         record {
           limits = facts .limits;
-          wholes = wholes-known s A B C D whole term rows ψ ω α δ c u₁ p b″ u₂ (facts .lists) (facts .limits);
+          wholes = wholes-known s A B C D whole constantTerms projections ψ ω α δ c u₁ p b″ u₂ (facts .lists) (facts .limits);
           δ-length = facts .lists .δ-length;
           b″-length = facts .lists .b″-length;
           u₁-length = facts .lists .u₁-length;
           u₂-length = facts .lists .u₂-length;
         }
 
-    pub aggregate-facts : AggregateFacts (s .d) (s .n) (s .r) (s .k) (s .l) (s .w) whole term rows ψ ω α δ
-    aggregate-facts = aggregate-known s A B C D whole term rows ψ ω α δ c u₁ p b″ u₂ (facts .lists) (facts .limits) (facts .rows-entries)
+    pub aggregate-facts : AggregateFacts (s .d) (s .n) (s .r) (s .k) (s .l) (s .w) whole constantTerms projections ψ ω α δ
+    aggregate-facts = aggregate-known s A B C D whole constantTerms projections ψ ω α δ c u₁ p b″ u₂ (facts .lists) (facts .limits) (facts .projections-entries)
 
     pub out-room : (cut : Cut) → CutFacts s cut → cut .nu ≡ ν → cut .mu ≡ μ
         → length out ≡ wholeLength (s .d) (cut .rank) (cut .parts) (nextCount (s .kappa) (s .kappa1) (s .kappa2))
@@ -75,7 +75,7 @@ module _ (s : Sizes) (A B C D whole term rows ψ ω α δ c u₁ p b″ u₂ : L
   pub written : (cut : Cut) {new : List ℤ} → CutFacts s cut → cut .nu ≡ ν → cut .mu ≡ μ
       → new ≡ flat (nextCount (s .kappa) (s .kappa1) (s .kappa2)) (λ x. laidOut (s .d) (cut .rank) (cut .parts)
       (width 2 (s .n) (cut .nu) (cut .m) (cut .mu))
-      (constraintOf s A B C D c whole term rows ψ ω α δ (transcriptOf u₁ p b″ u₂) (cut .nu) (cut .mu) x))
-      → new ≡ nextWhole (statementOf s A B C D whole term) (drawsOf rows ψ ω α δ c) (transcriptOf u₁ p b″ u₂) ν μ
+      (constraintOf s A B C D c whole constantTerms projections ψ ω α δ (transcriptOf u₁ p b″ u₂) (cut .nu) (cut .mu) x))
+      → new ≡ nextWhole (statementOf s A B C D whole constantTerms) (drawsOf projections ψ ω α δ c) (transcriptOf u₁ p b″ u₂) ν μ
   unfolding nextWhole
   written cut known eν eμ e = rw (known .rank-is, known .parts-is, known .rest-is, eν, eμ) at e

@@ -13,7 +13,7 @@ use native.Mathlib.Omega.{arith}
 use lib.ListN.{length}
 use lib.IntN.{ℤ}
 use Rattle.residues.specs.Digits.{Base}
-use Rattle.residues.specs.Range.{projections}
+use Rattle.residues.specs.Range.{projectionEntries}
 use Rattle.fold.specs.declared.CommitSizes.{CommitSizes}
 use Rattle.fold.specs.declared.Shape.{Shape}
 use Rattle.fold.specs.Known.Facts.{Shaped}
@@ -54,10 +54,10 @@ pub record OuterFacts (sizes : CommitSizes) (B C ts gs out : List ℤ) : Type 0 
   pub g-digits : length gs ≡ garbageSize (sizes .r) (sizes .t2) * sizes .d
   pub output : length out ≡ sizes .kappa1 * sizes .d
 
-pub record ProjectFacts (shape : Shape) (w : ℕ) (rows s out : List ℤ) : Type 0 where
+pub record ProjectFacts (shape : Shape) (w : ℕ) (projections s out : List ℤ) : Type 0 where
   pub shaped : Shaped (shape .d) (shape .n) (shape .r)
-  pub entries : projections rows ≡ true
-  pub matrix : length rows ≡ projectionLength (shape .d) (shape .n) (shape .r) w
+  pub entries : projectionEntries projections ≡ true
+  pub matrix : length projections ≡ projectionLength (shape .d) (shape .n) (shape .r) w
   pub witness : length s ≡ shape .r * shape .n * shape .d
   pub output : length out ≡ w
 
@@ -75,11 +75,11 @@ pub t-length : {sizes : CommitSizes} {A s out : List ℤ} → TFacts sizes A s o
 unfolding tSize
 t-length facts = omega (arith, facts .output)
 
-pub rows-length : {shape : Shape} {w : ℕ} {rows s out : List ℤ} → ProjectFacts shape w rows s out → length rows ≡ w * length s
+pub projections-length : {shape : Shape} {w : ℕ} {projections s out : List ℤ} → ProjectFacts shape w projections s out → length projections ≡ w * length s
 unfolding projectionLength
-rows-length {w = w} facts = facts .matrix ∙ ap (λ (k : ℕ). w * k) (sym (facts .witness))
+projections-length {w = w} facts = facts .matrix ∙ ap (λ (k : ℕ). w * k) (sym (facts .witness))
 
-pub witness-short : {shape : Shape} {w : ℕ} {rows s out : List ℤ} → ProjectFacts shape w rows s out → length s ≤ 262144
+pub witness-short : {shape : Shape} {w : ℕ} {projections s out : List ℤ} → ProjectFacts shape w projections s out → length s ≤ 262144
 witness-short facts =
     let shape = facts .shaped in
     omega (arith, facts .witness, mul-le-mul (mul-le-mul (shape .parts-small) (shape .rank-small)) (shape .degree .small))

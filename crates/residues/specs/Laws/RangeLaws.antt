@@ -24,7 +24,7 @@ use Rattle.integers.specs.Laws.AllLaws.{both-and, all-at, all-of, all-join, all
 use Rattle.residues.specs.declared.length.Margin.{Margin}
 use Rattle.residues.specs.Length.{remaining, holds}
 use Rattle.residues.specs.Laws.LengthLaws.{holds-remaining}
-use Rattle.residues.specs.Range.{between, allBetween, allWithin, coefficients, projections, challenge}
+use Rattle.residues.specs.Range.{between, allBetween, allWithin, coefficients, projectionEntries, challenge}
 
 -- ---- the test by index
 
@@ -143,13 +143,13 @@ coefficients-part m n xs e = allWithin-part 2147483598 m n xs e
 
 -- ---- row 9
 
-pub projections-at : (xs : List ℤ) → projections xs ≡ true → (i : ℕ) → natAbs (getD xs i (pos 0)) ≤ 1
-unfolding projections
-projections-at xs e i = allWithin-at 1 xs e i
+pub projection-entries-at : (xs : List ℤ) → projectionEntries xs ≡ true → (i : ℕ) → natAbs (getD xs i (pos 0)) ≤ 1
+unfolding projectionEntries
+projection-entries-at xs e i = allWithin-at 1 xs e i
 
-pub projections-part : (m n : ℕ) (xs : List ℤ) → projections xs ≡ true → projections (take n (drop m xs)) ≡ true
-unfolding projections
-projections-part m n xs e = allWithin-part 1 m n xs e
+pub projection-entries-part : (m n : ℕ) (xs : List ℤ) → projectionEntries xs ≡ true → projectionEntries (take n (drop m xs)) ≡ true
+unfolding projectionEntries
+projection-entries-part m n xs e = allWithin-part 1 m n xs e
 
 -- ---- row 10
 

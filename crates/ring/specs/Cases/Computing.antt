@@ -16,7 +16,7 @@ use Rattle.residues.specs.Modulus.{q, red, cent, centred}
 use Rattle.ring.specs.Element.{every, lift, el, coeffs, array, number, same}
 use Rattle.residues.specs.Digits.{low, rest, rests, digit, split}
 use Rattle.ring.specs.Joined.{joined}
-use Rattle.residues.specs.Range.{allWithin, coefficients, projections, challenge}
+use Rattle.residues.specs.Range.{allWithin, coefficients, projectionEntries, challenge}
 
 unfoldable pub integers-compute : Unit {0}
 unfolding total sq normSq tab all flat emod centre
@@ -43,7 +43,7 @@ unfolding q red cent centred every lift el coeffs array number same
 elements-compute = tt
 
 unfoldable pub digits-compute : Unit {0}
-unfolding low rest rests digit split joined allWithin coefficients projections challenge
+unfolding low rest rests digit split joined allWithin coefficients projectionEntries challenge
 digits-compute = tt
 
 unfoldable pub ring-computes : Unit {0}

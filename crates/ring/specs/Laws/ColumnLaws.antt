@@ -13,9 +13,9 @@ use Rattle.algebra.specs.Sum.{sum}
 use Rattle.algebra.specs.Residue.{make}
 use Rattle.algebra.specs.Laws.ResidueLaws.{make-eq, make-add}
 use Rattle.residues.specs.Modulus.{q, q-positive, Zq}
-use Rattle.ring.specs.Product.{term, highs, folded, most}
+use Rattle.ring.specs.Product.{summand, highs, folded, most}
 
--- ---- one term
+-- ---- one summand
 
 pub product-small : (x y : ℕ) → (x % 4294967296) * (y % 4294967296) ≤ 18446744065119617025
 product-small x y =
@@ -26,9 +26,9 @@ product-small x y =
 pub product-fits : (x y : ℕ) → Fits w64 ((x % 4294967296) * (y % 4294967296))
 product-fits x y = omega (arith, product-small x y)
 
-pub term-small : (a e : List ℕ) (start i : ℕ) → term a e start i ≤ 18446744065119617025
-unfolding term
-term-small a e start i = product-small (getD a i 0) (getD e (start + i) 0)
+pub summand-small : (a e : List ℕ) (start i : ℕ) → summand a e start i ≤ 18446744065119617025
+unfolding summand
+summand-small a e start i = product-small (getD a i 0) (getD e (start + i) 0)
 
 -- ---- the sums that a column keeps
 
@@ -65,7 +65,7 @@ pub folded-most : (n : ℕ) (f : ℕ → ℕ) → n ≤ 64 → ((i : ℕ) → f 
 unfolding folded most
 folded-most n f h small = omega (arith, highs-least n f, highs-most n f, highs-bound f small n)
 
--- ---- the loop over a column: the sum modulo 2^64 and the sum of the upper halves, after i terms
+-- ---- the loop over a column: the sum modulo 2^64 and the sum of the upper halves, after i summands
 
 pub record Running (d : ℕ) (f : ℕ → ℕ) (i wrapped high : ℕ) : Type 0 where
   pub within : i ≤ d

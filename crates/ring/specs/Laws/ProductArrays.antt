@@ -21,8 +21,8 @@ use Rattle.residues.specs.Modulus.{q, Zq}
 use Rattle.residues.specs.Laws.ModulusLaws.{q-value, q-above, red-residue}
 use Rattle.ring.specs.Element.{Degree, R, el}
 use Rattle.ring.specs.Laws.ElementPlaces.{coeff-el}
-use Rattle.ring.specs.Product.{term, column, most, Residues, Extended, TwoColumns, Room, Added}
-use Rattle.ring.specs.Laws.ColumnLaws.{term-small, folded-most}
+use Rattle.ring.specs.Product.{summand, column, most, Residues, Extended, TwoColumns, Room, Added}
+use Rattle.ring.specs.Laws.ColumnLaws.{summand-small, folded-most}
 
 pub le-or-lt : (m n : ℕ) → (m ≤ n) ⊎ (n < m)
 le-or-lt m n = pick (ltb n m) refl
@@ -91,7 +91,7 @@ extended-start d u e s = record { size = s; front = λ i h. absurd (omega arith)
 
 pub column-most : (d : ℕ) (a e : List ℕ) → d ≤ 64 → (start : ℕ) → start ≤ d → column d a e start ≤ most
 unfolding column
-column-most d a e h start b = folded-most d (term a e start) h (term-small a e start)
+column-most d a e h start b = folded-most d (summand a e start) h (summand-small a e start)
 
 -- the loop has added columns 0 to k - 1 and half to half + k - 1
 pub record Adding (d : ℕ) (col : ℕ → ℕ) (old : List ℕ) (half k : ℕ) (new : List ℕ) : Type 0 where

@@ -21,7 +21,7 @@ use Rattle.residues.specs.Laws.ModulusLaws.{q-value, cent-red}
 use Rattle.ring.specs.Element.{Degree, R, lift, el, array}
 use Rattle.ring.specs.Laws.ElementArrays.{array-fill}
 use Rattle.ring.specs.Laws.ElementPlaces.{el-zero}
-use Rattle.ring.specs.Product.{term, column, most, Residues, Extended, Room, Added, Gained, Holds}
+use Rattle.ring.specs.Product.{summand, column, most, Residues, Extended, Room, Added, Gained, Holds}
 use Rattle.ring.specs.Laws.ColumnLaws.{folded-mod, make-total}
 use Rattle.ring.specs.Laws.ProductArrays.{le-or-lt}
 
@@ -43,10 +43,10 @@ make-neg : (x : Zq .Carrier) → make q q-positive (q - x .val) ≡ Zq .neg x
 unfolding neg
 make-neg x = refl
 
-pub make-term : (a e : List ℕ) (start i : ℕ) → make q q-positive (term a e start i)
+pub make-summand : (a e : List ℕ) (start i : ℕ) → make q q-positive (summand a e start i)
     ≡ Zq .mul (make q q-positive (getD a i 0 % 4294967296)) (make q q-positive (getD e (start + i) 0 % 4294967296))
-unfolding term
-make-term a e start i = make-mul q q-positive (getD a i 0 % 4294967296) (getD e (start + i) 0 % 4294967296)
+unfolding summand
+make-summand a e start i = make-mul q q-positive (getD a i 0 % 4294967296) (getD e (start + i) 0 % 4294967296)
 
 pub left-factor : {d : ℕ} {x : R d .Carrier} {a : List ℕ} → Residues d x d a → (i : ℕ) → i < d
     → make q q-positive (getD a i 0 % 4294967296) ≡ coeff Zq x i
@@ -75,13 +75,13 @@ module _ {d : ℕ} {x y : R d .Carrier} {a e : List ℕ} (left : Residues d x d 
   pub column-value : (k : ℕ) → k < d → make q q-positive (column d a e (d - k)) ≡ coeff Zq (R d .mul x y) k
   unfolding column
   column-value k l =
-      folded-mod d (term a e (d - k))
-      ∙ make-total d (term a e (d - k))
-      ∙ sum-cong Zq d _ _ (λ i h. one-term i h)
+      folded-mod d (summand a e (d - k))
+      ∙ make-total d (summand a e (d - k))
+      ∙ sum-cong Zq d _ _ (λ i h. one-summand i h)
       ∙ sym (coeff-mul Zq x y k l)
     where
-      one-term : (i : ℕ) → i < d → make q q-positive (term a e (d - k) i) ≡ Zq .mul (coeff Zq x i) (wrapped Zq y k i)
-      one-term i h = make-term a e (d - k) i ∙ ap₂ (Zq .mul) (left-factor left i h) (right-factor k i l h (le-or-lt i k))
+      one-summand : (i : ℕ) → i < d → make q q-positive (summand a e (d - k) i) ≡ Zq .mul (coeff Zq x i) (wrapped Zq y k i)
+      one-summand i h = make-summand a e (d - k) i ∙ ap₂ (Zq .mul) (left-factor left i h) (right-factor k i l h (le-or-lt i k))
 
 -- ---- an accumulator holds the sum of the products
 

@@ -25,15 +25,15 @@ module _ (d b : ℕ) where
   unfolding joined
   joined-first n f =
       sum-first (R d) n (λ e. R d .mul (number d (pos (b ^ e))) (f e))
-      ∙ ap₂ (R d .add) (lowest (f 0)) (sum-cong (R d) n _ _ (λ e _. high e) ∙ sym (sum-mul (R d) n (number d (pos b)) term))
+      ∙ ap₂ (R d .add) (lowest (f 0)) (sum-cong (R d) n _ _ (λ e _. high e) ∙ sym (sum-mul (R d) n (number d (pos b)) summand))
     where
-      term : ℕ → R d .Carrier
-      term e = R d .mul (number d (pos (b ^ e))) (f (suc e))
+      summand : ℕ → R d .Carrier
+      summand e = R d .mul (number d (pos (b ^ e))) (f (suc e))
 
       power : (e : ℕ) → pos (b ^ suc e) ≡ pos b *ℤ pos (b ^ e)
       power e = ap pos (pow-succ' b e)
 
-      high : (e : ℕ) → R d .mul (number d (pos (b ^ suc e))) (f (suc e)) ≡ R d .mul (number d (pos b)) (term e)
+      high : (e : ℕ) → R d .mul (number d (pos (b ^ suc e))) (f (suc e)) ≡ R d .mul (number d (pos b)) (summand e)
       high e =
           ap (λ c. R d .mul c (f (suc e))) (ap (number d) (power e) ∙ number-mul d (pos b) (pos (b ^ e)))
           ∙ R d .mul-assoc (number d (pos b)) (number d (pos (b ^ e))) (f (suc e))

@@ -24,10 +24,10 @@ use Rattle.residues.specs.Modulus.{q, q-positive, Zq, red}
 use Rattle.residues.specs.Laws.ModulusLaws.{red-add, red-neg}
 use Rattle.ring.specs.Element.{Degree, R, el}
 use Rattle.ring.specs.Laws.ElementPlaces.{coeff-el}
-use Rattle.ring.specs.Product.{term, most, Residues}
+use Rattle.ring.specs.Product.{summand, most, Residues}
 use Rattle.ring.specs.Laws.ColumnLaws.{make-total}
 use Rattle.ring.specs.Laws.ProductArrays.{le-or-lt}
-use Rattle.ring.specs.Laws.ProductLaws.{left-factor, make-term, coeff-small, red-pos}
+use Rattle.ring.specs.Laws.ProductLaws.{left-factor, make-summand, coeff-small, red-pos}
 use Rattle.ring.specs.Short.{lifted, reduced, weight, shortColumn, Short, Raised, Narrow}
 use Rattle.ring.specs.Laws.ShortOperand.{lifted-small, lifted-is, lowered-is}
 
@@ -67,9 +67,9 @@ weight-bound d a e = omega (arith, e, weight-small d a)
 
 -- ---- columns: exact sums
 
-pub narrow-term : (d : ℕ) (a e : List ℕ) (start i : ℕ) → Narrow d e → start ≤ d → i < d → term a e start i ≤ 36028797010575360
-unfolding term Narrow
-narrow-term d a e start i narrow s h =
+pub narrow-summand : (d : ℕ) (a e : List ℕ) (start i : ℕ) → Narrow d e → start ≤ d → i < d → summand a e start i ≤ 36028797010575360
+unfolding summand Narrow
+narrow-summand d a e start i narrow s h =
     let left : getD a i 0 % 4294967296 ≤ 4294967295 = omega arith in
     let right : getD e (start + i) 0 % 4294967296 ≤ 8388608 = omega (arith, narrow (start + i) (omega arith)) in
     mul-le-mul left right
@@ -108,7 +108,7 @@ pub short-most : (d : ℕ) (a e : List ℕ) (c : ℕ) → d ≤ 64 → Narrow d 
     → (start : ℕ) → start ≤ d → shortColumn d a e c start ≤ most
 unfolding shortColumn reduced most
 short-most d a e c d≤64 narrow c-small start s =
-    omega (arith, total-bound d 36028797010575360 (term a e start) (λ i h. narrow-term d a e start i narrow s h))
+    omega (arith, total-bound d 36028797010575360 (summand a e start) (λ i h. narrow-summand d a e start i narrow s h))
 
 -- ---- a column is a coefficient of the product
 
@@ -202,8 +202,8 @@ module _ {d : ℕ} {x : R d .Carrier} {xs : List ℤ} {p : ℕ} {a e : List ℕ}
   pub short-value : (k : ℕ) → k < d → make q q-positive (shortColumn d a e (weight d a) (d - k)) ≡ coeff Zq (R d .mul x (el d xs p)) k
   unfolding shortColumn y
   short-value k l =
-      reduced-mod (weight d a + total d (term a e (d - k)))
-      ∙ make-add q q-positive (weight d a) (total d (term a e (d - k)))
+      reduced-mod (weight d a + total d (summand a e (d - k)))
+      ∙ make-add q q-positive (weight d a) (total d (summand a e (d - k)))
       ∙ ap (Zq .add (make q q-positive (weight d a))) column-sum
       ∙ rest (make q q-positive (weight d a)) (Zq .mul unit (sum Zq d (coeff Zq x))) (coeff Zq (R d .mul x y) k)
       ∙ ap (λ t. Zq .add t (coeff Zq (R d .mul x y) k)) make-weight
@@ -212,18 +212,18 @@ module _ {d : ℕ} {x : R d .Carrier} {xs : List ℤ} {p : ℕ} {a e : List ℕ}
       rest : (u v w : Zq .Carrier) → Zq .add u (Zq .add v w) ≡ Zq .add (Zq .add u v) w
       rest u v w = sym (Zq .add-assoc u v w)
 
-      one-term : (i : ℕ) → i < d
-          → make q q-positive (term a e (d - k) i) ≡ Zq .add (Zq .mul unit (coeff Zq x i)) (Zq .mul (coeff Zq x i) (wrapped Zq y k i))
-      one-term i h =
-          make-term a e (d - k) i
+      one-summand : (i : ℕ) → i < d
+          → make q q-positive (summand a e (d - k) i) ≡ Zq .add (Zq .mul unit (coeff Zq x i)) (Zq .mul (coeff Zq x i) (wrapped Zq y k i))
+      one-summand i h =
+          make-summand a e (d - k) i
           ∙ ap₂ (Zq .mul) (left-factor left i h) (raised-factor k i l h (le-or-lt i k))
           ∙ Zq .mul-add (coeff Zq x i) unit (wrapped Zq y k i)
           ∙ ap (λ t. Zq .add t (Zq .mul (coeff Zq x i) (wrapped Zq y k i))) (Zq .mul-comm (coeff Zq x i) unit)
 
-      column-sum : make q q-positive (total d (term a e (d - k)))
+      column-sum : make q q-positive (total d (summand a e (d - k)))
           ≡ Zq .add (Zq .mul unit (sum Zq d (coeff Zq x))) (coeff Zq (R d .mul x y) k)
       column-sum =
-          make-total d (term a e (d - k))
-          ∙ sum-cong Zq d _ _ one-term
+          make-total d (summand a e (d - k))
+          ∙ sum-cong Zq d _ _ one-summand
           ∙ sum-add Zq d (λ i. Zq .mul unit (coeff Zq x i)) (λ i. Zq .mul (coeff Zq x i) (wrapped Zq y k i))
           ∙ ap₂ (Zq .add) (sym (sum-mul Zq d unit (coeff Zq x))) (sym (coeff-mul Zq x y k l))

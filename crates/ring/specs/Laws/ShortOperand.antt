@@ -18,7 +18,7 @@ use mir.Val.{Fits, SFits}
 use borrow.Author.Tests.{eq-eqb, ne-eqb}
 use Rattle.integers.specs.Laws.Bridge.{zarith, bnd, natAbs-pn, pn-min, add-pn, neg-pn}
 use Rattle.integers.specs.Sums.{total}
-use Rattle.integers.specs.Laws.SumLaws.{total-add-one, total-term, total-zeros}
+use Rattle.integers.specs.Laws.SumLaws.{total-add-one, total-summand, total-zeros}
 use Rattle.residues.specs.Laws.RangeLaws.{allWithin-at, allWithin-of}
 use Rattle.ring.specs.Element.{Degree}
 use Rattle.ring.specs.Laws.ProductArrays.{le-or-lt, fill}
@@ -72,7 +72,7 @@ counting-end {d} {xs} {p} {excess} {i} r h = pick (short d xs p) refl
     none-held s = r .is ∙ total-zeros i held (λ j b. omega (arith, s .below j (omega (arith, r .within))))
 
     all-below : excess ≡ 0 → Short d xs p
-    all-below e = record { below = λ j b. omega (arith, r .is, r .within, total-term i held j (omega arith)) }
+    all-below e = record { below = λ j b. omega (arith, r .is, r .within, total-summand i held j (omega arith)) }
 
     pick : (t : Bool) → short d xs p ≡ t → eqb excess 0 ≡ t
     pick true e = eq-eqb excess 0 (none-held (short-below d xs p e))

@@ -6,15 +6,15 @@ use Rattle.integers.specs.Literals.{+_, -_, _zeros∷_}
 use Rattle.algebra.specs.Triangle.{start, pairs-count}
 use Rattle.ring.specs.Element.{every}
 use Rattle.integers.specs.Lists.{tab, all}
-use Rattle.residues.specs.Range.{allWithin, coefficients, projections, challenge}
+use Rattle.residues.specs.Range.{allWithin, coefficients, projectionEntries, challenge}
 use Rattle.integers.specs.Sums.{normSq, sq}
 use Rattle.fold.specs.Answers.{firstFailing}
 use Rattle.fold.specs.Sizes.{pairs, functionSize, tSize, garbageSize, restSize, openingSize}
 use Rattle.fold.specs.Refusals.{allOf, anyOf, between, degree, rank, parts, constraintCount, projectionCount, commitmentRank, base, digitCount}
-use Rattle.fold.specs.Refusals.{chunks, lengthBound, challenges, wholeLength, termLength, projectionLength}
+use Rattle.fold.specs.Refusals.{chunks, lengthBound, challenges, wholeLength, constantTermsLength, projectionLength}
 use Rattle.sheet.specs.declared.sizes.SheetSizes.{SheetSizes}
 use Rattle.sheet.specs.Lists.{listLengths, listAt}
-use Rattle.sheet.specs.Reading.{headerTests, size, sizesOf, rowsIn, challengesIn, numberTests}
+use Rattle.sheet.specs.Reading.{headerTests, size, sizesOf, projectionsIn, challengesIn, numberTests}
 use Rattle.sheet.specs.Layout.{copies, elements, fields, matrixLines, wholeLines, termLines, rowLines, numberLines, lastLines, bodyLines}
 use Rattle.sheet.specs.Layout.{sheetText, SheetNumbers}
 use Rattle.sheet.specs.Laws.SheetLaws.{coefficients-fit}
@@ -60,8 +60,8 @@ whole-lines = refl
 
 pub whole-numbers : SheetNumbers header numbers
 unfolding headerTests numberTests firstFailing size sizesOf allOf anyOf between degree rank parts constraintCount projectionCount commitmentRank base
-    digitCount chunks lengthBound coefficients projections allWithin challenges challenge every all tab normSq sq rowsIn challengesIn listAt listLengths
-    wholeLength termLength projectionLength functionSize fields copies pairs pairs-count start tSize garbageSize openingSize restSize
+    digitCount chunks lengthBound coefficients projectionEntries allWithin challenges challenge every all tab normSq sq projectionsIn challengesIn listAt listLengths
+    wholeLength constantTermsLength projectionLength functionSize fields copies pairs pairs-count start tSize garbageSize openingSize restSize
 whole-numbers = record {
   header = refl;
   fit = coefficients-fit header refl;

@@ -139,7 +139,7 @@ module _ (h : List ℤ) where
           rank = l .shaped .rank-small;
           parts = l .shaped .parts-small;
           whole = l .K-small;
-          term = l .L-small;
+          constantTerms = l .L-small;
           projections = l .w-small;
           κ = l .κ-small;
           κ₁ = l .κ₁-small;

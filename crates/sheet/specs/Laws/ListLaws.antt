@@ -13,11 +13,11 @@ use lib.Seq.{length-take-le, drop-drop}
 use lib.IntN.{ℤ}
 use Rattle.residues.specs.Range.{coefficients}
 use Rattle.residues.specs.Laws.RangeLaws.{coefficients-of, coefficients-join, coefficients-part}
-use Rattle.fold.specs.Refusals.{wholeLength, termLength, projectionLength}
+use Rattle.fold.specs.Refusals.{wholeLength, constantTermsLength, projectionLength}
 use Rattle.sheet.specs.declared.sizes.SheetSizes.{SheetSizes}
 use Rattle.sheet.specs.Lists.{listLengths, listAt}
-use Rattle.sheet.specs.Sections.{matrixCount, wholeCount, rowCount, lastCount, termSize, onesCount, total, rowsFrom, challengesFrom}
-use Rattle.sheet.specs.Reading.{rowsIn, challengesIn}
+use Rattle.sheet.specs.Sections.{matrixCount, wholeCount, rowCount, lastCount, termSize, onesCount, total, projectionsFrom, challengesFrom}
+use Rattle.sheet.specs.Reading.{projectionsIn, challengesIn}
 
 -- ---- lists of any lengths
 
@@ -65,19 +65,19 @@ list-coefficients (m ∷ ms) xs fits h =
 
 module _ (s : SheetSizes) where
   pub lengths-total : together (listLengths s) ≡ total s
-  unfolding together listLengths total matrixCount wholeCount rowCount lastCount termSize onesCount wholeLength termLength projectionLength
+  unfolding together listLengths total matrixCount wholeCount rowCount lastCount termSize onesCount wholeLength constantTermsLength projectionLength
   lengths-total = omega arith
 
-  pub rows-start : before (listLengths s) 7 ≡ rowsFrom s
-  unfolding before listLengths rowsFrom matrixCount wholeCount termSize wholeLength termLength
+  pub rows-start : before (listLengths s) 7 ≡ projectionsFrom s
+  unfolding before listLengths projectionsFrom matrixCount wholeCount termSize wholeLength constantTermsLength
   rows-start = omega arith
 
   pub challenges-start : before (listLengths s) 15 ≡ challengesFrom s
-  unfolding before listLengths challengesFrom matrixCount wholeCount rowCount termSize onesCount wholeLength termLength projectionLength
+  unfolding before listLengths challengesFrom matrixCount wholeCount rowCount termSize onesCount wholeLength constantTermsLength projectionLength
   challenges-start = omega arith
 
-  pub rows-part : (xs : List ℤ) → rowsIn s xs ≡ take (projectionLength (s .d) (s .n) (s .r) (s .w)) (drop (rowsFrom s) xs)
-  unfolding rowsIn listLengths
+  pub rows-part : (xs : List ℤ) → projectionsIn s xs ≡ take (projectionLength (s .d) (s .n) (s .r) (s .w)) (drop (projectionsFrom s) xs)
+  unfolding projectionsIn listLengths
   rows-part xs =
       list-part (listLengths s) xs 7 ∙ ap (λ (m : ℕ). take (projectionLength (s .d) (s .n) (s .r) (s .w)) (drop m xs)) rows-start
 

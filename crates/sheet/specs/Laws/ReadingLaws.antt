@@ -11,17 +11,17 @@ use lib.ListN.{length, take, drop}
 use lib.IntN.{ℤ}
 use borrow.Author.Tests.{eqb-true, eq-eqb, ne-eqb, not-true, not-false}
 use Rattle.residues.specs.Laws.RangeLaws.{coefficients-part}
-use Rattle.residues.specs.Range.{coefficients, projections}
+use Rattle.residues.specs.Range.{coefficients, projectionEntries}
 use Rattle.fold.specs.Answers.{firstFailing}
 use Rattle.fold.specs.Refusals.{challenges, projectionLength}
 use Rattle.sheet.specs.declared.sizes.SheetSizes.{SheetSizes}
 use Rattle.sheet.specs.declared.sizes.Sections.{Sections}
 use Rattle.sheet.specs.declared.walk.End.{End}
-use Rattle.sheet.specs.Sections.{Bounded, Sectioned, sectionsOf, termSize, rowCount, lastCount, total, rowsFrom, challengesFrom, endsLine}
+use Rattle.sheet.specs.Sections.{Bounded, Sectioned, sectionsOf, termSize, rowCount, lastCount, total, projectionsFrom, challengesFrom, endsLine}
 use Rattle.sheet.specs.Place.{place, laid, endIf, numbersFrom, Span}
 use Rattle.sheet.specs.Laws.PlaceLaws.{contradiction, place-mono}
 use Rattle.sheet.specs.Laws.ChallengeLaws.{numbers-part}
-use Rattle.sheet.specs.Reading.{bodyLaid, bodyNumbers, rowsIn, challengesIn, numberTests, bodyTests}
+use Rattle.sheet.specs.Reading.{bodyLaid, bodyNumbers, projectionsIn, challengesIn, numberTests, bodyTests}
 use Rattle.sheet.specs.Known.Reading.{endsAt, Inside}
 
 pub lines-positive : {s : SheetSizes} {q : Sections} → Bounded s → Sectioned s q → (0 < q .d) × (0 < q .period)
@@ -58,9 +58,9 @@ module _ {s : SheetSizes} {text : List ℕ} {q : Sections} (i : Inside s text) (
   unfolding bodyNumbers
   all-numbers c = rw (e .is, c) refl
 
-pub rows-end : (s : SheetSizes) → rowsFrom s + projectionLength (s .d) (s .n) (s .r) (s .w) ≤ total s
-unfolding rowsFrom total projectionLength rowCount
-rows-end s = omega arith
+pub projections-end : (s : SheetSizes) → projectionsFrom s + projectionLength (s .d) (s .n) (s .r) (s .w) ≤ total s
+unfolding projectionsFrom total projectionLength rowCount
+projections-end s = omega arith
 
 pub challenges-end : (s : SheetSizes) → challengesFrom s + s .r * s .d ≤ total s
 unfolding challengesFrom total lastCount
@@ -71,8 +71,8 @@ module _ (s : SheetSizes) (xs : List ℤ) where
   unfolding firstFailing numberTests
   eight {good} e t = rw (← e, not-true good t) refl
 
-  pub nine-ten : {good rows ok : Bool} {r₉ r₁₀ : ℕ} → good ≡ coefficients xs → not good ≡ false
-      → r₉ ≡ cond rows r₁₀ 9 → rows ≡ projections (rowsIn s xs)
+  pub nine-ten : {good projections ok : Bool} {r₉ r₁₀ : ℕ} → good ≡ coefficients xs → not good ≡ false
+      → r₉ ≡ cond projections r₁₀ 9 → projections ≡ projectionEntries (projectionsIn s xs)
       → r₁₀ ≡ cond ok 0 10 → ok ≡ challenges (s .d) (s .r) (challengesIn s xs)
       → r₉ ≡ firstFailing (numberTests s xs)
   unfolding firstFailing numberTests

@@ -9,7 +9,7 @@ use Rattle.fold.specs.Sizes.{functionSize, tSize, garbageSize, openingSize}
 use Rattle.fold.specs.Laws.SizeBounds.{functionSize-bound, tSize-bound, garbageSize-bound, openingSize-bound}
 use Rattle.sheet.specs.declared.sizes.SheetSizes.{SheetSizes}
 use Rattle.sheet.specs.declared.sizes.Sections.{Sections}
-use Rattle.sheet.specs.Sections.{Bounded, lastCount, sectionsOf, total, rowsFrom, challengesFrom, endsElement, endsTerm, endsLine}
+use Rattle.sheet.specs.Sections.{Bounded, lastCount, sectionsOf, total, projectionsFrom, challengesFrom, endsElement, endsTerm, endsLine}
 
 pub le-one : {a b : ℕ} → a ≤ b → a + 1 ≤ b + 1
 le-one h = omega arith
@@ -50,9 +50,9 @@ pub total-is : (s : SheetSizes) (q : Sections) {last : ℕ} → q ≡ sectionsOf
 unfolding total sectionsOf
 total-is s q e l = rw (e, l) refl
 
-pub rows-is : (s : SheetSizes) (q : Sections) → q ≡ sectionsOf s → q .head + (q .terms + s .kappa1 * s .d) ≡ rowsFrom s
-unfolding rowsFrom sectionsOf
-rows-is s q e = rw e refl
+pub projections-is : (s : SheetSizes) (q : Sections) → q ≡ sectionsOf s → q .head + (q .terms + s .kappa1 * s .d) ≡ projectionsFrom s
+unfolding projectionsFrom sectionsOf
+projections-is s q e = rw e refl
 
 pub challenges-is : (s : SheetSizes) (q : Sections) → q ≡ sectionsOf s
     → q .head + (q .terms + (q .middle + (q .ones + (5 + (s .k + (5 + s .kappa2))) * s .d))) ≡ challengesFrom s

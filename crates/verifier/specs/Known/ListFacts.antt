@@ -3,7 +3,7 @@ use mathlib.Core.Path.{_≡_}
 use mathlib.Core.Bool.{true}
 use mathlib.Core.List.{List}
 use lib.IntN.{ℤ}
-use Rattle.residues.specs.Range.{projections}
+use Rattle.residues.specs.Range.{projectionEntries}
 use Rattle.fold.specs.declared.Sizes.{Sizes}
 use Rattle.fold.specs.Arguments.{statementOf, drawsOf, transcriptOf}
 use Rattle.fold.specs.Known.CallFacts.{Lengths}
@@ -11,11 +11,11 @@ use Rattle.constraints.specs.Known.Facts.{WholeFacts, AggregateFacts}
 use Rattle.verifier.specs.Known.Facts.{Fits}
 use Rattle.verifier.specs.ConstantTerms.{Terms}
 
-module _ (s : Sizes) (A B C D whole term rows ψ ω α δ c u₁ p b″ u₂ : List ℤ)
-    (lists : Lengths (statementOf s A B C D whole term) (drawsOf rows ψ ω α δ c) (transcriptOf u₁ p b″ u₂)) where
-  pub terms-known : Terms s term ψ ω p b″
+module _ (s : Sizes) (A B C D whole constantTerms projections ψ ω α δ c u₁ p b″ u₂ : List ℤ)
+    (lists : Lengths (statementOf s A B C D whole constantTerms) (drawsOf projections ψ ω α δ c) (transcriptOf u₁ p b″ u₂)) where
+  pub terms-known : Terms s constantTerms ψ ω p b″
   terms-known = record {
-    terms = lists .term-length;
+    terms = lists .constant-terms-length;
     psi = lists .ψ-length;
     omega-length = lists .ω-length;
     projections = lists .p-length;
@@ -31,20 +31,20 @@ module _ (s : Sizes) (A B C D whole term rows ψ ω α δ c u₁ p b″ u₂ : L
       α-length = lists .α-length;
     }
 
-    pub aggregate-known : projections rows ≡ true → AggregateFacts (s .d) (s .n) (s .r) (s .k) (s .l) (s .w) whole term rows ψ ω α δ
+    pub aggregate-known : projectionEntries projections ≡ true → AggregateFacts (s .d) (s .n) (s .r) (s .k) (s .l) (s .w) whole constantTerms projections ψ ω α δ
     aggregate-known entries = record {
       wholes = wholes-known;
       seconds = record {
         terms = record {
           shaped = fits .shaped;
           term-count = fits .L-small;
-          term-length = lists .term-length;
+          constant-terms-length = lists .constant-terms-length;
           ψ-length = lists .ψ-length;
         };
         projected = record {
           shaped = fits .shaped;
           row-count = fits .w-small;
-          rows-length = lists .rows-length;
+          projections-length = lists .projections-length;
           ω-length = lists .ω-length;
           tested = entries;
         };

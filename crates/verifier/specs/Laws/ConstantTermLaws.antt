@@ -25,12 +25,12 @@ use Rattle.fold.specs.Sizes.{functionSize}
 use Rattle.fold.specs.Statement.{termAt, termConstant}
 use Rattle.fold.specs.Sizes.{five}
 use Rattle.fold.specs.Verdict.{check₂}
-use Rattle.fold.specs.Refusals.{termLength}
+use Rattle.fold.specs.Refusals.{constantTermsLength}
 use Rattle.verifier.specs.ConstantTerms.{weighted, termHolds}
 
-pub check-two : (d n r L w : ℕ) (term ψ ω p b″ : List ℤ) → every 5 (termHolds d n r L w term ψ ω p b″) ≡ check₂ d n r L w term ψ ω p b″
+pub check-two : (d n r L w : ℕ) (constantTerms ψ ω p b″ : List ℤ) → every 5 (termHolds d n r L w constantTerms ψ ω p b″) ≡ check₂ d n r L w constantTerms ψ ω p b″
 unfolding check₂ termHolds
-check-two d n r L w term ψ ω p b″ = refl
+check-two d n r L w constantTerms ψ ω p b″ = refl
 
 -- ---- the loop of a weighted sum
 
@@ -75,8 +75,8 @@ weighed-step count weights at xs first step l acc product total before h small-x
     running : toZ w32 acc ≡ cent (sum Zq l f)
     running = ap (toZ w32) (before .so-far) ∙ toZ-ofZ (cent-fits (sum Zq l f))
 
-    term : bits32 product ≡ centred (x *ℤ y)
-    term = bits32-centred product (bits32 x *ℤ bits32 y) e ∙ ap centred (ap₂ _*ℤ_ (bits32-small x small-x) (bits32-small y small-y))
+    summand : bits32 product ≡ centred (x *ℤ y)
+    summand = bits32-centred product (bits32 x *ℤ bits32 y) e ∙ ap centred (ap₂ _*ℤ_ (bits32-small x small-x) (bits32-small y small-y))
 
     value : red (cent (sum Zq l f) +ℤ centred (x *ℤ y)) ≡ sum Zq (l + 1) f
     value =
@@ -85,26 +85,26 @@ weighed-step count weights at xs first step l acc product total before h small-x
         ∙ sym (sum-one-more Zq l f)
 
     next : total ≡ cent (sum Zq (l + 1) f)
-    next = sums ∙ ap centred (ap₂ _+ℤ_ running term) ∙ sym (cent-red (cent (sum Zq l f) +ℤ centred (x *ℤ y))) ∙ ap cent value
+    next = sums ∙ ap centred (ap₂ _+ℤ_ running summand) ∙ sym (cent-red (cent (sum Zq l f) +ℤ centred (x *ℤ y))) ∙ ap cent value
 
 -- ---- the sums of check 2
 
-pub terms-sum : (d n r L k last at : ℕ) (term ψ : List ℤ) → last ≡ functionSize n r * d → at ≡ k * L
-    → sum Zq L (weighted ψ at term last (last + 1)) ≡ sum Zq L (λ l. Zq .mul (red (getD ψ (k * L + l) (pos 0))) (red
-    (termConstant d n r term l)))
+pub terms-sum : (d n r L k last at : ℕ) (constantTerms ψ : List ℤ) → last ≡ functionSize n r * d → at ≡ k * L
+    → sum Zq L (weighted ψ at constantTerms last (last + 1)) ≡ sum Zq L (λ l. Zq .mul (red (getD ψ (k * L + l) (pos 0))) (red
+    (termConstant d n r constantTerms l)))
 unfolding weighted termConstant termAt
-terms-sum d n r L k last at term ψ e f = rw (e, f) (sum-cong Zq L _ _ (λ l _. ap (λ z. Zq .mul (red (getD ψ (k * L + l) (pos 0)))
+terms-sum d n r L k last at constantTerms ψ e f = rw (e, f) (sum-cong Zq L _ _ (λ l _. ap (λ z. Zq .mul (red (getD ψ (k * L + l) (pos 0)))
     (red z)) (entry l)))
   where
     size : ℕ
     size = functionSize n r * d
 
-    entry : (l : ℕ) → getD term (functionSize n r * d + l * (functionSize n r * d + 1)) (pos 0) ≡ getD (drop (l *
-        (functionSize n r * d + 1)) term) (functionSize n r * d) (pos 0)
+    entry : (l : ℕ) → getD constantTerms (functionSize n r * d + l * (functionSize n r * d + 1)) (pos 0) ≡ getD (drop (l *
+        (functionSize n r * d + 1)) constantTerms) (functionSize n r * d) (pos 0)
     entry l =
         let place : functionSize n r * d + l * (functionSize n r * d + 1) ≡ l *
         (functionSize n r * d + 1) + functionSize n r * d = omega arith in
-        ap (λ i. getD term i (pos 0)) place ∙ sym (getD-drop (l * (functionSize n r * d + 1)) term (functionSize n r * d) (pos 0))
+        ap (λ i. getD constantTerms i (pos 0)) place ∙ sym (getD-drop (l * (functionSize n r * d + 1)) constantTerms (functionSize n r * d) (pos 0))
 
 pub projections-sum : (w k at : ℕ) (ω p : List ℤ) → at ≡ k * w
     → sum Zq w (weighted ω at p 0 1) ≡ sum Zq w (λ j. Zq .mul (red (getD ω (k * w + j) (pos 0))) (red (getD p j (pos 0))))
@@ -117,13 +117,13 @@ projections-sum w k at ω p e = rw e (sum-cong Zq w _ _ (λ j _. ap (λ i. Zq .m
 
 -- ---- one test of check 2
 
-pub term-holds : (d n r L w k last at₁ at₂ : ℕ) (term ψ ω p b″ u : List ℤ) (terms projected expected given : ℤ) (x y : ℕ) → d ≤ 64 → 0 < d
+pub term-holds : (d n r L w k last at₁ at₂ : ℕ) (constantTerms ψ ω p b″ u : List ℤ) (terms projected expected given : ℤ) (x y : ℕ) → d ≤ 64 → 0 < d
     → last ≡ functionSize n r * d → at₁ ≡ k * L → at₂ ≡ k * w
-    → terms ≡ cent (sum Zq L (weighted ψ at₁ term last (last + 1))) → projected ≡ cent (sum Zq w (weighted ω at₂ p 0 1))
+    → terms ≡ cent (sum Zq L (weighted ψ at₁ constantTerms last (last + 1))) → projected ≡ cent (sum Zq w (weighted ω at₂ p 0 1))
     → expected ≡ centred (bits32 terms +ℤ bits32 projected) → u ≡ array d (el d b″ k) → given ≡ centred (getD u 0 (pos 0))
-    → x ≡ emod (bits32 given) q → y ≡ emod (bits32 expected) q → eqb x y ≡ termHolds d n r L w term ψ ω p b″ k
+    → x ≡ emod (bits32 given) q → y ≡ emod (bits32 expected) q → eqb x y ≡ termHolds d n r L w constantTerms ψ ω p b″ k
 unfolding termHolds
-term-holds d n r L w k last at₁ at₂ term ψ ω p b″ u terms projected expected given x y small above e f g et ep ee eu eg ex ey = ap₂ eqb
+term-holds d n r L w k last at₁ at₂ constantTerms ψ ω p b″ u terms projected expected given x y small above e f g et ep ee eu eg ex ey = ap₂ eqb
     left right
   where
     value : Zq .Carrier
@@ -139,7 +139,7 @@ term-holds d n r L w k last at₁ at₂ term ψ ω p b″ u terms projected expe
     read z v i = ap bits32 i ∙ toZ-ofZ (cent-fits v)
 
     T : Zq .Carrier
-    T = sum Zq L (λ l. Zq .mul (red (getD ψ (k * L + l) (pos 0))) (red (termConstant d n r term l)))
+    T = sum Zq L (λ l. Zq .mul (red (getD ψ (k * L + l) (pos 0))) (red (termConstant d n r constantTerms l)))
 
     P : Zq .Carrier
     P = sum Zq w (λ j. Zq .mul (red (getD ω (k * w + j) (pos 0))) (red (getD p j (pos 0))))
@@ -147,7 +147,7 @@ term-holds d n r L w k last at₁ at₂ term ψ ω p b″ u terms projected expe
     total : red (bits32 expected) ≡ Zq .add T P
     total =
         ap red (bits32-centred expected (bits32 terms +ℤ bits32 projected) ee ∙ ap centred (ap₂ _+ℤ_ (read terms _ et ∙ ap cent
-        (terms-sum d n r L k last at₁ term ψ e f)) (read projected _ ep ∙ ap cent (projections-sum w k at₂ ω p g))))
+        (terms-sum d n r L k last at₁ constantTerms ψ e f)) (read projected _ ep ∙ ap cent (projections-sum w k at₂ ω p g))))
         ∙ red-centred (cent T +ℤ cent P)
         ∙ red-add (cent T) (cent P)
         ∙ ap₂ (Zq .add) (red-cent T) (red-cent P)
@@ -165,6 +165,6 @@ pub weights-fit : (k m l : ℕ) → k < 5 → l ≡ 5 * m → k * m + m ≤ l
 weights-fit k m l h e = omega (arith, mul-le-mul-right m h)
 
 -- the last number of each of L constraints
-pub constants-fit : (d n r L l last : ℕ) → last ≡ functionSize n r * d → l ≡ termLength d n r L → last + L * (last + 1) < l + (last + 1)
-unfolding termLength
+pub constants-fit : (d n r L l last : ℕ) → last ≡ functionSize n r * d → l ≡ constantTermsLength d n r L → last + L * (last + 1) < l + (last + 1)
+unfolding constantTermsLength
 constants-fit d n r L l last e f = rw (e, f) (omega arith)

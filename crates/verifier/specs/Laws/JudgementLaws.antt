@@ -29,17 +29,17 @@ recomposed s fits o old z room e = record {
   agree = λ i h. el-written (s .d) (s .n) (zValue s o) old e i h;
 }
 
-module _ (s : Sizes) (A B C D whole term projections ψ ω α δ c u₁ p b″ u₂ o : List ℤ) where
+module _ (s : Sizes) (A B C D whole constantTerms projections ψ ω α δ c u₁ p b″ u₂ o : List ℤ) where
   -- the three parts are the checks
   pub parts : firstFailing
-      (messageChecksOf s term p ψ ω b″
-      ++ (outerChecksOf s B C D u₁ u₂ o ++ openingChecksOf s A whole term projections ψ ω b″ α δ c o))
-      ≡ firstFailing (checks (statementOf s A B C D whole term) (drawsOf projections ψ ω α δ c) (transcriptOf u₁ p b″ u₂) o)
+      (messageChecksOf s constantTerms p ψ ω b″
+      ++ (outerChecksOf s B C D u₁ u₂ o ++ openingChecksOf s A whole constantTerms projections ψ ω b″ α δ c o))
+      ≡ firstFailing (checks (statementOf s A B C D whole constantTerms) (drawsOf projections ψ ω α δ c) (transcriptOf u₁ p b″ u₂) o)
   parts = refl
 
-  module _ (facts : VerifyFacts (statementOf s A B C D whole term) (drawsOf projections ψ ω α δ c) (transcriptOf u₁ p b″ u₂) o) where
-    pub term-facts : Terms s term ψ ω p b″
-    term-facts = terms-known s A B C D whole term projections ψ ω α δ c u₁ p b″ u₂ (facts .lists)
+  module _ (facts : VerifyFacts (statementOf s A B C D whole constantTerms) (drawsOf projections ψ ω α δ c) (transcriptOf u₁ p b″ u₂) o) where
+    pub term-facts : Terms s constantTerms ψ ω p b″
+    term-facts = terms-known s A B C D whole constantTerms projections ψ ω α δ c u₁ p b″ u₂ (facts .lists)
 
     pub outer-facts : OuterFacts s B C D u₁ u₂ o
     outer-facts = record {
@@ -52,12 +52,12 @@ module _ (s : Sizes) (A B C D whole term projections ψ ω α δ c u₁ p b″ u
       opening = record { sized = facts .o-length };
     }
 
-    pub opening-facts : OpeningFacts s A whole term projections ψ ω b″ α δ c o
+    pub opening-facts : OpeningFacts s A whole constantTerms projections ψ ω b″ α δ c o
     opening-facts = record {
       fits = facts .limits;
       matrix = record { sized = facts .lists .A-length };
       aggregated =
-          aggregate-known s A B C D whole term projections ψ ω α δ c u₁ p b″ u₂ (facts .lists) (facts .limits) (facts .rows-entries);
+          aggregate-known s A B C D whole constantTerms projections ψ ω α δ c u₁ p b″ u₂ (facts .lists) (facts .limits) (facts .projections-entries);
       weights = record { sized = facts .lists .δ-length };
       second = record { sized = facts .lists .b″-length };
       challenges = record { sized = facts .lists .c-length };

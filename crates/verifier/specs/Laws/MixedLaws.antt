@@ -23,7 +23,7 @@ use Rattle.verifier.specs.Known.Facts.{Fits, Opening}
 use Rattle.verifier.specs.Laws.PlaceLaws.{garbage-at}
 use Rattle.verifier.specs.Places.{garbageAt}
 use Rattle.verifier.specs.Laws.SizeLaws.{g-within, h-within}
-use Rattle.verifier.specs.Mixed.{weighed, Garbage, mixedTerm, mixedRow}
+use Rattle.verifier.specs.Mixed.{weighed, Garbage, mixedSummand, mixedRow}
 
 module _ (𝓡 : CommRing) where
   infixl 65 _⊕_
@@ -55,36 +55,36 @@ module _ (𝓡 : CommRing) where
       f i j = g i j ⊗ (c i ⊗ c j)
 
 module _ (d r b t place : ℕ) (c o : List ℤ) where
-  pub mixed-row : (i : ℕ) → sum (R d) (r - i) (mixedTerm d r b t place c o i) ≡ mixedRow d r b t place c o i
+  pub mixed-row : (i : ℕ) → sum (R d) (r - i) (mixedSummand d r b t place c o i) ≡ mixedRow d r b t place c o i
   unfolding mixedRow
   mixed-row i = refl
 
   pub mixed-all : sum (R d) r (mixedRow d r b t place c o) ≡ mixed (R d) r (garbageOf d r b t (block d o place)) (el d c)
-  unfolding mixedRow mixedTerm rows
+  unfolding mixedRow mixedSummand rows
   mixed-all =
-      sum-cong (R d) r _ _ (λ i _. sum-cong (R d) (r - i) _ _ (λ k _. ap (λ e. weighed (R d) e (term i k)) (sym (add-sub-cancel-left i k))))
+      sum-cong (R d) r _ _ (λ i _. sum-cong (R d) (r - i) _ _ (λ k _. ap (λ e. weighed (R d) e (summand i k)) (sym (add-sub-cancel-left i k))))
       ∙ mixed-rows (R d) r (garbageOf d r b t (block d o place)) (el d c)
     where
-      term : ℕ → ℕ → R d .Carrier
-      term i k = R d .mul (garbageOf d r b t (block d o place) i (i + k)) (R d .mul (el d c i) (el d c (i + k)))
+      summand : ℕ → ℕ → R d .Carrier
+      summand i k = R d .mul (garbageOf d r b t (block d o place) i (i + k)) (R d .mul (el d c i) (el d c (i + k)))
 
   -- the term from what the calls promise: g_ij, c_i c_j, and their product, which is doubled off the diagonal
-  pub mixed-term-once : (i k q : ℕ) (g x y xy r′ : List ℤ) → d ≤ 64 → k ≤ 0 → q ≡ pair r i (i + k) → g ≡ array d (garbageAt d b t
+  pub mixed-summand-once : (i k q : ℕ) (g x y xy r′ : List ℤ) → d ≤ 64 → k ≤ 0 → q ≡ pair r i (i + k) → g ≡ array d (garbageAt d b t
       (block d o place) q)
       → x ≡ array d (el d c i) → y ≡ array d (el d c (i + k)) → xy ≡ array d (R d .mul (lift d x) (lift d y))
-      → r′ ≡ array d (R d .mul (lift d g) (lift d xy)) → r′ ≡ array d (mixedTerm d r b t place c o i k)
-  unfolding mixedTerm
-  mixed-term-once i k q g x y xy r′ small h eq eg ex ey exy e =
+      → r′ ≡ array d (R d .mul (lift d g) (lift d xy)) → r′ ≡ array d (mixedSummand d r b t place c o i k)
+  unfolding mixedSummand
+  mixed-summand-once i k q g x y xy r′ small h eq eg ex ey exy e =
       e ∙ ap (array d) (ap₂ (R d .mul) (held small eg ∙ garbage-at d r b t (block d o place) i (i + k) q eq) (held small exy ∙ ap₂
       (R d .mul) (held small ex) (held small ey))
       ∙ sym (weighed-zero (R d) k _ h))
 
-  pub mixed-term-twice : (i k q : ℕ) (g x y xy once r′ : List ℤ) → d ≤ 64 → 0 < k → q ≡ pair r i (i + k) → g ≡ array d (garbageAt d b t
+  pub mixed-summand-twice : (i k q : ℕ) (g x y xy once r′ : List ℤ) → d ≤ 64 → 0 < k → q ≡ pair r i (i + k) → g ≡ array d (garbageAt d b t
       (block d o place) q)
       → x ≡ array d (el d c i) → y ≡ array d (el d c (i + k)) → xy ≡ array d (R d .mul (lift d x) (lift d y))
-      → once ≡ array d (R d .mul (lift d g) (lift d xy)) → r′ ≡ array d (R d .add (lift d once) (lift d once)) → r′ ≡ array d (mixedTerm d r b t place c o i k)
-  unfolding mixedTerm
-  mixed-term-twice i k q g x y xy once r′ small h eq eg ex ey exy e double =
+      → once ≡ array d (R d .mul (lift d g) (lift d xy)) → r′ ≡ array d (R d .add (lift d once) (lift d once)) → r′ ≡ array d (mixedSummand d r b t place c o i k)
+  unfolding mixedSummand
+  mixed-summand-twice i k q g x y xy once r′ small h eq eg ex ey exy e double =
       let value = held small e ∙ ap₂ (R d .mul) (held small eg ∙ garbage-at d r b t (block d o place) i (i + k) q eq)
       (held small exy ∙ ap₂ (R d .mul) (held small ex) (held small ey)) in
       double ∙ ap (array d) (ap₂ (R d .add) value value ∙ sym (weighed-apart (R d) k _ h))

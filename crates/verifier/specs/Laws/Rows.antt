@@ -69,9 +69,9 @@ pub amortized-row : (d n : ℕ) (A z : List ℤ) (k : ℕ) (total : R d .Carrier
 amortized-row d n A z k total left right r small e f result =
     result ∙ ap₂ (same d) (held small e ∙ times-block d n A k z) (held small f)
 
-pub folded-term : (d : ℕ) (x y : R d .Carrier) (xs ys zs : List ℤ) → d ≤ 64 → xs ≡ array d x → ys ≡ array d y
+pub folded-summand : (d : ℕ) (x y : R d .Carrier) (xs ys zs : List ℤ) → d ≤ 64 → xs ≡ array d x → ys ≡ array d y
     → zs ≡ array d (R d .mul (lift d xs) (lift d ys)) → zs ≡ array d (R d .mul x y)
-folded-term d x y xs ys zs small e f g = g ∙ ap (array d) (ap₂ (R d .mul) (held small e) (held small f))
+folded-summand d x y xs ys zs small e f g = g ∙ ap (array d) (ap₂ (R d .mul) (held small e) (held small f))
 
 pub self-product : (d n r : ℕ) (c z : List ℤ) (g : ℕ → ℕ → R d .Carrier) (left right : List ℤ) (t : Bool) → d ≤ 64
     → left ≡ array d (sum (R d) n (λ k. R d .mul (el d z (0 + k)) (el d z (0 + k)))) → right ≡ array d (mixed (R d) r g (el d c))

@@ -30,7 +30,7 @@ returns : tie.Need-returns
 returns c =
     let s = c .before .before .before .before in
     let z = s .args .sizes in
-    outer-end (z .d) (z .r) (z .kappa2) (z .t1) _ (s .args .matrix .now) (s .args .digits .now) (c .before .before .before .garbage-size .ensures)
+    outer-end (z .d) (z .r) (z .kappa2) (z .t1) _ (s .args .d-matrix .now) (s .args .digits .now) (c .before .before .before .garbage-size .ensures)
     (c .before .write-rows .ensures)
 
 pub write-u2-spec : {M : Type 1} → statement M

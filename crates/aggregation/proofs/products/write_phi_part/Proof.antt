@@ -13,11 +13,11 @@ use Rattle.aggregation.proofs.products.write_phi_part.Statement.{statem
 use Rattle.aggregation.proofs.products.write_phi_part.Tie as tie
 
 abbrev Inv-loop : tie.InvT-loop
-Inv-loop shape kc l w whole term rows psi omega table alpha delta i out₀ d rank first y₀ out y =
-    Elements d 0 rank (aggregatePart d (shape .n) (shape .r) kc l w whole term rows psi omega alpha delta i) out₀ y out
+Inv-loop shape kc l w whole constant-terms projections psi omega omega-sums alpha delta i out₀ d rank first y₀ out y =
+    Elements d 0 rank (aggregatePart d (shape .n) (shape .r) kc l w whole constant-terms projections psi omega alpha delta i) out₀ y out
 
 abbrev μ-loop : tie.MeasureT-loop
-μ-loop shape kc l w whole term rows psi omega table alpha delta i out₀ d rank first y₀ out y = rank - y
+μ-loop shape kc l w whole constant-terms projections psi omega omega-sums alpha delta i out₀ d rank first y₀ out y = rank - y
 
 mul-first : tie.Need-mul-first Inv-loop μ-loop
 mul-first c =

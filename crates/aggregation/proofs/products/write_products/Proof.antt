@@ -13,15 +13,15 @@ use Rattle.aggregation.proofs.products.write_products.Statement.{statem
 use Rattle.aggregation.proofs.products.write_products.Tie as tie
 
 abbrev Inv-loop : tie.InvT-loop
-Inv-loop shape kc l w whole term rows psi omega alpha delta witness out₀ table parts i₀ out i =
+Inv-loop shape kc l w whole constant-terms projections psi omega alpha delta witness out₀ omega-sums parts i₀ out i =
     Blocks 0 parts (parts * shape .d) (λ i. elements (shape .d) parts (cross (shape .d) (shape .n)
-    (aggregatePart (shape .d) (shape .n) parts kc l w whole term rows psi omega alpha delta) witness i)) out₀ i (i * (parts * shape .d)) out
+    (aggregatePart (shape .d) (shape .n) parts kc l w whole constant-terms projections psi omega alpha delta) witness i)) out₀ i (i * (parts * shape .d)) out
 
 abbrev μ-loop : tie.MeasureT-loop
-μ-loop shape kc l w whole term rows psi omega alpha delta witness out₀ table parts i₀ out i = parts - i
+μ-loop shape kc l w whole constant-terms projections psi omega alpha delta witness out₀ omega-sums parts i₀ out i = parts - i
 
-write-sums-requires : tie.Need-write-sums-requires Inv-loop μ-loop
-write-sums-requires c κs =
+write-omega-sums-requires : tie.Need-write-omega-sums-requires Inv-loop μ-loop
+write-omega-sums-requires c κs =
     let projected = c .before .pre .0 .seconds .projected in
     (projected .row-count, projected .ω-length, length-replicate 25920 (pos 0))
 
@@ -33,7 +33,7 @@ write-row-requires c κs =
     let l = c .before .before .before in
     let s = l .before .before .before in (
       s .pre .0,
-      (l .before .write-sums .ensures, (s .pre .1 .0, c .before .before .loop-test .taken, rw (l .loop .inv .same) (s .pre .1 .1))),
+      (l .before .write-omega-sums .ensures, (s .pre .1 .0, c .before .before .loop-test .taken, rw (l .loop .inv .same) (s .pre .1 .1))),
     )
 
 add-i : tie.Need-add-i Inv-loop μ-loop
@@ -56,6 +56,6 @@ returns c = blocks-end (c .before .loop .inv) (c .loop-test .left)
 pub write-products-spec : {M : Type 1} → statement M
 write-products-spec =
     tie.close
-    (tie.spec Inv-loop μ-loop write-sums-requires loop-holds write-row-requires add-i
+    (tie.spec Inv-loop μ-loop write-omega-sums-requires loop-holds write-row-requires add-i
     (λ c. omega (arith, c .before .before .before .before .loop-test .taken)) loop-again (λ c. c .before .loop .inv .same)
     returns)

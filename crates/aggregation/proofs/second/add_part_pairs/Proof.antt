@@ -7,7 +7,7 @@ use Rattle.fold.specs.Laws.SizeBounds.{pairs-bound}
 use Rattle.ring.specs.Laws.ElementPlaces.{row-fits}
 use Rattle.aggregation.specs.Rows.{Sums}
 use Rattle.aggregation.specs.Laws.RowLaws.{canonical}
-use Rattle.aggregation.specs.Values.{pairTerm}
+use Rattle.aggregation.specs.Values.{pairSummand}
 use Rattle.aggregation.specs.Laws.ValueLaws.{pair-below, pairs-step}
 use Rattle.fold.specs.Sizes.{pairs}
 use Rattle.ring.specs.Laws.Loops.{Counted, counted-start, counted-step, counted-end}
@@ -15,11 +15,11 @@ use Rattle.aggregation.proofs.second.add_part_pairs.Statement.{statemen
 use Rattle.aggregation.proofs.second.add_part_pairs.Tie as tie
 
 abbrev Inv-loop : tie.InvT-loop
-Inv-loop shape l term psi witness i at d rank parts count sums₀ k₀ sums k =
-    Counted count (λ k. Sums d (pairTerm d (shape .n) (shape .r) l term psi witness) (at + k) sums) k
+Inv-loop shape l constant-terms psi witness i at d rank parts count sums₀ k₀ sums k =
+    Counted count (λ k. Sums d (pairSummand d (shape .n) (shape .r) l constant-terms psi witness) (at + k) sums) k
 
 abbrev μ-loop : tie.MeasureT-loop
-μ-loop shape l term psi witness i at d rank parts count sums₀ k₀ sums k = count - k
+μ-loop shape l constant-terms psi witness i at d rank parts count sums₀ k₀ sums k = count - k
 
 -- the next pair's place
 below : (c : tie.In-loop Inv-loop μ-loop) → c .before .before .args .at + c .before .loop .k < pairs (c .before .before .args .shape .r)

@@ -7,17 +7,17 @@ use Rattle.algebra.specs.Laws.TriangleLaws.{pair-zero}
 use Rattle.fold.specs.Laws.SizeBounds.{pairs-bound}
 use Rattle.aggregation.specs.Rows.{Sums}
 use Rattle.aggregation.specs.Laws.RowLaws.{sums-start}
-use Rattle.aggregation.specs.Values.{pairTerm}
+use Rattle.aggregation.specs.Values.{pairSummand}
 use Rattle.aggregation.specs.Laws.ValueLaws.{pair-room, pair-after, pairs-all}
 use Rattle.aggregation.proofs.second.weigh_pairs.Statement.{statement}
 use Rattle.aggregation.proofs.second.weigh_pairs.Tie as tie
 
 abbrev Inv-loop : tie.InvT-loop
-Inv-loop shape l term psi witness parts sums₀ at₀ i₀ sums at i =
-    (i ≤ parts) × (at ≡ pair parts i i) × Sums (shape .d) (pairTerm (shape .d) (shape .n) (shape .r) l term psi witness) at sums
+Inv-loop shape l constant-terms psi witness parts sums₀ at₀ i₀ sums at i =
+    (i ≤ parts) × (at ≡ pair parts i i) × Sums (shape .d) (pairSummand (shape .d) (shape .n) (shape .r) l constant-terms psi witness) at sums
 
 abbrev μ-loop : tie.MeasureT-loop
-μ-loop shape l term psi witness parts sums₀ at₀ i₀ sums at i = parts - i
+μ-loop shape l constant-terms psi witness parts sums₀ at₀ i₀ sums at i = parts - i
 
 add-at : tie.Need-add-at Inv-loop μ-loop
 add-at c =

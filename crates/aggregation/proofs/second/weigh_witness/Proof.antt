@@ -5,18 +5,18 @@ use Rattle.ring.specs.Laws.ElementPlaces.{element-within}
 use Rattle.constraints.specs.Laws.SizeLaws.{witness-small}
 use Rattle.aggregation.specs.Rows.{Sums}
 use Rattle.aggregation.specs.Laws.RowLaws.{sums-start}
-use Rattle.aggregation.specs.Values.{witnessTerm}
+use Rattle.aggregation.specs.Values.{witnessSummand}
 use Rattle.aggregation.specs.Laws.ValueLaws.{witness-step}
 use Rattle.ring.specs.Laws.Loops.{Counted, counted-start, counted-step, counted-end}
 use Rattle.aggregation.proofs.second.weigh_witness.Statement.{statement}
 use Rattle.aggregation.proofs.second.weigh_witness.Tie as tie
 
 abbrev Inv-loop : tie.InvT-loop
-Inv-loop shape l w term rows psi omega table witness d parts rank count sums₀ e₀ sums e =
-    Counted count (λ e. Sums d (witnessTerm d (shape .n) (shape .r) l w term rows psi omega witness) e sums) e
+Inv-loop shape l w constant-terms projections psi omega omega-sums witness d parts rank count sums₀ e₀ sums e =
+    Counted count (λ e. Sums d (witnessSummand d (shape .n) (shape .r) l w constant-terms projections psi omega witness) e sums) e
 
 abbrev μ-loop : tie.MeasureT-loop
-μ-loop shape l w term rows psi omega table witness d parts rank count sums₀ e₀ sums e = count - e
+μ-loop shape l w constant-terms projections psi omega omega-sums witness d parts rank count sums₀ e₀ sums e = count - e
 
 from-slice-requires : tie.Need-from-slice-requires Inv-loop μ-loop
 from-slice-requires c κs =

@@ -1,4 +1,4 @@
--- `constraints::aggregated::weighted_row` meets its contract. The loop has added the first k of the five terms.
+-- `constraints::aggregated::weighted_row` meets its contract. The loop has added the first k of the five summands.
 use mathlib.Core.Path.{ap, _∙_}
 use mathlib.Core.List.{[]}
 use Prim.Native.Nat.{_-_}

@@ -4,7 +4,7 @@ use Prim.Native.Nat.{_+_, _-_, _*_, _≤_}
 use lib.ListN.{length}
 use native.Mathlib.Nat.{le-refl}
 use native.Mathlib.Omega.{arith}
-use Rattle.constraints.specs.Laws.Terms.{wholeTerm, whole-step, whole-end, whole-size-small, whole-step-small}
+use Rattle.constraints.specs.Laws.Terms.{wholeSummand, whole-step, whole-end, whole-size-small, whole-step-small}
 use Rattle.constraints.specs.Laws.Terms.{whole-inside, whole-place, α-place, rest-room}
 use Rattle.ring.specs.Laws.Loops.{Summed, summed-start, summed-end}
 use Rattle.constraints.proofs.aggregated.whole_entry.Statement.{statement}
@@ -12,7 +12,7 @@ use Rattle.constraints.proofs.aggregated.whole_entry.Tie as tie
 
 abbrev Inv-loop : tie.InvT-loop
 Inv-loop kc whole alpha e d size step sum₀ at₀ k₀ sum at k =
-    (at ≡ k * step) × Summed d kc (wholeTerm d whole alpha step e) k (sum .coefficients)
+    (at ≡ k * step) × Summed d kc (wholeSummand d whole alpha step e) k (sum .coefficients)
 
 abbrev μ-loop : tie.MeasureT-loop
 μ-loop kc whole alpha e d size step sum₀ at₀ k₀ sum at k = kc - k

@@ -8,7 +8,7 @@ use mir.Syntax.{w32}
 use mir.Val.{toZ}
 use mir.Facts.{toZ-ofZ}
 use Rattle.constraints.specs.Accumulator.{AddedFive}
-use Rattle.constraints.specs.Laws.AccumulatorLaws.{five-start, five-room, five-step, held-number, held-room, entry-term}
+use Rattle.constraints.specs.Laws.AccumulatorLaws.{five-start, five-room, five-step, held-number, held-room, entry-summand}
 use Rattle.constraints.specs.Laws.ProjectedRowLaws.{weight-place}
 use Rattle.ring.specs.Laws.Loops.{Counted, counted-start, counted-step, counted-end}
 use Rattle.constraints.proofs.projected_rows.add_entry.Statement.{statement}
@@ -33,9 +33,9 @@ plus-requires c κs =
     let signed = c .before .signed in
     let place = l .loop .k * s .args .w + s .args .j in
     let is = rw (toZ-ofZ (s .fits .x)) at (signed .ensures) in
-    let term = entry-term (s .args .omega .now) place (s .args .x) (c .before .before .weight .given) (s .pre .0) is in (
+    let summand = entry-summand (s .args .omega .now) place (s .args .x) (c .before .before .weight .given) (s .pre .0) is in (
       five-room (l .loop .inv .held) (s .pre .1 .0) (c .before .before .before .loop-test .taken) (c .old .given),
-      held-room (signed .result) {b = 2147483648} (signed .ok) (rw (term .0) (term .1)) (omega arith),
+      held-room (signed .result) {b = 2147483648} (signed .ok) (rw (summand .0) (summand .1)) (omega arith),
     )
 
 loop-again : tie.Need-loop-again Inv-loop μ-loop
@@ -45,9 +45,9 @@ loop-again c =
     let signed = c .before .before .signed in
     let place = l .loop .k * s .args .w + s .args .j in
     let is = rw (toZ-ofZ (s .fits .x)) at (signed .ensures) in
-    let term = entry-term (s .args .omega .now) place (s .args .x) (c .before .before .before .weight .given) (s .pre .0) is in
+    let summand = entry-summand (s .args .omega .now) place (s .args .x) (c .before .before .before .weight .given) (s .pre .0) is in
     counted-step (omega arith) (five-step (l .loop .inv .held) (s .pre .1 .0) (c .before .before .before .before .loop-test .taken) (c .plus .ok) (c .before .old .given)
-    (held-number (signed .result) (signed .ok) ∙ rw (toZ-ofZ (s .fits .x)) (term .0)) (rw (toZ-ofZ (s .fits .x)) (term .1))
+    (held-number (signed .result) (signed .ok) ∙ rw (toZ-ofZ (s .fits .x)) (summand .0)) (rw (toZ-ofZ (s .fits .x)) (summand .1))
     (c .plus .ensures))
 
 pub add-entry-spec : {M : Type 1} → statement M

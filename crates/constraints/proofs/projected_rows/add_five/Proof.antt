@@ -10,17 +10,17 @@ use Rattle.constraints.proofs.projected_rows.add_five.Statement.{statem
 use Rattle.constraints.proofs.projected_rows.add_five.Tie as tie
 
 abbrev Inv-loop : tie.InvT-loop
-Inv-loop acc₀ at sums from k₀ acc k = Counted 5 (λ k. AddedFive 8589934592 (λ i. getD sums (from + i) (pos 0)) at acc₀ k acc) k
+Inv-loop acc₀ at omega-sums from k₀ acc k = Counted 5 (λ k. AddedFive 8589934592 (λ i. getD omega-sums (from + i) (pos 0)) at acc₀ k acc) k
 
 abbrev μ-loop : tie.MeasureT-loop
-μ-loop acc₀ at sums from k₀ acc k = 5 - k
+μ-loop acc₀ at omega-sums from k₀ acc k = 5 - k
 
 plus-requires : tie.Need-plus-requires Inv-loop μ-loop
 plus-requires c κs =
     let l = c .before .before .before in
     let s = l .before in
     let taken = c .before .before .loop-test .taken in
-    let sum = getD (s .args .sums .now) (s .args .from + l .loop .k) (pos 0) in (
+    let sum = getD (s .args .omega-sums .now) (s .args .from + l .loop .k) (pos 0) in (
       five-room (l .loop .inv .held) (s .pre .0) taken (c .before .old .given),
       held-room sum (c .sum .given) (s .pre .1 .1 .small _ taken) (omega arith),
     )

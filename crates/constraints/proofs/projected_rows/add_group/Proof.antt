@@ -9,11 +9,11 @@ use Rattle.constraints.proofs.projected_rows.add_group.Statement.{state
 use Rattle.constraints.proofs.projected_rows.add_group.Tie as tie
 
 abbrev Inv-loop : tie.InvT-loop
-Inv-loop d count w rows omega sums e codes group acc₀ place first y₀ acc y =
-    Turning d (partial d count w rows omega e (group * 4)) (partial d count w rows omega e (group * 4 + 4)) (group * 4) 4 y acc
+Inv-loop d count w projections omega omega-sums e codes group acc₀ place first y₀ acc y =
+    Turning d (partial d count w projections omega e (group * 4)) (partial d count w projections omega e (group * 4 + 4)) (group * 4) 4 y acc
 
 abbrev μ-loop : tie.MeasureT-loop
-μ-loop d count w rows omega sums e codes group acc₀ place first y₀ acc y = d - y
+μ-loop d count w projections omega omega-sums e codes group acc₀ place first y₀ acc y = d - y
 
 -- the next code
 below : (c : tie.In-loop Inv-loop μ-loop) → let a = c .before .before .args in getD (a .codes .now) (a .group * 64 + c .before .loop .y) 0 < 81

@@ -7,10 +7,10 @@ use Rattle.constraints.proofs.projected_rows.add_rest.Statement.{statem
 use Rattle.constraints.proofs.projected_rows.add_rest.Tie as tie
 
 abbrev Inv-loop : tie.InvT-loop
-Inv-loop shape w rows omega e acc₀ groups j₀ acc j = (j ≤ w) × Summed (shape .d) (shape .r * shape .n) w rows omega e j acc
+Inv-loop shape w projections omega e acc₀ groups j₀ acc j = (j ≤ w) × Summed (shape .d) (shape .r * shape .n) w projections omega e j acc
 
 abbrev μ-loop : tie.MeasureT-loop
-μ-loop shape w rows omega e acc₀ groups j₀ acc j = w - j
+μ-loop shape w projections omega e acc₀ groups j₀ acc j = w - j
 
 add-row-requires : tie.Need-add-row-requires Inv-loop μ-loop
 add-row-requires c κs =

@@ -10,11 +10,11 @@ use Rattle.constraints.proofs.projected_rows.add_row.Statement.{stateme
 use Rattle.constraints.proofs.projected_rows.add_row.Tie as tie
 
 abbrev Inv-loop : tie.InvT-loop
-Inv-loop w rows omega e j acc₀ d parts rank count element at y₀ acc y =
-    Turning d (partial d (parts * rank) w rows omega e j) (partial d (parts * rank) w rows omega e (j + 1)) j 1 y acc
+Inv-loop w projections omega e j acc₀ d parts rank count element at y₀ acc y =
+    Turning d (partial d (parts * rank) w projections omega e j) (partial d (parts * rank) w projections omega e (j + 1)) j 1 y acc
 
 abbrev μ-loop : tie.MeasureT-loop
-μ-loop w rows omega e j acc₀ d parts rank count element at y₀ acc y = d - y
+μ-loop w projections omega e j acc₀ d parts rank count element at y₀ acc y = d - y
 
 add-x : tie.Need-add-x Inv-loop μ-loop
 add-x c =

@@ -10,10 +10,10 @@ use Rattle.constraints.proofs.row_groups.group_codes.Statement.{stateme
 use Rattle.constraints.proofs.row_groups.group_codes.Tie as tie
 
 abbrev Inv-loop : tie.InvT-loop
-Inv-loop w rows omega e codes₀ d parts rank count step groups g₀ codes g = (g ≤ groups) × CodesOf d (parts * rank) rows e g codes
+Inv-loop w projections omega e codes₀ d parts rank count step groups g₀ codes g = (g ≤ groups) × CodesOf d (parts * rank) projections e g codes
 
 abbrev μ-loop : tie.MeasureT-loop
-μ-loop w rows omega e codes₀ d parts rank count step groups g₀ codes g = groups - g
+μ-loop w projections omega e codes₀ d parts rank count step groups g₀ codes g = groups - g
 
 mul-element : tie.Need-mul-element Inv-loop μ-loop
 mul-element c =

@@ -8,10 +8,10 @@ use Rattle.constraints.proofs.row_groups.write_codes.Statement.{stateme
 use Rattle.constraints.proofs.row_groups.write_codes.Tie as tie
 
 abbrev Inv-loop : tie.InvT-loop
-Inv-loop d rows at step codes₀ from y₀ codes y = (y ≤ d) × Codes rows at step from codes₀ y codes
+Inv-loop d projections at step codes₀ from y₀ codes y = (y ≤ d) × Codes projections at step from codes₀ y codes
 
 abbrev μ-loop : tie.MeasureT-loop
-μ-loop d rows at step codes₀ from y₀ codes y = d - y
+μ-loop d projections at step codes₀ from y₀ codes y = d - y
 
 loop-again : tie.Need-loop-again Inv-loop μ-loop
 loop-again c =

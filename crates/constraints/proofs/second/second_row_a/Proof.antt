@@ -11,11 +11,11 @@ use Rattle.constraints.proofs.second.second_row_a.Statement.{statement}
 use Rattle.constraints.proofs.second.second_row_a.Tie as tie
 
 abbrev Inv-loop : tie.InvT-loop
-Inv-loop shape l term psi e row₀ k₀ row k =
-    Filling 5 5 (λ i. array (shape .d) (secondA (shape .d) (shape .n) (shape .r) l term psi i e)) (replicate 64 (pos 0)) k row
+Inv-loop shape l constant-terms psi e row₀ k₀ row k =
+    Filling 5 5 (λ i. array (shape .d) (secondA (shape .d) (shape .n) (shape .r) l constant-terms psi i e)) (replicate 64 (pos 0)) k row
 
 abbrev μ-loop : tie.MeasureT-loop
-μ-loop shape l term psi e row₀ k₀ row k = 5 - k
+μ-loop shape l constant-terms psi e row₀ k₀ row k = 5 - k
 
 loop-again : tie.Need-loop-again Inv-loop μ-loop
 unfolding secondA

@@ -11,11 +11,11 @@ use Rattle.constraints.proofs.second.second_row_phi.Statement.{statemen
 use Rattle.constraints.proofs.second.second_row_phi.Tie as tie
 
 abbrev Inv-loop : tie.InvT-loop
-Inv-loop shape l w term rows psi omega sums e projections row₀ k₀ row k =
-    Filling 5 5 (λ i. array (shape .d) (secondΦ (shape .d) (shape .n) (shape .r) l w term rows psi omega i e)) (replicate 64 (pos 0)) k row
+Inv-loop shape l w constant-terms projections psi omega omega-sums e projected-row row₀ k₀ row k =
+    Filling 5 5 (λ i. array (shape .d) (secondΦ (shape .d) (shape .n) (shape .r) l w constant-terms projections psi omega i e)) (replicate 64 (pos 0)) k row
 
 abbrev μ-loop : tie.MeasureT-loop
-μ-loop shape l w term rows psi omega sums e projections row₀ k₀ row k = 5 - k
+μ-loop shape l w constant-terms projections psi omega omega-sums e projected-row row₀ k₀ row k = 5 - k
 
 loop-again : tie.Need-loop-again Inv-loop μ-loop
 loop-again c =

@@ -4,22 +4,22 @@ use Prim.Native.Nat.{_+_, _-_, _*_, _≤_}
 use lib.ListN.{length}
 use native.Mathlib.Omega.{arith}
 use native.Mathlib.Nat.{le-refl, mul-le-mul-right}
-use Rattle.constraints.specs.Laws.Terms.{termTerm, term-step, term-end, term-step-small}
+use Rattle.constraints.specs.Laws.Terms.{termSummand, term-step, term-end, term-step-small}
 use Rattle.constraints.specs.Laws.Terms.{term-inside, term-place, ψ-place, rest-room}
 use Rattle.ring.specs.Laws.Loops.{Summed, summed-start, summed-end}
 use Rattle.constraints.proofs.second.term_entry.Statement.{statement}
 use Rattle.constraints.proofs.second.term_entry.Tie as tie
 
 abbrev Inv-loop : tie.InvT-loop
-Inv-loop l term psi k e d size step first sum₀ at₀ j₀ sum at j =
-    (at ≡ j * step) × Summed d l (termTerm d term psi step first e) j (sum .coefficients)
+Inv-loop l constant-terms psi k e d size step first sum₀ at₀ j₀ sum at j =
+    (at ≡ j * step) × Summed d l (termSummand d constant-terms psi step first e) j (sum .coefficients)
 
 abbrev μ-loop : tie.MeasureT-loop
-μ-loop l term psi k e d size step first sum₀ at₀ j₀ sum at j = l - j
+μ-loop l constant-terms psi k e d size step first sum₀ at₀ j₀ sum at j = l - j
 
 -- the next constraint lies within the list
 inside : (c : tie.In-loop Inv-loop μ-loop) → let f = c .before .before .before in
-    (c .before .loop .at + (f .function-size .result * f .before .args .shape .d + 1) ≤ length (f .before .args .term .now)) × (length (f .before .args .term .now) ≤ 8667168)
+    (c .before .loop .at + (f .function-size .result * f .before .args .shape .d + 1) ≤ length (f .before .args .constant-terms .now)) × (length (f .before .args .constant-terms .now) ≤ 8667168)
 inside c =
     let f = c .before .before .before in
     term-inside (f .before .pre .0) (f .function-size .ensures) (c .loop-test .taken) (c .before .loop .inv .0)
@@ -30,7 +30,7 @@ from-slice-requires c κs =
     let f = l .before .before in
     let s = f .before in
     let place = term-place (s .pre .0) (f .function-size .ensures) (c .before .before .loop-test .taken) (s .pre .1 .1) (l .loop .inv .0) in
-    (s .pre .0 .shaped .degree, rest-room (s .args .term .now) (l .loop .at) place)
+    (s .pre .0 .shaped .degree, rest-room (s .args .constant-terms .now) (l .loop .at) place)
 
 loop-again : tie.Need-loop-again Inv-loop μ-loop
 loop-again c =

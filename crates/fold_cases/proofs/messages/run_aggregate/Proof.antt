@@ -6,8 +6,8 @@ use Rattle.fold_cases.specs.Laws.AnswerLaws.{count-fits, room-is}
 use Rattle.fold_cases.proofs.messages.run_aggregate.Statement.{statement}
 use Rattle.fold_cases.proofs.messages.run_aggregate.Tie as tie
 
-array-borrow-prefix-b2 : tie.Need-array-borrow-prefix-b2
-array-borrow-prefix-b2 c = count-fits _ _ (c .count-at .ensures .0)
+array-borrow-prefix-second-b : tie.Need-array-borrow-prefix-second-b
+array-borrow-prefix-second-b c = count-fits _ _ (c .count-at .ensures .0)
 
 slice-aggregate-aggregate : tie.Need-slice-aggregate-aggregate
 slice-aggregate-aggregate c = c .before .count-at .ensures .1
@@ -27,7 +27,7 @@ run-aggregate-spec =
     (tie.spec
     (λ c κs. tt)
     (λ c κs. tt)
-    array-borrow-prefix-b2
+    array-borrow-prefix-second-b
     slice-aggregate-aggregate
     (λ c κs. tt)
     returns)

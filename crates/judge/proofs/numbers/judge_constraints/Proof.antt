@@ -20,11 +20,11 @@ returns c =
     let c12 = c11 .before in
     let c13 = c12 .before in
     let x = c13 .args in
-    constraint-stage (x .s) (x .a .now) (x .b .now) (x .c-matrix .now) (x .d-matrix .now)
+    constraint-stage (x .s) (x .a-matrix .now) (x .b-matrix .now) (x .c-matrix .now) (x .d-matrix .now)
     (cut (c12 .whole-length .ensures) (c4 .front .ensures) (c8 .rest .ensures))
-    (cut (c11 .term-length .ensures) (c3 .front2 .ensures) (c7 .rest2 .ensures))
+    (cut (c11 .constant-terms-length .ensures) (c3 .front2 .ensures) (c7 .rest2 .ensures))
     (cut (c10 .list-length .ensures) (c2 .front3 .ensures) (c6 .rest3 .ensures))
-    (cut (c9 .rows-length .ensures) (c1 .front4 .ensures) (c5 .rest4 .ensures))
+    (cut (c9 .projections-length .ensures) (c1 .front4 .ensures) (c5 .rest4 .ensures))
     (c .judge-numbers .ensures)
 
 pub judge-constraints-spec : {M : Type 1} → statement M

@@ -26,8 +26,8 @@ returns c =
     let c16 = c15 .before in
     let x = c16 .args in
     let s = x .s in
-    last-stage s (x .a .now) (x .b .now) (x .c-matrix .now) (x .d-matrix .now) (x .whole .now) (x .term .now) (x .u1 .now) (x .rows .now)
-    (x .p .now) (x .psi .now) (x .omega .now) (x .b2 .now)
+    last-stage s (x .a-matrix .now) (x .b-matrix .now) (x .c-matrix .now) (x .d-matrix .now) (x .whole .now) (x .constant-terms .now) (x .u1 .now) (x .projections .now)
+    (x .p .now) (x .psi .now) (x .omega .now) (x .second-b .now)
     (cut (c15 .list-length .ensures) (c5 .front .ensures) (c10 .rest .ensures))
     (cut (c14 .list-length2 .ensures) (c4 .front2 .ensures) (c9 .rest2 .ensures))
     (cut (c13 .list-length3 .ensures) (c3 .front3 .ensures) (c8 .rest3 .ensures))

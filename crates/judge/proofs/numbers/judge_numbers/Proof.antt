@@ -20,7 +20,7 @@ returns c =
     let c11 = c10 .before in
     let c12 = c11 .before in
     let x = c12 .args in
-    number-stage (x .s) (x .a .now) (x .b .now) (x .c-matrix .now) (x .d-matrix .now) (x .whole .now) (x .term .now) (x .u1 .now) (x .rows .now)
+    number-stage (x .s) (x .a-matrix .now) (x .b-matrix .now) (x .c-matrix .now) (x .d-matrix .now) (x .whole .now) (x .constant-terms .now) (x .u1 .now) (x .projections .now)
     (cut refl (c4 .front .ensures) (c8 .rest .ensures))
     (cut refl (c3 .front2 .ensures) (c7 .rest2 .ensures))
     (cut refl (c2 .front3 .ensures) (c6 .rest3 .ensures))

@@ -14,7 +14,7 @@ returns c =
     let c4 = c3 .before in
     let c5 = c4 .before in
     joined-tests
-    (c5 .term-fits .ensures & c4 .rows-fit .ensures & c3 .five-fit .ensures & c2 .five-fit2 .ensures
+    (c5 .constant-terms-fit .ensures & c4 .projections-fit .ensures & c3 .five-fit .ensures & c2 .five-fit2 .ensures
     & c1 .matrix-fits .ensures & c .five-fit3 .ensures & end) refl
 
 pub aggregate-lengths-spec : {M : Type 1} → statement M

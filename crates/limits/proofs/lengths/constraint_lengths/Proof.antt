@@ -15,7 +15,7 @@ returns c =
     let c5 = c4 .before in
     let c6 = c5 .before in
     joined-tests
-    (c6 .whole-fits .ensures & c5 .term-fits .ensures & c4 .rows-fit .ensures & c3 .five-fit .ensures
+    (c6 .whole-fits .ensures & c5 .constant-terms-fit .ensures & c4 .projections-fit .ensures & c3 .five-fit .ensures
     & c2 .five-fit2 .ensures & c1 .list-fits .ensures & c .five-fit3 .ensures & end) refl
 
 pub constraint-lengths-spec : {M : Type 1} → statement M

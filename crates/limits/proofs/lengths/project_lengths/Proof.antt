@@ -6,8 +6,8 @@ use Rattle.limits.specs.Laws.StageLaws.{joined-tests}
 use Rattle.limits.proofs.lengths.project_lengths.Statement.{statement}
 use Rattle.limits.proofs.lengths.project_lengths.Tie as tie
 
-rows-fit-requires : tie.Need-rows-fit-requires
-rows-fit-requires c κs = search needs
+projections-fit-requires : tie.Need-projections-fit-requires
+projections-fit-requires c κs = search needs
 
 matrix-fits-requires : tie.Need-matrix-fits-requires
 matrix-fits-requires c κs = search needs
@@ -19,8 +19,8 @@ returns : tie.Need-returns
 returns c =
     let c1 = c .before in
     let c2 = c1 .before in
-    joined-tests (c2 .rows-fit .ensures & c1 .matrix-fits .ensures & c .sized .ensures & end) refl
+    joined-tests (c2 .projections-fit .ensures & c1 .matrix-fits .ensures & c .sized .ensures & end) refl
 
 pub project-lengths-spec : {M : Type 1} → statement M
 project-lengths-spec =
-    tie.close (tie.spec rows-fit-requires matrix-fits-requires sized-requires returns)
+    tie.close (tie.spec projections-fit-requires matrix-fits-requires sized-requires returns)

@@ -5,8 +5,8 @@ use Rattle.limits.specs.Laws.StageLaws.{joined-tests}
 use Rattle.limits.proofs.ranges.constraint_ranges.Statement.{statement}
 use Rattle.limits.proofs.ranges.constraint_ranges.Tie as tie
 
-rows-in-range-requires : tie.Need-rows-in-range-requires
-rows-in-range-requires c κs = c .before .before .pre
+projections-in-range-requires : tie.Need-projections-in-range-requires
+projections-in-range-requires c κs = c .before .before .pre
 
 returns : tie.Need-returns
 returns c =
@@ -19,7 +19,7 @@ returns c =
     joined-tests
     (c6 .are-coefficients .ensures
     & c5 .are-coefficients2 .ensures
-    & c4 .rows-in-range .ensures
+    & c4 .projections-in-range .ensures
     & c3 .are-coefficients3 .ensures
     & c2 .are-coefficients4 .ensures
     & c1 .are-coefficients5 .ensures
@@ -33,7 +33,7 @@ constraint-ranges-spec =
     (tie.spec
     (λ c κs. tt)
     (λ c κs. tt)
-    rows-in-range-requires
+    projections-in-range-requires
     (λ c κs. tt)
     (λ c κs. tt)
     (λ c κs. tt)

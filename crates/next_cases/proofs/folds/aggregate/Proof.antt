@@ -8,8 +8,8 @@ use Rattle.next_cases.proofs.folds.aggregate.Tie as tie
 array-borrow-prefix-room : tie.Need-array-borrow-prefix-room
 array-borrow-prefix-room c = blank-inside 32768 _ 6 (c .size .ensures)
 
-slice-aggregate-b2 : tie.Need-slice-aggregate-b2
-slice-aggregate-b2 c = blank-fits 32768 _ 6 (c .before .size .ensures)
+slice-aggregate-second-b : tie.Need-slice-aggregate-second-b
+slice-aggregate-second-b c = blank-fits 32768 _ 6 (c .before .size .ensures)
 
 returns : tie.Need-returns
 returns c =
@@ -26,7 +26,7 @@ aggregate-spec =
     (tie.spec
     (λ c κs. tt)
     array-borrow-prefix-room
-    slice-aggregate-b2
+    slice-aggregate-second-b
     (λ c κs. tt)
     (λ c κs. tt)
     (λ c κs. tt)

@@ -31,7 +31,7 @@ returns c =
     let a = size .before .args in
     let call = lizkarg-commit-garbage .lizkarg-commit-garbage in
     garbage-committing {sizes = a .sizes} {s = a .witness .now} {lengths = a .lengths .now} {m = a .messages .now}
-    {code = call .result} {setup = a .setup .now} {whole = a .whole .now} {term = a .term .now} {rows = a .rows .now}
+    {code = call .result} {setup = a .setup .now} {whole = a .whole .now} {constantTerms = a .constant-terms .now} {projections = a .projections .now}
     {ψ = a .psi .now} {draws = a .draws .now} (nth-list .nth-list .ensures) (nth-list2 .nth-list2 .ensures)
     (nth-list3 .nth-list3 .ensures) (nth-list4 .nth-list4 .ensures) (size .size .ensures) (size2 .size2 .ensures)
     (call .ensures)

@@ -21,7 +21,7 @@ returns c =
     let nth-list = nth-list2 .before in
     let start = nth-list .before in
     let a = start .args in
-    verdict-of (a .sizes) (a .setup .now) (a .whole .now) (a .term .now) (a .rows .now) (a .psi .now) (a .draws .now)
+    verdict-of (a .sizes) (a .setup .now) (a .whole .now) (a .constant-terms .now) (a .projections .now) (a .psi .now) (a .draws .now)
     (a .lengths .now) (a .messages .now)
     (nth-list .nth-list .ensures)
     (nth-list2 .nth-list2 .ensures)

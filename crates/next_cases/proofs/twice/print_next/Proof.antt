@@ -21,7 +21,7 @@ returns c =
     let nth-list = nth-list2 .before in
     let a = nth-list .before .args in
     let call = lizkarg-next-instance .lizkarg-next-instance in
-    next-of-fold (a .sizes) (a .setup .now) (a .whole .now) (a .term .now) (a .rows .now) (a .psi .now) (a .draws .now)
+    next-of-fold (a .sizes) (a .setup .now) (a .whole .now) (a .constant-terms .now) (a .projections .now) (a .psi .now) (a .draws .now)
     (a .lengths .now) (a .messages .now)
     (nth-list .nth-list .ensures)
     (nth-list2 .nth-list2 .ensures)

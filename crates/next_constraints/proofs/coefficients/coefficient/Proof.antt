@@ -13,8 +13,8 @@ returns : tie.Need-returns
 returns c =
     let s = c .before in
     let a = s .args in
-    λ whole term rows ψ ω α δ 𝓣 ν μ tables.
-    holds-as _ (sym (coefficient-is (a .sizes) (s .pre .0 .limits) (a .a .now) (a .b .now) (a .c-matrix .now) (a .d-matrix .now) _ whole term rows ψ ω α δ 𝓣 ν μ (a .x) (s .pre .1 .1 .0) (a .p)
+    λ whole constantTerms projections ψ ω α δ 𝓣 ν μ tables.
+    holds-as _ (sym (coefficient-is (a .sizes) (s .pre .0 .limits) (a .a-matrix .now) (a .b-matrix .now) (a .c-matrix .now) (a .d-matrix .now) _ whole constantTerms projections ψ ω α δ 𝓣 ν μ (a .x) (s .pre .1 .1 .0) (a .p)
     (s .pre .1 .1 .1) tables)) (c .ordered-entry .ensures)
 
 pub coefficient-spec : {M : Type 1} → statement M

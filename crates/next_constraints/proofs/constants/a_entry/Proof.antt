@@ -13,8 +13,8 @@ returns : tie.Need-returns
 returns c =
     let s = c .before .before in
     let a = s .args in
-    λ A B C D whole term rows ψ ω α δ c′ 𝓣 μ.
-    holds-as _ (sym (a-is (a .sizes) (s .pre .0) A B C D c′ whole term rows ψ ω α δ 𝓣 (a .nu) μ (a .x) (s .pre .1 .0) (a .s) (a .s2))
+    λ A B C D whole constantTerms projections ψ ω α δ c′ 𝓣 μ.
+    holds-as _ (sym (a-is (a .sizes) (s .pre .0) A B C D c′ whole constantTerms projections ψ ω α δ 𝓣 (a .nu) μ (a .x) (s .pre .1 .0) (a .s) (a .s2))
     ∙ a-six (a .sizes) (a .x) (a .nu) (a .s) (a .s2) (c .before .if1 .taken)) (c .square .ensures)
 
 additive-identity-requires : tie.Need-additive-identity-requires
@@ -24,8 +24,8 @@ returns-2 : tie.Need-returns-2
 returns-2 c =
     let s = c .before .before in
     let a = s .args in
-    λ A B C D whole term rows ψ ω α δ c′ 𝓣 μ.
-    holds-as _ (sym (a-is (a .sizes) (s .pre .0) A B C D c′ whole term rows ψ ω α δ 𝓣 (a .nu) μ (a .x) (s .pre .1 .0) (a .s) (a .s2))
+    λ A B C D whole constantTerms projections ψ ω α δ c′ 𝓣 μ.
+    holds-as _ (sym (a-is (a .sizes) (s .pre .0) A B C D c′ whole constantTerms projections ψ ω α δ 𝓣 (a .nu) μ (a .x) (s .pre .1 .0) (a .s) (a .s2))
     ∙ a-other (a .sizes) (a .x) (a .nu) (a .s) (a .s2) (c .before .if1 .left)) (c .additive-identity .ensures (a .sizes .d))
 
 pub a-entry-spec : {M : Type 1} → statement M

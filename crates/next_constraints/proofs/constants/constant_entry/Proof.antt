@@ -14,9 +14,9 @@ returns : tie.Need-returns
 returns c =
     let s = c .before in
     let a = s .args in
-    λ A B C D term rows ψ ω c′ p ν μ.
-    holds-as _ (sym (constant-is (a .sizes) (s .pre .0 .limits) A B C D c′ (a .whole .now) term rows ψ ω (a .alpha .now) (a .delta .now)
-    (transcriptOf (a .u1 .now) p (a .b2 .now) (a .u2 .now)) ν μ (a .x) (s .pre .1))) (c .ordered-constant .ensures)
+    λ A B C D constantTerms projections ψ ω c′ p ν μ.
+    holds-as _ (sym (constant-is (a .sizes) (s .pre .0 .limits) A B C D c′ (a .whole .now) constantTerms projections ψ ω (a .alpha .now) (a .delta .now)
+    (transcriptOf (a .u1 .now) p (a .second-b .now) (a .u2 .now)) ν μ (a .x) (s .pre .1))) (c .ordered-constant .ensures)
 
 pub constant-entry-spec : {M : Type 1} → statement M
 constant-entry-spec = tie.close (tie.spec ordered-constant-requires returns)

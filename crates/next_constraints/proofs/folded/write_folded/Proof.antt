@@ -12,14 +12,14 @@ use Rattle.next_constraints.proofs.folded.write_folded.Statement.{state
 use Rattle.next_constraints.proofs.folded.write_folded.Tie as tie
 
 abbrev Inv-loop : tie.InvT-loop
-Inv-loop sizes whole term rows psi omega alpha delta c out₀ table d rank k₀ out k =
-    Elements d 0 rank (foldedSum d (sizes .n) (sizes .r) (sizes .k) (sizes .l) (sizes .w) whole term rows psi omega alpha delta c) out₀ k out
+Inv-loop sizes whole constant-terms projections psi omega alpha delta c out₀ omega-sums d rank k₀ out k =
+    Elements d 0 rank (foldedSum d (sizes .n) (sizes .r) (sizes .k) (sizes .l) (sizes .w) whole constant-terms projections psi omega alpha delta c) out₀ k out
 
 abbrev μ-loop : tie.MeasureT-loop
-μ-loop sizes whole term rows psi omega alpha delta c out₀ table d rank k₀ out k = rank - k
+μ-loop sizes whole constant-terms projections psi omega alpha delta c out₀ omega-sums d rank k₀ out k = rank - k
 
-write-sums-requires : tie.Need-write-sums-requires Inv-loop μ-loop
-write-sums-requires c κs =
+write-omega-sums-requires : tie.Need-write-omega-sums-requires Inv-loop μ-loop
+write-omega-sums-requires c κs =
     let projected = c .before .pre .0 .seconds .projected in
     (projected .row-count, projected .ω-length, length-replicate 25920 (pos 0))
 
@@ -27,7 +27,7 @@ folded-element-requires : tie.Need-folded-element-requires Inv-loop μ-loop
 folded-element-requires c κs =
     let w = c .before .before .before in
     let s = w .before .before in
-    (s .pre .0, (w .write-sums .ensures, (s .pre .1 .0, c .before .loop-test .taken)))
+    (s .pre .0, (w .write-omega-sums .ensures, (s .pre .1 .0, c .before .loop-test .taken)))
 
 add-k : tie.Need-add-k Inv-loop μ-loop
 add-k c =
@@ -48,7 +48,7 @@ returns c = elements-end₀ (c .before .loop .inv) (c .loop-test .left)
 pub write-folded-spec : {M : Type 1} → statement M
 write-folded-spec =
     tie.close
-    (tie.spec Inv-loop μ-loop write-sums-requires (λ c. elements-start₀ (c .before .before .pre .1 .1)) folded-element-requires
+    (tie.spec Inv-loop μ-loop write-omega-sums-requires (λ c. elements-start₀ (c .before .before .pre .1 .1)) folded-element-requires
     (λ c κs. (c .before .before .before .before .before .before .before .pre .0 .wholes .shaped .degree, elements-fit (c .before .before .before .before .loop .inv) (sym (zero-add _)) (c .before .before .before .loop-test .taken)))
     add-k (λ c. omega (arith, c .before .before .before .before .before .loop-test .taken)) loop-again
     (λ c. c .before .loop .inv .same) returns)

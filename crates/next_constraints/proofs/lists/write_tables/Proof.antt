@@ -9,10 +9,10 @@ write-products-requires c κs =
     let s = c .before .before .before .before in
     (s .pre .0 .wholes .shaped .degree, (s .pre .1 .0, s .pre .1 .1 .products-length))
 
-write-relation-requires : tie.Need-write-relation-requires
-write-relation-requires c κs =
+write-aggregate-a-requires : tie.Need-write-aggregate-a-requires
+write-aggregate-a-requires c κs =
     let s = c .before .before .before .before .before .before .before in
-    (s .pre .0 .wholes, (s .pre .0 .seconds .terms, (s .pre .0 .δ-length, s .pre .1 .1 .relation-length)))
+    (s .pre .0 .wholes, (s .pre .0 .seconds .terms, (s .pre .0 .δ-length, s .pre .1 .1 .aggregate-a-length)))
 
 write-diagonal-requires : tie.Need-write-diagonal-requires
 write-diagonal-requires c κs =
@@ -22,19 +22,19 @@ write-diagonal-requires c κs =
 returns : tie.Need-returns
 returns c =
     let diagonal = c .before in
-    let relation = diagonal .before .before .before in
-    let products = relation .before .before .before in
+    let aggregate-a = diagonal .before .before .before in
+    let products = aggregate-a .before .before .before in
     let folded = products .before .before .before in
     let s = folded .before .before in
     let a = s .args in
     let z = a .sizes in
-    tables-of (z .d) (z .n) (z .r) (z .k) (z .l) (z .w) _ _ _ _ _ _ _ _ (a .folded .now) (a .products .now) (a .relation .now)
+    tables-of (z .d) (z .n) (z .r) (z .k) (z .l) (z .w) _ _ _ _ _ _ _ _ (a .folded .now) (a .products .now) (a .aggregate-a .now)
     (a .diagonal .now) (s .pre .1 .1) (folded .write-folded .ensures) (products .write-products .ensures)
-    (relation .write-relation .ensures) (diagonal .write-diagonal .ensures)
+    (aggregate-a .write-aggregate-a .ensures) (diagonal .write-diagonal .ensures)
 
 pub write-tables-spec : {M : Type 1} → statement M
 write-tables-spec =
     tie.close
     (tie.spec (λ c κs. let s = c .before in (s .pre .0, (s .pre .1 .0, s .pre .1 .1 .folded-length))) write-products-requires
-    write-relation-requires write-diagonal-requires (λ c. search needs) (λ c. search needs) (λ c. search needs)
+    write-aggregate-a-requires write-diagonal-requires (λ c. search needs) (λ c. search needs) (λ c. search needs)
     (λ c. search needs) returns)

@@ -12,8 +12,8 @@ use Rattle.next_instance.proofs.a_part.write_a.Tie as tie
 
 abbrev Inv-loop : tie.InvT-loop
 Inv-loop sizes nu parts x out₀ at₀ s₀ out at s =
-    (A B C D whole term rows ψ ω α δ c : List ℤ) (transcript : Transcript) (μ : ℕ)
-    → Rows (sizes .d) parts (constraint (statementOf sizes A B C D whole term) (drawsOf rows ψ ω α δ c) transcript nu μ x .a) out₀ s at out
+    (A B C D whole constantTerms projections ψ ω α δ c : List ℤ) (transcript : Transcript) (μ : ℕ)
+    → Rows (sizes .d) parts (constraint (statementOf sizes A B C D whole constantTerms) (drawsOf projections ψ ω α δ c) transcript nu μ x .a) out₀ s at out
 
 abbrev μ-loop : tie.MeasureT-loop
 μ-loop sizes nu parts x out₀ at₀ s₀ out at s = parts - s
@@ -38,18 +38,18 @@ add-at c =
 
 loop-again : tie.Need-loop-again Inv-loop μ-loop
 loop-again c =
-    λ A B C D whole term rows ψ ω α δ c′ transcript μ.
+    λ A B C D whole constantTerms projections ψ ω α δ c′ transcript μ.
     let l = c .before .before .before .before in
-    rows-turn (l .loop .inv A B C D whole term rows ψ ω α δ c′ transcript μ) (c .before .before .before .loop-test .taken)
-    (c .before .write-a-row .ensures A B C D whole term rows ψ ω α δ c′ transcript μ)
+    rows-turn (l .loop .inv A B C D whole constantTerms projections ψ ω α δ c′ transcript μ) (c .before .before .before .loop-test .taken)
+    (c .before .write-a-row .ensures A B C D whole constantTerms projections ψ ω α δ c′ transcript μ)
 
 returns : tie.Need-returns Inv-loop μ-loop
-returns c = λ A B C D whole term rows ψ ω α δ c′ transcript μ.
-    rows-end (c .before .loop .inv A B C D whole term rows ψ ω α δ c′ transcript μ) (c .loop-test .left)
+returns c = λ A B C D whole constantTerms projections ψ ω α δ c′ transcript μ.
+    rows-end (c .before .loop .inv A B C D whole constantTerms projections ψ ω α δ c′ transcript μ) (c .loop-test .left)
 
 pub write-a-spec : {M : Type 1} → statement M
 write-a-spec =
     tie.close
-    (tie.spec Inv-loop μ-loop (λ c. λ A B C D whole term rows ψ ω α δ c′ transcript μ. rows-start (c .pre .1 .1))
+    (tie.spec Inv-loop μ-loop (λ c. λ A B C D whole constantTerms projections ψ ω α δ c′ transcript μ. rows-start (c .pre .1 .1))
     write-a-row-requires (λ c. omega arith) add-at (λ c. omega arith) (λ c. omega arith) loop-again
     (λ c. c .before .loop .inv [] [] [] [] [] [] [] [] [] [] [] [] (transcriptOf [] [] [] []) 0 .same) returns)

@@ -17,8 +17,8 @@ use Rattle.next_instance.proofs.a_part.write_a_row.Tie as tie
 abbrev Inv-loop : tie.InvT-loop
 Inv-loop sizes nu parts x s out₀ at d count k₀ out k =
     (k ≤ parts - s) × (length out ≡ length out₀)
-    × ((A B C D whole term rows ψ ω α δ c : List ℤ) (transcript : Transcript) (μ : ℕ)
-    → Elements (sizes .d) at (parts - s) (λ k. constraint (statementOf sizes A B C D whole term) (drawsOf rows ψ ω α δ c) transcript nu μ x .a s (s + k)) out₀ k out)
+    × ((A B C D whole constantTerms projections ψ ω α δ c : List ℤ) (transcript : Transcript) (μ : ℕ)
+    → Elements (sizes .d) at (parts - s) (λ k. constraint (statementOf sizes A B C D whole constantTerms) (drawsOf projections ψ ω α δ c) transcript nu μ x .a s (s + k)) out₀ k out)
 
 abbrev μ-loop : tie.MeasureT-loop
 μ-loop sizes nu parts x s out₀ at d count k₀ out k = parts - s - k
@@ -50,21 +50,21 @@ loop-again c =
     let inside = c .before .before .before .before .loop-test .taken in (
       omega arith,
       c .before .store .kept .1 .1 .0 ∙ l .loop .inv .1,
-      λ A B C D whole term rows ψ ω α δ c′ transcript μ.
-          elements-turn (l .loop .inv .2 A B C D whole term rows ψ ω α δ c′ transcript μ) (s .pre .0 .shaped .degree) refl inside
-          (c .before .before .before .a-entry .ensures A B C D whole term rows ψ ω α δ c′ transcript μ) (c .before .store .ensures),
+      λ A B C D whole constantTerms projections ψ ω α δ c′ transcript μ.
+          elements-turn (l .loop .inv .2 A B C D whole constantTerms projections ψ ω α δ c′ transcript μ) (s .pre .0 .shaped .degree) refl inside
+          (c .before .before .before .a-entry .ensures A B C D whole constantTerms projections ψ ω α δ c′ transcript μ) (c .before .store .ensures),
     )
 
 returns : tie.Need-returns Inv-loop μ-loop
 unfolding elements
 returns c =
-    λ A B C D whole term rows ψ ω α δ c′ transcript μ.
-    elements-end (c .before .loop .inv .2 A B C D whole term rows ψ ω α δ c′ transcript μ) (c .loop-test .left)
+    λ A B C D whole constantTerms projections ψ ω α δ c′ transcript μ.
+    elements-end (c .before .loop .inv .2 A B C D whole constantTerms projections ψ ω α δ c′ transcript μ) (c .loop-test .left)
 
 pub write-a-row-spec : {M : Type 1} → statement M
 write-a-row-spec =
     tie.close
     (tie.spec Inv-loop μ-loop (λ c. omega arith)
-    (λ c. (omega arith, refl, λ A B C D whole term rows ψ ω α δ c′ transcript μ. elements-start (c .pre .1 .1)))
+    (λ c. (omega arith, refl, λ A B C D whole constantTerms projections ψ ω α δ c′ transcript μ. elements-start (c .pre .1 .1)))
     (λ c. omega arith) a-entry-requires add-store store-requires (λ c. omega arith) (λ c. omega arith) loop-again
     (λ c. c .before .loop .inv .1) returns)

@@ -8,14 +8,14 @@ use Rattle.next_instance.proofs.phi_part.chunk_entry.Tie as tie
 
 returns : tie.Need-returns
 returns c =
-    λ whole term rows ψ ω α δ transcript ν μ tables.
+    λ whole constantTerms projections ψ ω α δ transcript ν μ tables.
     let a = c .before .before .args in
     entry-inside (a .sizes .d) _ (a .start) (a .size) (a .k) (c .before .if1 .taken)
-    (c .coefficient .ensures whole term rows ψ ω α δ transcript ν μ tables)
+    (c .coefficient .ensures whole constantTerms projections ψ ω α δ transcript ν μ tables)
 
 returns-2 : tie.Need-returns-2
 returns-2 c =
-    λ whole term rows ψ ω α δ transcript ν μ tables.
+    λ whole constantTerms projections ψ ω α δ transcript ν μ tables.
     let a = c .before .before .args in
     entry-padding (a .sizes .d) _ (a .start) (a .size) (a .k) (c .before .if1 .left) (c .additive-identity .ensures (a .sizes .d))
 

@@ -15,15 +15,15 @@ use Rattle.next_instance.proofs.phi_part.write_chunk.Statement.{stateme
 use Rattle.next_instance.proofs.phi_part.write_chunk.Tie as tie
 
 abbrev Inv-loop : tie.InvT-loop
-Inv-loop sizes rank a b c-matrix d-matrix c folded products relation diagonal x start size out₀ at d k₀ out k =
+Inv-loop sizes rank a-matrix b-matrix c-matrix d-matrix c folded products aggregate-a diagonal x start size out₀ at d k₀ out k =
     (k ≤ rank) × (length out ≡ length out₀)
-    × ((whole term rows ψ ω α δ : List ℤ) (transcript : Transcript) (ν μ : ℕ)
-    → Tables (sizes .d) (sizes .n) (sizes .r) (sizes .k) (sizes .l) (sizes .w) whole term rows ψ ω α δ c folded products relation diagonal
+    × ((whole constantTerms projections ψ ω α δ : List ℤ) (transcript : Transcript) (ν μ : ℕ)
+    → Tables (sizes .d) (sizes .n) (sizes .r) (sizes .k) (sizes .l) (sizes .w) whole constantTerms projections ψ ω α δ c folded products aggregate-a diagonal
     → Elements (sizes .d) at rank
-    (chunkEntry (sizes .d) (tableOf sizes a b c-matrix d-matrix c whole term rows ψ ω α δ transcript ν μ x) start size) out₀ k out)
+    (chunkEntry (sizes .d) (tableOf sizes a-matrix b-matrix c-matrix d-matrix c whole constantTerms projections ψ ω α δ transcript ν μ x) start size) out₀ k out)
 
 abbrev μ-loop : tie.MeasureT-loop
-μ-loop sizes rank a b c-matrix d-matrix c folded products relation diagonal x start size out₀ at d k₀ out k = rank - k
+μ-loop sizes rank a-matrix b-matrix c-matrix d-matrix c folded products aggregate-a diagonal x start size out₀ at d k₀ out k = rank - k
 
 add-store : tie.Need-add-store Inv-loop μ-loop
 add-store c =
@@ -53,22 +53,22 @@ loop-again c =
     let inside = c .before .before .before .before .loop-test .taken in (
       omega (arith, inside),
       c .before .store .kept .1 .1 .0 ∙ l .loop .inv .1,
-      λ whole term rows ψ ω α δ transcript ν μ tables.
-          elements-turn (l .loop .inv .2 whole term rows ψ ω α δ transcript ν μ tables) (s .pre .0 .limits .shaped .degree) refl inside
-          (c .before .before .before .chunk-entry .ensures whole term rows ψ ω α δ transcript ν μ tables)
+      λ whole constantTerms projections ψ ω α δ transcript ν μ tables.
+          elements-turn (l .loop .inv .2 whole constantTerms projections ψ ω α δ transcript ν μ tables) (s .pre .0 .limits .shaped .degree) refl inside
+          (c .before .before .before .chunk-entry .ensures whole constantTerms projections ψ ω α δ transcript ν μ tables)
           (c .before .store .ensures),
     )
 
 returns : tie.Need-returns Inv-loop μ-loop
 unfolding elements
 returns c =
-    λ whole term rows ψ ω α δ transcript ν μ tables.
-    elements-end (c .before .loop .inv .2 whole term rows ψ ω α δ transcript ν μ tables) (c .loop-test .left)
+    λ whole constantTerms projections ψ ω α δ transcript ν μ tables.
+    elements-end (c .before .loop .inv .2 whole constantTerms projections ψ ω α δ transcript ν μ tables) (c .loop-test .left)
 
 pub write-chunk-spec : {M : Type 1} → statement M
 write-chunk-spec =
     tie.close
     (tie.spec Inv-loop μ-loop
-    (λ c. (omega arith, refl, λ whole term rows ψ ω α δ transcript ν μ tables. elements-start (c .pre .1 .1 .1)))
+    (λ c. (omega arith, refl, λ whole constantTerms projections ψ ω α δ transcript ν μ tables. elements-start (c .pre .1 .1 .1)))
     (λ c κs. let s = c .before .before in (s .pre .0, (s .pre .1 .0, s .pre .1 .1 .0))) add-store store-requires add-k
     (λ c. omega (arith, c .before .before .before .before .loop-test .taken)) loop-again (λ c. c .before .loop .inv .1) returns)

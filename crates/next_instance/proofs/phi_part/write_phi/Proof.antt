@@ -16,15 +16,15 @@ use Rattle.next_instance.proofs.phi_part.write_phi.Statement.{statement
 use Rattle.next_instance.proofs.phi_part.write_phi.Tie as tie
 
 abbrev Inv-loop : tie.InvT-loop
-Inv-loop sizes cut a b c-matrix d-matrix c folded products relation diagonal x out₀ at n rank parts start₀ place₀ s₀ out start place s =
+Inv-loop sizes cut a-matrix b-matrix c-matrix d-matrix c folded products aggregate-a diagonal x out₀ at n rank parts start₀ place₀ s₀ out start place s =
     Running (cut .parts) (cut .rank) at (width 2 (sizes .n) (cut .nu) (cut .m) (cut .mu)) out₀ s start place out
-    × ((whole term rows ψ ω α δ : List ℤ) (transcript : Transcript) (ν μ : ℕ)
-    → Tables (sizes .d) (sizes .n) (sizes .r) (sizes .k) (sizes .l) (sizes .w) whole term rows ψ ω α δ c folded products relation diagonal
+    × ((whole constantTerms projections ψ ω α δ : List ℤ) (transcript : Transcript) (ν μ : ℕ)
+    → Tables (sizes .d) (sizes .n) (sizes .r) (sizes .k) (sizes .l) (sizes .w) whole constantTerms projections ψ ω α δ c folded products aggregate-a diagonal
     → PartsWritten (sizes .d) (cut .rank) at (width 2 (sizes .n) (cut .nu) (cut .m) (cut .mu))
-    (tableOf sizes a b c-matrix d-matrix c whole term rows ψ ω α δ transcript ν μ x) out₀ s out)
+    (tableOf sizes a-matrix b-matrix c-matrix d-matrix c whole constantTerms projections ψ ω α δ transcript ν μ x) out₀ s out)
 
 abbrev μ-loop : tie.MeasureT-loop
-μ-loop sizes cut a b c-matrix d-matrix c folded products relation diagonal x out₀ at n rank parts start₀ place₀ s₀ out start place s = cut .parts - s
+μ-loop sizes cut a-matrix b-matrix c-matrix d-matrix c folded products aggregate-a diagonal x out₀ at n rank parts start₀ place₀ s₀ out start place s = cut .parts - s
 
 chunk-width-requires : tie.Need-chunk-width-requires Inv-loop μ-loop
 chunk-width-requires c κs =
@@ -90,24 +90,24 @@ loop-again c =
     let sofar = l .loop .inv .0 in
     let room : a .at * a .sizes .d ≤ length (a .out .now) = omega (arith, s .pre .1 .1 .1 .1) in (
       running-turn _ _ _ _ _ inside size (c .before .write-chunk .kept .1 .1 .1 .1 .1 .1 .1 .1 .1 .1 .1 .1 .1 .1 .0) sofar,
-      λ whole term rows ψ ω α δ transcript ν μ tables.
+      λ whole constantTerms projections ψ ω α δ transcript ν μ tables.
           parts-turn _ _ _ _ _ _ room (sofar .first-is) size (sofar .place)
-          (l .loop .inv .1 whole term rows ψ ω α δ transcript ν μ tables)
-          (c .before .write-chunk .ensures whole term rows ψ ω α δ transcript ν μ tables),
+          (l .loop .inv .1 whole constantTerms projections ψ ω α δ transcript ν μ tables)
+          (c .before .write-chunk .ensures whole constantTerms projections ψ ω α δ transcript ν μ tables),
     )
 
 returns : tie.Need-returns Inv-loop μ-loop
 returns c =
-    λ whole term rows ψ ω α δ transcript ν μ tables.
+    λ whole constantTerms projections ψ ω α δ transcript ν μ tables.
     let l = c .before in
     let all : l .loop .s ≡ l .before .args .cut .parts = omega (arith, c .loop-test .left, l .loop .inv .0 .within) in
-    rw all at (l .loop .inv .1 whole term rows ψ ω α δ transcript ν μ tables)
+    rw all at (l .loop .inv .1 whole constantTerms projections ψ ω α δ transcript ν μ tables)
 
 pub write-phi-spec : {M : Type 1} → statement M
 write-phi-spec =
     tie.close
     (tie.spec Inv-loop μ-loop
-    (λ c. (running-start _ _ _ _ _, λ whole term rows ψ ω α δ transcript ν μ tables. parts-start _ _ _ _ _ _))
+    (λ c. (running-start _ _ _ _ _, λ whole constantTerms projections ψ ω α δ transcript ν μ tables. parts-start _ _ _ _ _ _))
     chunk-width-requires write-chunk-requires add-start add-place add-s
     (λ c. omega (arith, c .before .before .before .before .loop-test .taken)) loop-again (λ c. c .before .loop .inv .0 .same)
     returns)

@@ -40,16 +40,16 @@ store-requires c κs =
 
 returns : tie.Need-returns
 returns c =
-    λ term rows ψ ω p tables.
+    λ constantTerms projections ψ ω p tables.
     let b = c .before .before .before in
     let φ = b .before .before in
     let a = φ .before .before .before in
     let s = a .before .before in
     let g = s .args in
     let cut = s .pre .1 .1 .1 .0 in
-    let transcript = transcriptOf (g .u1 .now) p (g .b2 .now) (g .u2 .now) in
-    let A = g .a .now in
-    let B = g .b .now in
+    let transcript = transcriptOf (g .u1 .now) p (g .second-b .now) (g .u2 .now) in
+    let A = g .a-matrix .now in
+    let B = g .b-matrix .now in
     let C = g .c-matrix .now in
     let D = g .d-matrix .now in
     let whole = g .whole .now in
@@ -58,11 +58,11 @@ returns c =
     let ν = g .cut .nu in
     let μ = g .cut .mu in
     laid-out (g .sizes .d) (g .cut .rank) (g .cut .parts) (width 2 (g .sizes .n) (g .cut .nu) (g .cut .m) (g .cut .mu))
-    (constraintOf (g .sizes) A B C D (g .c .now) whole term rows ψ ω α δ transcript ν μ (g .x)) (g .out .now)
+    (constraintOf (g .sizes) A B C D (g .c .now) whole constantTerms projections ψ ω α δ transcript ν μ (g .x)) (g .out .now)
     (s .pre .0 .limits .shaped .degree .small) (s .pre .1 .1 .1 .1 .1) (cut .pairs-is) (cut .size-is)
-    (a .write-a .ensures A B C D whole term rows ψ ω α δ (g .c .now) transcript μ)
-    (φ .write-phi .ensures whole term rows ψ ω α δ transcript ν μ tables)
-    (b .constant-entry .ensures A B C D term rows ψ ω (g .c .now) p ν μ)
+    (a .write-a .ensures A B C D whole constantTerms projections ψ ω α δ (g .c .now) transcript μ)
+    (φ .write-phi .ensures whole constantTerms projections ψ ω α δ transcript ν μ tables)
+    (b .constant-entry .ensures A B C D constantTerms projections ψ ω (g .c .now) p ν μ)
     (c .before .store .ensures)
 
 pub write-constraint-spec : {M : Type 1} → statement M

@@ -19,17 +19,17 @@ use Rattle.next_instance.proofs.writer.write_constraints.Statement.{sta
 use Rattle.next_instance.proofs.writer.write_constraints.Tie as tie
 
 abbrev Inv-loop : tie.InvT-loop
-Inv-loop sizes cut a b c-matrix d-matrix whole u1 b2 alpha delta u2 c folded products relation diagonal out₀ count size at₀ x₀ out at x =
+Inv-loop sizes cut a-matrix b-matrix c-matrix d-matrix whole u1 second-b alpha delta u2 c folded products aggregate-a diagonal out₀ count size at₀ x₀ out at x =
     Filled (sizes .kappa + sizes .kappa1 + sizes .kappa2 + 3) ((cut .size + 1) * sizes .d) out₀ x at out
-    × ((term rows ψ ω p : List ℤ)
-    → Tables (sizes .d) (sizes .n) (sizes .r) (sizes .k) (sizes .l) (sizes .w) whole term rows ψ ω alpha delta c folded products relation diagonal
+    × ((constantTerms projections ψ ω p : List ℤ)
+    → Tables (sizes .d) (sizes .n) (sizes .r) (sizes .k) (sizes .l) (sizes .w) whole constantTerms projections ψ ω alpha delta c folded products aggregate-a diagonal
     → Blocks 0 (sizes .kappa + sizes .kappa1 + sizes .kappa2 + 3) ((cut .size + 1) * sizes .d)
     (λ x. laidOut (sizes .d) (cut .rank) (cut .parts) (width 2 (sizes .n) (cut .nu) (cut .m) (cut .mu))
-    (constraintOf sizes a b c-matrix d-matrix c whole term rows ψ ω alpha delta (transcriptOf u1 p b2 u2) (cut .nu) (cut .mu) x))
+    (constraintOf sizes a-matrix b-matrix c-matrix d-matrix c whole constantTerms projections ψ ω alpha delta (transcriptOf u1 p second-b u2) (cut .nu) (cut .mu) x))
     out₀ x at out)
 
 abbrev μ-loop : tie.MeasureT-loop
-μ-loop sizes cut a b c-matrix d-matrix whole u1 b2 alpha delta u2 c folded products relation diagonal out₀ count size at₀ x₀ out at x = sizes .kappa + sizes .kappa1 + sizes .kappa2 + 3 - x
+μ-loop sizes cut a-matrix b-matrix c-matrix d-matrix whole u1 second-b alpha delta u2 c folded products aggregate-a diagonal out₀ count size at₀ x₀ out at x = sizes .kappa + sizes .kappa1 + sizes .kappa2 + 3 - x
 
 mul-size : tie.Need-mul-size Inv-loop μ-loop
 mul-size c =
@@ -41,7 +41,7 @@ loop-holds : tie.Need-loop-holds Inv-loop μ-loop
 loop-holds c =
     let s = c .before .before .before .before in
     let room = all-fit (s .args .sizes) (s .args .cut) (s .pre .1 .1 .1 .0) (s .pre .1 .1 .1 .1) in
-    (filled-start room, λ term rows ψ ω p tables. blocks-start (omega (arith, room)))
+    (filled-start room, λ constantTerms projections ψ ω p tables. blocks-start (omega (arith, room)))
 
 add-next : tie.Need-add-next Inv-loop μ-loop
 add-next c =
@@ -77,21 +77,21 @@ loop-again c =
     let inside = c .before .before .before .loop-test .taken in
     let block = c .before .write-constraint in (
       filled-turn (l .loop .inv .0) (block .last .1 .1 .1 .1 .1 .1 .1 .1 .1 .1 .1 .1 .1 .1 .1 .1 .1 .1 .0) inside (block .kept .1 .1 .1 .1 .1 .1 .1 .1 .1 .1 .1 .1 .1 .1 .1 .1 .1 .1 .0) refl,
-      λ term rows ψ ω p tables.
-          blocks-turn (l .loop .inv .1 term rows ψ ω p tables) (λ i. length-block (a .sizes .d) (a .cut .rank) (a .cut .parts) (a .cut .size) _ _ (cut .size-is))
-          inside (block .ensures term rows ψ ω p tables) refl,
+      λ constantTerms projections ψ ω p tables.
+          blocks-turn (l .loop .inv .1 constantTerms projections ψ ω p tables) (λ i. length-block (a .sizes .d) (a .cut .rank) (a .cut .parts) (a .cut .size) _ _ (cut .size-is))
+          inside (block .ensures constantTerms projections ψ ω p tables) refl,
     )
 
 returns : tie.Need-returns Inv-loop μ-loop
 unfolding nextCount
 returns c =
-    λ term rows ψ ω p tables.
+    λ constantTerms projections ψ ω p tables.
     let l = c .before in
     let s = l .before .before .before .before .before in
     let a = s .args in
     let cut = s .pre .1 .1 .1 .0 in
     let room = all-fit (a .sizes) (a .cut) cut (s .pre .1 .1 .1 .1) in
-    blocks-all (l .loop .inv .1 term rows ψ ω p tables) (λ i. length-block (a .sizes .d) (a .cut .rank) (a .cut .parts) (a .cut .size) _ _ (cut .size-is))
+    blocks-all (l .loop .inv .1 constantTerms projections ψ ω p tables) (λ i. length-block (a .sizes .d) (a .cut .rank) (a .cut .parts) (a .cut .size) _ _ (cut .size-is))
     room (c .loop-test .left)
 
 pub write-constraints-spec : {M : Type 1} → statement M

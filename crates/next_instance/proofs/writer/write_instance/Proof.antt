@@ -45,7 +45,7 @@ returns c =
     let g = s .args in
     let cut = k .cut-of .ensures in
     written (g .sizes) _ _ _ _ _ _ _ _ _ _ _ _ _ _ _ _ (g .nu) (g .mu) (g .out .now) (k .cut-of .result) (cut .0) (cut .1) (cut .2)
-    (c .before .write-constraints .ensures (g .term .now) (g .rows .now) (g .psi .now) (g .omega .now) (g .p .now) (f .write-tables .ensures))
+    (c .before .write-constraints .ensures (g .constant-terms .now) (g .projections .now) (g .psi .now) (g .omega .now) (g .p .now) (f .write-tables .ensures))
 
 pub write-instance-spec : {M : Type 1} → statement M
 write-instance-spec =

@@ -31,7 +31,7 @@ returns : tie.Need-returns
 returns c =
     let s = c .before .before .before in
     let a = s .args in
-    outer-sum (a .d) (a .m) (a .l) (a .k) (a .b .now) (a .x .now) (a .c .now) (a .y .now) (s .pre .0 .small)
+    outer-sum (a .d) (a .m) (a .l) (a .k) (a .b-matrix .now) (a .x .now) (a .c-matrix .now) (a .y .now) (s .pre .0 .small)
     (c .before .before .inner .ensures) (c .before .inner2 .ensures) (c .sum .ensures)
 
 pub outer-row-spec : {M : Type 1} → statement M

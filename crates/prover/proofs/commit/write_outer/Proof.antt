@@ -11,10 +11,10 @@ use Rattle.prover.proofs.commit.write_outer.Statement.{statement}
 use Rattle.prover.proofs.commit.write_outer.Tie as tie
 
 abbrev Inv-loop : tie.InvT-loop
-Inv-loop d rows m b x l c y out₀ k₀ out k = Elements d 0 rows (outer d m l b x c y) out₀ k out
+Inv-loop d rows m b-matrix x l c-matrix y out₀ k₀ out k = Elements d 0 rows (outer d m l b-matrix x c-matrix y) out₀ k out
 
 abbrev μ-loop : tie.MeasureT-loop
-μ-loop d rows m b x l c y out₀ k₀ out k = rows - k
+μ-loop d rows m b-matrix x l c-matrix y out₀ k₀ out k = rows - k
 
 outer-row-requires : tie.Need-outer-row-requires Inv-loop μ-loop
 outer-row-requires c κs =

@@ -11,10 +11,10 @@ use Rattle.prover.proofs.commit.write_products.Statement.{statement}
 use Rattle.prover.proofs.commit.write_products.Tie as tie
 
 abbrev Inv-loop : tie.InvT-loop
-Inv-loop d n kappa a witness i block₀ at part k₀ block k = Elements d at kappa (t d n a witness i) block₀ k block
+Inv-loop d n kappa a-matrix witness i block₀ at part k₀ block k = Elements d at kappa (t d n a-matrix witness i) block₀ k block
 
 abbrev μ-loop : tie.MeasureT-loop
-μ-loop d n kappa a witness i block₀ at part k₀ block k = kappa - k
+μ-loop d n kappa a-matrix witness i block₀ at part k₀ block k = kappa - k
 
 mul-row : tie.Need-mul-row Inv-loop μ-loop
 mul-row c =

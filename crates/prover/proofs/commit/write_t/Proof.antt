@@ -13,11 +13,11 @@ use Rattle.prover.proofs.commit.write_t.Statement.{statement}
 use Rattle.prover.proofs.commit.write_t.Tie as tie
 
 abbrev Inv-loop : tie.InvT-loop
-Inv-loop a witness out₀ d n r kappa b1 t1 width at₀ i₀ out at i =
-    Blocks 0 r (t1 * (kappa * d)) (λ i. split b1 t1 (elements d kappa (t d n a witness i))) out₀ i at out
+Inv-loop a-matrix witness out₀ d n r kappa b1 t1 width at₀ i₀ out at i =
+    Blocks 0 r (t1 * (kappa * d)) (λ i. split b1 t1 (elements d kappa (t d n a-matrix witness i))) out₀ i at out
 
 abbrev μ-loop : tie.MeasureT-loop
-μ-loop a witness out₀ d n r kappa b1 t1 width at₀ i₀ out at i = r - i
+μ-loop a-matrix witness out₀ d n r kappa b1 t1 width at₀ i₀ out at i = r - i
 
 mul-width-2 : tie.Need-mul-width-2 Inv-loop μ-loop
 mul-width-2 c =
@@ -29,7 +29,7 @@ write-t-part-requires c κs =
     let l = c .before .before in
     let s = l .before in
     let z = s .args .sizes in
-    let facts : PartFacts (z .d) (z .n) (z .kappa) (l .loop .i) (s .args .a .now) (s .args .witness .now) = record {
+    let facts : PartFacts (z .d) (z .n) (z .kappa) (l .loop .i) (s .args .a-matrix .now) (s .args .witness .now) = record {
       rank-small = s .pre .sized .shape .rank-small;
       matrix = omega (arith, s .pre .matrix);
       part = row-fits (z .d) (z .n) {r = z .r} (c .before .loop-test .taken) (omega (arith, s .pre .witness));

@@ -1,7 +1,7 @@
 -- `prover::project::add_product` meets its contract: the sum stays far from the limits of 64 bits.
 use mir.Facts.{toZ-ofZ}
 use Rattle.residues.specs.Laws.Centring.{widen, wide, product-fits}
-use Rattle.prover.specs.Laws.ProjectedLaws.{term-fits}
+use Rattle.prover.specs.Laws.ProjectedLaws.{summand-fits}
 use Rattle.prover.proofs.project.add_product.Statement.{statement}
 use Rattle.prover.proofs.project.add_product.Tie as tie
 
@@ -19,13 +19,13 @@ add-result c =
     let x = c .fits .x in
     let y = c .fits .y in
     rw (wide x, wide y, toZ-ofZ (product-fits x y), toZ-ofZ (c .fits .acc))
-    (term-fits (c .args .acc) (c .args .x) (c .args .y) (c .pre .0) (c .pre .1) y)
+    (summand-fits (c .args .acc) (c .args .x) (c .args .y) (c .pre .0) (c .pre .1) y)
 
 returns : tie.Need-returns
 returns c =
     let x = c .fits .x in
     let y = c .fits .y in
-    let fits = term-fits (c .args .acc) (c .args .x) (c .args .y) (c .pre .0) (c .pre .1) y in
+    let fits = summand-fits (c .args .acc) (c .args .x) (c .args .y) (c .pre .0) (c .pre .1) y in
     rw (wide x, wide y, toZ-ofZ (product-fits x y), toZ-ofZ (c .fits .acc)) (toZ-ofZ fits)
 
 pub add-product-spec : {M : Type 1} → statement M

@@ -1,4 +1,4 @@
--- `prover::project::project_row` meets its contract. The loop's invariant: the accumulator is the sum of the first y terms, at most
+-- `prover::project::project_row` meets its contract. The loop's invariant: the accumulator is the sum of the first y summands, at most
 -- y * 2^31.
 use mathlib.Core.Path.{_∙_}
 use Prim.Native.Nat.{_-_}

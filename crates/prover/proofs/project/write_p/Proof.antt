@@ -2,23 +2,23 @@
 use Prim.Native.Nat.{_+_, _-_}
 use native.Mathlib.Omega.{arith}
 use lib.ListN.{length}
-use Rattle.residues.specs.Laws.RangeLaws.{projections-part}
-use Rattle.prover.specs.Known.Facts.{rows-length, witness-short}
+use Rattle.residues.specs.Laws.RangeLaws.{projection-entries-part}
+use Rattle.prover.specs.Known.Facts.{projections-length, witness-short}
 use Rattle.prover.specs.Laws.ProjectedLaws.{Projecting, projecting-start, projecting-fit, projecting-part, projecting-turn, projecting-end}
 use Rattle.prover.proofs.project.write_p.Statement.{statement}
 use Rattle.prover.proofs.project.write_p.Tie as tie
 
 abbrev Inv-loop : tie.InvT-loop
-Inv-loop w rows witness out₀ size at₀ j₀ out at j = Projecting w rows witness out₀ j at out
+Inv-loop w projections witness out₀ size at₀ j₀ out at j = Projecting w projections witness out₀ j at out
 
 abbrev μ-loop : tie.MeasureT-loop
-μ-loop w rows witness out₀ size at₀ j₀ out at j = w - j
+μ-loop w projections witness out₀ size at₀ j₀ out at j = w - j
 
 project-row-requires : tie.Need-project-row-requires Inv-loop μ-loop
 project-row-requires c κs =
     let l = c .before .before in
     let s = l .before in (
-      projections-part (l .loop .at) (l .loop .at + length (s .args .witness .now) - l .loop .at) (s .args .rows .now) (s .pre .entries),
+      projection-entries-part (l .loop .at) (l .loop .at + length (s .args .witness .now) - l .loop .at) (s .args .projections .now) (s .pre .entries),
       projecting-part (l .loop .inv) (c .before .loop-test .taken),
       witness-short (s .pre),
     )
@@ -37,7 +37,7 @@ returns c =
 pub write-p-spec : {M : Type 1} → statement M
 write-p-spec =
     tie.close
-    (tie.spec Inv-loop μ-loop (λ c. projecting-start (rows-length (c .pre)) (c .pre .output))
+    (tie.spec Inv-loop μ-loop (λ c. projecting-start (projections-length (c .pre)) (c .pre .output))
     (λ c. omega (arith, projecting-fit (c .before .loop .inv) (c .loop-test .taken)))
     (λ c. omega (arith, projecting-fit (c .before .loop .inv) (c .loop-test .taken)))
     (λ c. omega arith) (λ c. omega arith)

@@ -1,6 +1,6 @@
 -- `residues::range::are_projection_entries` meets its contract: projections is `allWithin` at its bound.
 use mathlib.Core.Path.{_∙_}
-use Rattle.residues.specs.Range.{projections}
+use Rattle.residues.specs.Range.{projectionEntries}
 use Rattle.residues.specs.Laws.RangeLaws.{between-bound}
 use Rattle.residues.proofs.range.are_projection_entries.Statement.{statement}
 use Rattle.residues.proofs.range.are_projection_entries.Tie as tie
@@ -9,7 +9,7 @@ all-between-requires : tie.Need-all-between-requires
 all-between-requires c κs = tt
 
 returns : tie.Need-returns
-unfolding projections
+unfolding projectionEntries
 returns c = c .all-between .ensures ∙ between-bound _ _
 
 pub are-projection-entries-spec : {M : Type 1} → statement M

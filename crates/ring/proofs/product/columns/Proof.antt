@@ -1,33 +1,33 @@
 -- `ring::product::columns` meets its contract. For each column the loop keeps the sum modulo 2^64 and the sum of the upper halves.
 use Prim.Native.Nat.{_-_}
 use native.Mathlib.Omega.{arith}
-use Rattle.ring.specs.Product.{term, column}
-use Rattle.ring.specs.Laws.ColumnLaws.{Running, product-fits, term-small, running-start, running-step, running-end}
+use Rattle.ring.specs.Product.{summand, column}
+use Rattle.ring.specs.Laws.ColumnLaws.{Running, product-fits, summand-small, running-start, running-step, running-end}
 use Rattle.ring.specs.Laws.ColumnLaws.{running-high, running-high-fits, running-end-fits}
 use Rattle.ring.proofs.product.columns.Statement.{statement}
 use Rattle.ring.proofs.product.columns.Tie as tie
 
 abbrev Inv-loop : tie.InvT-loop
 Inv-loop d start other a e sum₀ high₀ sum2₀ high2₀ i₀ sum high sum2 high2 i =
-    Running d (term a e start) i sum high × Running d (term a e other) i sum2 high2
+    Running d (summand a e start) i sum high × Running d (summand a e other) i sum2 high2
 
 abbrev μ-loop : tie.MeasureT-loop
 μ-loop d start other a e sum₀ high₀ sum2₀ high2₀ i₀ sum high sum2 high2 i = d - i
 
 add-high : tie.Need-add-high Inv-loop μ-loop
-unfolding term
+unfolding summand
 add-high c =
     let l = c .before .before .before .before .before .before in
     running-high-fits (l .loop .inv .0) (l .before .pre .0)
 
 add-high2 : tie.Need-add-high2 Inv-loop μ-loop
-unfolding term
+unfolding summand
 add-high2 c =
     let l = c .before .before .before .before .before .before in
     running-high-fits (l .loop .inv .1) (l .before .pre .0)
 
 loop-again : tie.Need-loop-again Inv-loop μ-loop
-unfolding term
+unfolding summand
 loop-again c =
     let t = c .before .before .before .before .before in (
       running-step (t .before .loop .inv .0) (t .before .before .pre .0) (t .loop-test .taken) (c .before .wrapping-add-u64 .ensures),
@@ -60,7 +60,7 @@ returns c =
 pub columns-spec : {M : Type 1} → statement M
 columns-spec =
     tie.close
-    (tie.spec Inv-loop μ-loop (λ c. (running-start _ _ (term-small _ _ _), running-start _ _ (term-small _ _ _)))
+    (tie.spec Inv-loop μ-loop (λ c. (running-start _ _ (summand-small _ _ _), running-start _ _ (summand-small _ _ _)))
     (λ c. omega arith) (λ c. omega arith) (λ c. omega arith) (λ c. omega arith) (λ c. omega arith) (λ c. omega arith)
     (λ c. omega arith) (λ c. omega arith) (λ c. product-fits _ _) (λ c. product-fits _ _) (λ c κs. tt) (λ c κs. tt) add-high
     add-high2 (λ c. omega arith) (λ c. omega arith) loop-again (λ c. omega arith) (λ c κs. tt) (λ c. omega arith) (λ c κs. tt)

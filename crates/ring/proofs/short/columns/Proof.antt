@@ -1,16 +1,16 @@
 -- `ring::short::columns` meets its contract. For each column the loop keeps c and the sum of the products so far.
 use Prim.Native.Nat.{_-_}
 use native.Mathlib.Omega.{arith}
-use Rattle.ring.specs.Product.{term}
+use Rattle.ring.specs.Product.{summand}
 use Rattle.ring.specs.Laws.ColumnLaws.{product-fits}
 use Rattle.ring.specs.Short.{shortColumn}
-use Rattle.ring.specs.Laws.ShortLaws.{Sized, narrow-term, sized-start, sized-step, sized-most, sized-fits, sized-end}
+use Rattle.ring.specs.Laws.ShortLaws.{Sized, narrow-summand, sized-start, sized-step, sized-most, sized-fits, sized-end}
 use Rattle.ring.proofs.short.columns.Statement.{statement}
 use Rattle.ring.proofs.short.columns.Tie as tie
 
 abbrev Inv-loop : tie.InvT-loop
 Inv-loop d start other c a e sum₀ sum2₀ i₀ sum sum2 i =
-    Sized d c (term a e start) i sum × Sized d c (term a e other) i sum2
+    Sized d c (summand a e start) i sum × Sized d c (summand a e other) i sum2
 
 abbrev μ-loop : tie.MeasureT-loop
 μ-loop d start other c a e sum₀ sum2₀ i₀ sum sum2 i = d - i
@@ -18,24 +18,24 @@ abbrev μ-loop : tie.MeasureT-loop
 loop-holds : tie.Need-loop-holds Inv-loop μ-loop
 loop-holds c =
     let (d≤64, start≤d, other≤d, c-small, narrow) = c .pre in (
-      sized-start _ _ _ (λ j h. narrow-term _ _ _ _ j narrow start≤d h),
-      sized-start _ _ _ (λ j h. narrow-term _ _ _ _ j narrow other≤d h),
+      sized-start _ _ _ (λ j h. narrow-summand _ _ _ _ j narrow start≤d h),
+      sized-start _ _ _ (λ j h. narrow-summand _ _ _ _ j narrow other≤d h),
     )
 
 add-sum : tie.Need-add-sum Inv-loop μ-loop
-unfolding term
+unfolding summand
 add-sum c =
     let l = c .before .before .before .before in
     sized-fits (l .loop .inv .0) (l .before .pre .0) (l .before .pre .3) (c .before .before .before .loop-test .taken)
 
 add-sum2 : tie.Need-add-sum2 Inv-loop μ-loop
-unfolding term
+unfolding summand
 add-sum2 c =
     let l = c .before .before .before .before in
     sized-fits (l .loop .inv .1) (l .before .pre .0) (l .before .pre .3) (c .before .before .before .loop-test .taken)
 
 loop-again : tie.Need-loop-again Inv-loop μ-loop
-unfolding term
+unfolding summand
 loop-again c =
     let l = c .before .before .before .before in
     let t = c .before .before .before .loop-test .taken in (

@@ -16,8 +16,8 @@ returns c =
     let c2 = c1 .before in
     let c3 = c2 .before in
     let c4 = c3 .before in
-    let rows = (rw (c3 .fold-sizes .ensures, c4 .sheet-sizes .ensures) at (c2 .next-bounds .ensures)) ∙ ap firstFailing (header-sizes _) in
-    single 12 _ (c1 .header-laid .ensures) (c .first .ensures) rows
+    let projections = (rw (c3 .fold-sizes .ensures, c4 .sheet-sizes .ensures) at (c2 .next-bounds .ensures)) ∙ ap firstFailing (header-sizes _) in
+    single 12 _ (c1 .header-laid .ensures) (c .first .ensures) projections
 
 pub header-refusal-spec : {M : Type 1} → statement M
 header-refusal-spec =

@@ -15,8 +15,8 @@ returns c = eight _ _ (c .before .numbers-ok .ensures) (c .if1 .taken)
 challenges-ok-requires : tie.Need-challenges-ok-requires
 challenges-ok-requires c κs = (c .before .before .before .pre, sym (c .before .numbers-ok .ensures) ∙ not-false _ (c .if1 .left))
 
-rows-ok-requires : tie.Need-rows-ok-requires
-rows-ok-requires c κs = c .before .before .before .before .pre
+projections-ok-requires : tie.Need-projections-ok-requires
+projections-ok-requires c κs = c .before .before .before .before .pre
 
 returns-2 : tie.Need-returns-2
 returns-2 c =
@@ -24,7 +24,7 @@ returns-2 c =
     let c2 = c1 .before in
     let c3 = c2 .before in
     let c4 = c3 .before in
-    nine-ten _ _ (c4 .before .numbers-ok .ensures) (c4 .if1 .left) (c .first2 .ensures) (c2 .rows-ok .ensures)
+    nine-ten _ _ (c4 .before .numbers-ok .ensures) (c4 .if1 .left) (c .first2 .ensures) (c2 .projections-ok .ensures)
     (c1 .first .ensures) (c3 .challenges-ok .ensures)
 
 pub number-refusal-spec : {M : Type 1} → statement M
@@ -34,7 +34,7 @@ number-refusal-spec =
     numbers-ok-requires
     returns
     challenges-ok-requires
-    rows-ok-requires
+    projections-ok-requires
     (λ c κs. search needs)
     (λ c κs. search needs)
     returns-2)

@@ -1,4 +1,4 @@
--- `verifier::amortized::folded_row` meets its contract. The accumulator holds the sum of the terms so far.
+-- `verifier::amortized::folded_row` meets its contract. The accumulator holds the sum of the summands so far.
 use Prim.Native.Nat.{_-_}
 use native.Mathlib.Omega.{arith}
 use Rattle.ring.specs.Element.{R, el}
@@ -14,8 +14,8 @@ Inv-loop sizes c opening k d count acc₀ i₀ acc i = Summed (sizes .d) (sizes 
 abbrev μ-loop : tie.MeasureT-loop
 μ-loop sizes c opening k d count acc₀ i₀ acc i = count - i
 
-folded-term-requires : tie.Need-folded-term-requires Inv-loop μ-loop
-folded-term-requires c κs =
+folded-summand-requires : tie.Need-folded-summand-requires Inv-loop μ-loop
+folded-summand-requires c κs =
     let s = c .before .before .before in
     let p = s .pre in
     (p .0, (p .1 .0, (p .1 .1 .0, (c .loop-test .taken, p .1 .1 .1))))
@@ -25,11 +25,11 @@ loop-again c =
     let l = c .before .before .before in
     let s = l .before .before in
     summed-step (l .loop .inv) (s .pre .0 .shaped .degree) (c .before .before .loop-test .taken)
-    (c .before .folded-term .ensures) (c .sum .ensures)
+    (c .before .folded-summand .ensures) (c .sum .ensures)
 
 pub folded-row-spec : {M : Type 1} → statement M
 folded-row-spec =
     tie.close
-    (tie.spec Inv-loop μ-loop (λ c κs. tt) (λ c. summed-start (c .additive-identity .ensures _)) folded-term-requires
+    (tie.spec Inv-loop μ-loop (λ c κs. tt) (λ c. summed-start (c .additive-identity .ensures _)) folded-summand-requires
     (λ c κs. c .before .before .before .before .pre .0 .shaped .degree) (λ c. omega arith) (λ c. omega arith) loop-again
     (λ c. summed-end (c .before .loop .inv) (c .loop-test .left)))

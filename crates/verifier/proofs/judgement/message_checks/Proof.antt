@@ -13,7 +13,7 @@ returns-2 c =
     let a2 = c .before in
     let e1 = a2 .before in
     passes 1 _ (e1 .before .short-projection .ensures) (e1 .if1 .left)
-    (single 2 _ (a2 .constant-terms .ensures) (c .first .ensures) none)
+    (single 2 _ (a2 .constant-terms-hold .ensures) (c .first .ensures) none)
 
 pub message-checks-spec : {M : Type 1} → statement M
 message-checks-spec =

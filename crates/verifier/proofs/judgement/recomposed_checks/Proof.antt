@@ -59,7 +59,7 @@ returns-4 c =
     passes 5 _ (a1 .amortized .ensures ∙ check-five-cong _ _ _ _ _ _ agree _ _ _) (e1 .if1 .left)
     (passes 6 _ (a2 .self-product .ensures ∙ check-six-cong _ _ _ _ _ _ agree _) (e2 .if2 .left)
     (passes 7 _ (a3 .linear-part .ensures ∙ check-seven-cong _ _ _ _ _ _ agree _ _) (e3 .if3 .left)
-    (fails 8 _ (c .before .relation-holds .ensures (s .args .sizes .w) (s .args .rows .now) (s .args .omega .now)) (c .if4 .taken))))
+    (fails 8 _ (c .before .relation-holds .ensures (s .args .sizes .w) (s .args .projections .now) (s .args .omega .now)) (c .if4 .taken))))
 
 returns-5 : tie.Need-returns-5
 returns-5 c =
@@ -77,7 +77,7 @@ returns-5 c =
     passes 5 _ (a1 .amortized .ensures ∙ check-five-cong _ _ _ _ _ _ agree _ _ _) (e1 .if1 .left)
     (passes 6 _ (a2 .self-product .ensures ∙ check-six-cong _ _ _ _ _ _ agree _) (e2 .if2 .left)
     (passes 7 _ (a3 .linear-part .ensures ∙ check-seven-cong _ _ _ _ _ _ agree _ _) (e3 .if3 .left)
-    (passes 8 _ (a4 .relation-holds .ensures (s .args .sizes .w) (s .args .rows .now) (s .args .omega .now)) (e4 .if4 .left)
+    (passes 8 _ (a4 .relation-holds .ensures (s .args .sizes .w) (s .args .projections .now) (s .args .omega .now)) (e4 .if4 .left)
     (single 9 _ (a5 .short-opening .ensures) (c .first .ensures) none))))
 
 pub recomposed-checks-spec : {M : Type 1} → statement M

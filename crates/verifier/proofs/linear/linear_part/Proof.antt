@@ -6,8 +6,8 @@ use Rattle.verifier.specs.Laws.RelationLaws.{check-seven}
 use Rattle.verifier.proofs.linear.linear_part.Statement.{statement}
 use Rattle.verifier.proofs.linear.linear_part.Tie as tie
 
-write-sums-requires : tie.Need-write-sums-requires
-write-sums-requires c κs =
+write-omega-sums-requires : tie.Need-write-omega-sums-requires
+write-omega-sums-requires c κs =
     let projected = c .before .pre .1 .0 .seconds .projected in
     (projected .row-count, projected .ω-length, length-replicate 25920 (pos 0))
 
@@ -15,7 +15,7 @@ linear-sum-requires : tie.Need-linear-sum-requires
 linear-sum-requires c κs =
     let w = c .before in
     let s = w .before .before in
-    (s .pre .1 .0, (w .write-sums .ensures, (s .pre .1 .1 .0, s .pre .1 .1 .1 .0)))
+    (s .pre .1 .0, (w .write-omega-sums .ensures, (s .pre .1 .1 .0, s .pre .1 .1 .1 .0)))
 
 mixed-sum-requires : tie.Need-mixed-sum-requires
 mixed-sum-requires c κs =
@@ -35,5 +35,5 @@ returns c =
 pub linear-part-spec : {M : Type 1} → statement M
 linear-part-spec =
     tie.close
-    (tie.spec write-sums-requires linear-sum-requires (λ c κs. c .before .before .before .before .pre .0) mixed-sum-requires
+    (tie.spec write-omega-sums-requires linear-sum-requires (λ c κs. c .before .before .before .before .pre .0) mixed-sum-requires
     (λ c κs. c .before .before .before .before .before .before .pre .0 .shaped .degree) returns)

@@ -1,19 +1,19 @@
--- `verifier::linear::linear_sum` meets its contract. The accumulator holds the sum of the terms so far.
+-- `verifier::linear::linear_sum` meets its contract. The accumulator holds the sum of the summands so far.
 use Prim.Native.Nat.{_-_}
 use native.Mathlib.Omega.{arith}
 use Rattle.verifier.specs.Laws.PlaceLaws.{element-fits}
-use Rattle.verifier.specs.Relation.{linearTerm}
-use Rattle.verifier.specs.Laws.RelationLaws.{linear-term}
+use Rattle.verifier.specs.Relation.{linearSummand}
+use Rattle.verifier.specs.Laws.RelationLaws.{linear-summand}
 use Rattle.ring.specs.Laws.Loops.{Summed, summed-start, summed-step, summed-end}
 use Rattle.verifier.proofs.linear.linear_sum.Statement.{statement}
 use Rattle.verifier.proofs.linear.linear_sum.Tie as tie
 
 abbrev Inv-loop : tie.InvT-loop
-Inv-loop sizes whole term rows psi omega table alpha delta c z d count acc₀ i₀ acc i = Summed (sizes .d) count
-    (linearTerm sizes whole term rows psi omega alpha delta c z) i (acc .coefficients)
+Inv-loop sizes whole constant-terms projections psi omega omega-sums alpha delta c z d count acc₀ i₀ acc i = Summed (sizes .d) count
+    (linearSummand sizes whole constant-terms projections psi omega alpha delta c z) i (acc .coefficients)
 
 abbrev μ-loop : tie.MeasureT-loop
-μ-loop sizes whole term rows psi omega table alpha delta c z d count acc₀ i₀ acc i = count - i
+μ-loop sizes whole constant-terms projections psi omega omega-sums alpha delta c z d count acc₀ i₀ acc i = count - i
 
 from-slice-requires : tie.Need-from-slice-requires Inv-loop μ-loop
 from-slice-requires c κs =
@@ -33,7 +33,7 @@ loop-again c =
     let l = p .before .before in
     let s = l .before .before in
     let small = s .pre .0 .wholes .shaped .degree .small in
-    let value = linear-term (s .args .sizes) _ _ _ _ _ _ _ _ _ (l .loop .i) _ _ _ small (p .phi-product .ensures)
+    let value = linear-summand (s .args .sizes) _ _ _ _ _ _ _ _ _ (l .loop .i) _ _ _ small (p .phi-product .ensures)
     (f .from-slice .ensures) (e .product .ensures) in
     summed-step (l .loop .inv) (s .pre .0 .wholes .shaped .degree) (p .before .loop-test .taken)
     value (c .sum .ensures)

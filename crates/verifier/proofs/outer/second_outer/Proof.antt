@@ -10,11 +10,11 @@ use Rattle.verifier.proofs.outer.second_outer.Statement.{statement}
 use Rattle.verifier.proofs.outer.second_outer.Tie as tie
 
 abbrev Inv-loop : tie.InvT-loop
-Inv-loop sizes matrix u2 opening rows all₀ k₀ all k = Tested rows (λ k. same (sizes .d) (el (sizes .d) u2 k) (outer₂ (sizes .d)
-    (sizes .r) (sizes .t1) matrix k (hBlockOf sizes opening))) k all
+Inv-loop sizes d-matrix u2 opening rows all₀ k₀ all k = Tested rows (λ k. same (sizes .d) (el (sizes .d) u2 k) (outer₂ (sizes .d)
+    (sizes .r) (sizes .t1) d-matrix k (hBlockOf sizes opening))) k all
 
 abbrev μ-loop : tie.MeasureT-loop
-μ-loop sizes matrix u2 opening rows all₀ k₀ all k = rows - k
+μ-loop sizes d-matrix u2 opening rows all₀ k₀ all k = rows - k
 
 returns : tie.Need-returns Inv-loop μ-loop
 unfolding check₄

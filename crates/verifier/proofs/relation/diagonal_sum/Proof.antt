@@ -1,4 +1,4 @@
--- `verifier::relation::diagonal_sum` meets its contract. The accumulator holds the terms so far, and q is the number of the next pair (i, i).
+-- `verifier::relation::diagonal_sum` meets its contract. The accumulator holds the summands so far, and q is the number of the next pair (i, i).
 use mathlib.Core.Path.{_≡_, ap, _∙_}
 use Prim.Native.Nat.{_-_}
 use native.Mathlib.Omega.{arith}

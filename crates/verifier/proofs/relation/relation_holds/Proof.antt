@@ -24,7 +24,7 @@ aggregate-constant-requires c κs =
 
 returns : tie.Need-returns
 returns c =
-    λ w rows omega.
+    λ w projections omega.
     let right = c .before in
     let left = right .before in
     let hs = left .before in
@@ -32,7 +32,7 @@ returns c =
     let gs = hp .before in
     let gp = gs .before in
     let s = gp .before in
-    check-eight (s .args .sizes) _ _ _ _ _ _ w rows omega _ _ _ _ _ _ _ _ (s .pre .0 .shaped .degree .small) (gp .g-place .ensures)
+    check-eight (s .args .sizes) _ _ _ _ _ _ w projections omega _ _ _ _ _ _ _ _ (s .pre .0 .shaped .degree .small) (gp .g-place .ensures)
     (gs .relation-sum .ensures) (hp .h-place .ensures) (hs .diagonal-sum .ensures) (left .sum .ensures)
     (right .aggregate-constant .ensures) (c .equals .ensures)
 
