@@ -1,6 +1,6 @@
 /* Lizkarg for C: the calls of crates/capi, built by `rt staticlib capi` as target/staticlib/libcapi.a (x86-64, System V).
  *
- * Every call tests what it is given and refuses by the number of document 01, 'Where a call stops'; on a refusal nothing lent is changed.
+ * Every call tests what it is given and refuses by a number of SPECIFICATION 7; on a refusal nothing lent is changed.
  * What no call can test is what C cannot say: each pointer must be valid and aligned for as many numbers as the length after it says,
  * and a list that a call writes must overlap no other list of the same call. A list of no numbers (k, l or w is 0) may be NULL with length
  * 0: nothing is read or written through it.

@@ -1,4 +1,4 @@
-/* Example: reads a sheet from standard input and prints the verdict as document 01 says, kind and number in 16 columns each.
+/* Example: reads a sheet from standard input and prints the verdict as SPECIFICATION 10.7 says, kind and number in 16 columns each.
  *     cc -O2 bindings/c/verdict.c target/staticlib/libcapi.a -o target/verdict_c */
 #include "lizkarg.h"
 #include <stdio.h>

@@ -1,4 +1,4 @@
-"""Cases for the tests and for the writers of stored cases: document 01's whole case, random and honest ones, and changes to them.
+"""Cases for the tests and for the writers of stored cases: the whole case of SPECIFICATION 12.4, random and honest ones, and changes to them.
 
 `s` is a Sizes, `x` the lists of a prover by name, `y` those of a verifier. The order in which a function draws from `rng` is part of the
 stored cases.
@@ -33,7 +33,7 @@ SMALL = Sizes(d=2, n=1, r=1, K=1, L=0, w=0, kappa=1, kappa1=1, kappa2=1, b=4, b1
 BASES = (2, 3, 4, 5, 7, 16, 255, 256, 65535, 65536)
 
 
-# Document 01's whole case
+# The whole case of SPECIFICATION 12.4
 
 WHOLE_CASE = (
     "2 1 1 1 0 0 1 1 1 4 8 4 2 2 1 1 5 13 / 1 0 / 1 0 / 0 0 / 1 0 / 0 0 / 1 0 / 1 0 / 1 0 / 0 0 / -3 4 / 2 2 / "
@@ -94,7 +94,7 @@ def counted(rng, d, twos, ones):
 
 
 def challenge(rng, d):
-    """A challenge by document 01's rule."""
+    """A challenge by the rule of SPECIFICATION 5.1."""
     while True:
         c = uniform(rng, ring.CHALLENGE_COEFFICIENT, d)
         if ring.is_challenge(c):

@@ -1,6 +1,6 @@
 """The calls of the fold, refusals first; and the whole fold under one name.
 
-The definitions in the modules below are for calls that are not refused. Quotations are from document 01.
+The definitions in the modules below are for calls that are not refused. Quotations are from docs/SPECIFICATION.md.
 """
 
 import sizes
@@ -32,7 +32,7 @@ def answer(call, s, x):
 
 
 def answer_next_part(s, x, part):
-    """ "where one of 1 to 7 applies (2 for a part outside 1..r') the stretch is empty, and a question beside it answers that
+    """ "where one of 1 to 7 applies (2 for a part outside 1..r') the chunk is empty, and a question beside it answers that
     number, else 0." The number and the chunk.
     """
     number = sizes.refusal("next_part", s, x, part)

@@ -130,7 +130,7 @@ def refusals(rng):
         if "c" in reads:
             yield case(number, s, y | {"c": y["c"][:-1] + [3]})
             yield case(number, s, y | {"c": y["c"][:-1] + [-3], last: y[last] + [1]})
-    # "Reading 71 as a length": squared length 71 and 72 at degree 32
+    # "71 read as a length": squared length 71 and 72 at degree 32
     wide = s._replace(d=32, K=0, L=0, w=0)
     z = random_lists(rng, wide, True)
     for last in (1, 2):

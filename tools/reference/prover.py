@@ -1,7 +1,7 @@
-"""Messages 1 to 5 and the honest opening: document 01, "Messages, in order"; source document 002, Figure 2.
+"""Messages 1 to 5 and the honest opening: SPECIFICATION 4; the paper, Figure 2.
 
 For any witness, also one that misses constraints.
-`s` is a Sizes, `x` a dictionary of flat lists by name (sizes.LENGTHS names them). Indexes count from 0. Quotations are from document 01.
+`s` is a Sizes, `x` a dictionary of flat lists by name (sizes.LENGTHS names them). Indexes count from 0. Quotations are from docs/SPECIFICATION.md.
 """
 
 import ring
@@ -62,7 +62,7 @@ def projection_functions(s, x):
 
 
 def second_functions(s, x):
-    """ "Given ψ (5 by L) and ω (5 by w), for k = 1..5: a''= Σψ a'; φ''_i = Σψ φ'_i + Σω_j σ(row j, part i)". """
+    """ "Given ψ (5 by L) and ω (5 by w), for k = 1..5: a'' = Σψ a'; φ''_i = Σψ φ'_i + Σω_j σ(row j, part i)". """
     functions = [f for f, _ in statement(s, x).constant_terms] + projection_functions(s, x)
     return [
         combine(s.d, s.n, s.r, scale, x["psi"][k * s.L : (k + 1) * s.L] + x["omega"][k * s.w : (k + 1) * s.w], functions)

@@ -1,6 +1,6 @@
-"""The next instance and the parts of its witness: document 01, "Next instance"; source document 002, section 5.3.
+"""The next instance and the parts of its witness: SPECIFICATION 8; the paper, section 5.3.
 
-`s` is a Sizes, `x` a dictionary of flat lists by name (sizes.LENGTHS names them). Indexes count from 0. Quotations are from document 01.
+`s` is a Sizes, `x` a dictionary of flat lists by name (sizes.LENGTHS names them). Indexes count from 0. Quotations are from docs/SPECIFICATION.md.
 """
 
 import ring
@@ -13,8 +13,8 @@ from verifier import check_1, check_2, read_opening
 
 
 def chunks(s, z_low, z_high, tail):
-    """ "z low and z high are cut into ν stretches each of n/ν elements, the rest into μ stretches of m/μ elements, both rounded
-    up; the last stretches may be short or empty."
+    """ "z low and z high are cut into ν chunks each of n/ν elements, the rest into μ chunks of m/μ elements, both rounded
+    up; the last chunks may be short or empty."
     """
     result = []
     for section, size, count in ((z_low, z_chunk(s), s.nu), (z_high, z_chunk(s), s.nu), (tail, tail_chunk(s), s.mu)):
@@ -23,7 +23,7 @@ def chunks(s, z_low, z_high, tail):
 
 
 def padded_chunks(s, z_low, z_high, tail):
-    """ "every stretch is padded with zeros at its end to n'." """
+    """ "every chunk is padded with zeros at its end to n'." """
     return [
         chunk + [ring.zero(s.d)] * (next_rank(s) - len(chunk)) for chunk in chunks(s, z_low, z_high, tail)
     ]
@@ -41,7 +41,7 @@ def next_witness(s, x):
 
 
 def next_part(s, x, part):
-    """ "Asked for one part of the next witness, the library hands back that stretch of the caller's own slice"; not padded.
+    """ "Asked for one part of the next witness, the library hands back that chunk of the caller's own slice"; not padded.
 
     `part` counts from 1 to r'.
     """
@@ -89,7 +89,7 @@ def garbage_coefficients(s, x, base, count):
 
 
 def next_check_6(s, x):
-    """ "<z,z> = Σ g_ii c_i² + 2Σ_{i<j} g_ij c_i c_j"; "an empty stretch has the same a in check 6 as a full one".
+    """ "<z,z> = Σ g_ii c_i² + 2Σ_{i<j} g_ij c_i c_j"; "an empty chunk has the same a in check 6 as a full one".
 
     With z = low + b·high, <z,z> = <low,low> + 2b<low,high> + b²<high,high>, chunk by chunk.
     """

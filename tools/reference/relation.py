@@ -1,6 +1,6 @@
-"""The principal relation: document 01, "Statement"; source document 002, section 5.1.
+"""The principal relation: SPECIFICATION 3; the paper, section 5.1.
 
-`s` is a Sizes, `x` a dictionary of flat lists by name (sizes.LENGTHS names them). Indexes count from 0. Quotations are from document 01.
+`s` is a Sizes, `x` a dictionary of flat lists by name (sizes.LENGTHS names them). Indexes count from 0. Quotations are from docs/SPECIFICATION.md.
 """
 
 from collections import namedtuple

@@ -1,7 +1,7 @@
-"""The ring Z_q[X]/(X^d+1), digits and squared norms: document 01, "Ring and digits".
+"""The ring Z_q[X]/(X^d+1), digits and squared norms: SPECIFICATION 2.
 
 An element is a list of d centred numbers, lowest power first; d is the length of the list.
-Schoolbook arithmetic on whole numbers of any size; nothing is tuned. Quotations are from document 01.
+Schoolbook arithmetic on whole numbers of any size; nothing is tuned. Quotations are from docs/SPECIFICATION.md.
 """
 
 # "q = 4294967197 = 2^32 - 99."

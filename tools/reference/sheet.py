@@ -1,4 +1,4 @@
-"""The sheet and the program of verdicts: document 01, "Sheet". Quotations are from document 01.
+"""The sheet and the program of verdicts: SPECIFICATION 10. Quotations are from docs/SPECIFICATION.md.
 
 Run as a program it reads a sheet from standard input and prints the verdict's line.
 """

@@ -1,6 +1,6 @@
 """Stored input and output of the programs that judge sheets:
 
-    crates/verdict/stdin, stdout          document 01's whole case and its line
+    crates/verdict/stdin, stdout          the whole case of SPECIFICATION 12.4 and its line
     crates/verdict_cases/stdin, stdout    all cases below, and for each the line that the program of verdicts prints
 
 The input of all cases: stored.sheets_text. With the argument `names` the script prints a line for each case: its number, its answer, its
@@ -8,7 +8,7 @@ count of bytes, its group and name; last the count of cases by answer.
 
 Groups, in sheet_checks.py, sheet_numbers.py and sheet_faults.py; a case's name says what is changed.
 
-    whole_case             document 01's whole case
+    whole_case             the whole case of SPECIFICATION 12.4
     every_degree           honest sheets at every degree below 64, sizes apart from one another; bounds that just hold or just fail
     largest_sizes          n = 256, w = 256, K = L = 32, all κ = 8 with t1 = t2 = 8, empty lists
     long_witness           witnesses of any coefficients, bases 65536, so that b² is above q

@@ -1,6 +1,6 @@
-"""The sizes of a fold, the lengths of its lists, and where a call stops: document 01, "Where a call stops".
+"""The sizes of a fold, the lengths of its lists, and where a call stops: SPECIFICATION 7.
 
-Every list is flat: numbers one after another in the order of the sheet. Quotations are from document 01.
+Every list is flat: numbers one after another in the order of the sheet. Quotations are from docs/SPECIFICATION.md.
 """
 
 from collections import namedtuple
@@ -46,12 +46,12 @@ def tail_rank(s):
 
 
 def z_chunk(s):
-    """ "z low and z high are cut into ν stretches each of n/ν elements", rounded up."""
+    """ "z low and z high are cut into ν chunks each of n/ν elements", rounded up."""
     return rounded_up(s.n, s.nu)
 
 
 def tail_chunk(s):
-    """ "the rest into μ stretches of m/μ elements", rounded up."""
+    """ "the rest into μ chunks of m/μ elements", rounded up."""
     return rounded_up(tail_rank(s), s.mu)
 
 

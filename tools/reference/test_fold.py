@@ -1,4 +1,4 @@
-"""The fold: document 01's bench values, refusals, and demand 3 on fixed random cases."""
+"""The fold: the worked values of SPECIFICATION 12, refusals, and demand 3 on fixed random cases."""
 
 import random
 

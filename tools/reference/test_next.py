@@ -1,4 +1,4 @@
-"""The next instance: document 01, "Next instance", and demand 2 on fixed random cases."""
+"""The next instance: SPECIFICATION 8, and demand 2 on fixed random cases."""
 
 import random
 
@@ -93,7 +93,7 @@ def test_sizes_of_the_next_instance():
     assert sizes.next_rank(s._replace(n=7, nu=1, mu=4)) == 7
     assert sizes.next_rank(s._replace(n=7, nu=2, mu=4)) == 4
     assert sizes.next_rank(s._replace(n=7, nu=4, mu=4)) == 2
-    # "an empty stretch has the same a in check 6 as a full one"; b = 65536 makes b² 99.
+    # "an empty chunk has the same a in check 6 as a full one"; b = 65536 makes b² 99.
     wide = s._replace(nu=2, b=65536)
     kind, written = fold.answer("next_instance", wide, x)
     a = fold.whole_constraints(2, 6, 5, written["next_whole"])[1].function.a

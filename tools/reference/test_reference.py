@@ -1,4 +1,5 @@
-"""Runs the tests of the reference implementation: document 01's bench values and the three demands, on fixed random cases.
+"""Runs the tests of the reference implementation: the worked values of SPECIFICATION 12 and the three demands, on fixed
+random cases.
 
 `python3 tools/reference/test_reference.py`; no output but one line a test, and a traceback where one fails.
 """

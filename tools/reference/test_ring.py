@@ -1,4 +1,4 @@
-"""The ring layer: document 01's bench values, laws of the ring, digits."""
+"""The ring layer: the worked values of SPECIFICATION 12, laws of the ring, digits."""
 
 import random
 

@@ -1,4 +1,4 @@
-"""The sheet and the program of verdicts: document 01, "Sheet"."""
+"""The sheet and the program of verdicts: SPECIFICATION 10."""
 
 import random
 import subprocess

@@ -1,6 +1,6 @@
-"""Checks 1 to 9 and the verdict: document 01, "Verdict"; source document 002, Figure 3.
+"""Checks 1 to 9 and the verdict: SPECIFICATION 6; the paper, Figure 3.
 
-`s` is a Sizes, `x` a dictionary of flat lists by name (sizes.LENGTHS names them). Indexes count from 0. Quotations are from document 01.
+`s` is a Sizes, `x` a dictionary of flat lists by name (sizes.LENGTHS names them). Indexes count from 0. Quotations are from docs/SPECIFICATION.md.
 """
 
 from collections import namedtuple
@@ -29,7 +29,7 @@ def read_opening(s, x):
 
 
 def recomposed_z(s, x):
-    """ "digits are lent and recomposed (section 5.3), with no width test." """
+    """ "digits are lent and recomposed (its section 5.3), with no width test." """
     o = read_opening(s, x)
     return [ring.recompose_element(s.b, [low, high]) for low, high in zip(o.z_low, o.z_high, strict=True)]
 

@@ -16,7 +16,7 @@ pub enum Verdict {
 /// What a call answers.
 #[derive(Clone, Copy, Debug, PartialEq, Eq)]
 pub enum Answer {
-    /// The number of document 01's table.
+    /// The number of a row of SPECIFICATION 7.
     Refused(u8),
     Judged(Verdict),
     Written,

@@ -1,4 +1,4 @@
-// Document 01's whole case and its first bench values, through the C interface.
+// The whole case and the first worked values of SPECIFICATION 12, through the C interface.
 mod common;
 
 use lizkarg::*;

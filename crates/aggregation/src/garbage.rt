@@ -1,4 +1,4 @@
-// Message 4: "h_ii = <φ_i,s_i>; for i < j, h_ij is half of <φ_i,s_j> + <φ_j,s_i>; h in t1 digits to base b1; u2 = D·(h digits), κ2 rows."
+// Message 4: "h_ii = <φ_i,s_i>; for i < j, h_ij is half of <φ_i,s_j> + <φ_j,s_i>. h in t1 digits to base b1; u2 = D·(h digits), κ2 rows."
 ghost use mathlib.Core.Path.{_≡_};
 ghost use Prim.Native.Nat.{_+_, _-_, _*_, _<_, _≤_};
 ghost use lib.ListN.{length};

@@ -1,5 +1,5 @@
 // The work of messages 3 and 4: the values of the second functions, the garbage h of the aggregate, and its commitment.
-// Document 01, 'Messages, in order'.
+// SPECIFICATION 4.
 pub mod garbage;
 mod products;
 mod rows;

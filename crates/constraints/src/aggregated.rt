@@ -1,4 +1,4 @@
-// The aggregated function, by place: document 01, message 4.
+// The aggregated function, by place: SPECIFICATION 4.4.
 ghost use mathlib.Core.Path.{_≡_};
 ghost use Prim.Native.Nat.{_*_, _<_, _≤_};
 ghost use mathlib.Core.List.{[]};

@@ -1,4 +1,4 @@
-// The entries of the second and of the aggregated functions, formed as they are used: document 01, 'Messages, in order', 3 and 4.
+// The entries of the second and of the aggregated functions, formed as they are used: SPECIFICATION 4.3 and 4.4.
 pub mod aggregated;
 mod projected_rows;
 pub mod row_groups;

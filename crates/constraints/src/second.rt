@@ -1,4 +1,4 @@
-// The five second functions f''_k, by place: document 01, message 3.
+// The five second functions f''_k, by place: SPECIFICATION 4.3.
 ghost use mathlib.Core.Path.{_≡_};
 ghost use Prim.Native.Nat.{_+_, _*_, _<_};
 ghost use Rattle.integers.specs.Lists.{tab};

@@ -1,5 +1,5 @@
--- Document 01: "kind (0 accepted, 1 failed, 2 refused) and number (0 when accepted)"; "the answer is "written", which is no judgement".
--- The one definition of what each answer says.
+-- SPECIFICATION 10.7 and 8.7: "kind (0 accepted, 1 failed, 2 refused) and number (0 when accepted)"; "the answer is "written", which is no
+-- judgement". The one definition of what each answer says.
 use mathlib.Core.Bool.{Bool, true, cond}
 use mathlib.Core.List.{List, [], _∷_}
 use Prim.Native.Nat.{ℕ, zero, suc}

@@ -1,5 +1,5 @@
--- Document 01, 'Next instance': the opening cut into chunks, the document's stretches. "z low and z high are cut into ν stretches each of n/ν
--- elements, the rest into μ stretches of m/μ elements, both rounded up; the last stretches may be short or empty."
+-- SPECIFICATION 8: the opening cut into chunks. "z low and z high are cut into ν chunks each of n/ν
+-- elements, the rest into μ chunks of m/μ elements, both rounded up; the last chunks may be short or empty."
 use mathlib.Core.Path.{_≡_}
 use mathlib.Core.Bool.{cond}
 use mathlib.Core.List.{List, _++_}
@@ -19,11 +19,11 @@ chunk whole count i = min (ceiling whole count) (whole - i * ceiling whole count
 unfoldable pub width : (tz n ν m μ : ℕ) → ℕ → ℕ
 width tz n ν m μ s = cond (ltb s (tz * ν)) (chunk n ν (s % ν)) (chunk m μ (s - tz * ν))
 
--- chunk s of a list that is cut into chunks of w 0, w 1, .. elements: "that stretch of the caller's own slice"
+-- chunk s of a list that is cut into chunks of w 0, w 1, .. elements: "that chunk of the caller's own slice"
 unfoldable pub cut : (d : ℕ) → (ℕ → ℕ) → (o : List ℤ) → ℕ → List ℤ
 cut d w o s = take (w s * d) (drop (start w s * d) o)
 
--- "every stretch is padded with zeros at its end to n'"
+-- "every chunk is padded with zeros at its end to n'"
 unfoldable pub cutPadded : (d n′ : ℕ) → (ℕ → ℕ) → (o : List ℤ) → ℕ → List ℤ
 cutPadded d n′ w o s = cut d w o s ++ replicate ((n′ - w s) * d) (pos 0)
 

@@ -1,4 +1,4 @@
--- A constraint on the elements of an opening, and how it is laid out on parts of any widths: document 01, 'Next instance', "Each is laid out
+-- A constraint on the elements of an opening, and how it is laid out on parts of any widths: SPECIFICATION 8.5, "Each is laid out
 -- as on the sheet: a, φ, b."
 use mathlib.Core.Bool.{cond}
 use mathlib.Core.List.{List, _++_}

@@ -1,4 +1,4 @@
--- Document 01, 'two openings': "differences are taken modulo q and centred. The t and g digits are one vector, in the opening's order."
+-- SPECIFICATION 9.5: "differences are taken modulo q and centred. The t and g digits are one vector, in the opening's order."
 use mathlib.Core.List.{List}
 use Prim.Native.Nat.{_+_, _*_}
 use lib.ListN.{length, getD, take, drop}

@@ -1,4 +1,4 @@
--- Document 01: "The honest messages and opening are those of messages 1 to 5, all from one statement, one witness and one set of lent
+-- SPECIFICATION 9.2: "The honest messages and opening are those of messages 1 to 5, all from one statement, one witness and one set of lent
 -- projection rows, ψ, ω, α, δ and c."
 use mathlib.Core.List.{List}
 use lib.IntN.{ℤ}

@@ -2,22 +2,22 @@
 pub mod Sizes
 pub mod Statement
 pub mod Opening
--- 'Messages, in order'
+-- Messages (SPECIFICATION 4)
 pub mod Messages
 pub mod PairElements
 pub mod Entries
--- 'Verdict'
+-- Verdict (SPECIFICATION 6)
 pub mod Verdict
 pub mod Verification
--- 'Honest messages, and two openings'
+-- Honest messages, and two openings (SPECIFICATION 9)
 pub mod Honest
 pub mod Differences
--- 'Next instance'
+-- The next instance (SPECIFICATION 8)
 pub mod Chunks
 pub mod Constraint
 pub mod NextInstance
 pub mod NextCall
--- 'Where a call stops': the answers and the refusals
+-- SPECIFICATION 7: the answers and the refusals
 pub mod Answers
 pub mod Refusals
 -- The arguments of the calls

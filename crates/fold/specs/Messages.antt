@@ -1,4 +1,4 @@
--- Document 01, 'Messages, in order', for any witness s: what each message holds, as ring elements by index, and as the flat list that a
+-- SPECIFICATION 4, for any witness s: what each message holds, as ring elements by index, and as the flat list that a
 -- call writes.
 use mathlib.Core.List.{List, _++_}
 use Prim.Native.Nat.{ℕ, _+_, _*_, _-_}
@@ -57,7 +57,7 @@ p d n r w projections s = tab w (λ j. centred (sum ℤ-ring (r * n * d) (λ y. 
 abbrev pub projection : (d n r : ℕ) (projections : List ℤ) → ℕ → Function (R d)
 projection d n r projections j = record { a = λ i i′. R d .zero; φ = λ i k. conjugate Zq (el d projections ((j * r + i) * n + k)) }
 
--- Message 3: "Given ψ (5 by L) and ω (5 by w), for k = 1..5: a''= Σψ a'; φ''_i = Σψ φ'_i + Σω_j σ(row j, part i); b''_k is the value of
+-- Message 3: "Given ψ (5 by L) and ω (5 by w), for k = 1..5: a'' = Σψ a'; φ''_i = Σψ φ'_i + Σω_j σ(row j, part i); b''_k is the value of
 -- that function without its constant. Five is the count, since q^4 < 2^128."
 abbrev pub second : (d n r L w : ℕ) (constantTerms projections ψ ω : List ℤ) → ℕ → Function (R d)
 second d n r L w constantTerms projections ψ ω k =

@@ -1,4 +1,4 @@
--- Document 01, 'Next instance': what the two calls answer, and what is lent or handed back. "If check 1 or 2 fails the answer is that
+-- SPECIFICATION 8: what the two calls answer, and what is lent or handed back. "If check 1 or 2 fails the answer is that
 -- judgement and nothing is written; a refusal, 11 included, comes before it. Otherwise all K' are written and the answer is "written",
 -- which is no judgement."
 use mathlib.Core.List.{List, []}
@@ -26,8 +26,8 @@ module _ (𝓢 : Statement) (𝓓 : Draws) (𝓣 : Transcript) (ν μ : ℕ) (ou
   unfoldable pub nextOut : List ℤ
   nextOut = written (firstFailing (nextTests 𝓢 𝓓 𝓣 ν μ out)) (written (firstChecks 𝓢 𝓓 𝓣) (nextWhole 𝓢 𝓓 𝓣 ν μ) out) out
 
--- "Asked for one part of the next witness, the library hands back that stretch of the caller's own slice; where one of 1 to 7 applies
--- (2 for a part outside 1..r') the stretch is empty, and a question beside it answers that number, else 0."
+-- "Asked for one part of the next witness, the library hands back that chunk of the caller's own slice; where one of 1 to 7 applies
+-- (2 for a part outside 1..r') the chunk is empty, and a question beside it answers that number, else 0."
 module _ (d n r κ t₁ t₂ tz ν μ i : ℕ) (o : List ℤ) where
   unfoldable pub partRefusal : ℕ
   partRefusal = firstFailing (partTests d n r κ t₁ t₂ tz ν μ i o)

@@ -1,4 +1,4 @@
--- Document 01, 'Next instance': the constraints that hold at the padded opening exactly when checks 3 to 8 hold, and the relation they make
+-- SPECIFICATION 8: the constraints that hold at the padded opening exactly when checks 3 to 8 hold, and the relation they make
 -- with the target bound. "Checks 5 to 8 are written as left side minus right side, 3 and 4 as the sum over the digits minus u1 or u2."
 use mathlib.Core.Bool.{cond}
 use mathlib.Core.List.{List, [], _∷_, _++_}
@@ -45,7 +45,7 @@ module _ (d : ℕ) where
   product c i j = number d (cond (eqb i j) (pos 1) (pos 2)) ⊗ (c i ⊗ c j)
 
   -- a of check 6: chunk i of digit e with chunk i of digit e′ has b^(e+e′), doubled for e < e′;
-  -- "an empty stretch has the same a in check 6 as a full one"
+  -- "an empty chunk has the same a in check 6 as a full one"
   unfoldable pub squares : (tz ν b : ℕ) → ℕ → ℕ → Rd
   squares tz ν b s s′ =
       cond (ltb s (tz * ν)) (cond (ltb s′ (tz * ν)) (cond (eqb (s % ν) (s′ % ν)) entry 𝟘) 𝟘) 𝟘

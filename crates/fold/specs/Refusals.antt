@@ -1,4 +1,4 @@
--- Document 01, 'Where a call stops': "Lowest number first; a call tests only what it takes." Each row's test by name, and for each call
+-- SPECIFICATION 7.a: "Lowest number first; a call tests only what it takes." Each row's test by name, and for each call
 -- the list of its tests with their numbers, in the order in which they are tried. Sizes are integers here, since a sheet may hold any.
 use mathlib.Core.Bool.{Bool, true, false, cond}
 use mathlib.Core.List.{List, [], _∷_, _++_, map}

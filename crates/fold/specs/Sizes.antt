@@ -1,4 +1,4 @@
--- The numbers that shape a fold, and the lengths they give. Document 01: 'Statement', 'Messages', 'Next instance'.
+-- The numbers that shape a fold, and the lengths they give. SPECIFICATION 3, 4 and 8.
 use Prim.Native.Nat.{ℕ, _+_, _*_, _-_, _/_, max}
 use Rattle.algebra.specs.Triangle.{pairs-count}
 

@@ -1,4 +1,4 @@
--- Document 01, 'Statement': "Parts s_1..s_r, each n ring elements. A constraint has a_ij for i ≤ j (each pair counted once), vectors φ_i,
+-- SPECIFICATION 3.1: "Parts s_1..s_r, each n ring elements. A constraint has a_ij for i ≤ j (each pair counted once), vectors φ_i,
 -- and b: the sum of a_ij<s_i,s_j> plus the sum of <φ_i,s_i> minus b. K constraints vanish wholly. L others vanish in the constant
 -- term only, and their b is a number. A witness solves the statement if both kinds hold and its total squared length is at most β²."
 -- Lists are flat, d numbers to an element; constraints stand as on the sheet: a (by i, then j), φ (by part), b.

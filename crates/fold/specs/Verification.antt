@@ -1,4 +1,4 @@
--- Document 01, 'Verdict': "The verifier's answer is either a refusal with its number or a judgement."
+-- SPECIFICATION 6.a: "The verifier's answer is either a refusal with its number or a judgement."
 use mathlib.Core.List.{List}
 use lib.IntN.{ℤ}
 use Rattle.fold.specs.declared.Answer.{Answer}

@@ -1,4 +1,4 @@
-// The sizes of the next instance and of its chunks: document 01, 'Next instance'. Within the limits of rows 1 to 5 nothing wraps.
+// The sizes of the next instance and of its chunks: SPECIFICATION 8. Within the limits of rows 1 to 5 nothing wraps.
 ghost use mathlib.Core.Path.{_≡_};
 ghost use Prim.Native.Nat.{_≤_, _<_};
 ghost use Rattle.algebra.specs.Triangle.{start};

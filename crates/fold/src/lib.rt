@@ -1,4 +1,4 @@
-// The answers of every call of the fold: document 01, 'Verdict' and 'Where a call stops'.
+// The answers of every call of the fold: SPECIFICATION 6 and 7.
 // Structs of sizes are laid out as C lays them out: crates/capi takes them as they are.
 pub mod chunks;
 pub mod counts;

@@ -1,4 +1,4 @@
--- Document 01, 'Sheet': the answer to a text, and the line that says it.
+-- SPECIFICATION 10: the answer to a text, and the line that says it.
 --     sheetStatement, sheetDraws, sheetTranscript, sheetOpening    what the verifier takes from a sheet
 --     judgedText text           the answer to a text
 --     verdictLine answer        the line that the program prints

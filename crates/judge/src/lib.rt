@@ -1,4 +1,4 @@
-// The judge of a sheet: document 01, 'Sheet'.
+// The judge of a sheet: SPECIFICATION 10.
 ghost use mathlib.Core.Path.{_≡_};
 ghost use Rattle.judge.specs.Judging.{judgedBy, judgedText, verdictLine};
 ghost use Rattle.judge.specs.Known.Read.{ReadBounded, Into};

@@ -1,4 +1,4 @@
-// Rows 1 to 6 of document 01's table for each call: its sizes. 0 where none of these refuses.
+// SPECIFICATION 7.1 to 7.6 for each call: its sizes. 0 where none of these refuses.
 ghost use mathlib.Core.Path.{_≡_};
 ghost use Rattle.fold.specs.Answers.{firstFailing};
 ghost use Rattle.fold.specs.Refusals.{projectBounds, aggregateBounds, amortizeBounds};

@@ -1,4 +1,4 @@
-// Row 7 of document 01's table for what the verifier and the next instance share besides matrices: both kinds of constraints and all draws.
+// SPECIFICATION 7.7 for what the verifier and the next instance share besides matrices: both kinds of constraints and all draws.
 ghost use mathlib.Core.Path.{_≡_};
 ghost use Rattle.fold.specs.Refusals.{allOf};
 ghost use Rattle.fold.specs.Arguments.{VerifySized};

@@ -1,4 +1,4 @@
-// The sizes that several calls test, in groups: rows 2, 3, 4 and 6 of document 01's table. Tests are joined by `&`, not `&&`: each is safe on
+// The sizes that several calls test, in groups: SPECIFICATION 7.2, 7.3, 7.4 and 7.6. Tests are joined by `&`, not `&&`: each is safe on
 // any number, and without a branch the proof of a call is one line.
 ghost use mathlib.Core.Path.{_≡_};
 ghost use mathlib.Core.List.{[], _∷_};

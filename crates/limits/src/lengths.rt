@@ -1,4 +1,4 @@
-// Row 7 of document 01's table for each call: the lengths that its sizes give. The sizes have passed rows 1 to 4.
+// SPECIFICATION 7.7 for each call: the lengths that its sizes give. The sizes have passed rows 1 to 4.
 ghost use mathlib.Core.Path.{_≡_};
 ghost use Prim.Native.Nat.{_*_, _≤_};
 ghost use Rattle.fold.specs.Refusals.{allOf};

@@ -1,4 +1,4 @@
-// The number with which each call refuses, 0 where it does not: document 01, 'Where a call stops'. Sizes are tested before lengths, which
+// The number with which each call refuses, 0 where it does not: SPECIFICATION 7. Sizes are tested before lengths, which
 // are products of them, and lengths before what the lists hold.
 pub mod bounds;
 pub mod draws;

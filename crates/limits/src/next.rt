@@ -1,4 +1,4 @@
-// The number with which the next instance refuses, 0 where it does not: document 01, 'Where a call stops'.
+// The number with which the next instance refuses, 0 where it does not: SPECIFICATION 7.
 ghost use mathlib.Core.Path.{_≡_};
 ghost use Prim.Native.Nat.{_≤_};
 ghost use Rattle.fold.specs.Answers.{firstFailing};

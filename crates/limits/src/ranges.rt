@@ -1,4 +1,4 @@
-// Row 8 of document 01's table for the projection rows, for the lists that two calls share and for elements by value.
+// SPECIFICATION 7.8 for the projection rows, for the lists that two calls share and for elements by value.
 ghost use mathlib.Core.Path.{_≡_};
 ghost use mathlib.Core.List.{[], _∷_};
 ghost use lib.ListN.{drop};

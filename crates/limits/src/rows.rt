@@ -1,4 +1,4 @@
-// The tests of the rows of document 01's table, one by one.
+// The tests of the rows of SPECIFICATION 7, one by one.
 ghost use mathlib.Core.Path.{_≡_};
 ghost use mathlib.Core.Bool.{cond};
 ghost use Prim.Native.Nat.{_*_, _<_, _≤_};

@@ -1,4 +1,4 @@
-// The library's calls: the ring product, document 01's messages, the verifier, the next instance and the sheet. None has a `requires`: what it
+// The library's calls: the ring product, the five messages, the verifier, the next instance and the sheet. None has a `requires`: what it
 // cannot take it refuses by number.
 ghost use mathlib.Core.Path.{_≡_};
 ghost use Rattle.lizkarg.specs.Calls.{productOf, Committed, Projected, Aggregated, GarbageCommitted, Amortized};

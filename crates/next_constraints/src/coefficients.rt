@@ -1,4 +1,4 @@
-// The coefficient of each constraint of the next instance at each place of the opening: document 01, 'Next instance'.
+// The coefficient of each constraint of the next instance at each place of the opening: SPECIFICATION 8.
 ghost use mathlib.Core.Path.{_≡_};
 ghost use mathlib.Core.List.{List};
 ghost use Prim.Native.Nat.{ℕ, _+_, _*_, _<_, _≤_};

@@ -1,4 +1,4 @@
-// The a and the constant of each constraint of the next instance: document 01, 'Next instance'.
+// The a and the constant of each constraint of the next instance: SPECIFICATION 8.
 ghost use mathlib.Core.Path.{_≡_};
 ghost use mathlib.Core.Bool.{cond};
 ghost use mathlib.Core.List.{List};

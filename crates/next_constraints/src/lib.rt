@@ -1,4 +1,4 @@
-// The constraints of the next instance, by place: document 01, 'Next instance'.
+// The constraints of the next instance, by place: SPECIFICATION 8.
 pub mod coefficients;
 pub mod constants;
 pub mod entries;

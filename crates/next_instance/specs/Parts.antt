@@ -1,5 +1,5 @@
 -- Where a part of the next witness stands in the caller's opening. What is handed back is that chunk, or for C, which has no slices, its place:
--- document 01, 'Next instance', "the library hands back that stretch of the caller's own slice; .. the stretch is empty".
+-- SPECIFICATION 8.10, "the library hands back that chunk of the caller's own slice; .. the chunk is empty".
 use mathlib.Core.Path.{_≡_}
 use mathlib.Core.List.{List}
 use Prim.Native.Nat.{ℕ, zero, suc, _+_, _*_, _-_, _≤_}

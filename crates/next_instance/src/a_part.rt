@@ -42,7 +42,7 @@ fn write_a_row(
     }
 }
 
-// All pairs, as the first elements of `out`. "an empty stretch has the same a in check 6 as a full one"
+// All pairs, as the first elements of `out`. "an empty chunk has the same a in check 6 as a full one"
 pub fn write_a(sizes: Sizes, nu: usize, parts: usize, x: usize, out: &mut [i32])
     requires { ⌜ VerifySized sizes ⌝ }
     requires { ⌜ (0 < nu) × (nu ≤ 16) × (parts ≤ 16) × (x < nextCount (sizes .kappa) (sizes .kappa1) (sizes .kappa2)) ⌝ }

@@ -1,4 +1,4 @@
-// How the opening is cut: document 01, 'Next instance'.
+// How the opening is cut: SPECIFICATION 8.
 ghost use mathlib.Core.Path.{_≡_};
 ghost use Prim.Native.Nat.{_≤_};
 ghost use Rattle.fold.specs.Arguments.{VerifySized};

@@ -1,4 +1,4 @@
-// The next instance: document 01, 'Next instance'. The call has no `requires`: what it cannot take it refuses by number.
+// The next instance: SPECIFICATION 8. The call has no `requires`: what it cannot take it refuses by number.
 ghost use Rattle.fold.specs.Arguments.{statementOf, drawsOf, transcriptOf};
 ghost use Rattle.next_instance.specs.Calls.{NextCalled};
 use fold::Answer;

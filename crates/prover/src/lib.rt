@@ -1,4 +1,4 @@
-// The work of messages 1, 2 and 5, and the digits of pairs: document 01, 'Messages, in order'.
+// The work of messages 1, 2 and 5, and the digits of pairs: SPECIFICATION 4.
 pub mod amortize;
 pub mod commit;
 pub mod garbage;

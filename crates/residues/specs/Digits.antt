@@ -1,4 +1,4 @@
--- Document 01: "Digits to base B, t of them: each low digit is at least -B/2 and below B/2 (integers, for odd B as well), congruent to
+-- SPECIFICATION 2.8: "Digits to base B, t of them: each low digit is at least -B/2 and below B/2 (integers, for odd B as well), congruent to
 -- the value modulo B; subtract it, divide by B, repeat. The last digit is what is left. Recomposition is modulo q."
 --     low B z           the low digit: the one definition of the digit rule
 --     rest B z          what is left after it

@@ -1,5 +1,5 @@
--- Document 01: "Squared length is the whole-number sum of squared centred coefficients. It can pass 2^64 and still must be
--- compared rightly." `normSq` is the sum; these are the answers of its comparison with a bound.
+-- SPECIFICATION 2.9: "Squared length is the whole-number sum of squared centred coefficients. It can pass 2^64 and still
+-- must be compared rightly." `normSq` is the sum; these are the answers of its comparison with a bound.
 use mathlib.Core.Bool.{Bool, true, false}
 use Prim.Native.Nat.{ℕ, _-_}
 use lib.Dec.{leb}

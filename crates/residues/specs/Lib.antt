@@ -1,4 +1,4 @@
--- 'Ring and digits'
+-- Ring and digits (SPECIFICATION 2)
 pub mod Modulus
 pub mod Digits
 pub mod Length

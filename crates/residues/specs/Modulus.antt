@@ -1,4 +1,4 @@
--- Document 01: "q = 4294967197 = 2^32 - 99"; "Coefficients are centred: -2147483598 to 2147483598".
+-- SPECIFICATION 2.1 and 2.2: "q = 4294967197 = 2^32 - 99"; "Coefficients are centred: -2147483598 to 2147483598".
 --     Zq            the integers modulo q
 --     red z         the residue of an integer
 --     cent x        the centred number of a residue

@@ -1,4 +1,4 @@
--- The conditions of document 01's rows 8, 9 and 10 on the numbers of a slice.
+-- The conditions of rows 8, 9 and 10 (SPECIFICATION 7) on the numbers of a slice.
 use mathlib.Core.Bool.{Bool, false, cond, not, _&&_}
 use mathlib.Core.List.{List}
 use Prim.Native.Nat.{ℕ}

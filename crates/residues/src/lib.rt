@@ -1,4 +1,4 @@
-// Numbers modulo q = 2^32 - 99: centring, digits, ranges and squared lengths. Document 01, 'Ring and digits'.
+// Numbers modulo q = 2^32 - 99: centring, digits, ranges and squared lengths. SPECIFICATION 2.
 pub mod digits;
 pub mod length;
 pub mod modulus;

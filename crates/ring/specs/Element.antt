@@ -1,5 +1,5 @@
--- Ring elements and how numbers hold them. Document 01: "X^d = -1"; "Coefficients lie in lent slices of signed 32-bit numbers, lowest
--- power first"; "A ring element passes by value as sixty-four numbers; those past d are zero".
+-- Ring elements and how numbers hold them. SPECIFICATION 2.1, 2.3 and 2.4: "X^d = -1"; "Coefficients lie in lent slices of signed 32-bit numbers,
+-- lowest power first"; "A ring element passes by value as sixty-four numbers; those past d are zero".
 --     R d           Z_q[X]/(X^d + 1)
 --     lift d xs     the element whose coefficients are the first d numbers of xs, each modulo q
 --     el d xs p     element p of a flat list with d numbers to an element

@@ -1,4 +1,4 @@
--- Document 01: "Recomposition is modulo q." joined B t f is f 0 + B · f 1 + .. + B^(t-1) · f (t-1) in R.
+-- SPECIFICATION 2.8: "Recomposition is modulo q." joined B t f is f 0 + B · f 1 + .. + B^(t-1) · f (t-1) in R.
 use Prim.Native.Nat.{ℕ, _^_}
 use lib.IntN.{pos}
 use Rattle.algebra.specs.Sum.{sum}

@@ -1,4 +1,4 @@
--- 'Ring and digits'
+-- Ring and digits (SPECIFICATION 2)
 pub mod Element
 pub mod Joined
 -- What the code forms

@@ -20,7 +20,7 @@ pub struct Element {
 }
 
 impl Element {
-    // The names that document 01 asks for: they are the same numbers for every degree.
+    // The names that SPECIFICATION 2.4 asks for: they are the same numbers for every degree.
     pub const ZERO: Element = Element {
         coefficients: [0; 64],
     };

@@ -1,4 +1,4 @@
--- Document 01, 'Sheet': "Each number is decimal, right-justified with blanks in 16 columns, no leading zeros, no plus, no minus zero".
+-- SPECIFICATION 10.1: "Each number is decimal, right-justified with blanks in 16 columns, no leading zeros, no plus, no minus zero".
 --     fieldText z     the 16 bytes of a number
 --     Fits16 z        the numbers that 16 columns hold
 use mathlib.Core.Bool.{Bool, true, false, cond}

@@ -1,4 +1,4 @@
--- Document 01, 'Sheet': the lines of a sheet, each by its number of fields, and the text of numbers on lines.
+-- SPECIFICATION 10: the lines of a sheet, each by its number of fields, and the text of numbers on lines.
 --     bodyLines s          the lines after the header
 --     textOf widths xs     numbers laid out on lines
 --     sheetText h xs       the text of the header's numbers h and of all others xs

@@ -1,4 +1,4 @@
--- Document 01, 'Sheet': the lists of a sheet, one after another in the numbers after the header.
+-- SPECIFICATION 10: the lists of a sheet, one after another in the numbers after the header.
 --     listLengths s        how many numbers each has
 --     listAt lengths xs k    list k
 use mathlib.Core.List.{List, [], _∷_}

@@ -1,4 +1,4 @@
--- Document 01, 'Sheet': what a reader answers. "The header's layout is read first (12), then 1 to 6, then the other lines (12), then 8 to 10."
+-- SPECIFICATION 10: what a reader answers. "The header's layout is read first (12), then 1 to 6, then the other lines (12), then 8 to 10."
 -- Row 7 stands before 8: "a slice's length is not what the sizes give", of the slice that takes the numbers. No limit on the text's length
 -- here: it is the program's.
 --     headerNumbers, sizesOf      the header's numbers, and the sizes that they are
@@ -6,7 +6,7 @@
 --     numberCount                 how many numbers the sizes give
 --     bodyNumbers                 the numbers after the header
 --     readingTests, reading       the tests in their order, and the answer
---     answerOf, headerOf          document 01's number and values of each answer
+--     answerOf, headerOf          number and values of each answer: SPECIFICATION 13.7
 --     SheetRead                   the reader's promise
 use mathlib.Core.Path.{_≡_}
 use mathlib.Core.Bool.{Bool, false, cond}

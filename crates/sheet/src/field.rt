@@ -1,4 +1,4 @@
-// One field of 16 columns: document 01, "decimal, right-justified with blanks in 16 columns, no leading zeros, no plus, no minus zero".
+// One field of 16 columns: SPECIFICATION 10.1, "decimal, right-justified with blanks in 16 columns, no leading zeros, no plus, no minus zero".
 ghost use mathlib.Core.Path.{_≡_};
 ghost use mathlib.Core.Bool.{Bool};
 ghost use Prim.Native.Nat.{_+_, _*_, _<_, _≤_};

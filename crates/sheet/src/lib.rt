@@ -1,4 +1,4 @@
-// The text format of a fold's inputs: document 01, 'Sheet'.
+// The text format of a fold's inputs: SPECIFICATION 10.
 pub mod field;
 pub mod header;
 pub mod reader;

@@ -1,4 +1,4 @@
-// The reader of a sheet: document 01, 'Sheet'. Every test comes before the first number is written.
+// The reader of a sheet: SPECIFICATION 10. Every test comes before the first number is written.
 ghost use mathlib.Core.Path.{_≡_};
 ghost use mathlib.Core.Bool.{true};
 ghost use lib.ListN.{length};

@@ -1,5 +1,5 @@
--- Demand 2: "When the checks on projection and constant terms pass and the next instance is not too large, an opening is accepted exactly if,
--- padded, it solves the next instance."
+-- Demand 2 (SPECIFICATION 8.8): "When the checks on projection and constant terms pass and the next instance is not too large, an opening is accepted
+-- exactly if, padded, it solves the next instance."
 -- Where the call `next_instance` answered `Written`, so that nothing was refused, n' is at most 256 and checks 1 and 2 passed. Its promise is
 -- `NextCalled`; that of `verify` is `answer ≡ verification ..`. The next instance is the relation whose constraints are the numbers that the call
 -- wrote: `relationOf out′`, with K' = κ+κ1+κ2+3, L' = 0 and the bound β'². `nextWitness o` is the padded opening.

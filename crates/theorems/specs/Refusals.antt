@@ -1,5 +1,5 @@
--- Demand 1: "Refused, by document 01's numbers and with lent memory untouched: sizes or bounds outside the limits, a slice of the wrong length,
--- a coefficient out of range, a projection entry other than -1, 0, 1, a challenge outside the rule, a next instance too large, a broken
+-- Demand 1 (SPECIFICATION 7.h): "Refused, by the table's numbers and with lent memory untouched: sizes or bounds outside the limits, a slice of the
+-- wrong length, a coefficient out of range, a projection entry other than -1, 0, 1, a challenge outside the rule, a next instance too large, a broken
 -- sheet. All else is answered; every call ends and does nothing undefined."
 -- One theorem for each call, from its promise alone: it is refused by k exactly when the test of row k is the first of its tests that fails, and
 -- then nothing lent has changed (`Refuses`, crates/fold/specs/Theorems/FirstRefusal.antt). That a call ends and does nothing undefined is part of its proof.
@@ -71,7 +71,7 @@ pub next-refuses : {𝓢 : Statement} {𝓓 : Draws} {𝓣 : Transcript} {ν μ 
 unfolding nextTests nextAnswer nextOut
 next-refuses call = next-call-refuses _ refl _ (call .answer-is) (λ kept. call .out-is ∙ kept _ _)
 
--- a part of the next witness: "the stretch is empty, and a question beside it answers that number, else 0"; a number k + 1 is that of a row
+-- a part of the next witness: "the chunk is empty, and a question beside it answers that number, else 0"; a number k + 1 is that of a row
 pub part-refuses : (m : PartSizes) (i : ℕ) (o : List ℤ) (number : ℕ) (part : List ℤ) → number ≡ partRefusalOf m i o → part ≡ nextPartOf m i o → (k : ℕ)
     → ((number ≡ suc k) ↔ FirstFails (suc k) (partTests (m .d) (m .n) (m .r) (m .kappa) (m .t1) (m .t2) 2 (m .nu) (m .mu) i o))
     × (number ≡ suc k → part ≡ [])

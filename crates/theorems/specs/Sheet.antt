@@ -1,4 +1,4 @@
--- Document 01, 'Sheet': the program's line is the verdict on the numbers of a sheet.
+-- SPECIFICATION 10: the program's line is the verdict on the numbers of a sheet.
 -- For the answers of `judge_sheet`, whose promise is `answer ≡ judgedText text`.
 --     sheet-judged      the sheet of numbers h, xs is judged by the verdict on them: the verifier refuses nothing that the reader took
 --     judged-sheet      a text that is judged is the sheet of the numbers read from it

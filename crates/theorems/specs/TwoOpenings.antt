@@ -1,6 +1,6 @@
--- Demand 3, two openings: "For every two openings accepted for the same statement and the same u1, whatever else came with them, and every part
--- i such that their challenges c are equal at all other parts: if their t or g digits differ anywhere, the difference is a nonzero vector
--- that B and C together send to zero, of squared length at most 4 times the target bound; if these digits are all equal,
+-- Demand 3, two openings (SPECIFICATION 9.6): "For every two openings accepted for the same statement and the same u1, whatever else came with them,
+-- and every part i such that their challenges c are equal at all other parts: if their t or g digits differ anywhere, the difference is a nonzero
+-- vector that B and C together send to zero, of squared length at most 4 times the target bound; if these digits are all equal,
 -- A(z - z') = (c_i - c'_i) t_i, and the squared length of z - z' is at most 4(1 + b²) times that bound."
 -- For two answers of `verify`, from its promise alone. ShortKernel and ShortPreimage (crates/fold/specs/Theorems/TwoOpenings.antt) are the two
 -- cases. z has two digits, and parts are counted from 0. The same u1 is asked in the first case only.

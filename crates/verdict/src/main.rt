@@ -1,4 +1,4 @@
-// The program of verdicts: document 01, 'Sheet'. It reads a sheet from standard input and prints the line of its verdict.
+// The program of verdicts: SPECIFICATION 10. It reads a sheet from standard input and prints the line of its verdict.
 ghost use mathlib.Core.Path.{_≡_};
 ghost use Prim.Native.Nat.{_≤_, _<_};
 ghost use lib.ListN.{length, take};

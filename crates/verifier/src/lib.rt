@@ -1,4 +1,4 @@
-// The verifier: document 01, 'Verdict'. It refuses a call, or judges it by checks 1 to 9.
+// The verifier: SPECIFICATION 6. It refuses a call, or judges it by checks 1 to 9.
 ghost use mathlib.Core.Path.{_≡_};
 ghost use Rattle.fold.specs.Arguments.{statementOf, drawsOf, transcriptOf};
 ghost use Rattle.fold.specs.Verification.{verification};

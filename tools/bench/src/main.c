@@ -232,7 +232,7 @@ static size_t put_line(char *text, const int32_t *xs, size_t n) {
     return at;
 }
 
-/* The whole case of document 01. */
+/* The whole case of SPECIFICATION 12.4. */
 static size_t whole_case(char *text) {
     static const int32_t header[] = {2, 1, 1, 1, 0, 0, 1, 1, 1, 4, 8, 4, 2, 2, 1, 1, 5, 13};
     static const int32_t lines[][2] = {{1, 0}, {1, 0}, {0, 0}, {1, 0}, {0, 0}, {1, 0}, {1, 0}, {1, 0}, {0, 0}, {-3, 4}, {2, 2}, {0, 0}, {0, 0},
@@ -265,7 +265,7 @@ static void sheets(void) {
     lizkarg_sizes both[] = {{8, 2, 2, 1, 1, 8, 1, 1, 1, 16, 256, 256, 4, 4, 0, 0}, {32, 2, 2, 1, 1, 10, 2, 1, 2, 16, 65536, 65536, 2, 2, 0, 0}};
     printf("\nSheets through the C interface: lizkarg_read_sheet, and lizkarg_judge_sheet, which reads and judges\n\n");
     printf("| | bytes | reading | a byte | verdict, reading included |\n|---|---|---|---|---|\n");
-    sheet_line("whole case of document 01", text, whole_case(text), accepted);
+    sheet_line("whole case", text, whole_case(text), accepted);
     for (int i = 0; i < 2; i++) {
         lists l;
         make_case(&both[i], &l, 1);

@@ -1,4 +1,4 @@
-//! Both sides of limits that random cases rarely meet: document 01, 'Bench values', "Sides".
+//! Both sides of limits that random cases rarely meet: SPECIFICATION 12.2.
 use crate::calls::*;
 use crate::case::{self, Lists, LARGEST_BOUND, MOST};
 use crate::next_calls::*;
@@ -75,7 +75,7 @@ fn ranks(tally: &mut Tally) {
     }
 }
 
-/// Document 01's whole case: its witness, messages and verdict.
+/// The whole case of SPECIFICATION 12.4: its witness, messages and verdict.
 fn whole_case(tally: &mut Tally) {
     let s = Sizes {
         d: 2, n: 1, r: 1, k: 1, l: 0, w: 0, kappa: 1, kappa1: 1, kappa2: 1, b: 4, b1: 8, b2: 4, t1: 2, t2: 2, nu: 1, mu: 1, bound: 5,

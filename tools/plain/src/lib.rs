@@ -1,4 +1,4 @@
-//! The fold once more, written from document 01 alone and as one would write it first: vectors of elements, one remainder for each product
+//! The fold once more, written from the specification alone and as one would write it first: vectors of elements, one remainder for each product
 //! of numbers, whole functions formed and kept. A ring element is a vector of d centred numbers, lowest power first.
 #![forbid(unsafe_code)]
 

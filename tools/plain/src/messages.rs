@@ -1,4 +1,4 @@
-//! Document 01, 'Statement' and 'Messages, in order'. Each message is a function of the sizes and the lists that gives the lists it writes.
+//! SPECIFICATION 3 and 4. Each message is a function of the sizes and the lists that gives the lists it writes.
 use crate::lists::{Lists, Numbers, Sizes};
 use crate::ring::*;
 
@@ -74,7 +74,7 @@ pub fn message2(s: &Sizes, l: &Lists<impl Numbers>) -> [Vec<i32>; 1] {
     [p.map(|p| centre(p) as i32).collect()]
 }
 
-/// "for k = 1..5: a''= Σψ a'; φ''_i = Σψ φ'_i + Σω_j σ(row j, part i)": the five second functions.
+/// "for k = 1..5: a'' = Σψ a'; φ''_i = Σψ φ'_i + Σω_j σ(row j, part i)": the five second functions.
 pub fn second(s: &Sizes, l: &Lists<impl Numbers>) -> Vec<Function> {
     let constant_terms = constant_terms(s, &l.constant_terms);
     let row = s.r * s.n * s.d;

@@ -1,4 +1,4 @@
-//! Document 01, 'Next instance'.
+//! SPECIFICATION 8.
 use crate::lists::{Lists, Numbers, Sizes};
 use crate::messages::*;
 use crate::ring::*;
@@ -20,7 +20,7 @@ pub fn sizes(s: &Sizes) -> Sizes {
     Sizes { n: rank(s), r: 2 * s.nu + s.mu, k: s.kappa + s.kappa1 + s.kappa2 + 3, l: 0, bound: s.target, ..*s }
 }
 
-/// `total` places from `from` on in `count` chunks; "the last stretches may be short or empty".
+/// `total` places from `from` on in `count` chunks; "the last chunks may be short or empty".
 fn cut(from: usize, total: usize, count: usize) -> impl Iterator<Item = Range<usize>> {
     let size = total.div_ceil(count);
     (0..count).map(move |i| from + (i * size).min(total)..from + ((i + 1) * size).min(total))
@@ -31,7 +31,7 @@ pub fn chunks(s: &Sizes) -> Vec<Range<usize>> {
     cut(0, s.n, s.nu).chain(cut(s.n, s.n, s.nu)).chain(cut(2 * s.n, rest(s), s.mu)).collect()
 }
 
-/// "every stretch is padded with zeros at its end to n'": `width` numbers or elements stand for one element of the opening.
+/// "every chunk is padded with zeros at its end to n'": `width` numbers or elements stand for one element of the opening.
 fn padded<T: Clone>(s: &Sizes, width: usize, all: &[T], zero: T) -> Vec<T> {
     let full = rank(s) * width;
     let part = |chunk: Range<usize>| {

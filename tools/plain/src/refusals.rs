@@ -1,4 +1,4 @@
-//! Document 01, 'Where a call stops': whether a call is refused, and by which number. A projection entry or a challenge coefficient that is
+//! SPECIFICATION 7: whether a call is refused, and by which number. A projection entry or a challenge coefficient that is
 //! no coefficient at all is 8, the lower number.
 use crate::lists::{Lists, Numbers, Room, Sizes};
 use crate::next;

@@ -1,4 +1,4 @@
-//! Document 01, 'Ring and digits'.
+//! SPECIFICATION 2.
 
 pub const Q: i64 = 4294967197;
 pub const MOST: i64 = 2147483598;

@@ -1,4 +1,4 @@
-//! Document 01, 'Sheet': the writer, and a reader.
+//! SPECIFICATION 10: the writer, and a reader.
 use crate::lists::{Lists, Sizes, SIZES};
 use crate::refusals::{self, row};
 use crate::ring::MOST;

@@ -1,4 +1,4 @@
-//! Document 01, 'Verdict'.
+//! SPECIFICATION 6.
 use crate::lists::{Lists, Numbers, Sizes};
 use crate::messages::*;
 use crate::ring::*;

@@ -1,4 +1,4 @@
--- Laws of the conjugation of 𝓚[X]/(X^d + 1) and of the constant term: `ct-conjugate` is document 01's law.
+-- Laws of the conjugation of 𝓚[X]/(X^d + 1) and of the constant term: `ct-conjugate` is the law of SPECIFICATION 2.6.
 use mathlib.Core.Path.{_≡_, ap, _∙_}
 use Prim.Native.Nat.{ℕ, zero, suc, _+_, _-_, _<_}
 use native.Mathlib.Omega.{arith}

@@ -1,4 +1,4 @@
--- What the folded vector z = Σ c_i s_i satisfies over a commutative ring: checks 5 to 8 of document 01.
+-- What the folded vector z = Σ c_i s_i satisfies over a commutative ring: checks 5 to 8 of SPECIFICATION 6.
 --     mixed-..           the form Σ g_ii c_i² + 2 Σ_{i<j} g_ij c_i c_j in the challenges c
 --     folded-..          checks 5, 6 and 7
 --     value-garbage      check 8

@@ -1,4 +1,4 @@
--- Document 01, 'Where a call stops', rows 1 to 6: both sides of every limit, in each call that takes the size, computed. Every list is empty,
+-- SPECIFICATION 7.1 to 7.6: both sides of every limit, in each call that takes the size, computed. Every list is empty,
 -- so a call whose sizes are taken is refused by 7. Sizes stand in the order of a sheet's header.
 use mathlib.Core.Path.{_≡_, refl}
 use mathlib.Core.Bool.{false, cond}

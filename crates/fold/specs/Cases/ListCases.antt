@@ -1,4 +1,4 @@
--- Document 01, 'Where a call stops', rows 7 to 10: each list of each call in turn too long, too short, then out of range, computed; and the lowest number
+-- SPECIFICATION 7.7 to 7.10: each list of each call in turn too long, too short, then out of range, computed; and the lowest number
 -- where two rows apply. Sizes that differ give lengths that differ: d = 2, n = 2, r = 2, K = 3, L = 2, w = 3, κ = 1, κ1 = 2, κ2 = 3, t1 = 2,
 -- t2 = 3, ν = 1, μ = 2. All other numbers are zero.
 use mathlib.Core.Path.{_≡_, refl}

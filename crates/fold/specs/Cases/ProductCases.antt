@@ -1,4 +1,4 @@
--- Document 01, 'Where a call stops', for the ring product: both sides of "a ring element with a nonzero number past d" and of the range,
+-- SPECIFICATION 7 for the ring product: both sides of "a ring element with a nonzero number past d" and of the range,
 -- computed. An element has sixty-four numbers.
 use mathlib.Core.Path.{_≡_, refl}
 use mathlib.Core.List.{List, [], _∷_, map}

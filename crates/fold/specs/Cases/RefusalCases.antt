@@ -1,4 +1,4 @@
--- Document 01, 'Where a call stops' and 'Bench values': the example of each row and the sides that it names, computed. What is lent is zero and
+-- SPECIFICATION 7 and 12.2: the example of each row and the sides that the latter names, computed. What is lent is zero and
 -- has the lengths that the sizes give, except where an example says otherwise. Row 12 is the sheet's. LimitCases has both sides of every
 -- limit in every call, ListCases a fault in every list.
 use mathlib.Core.Bool.{false}

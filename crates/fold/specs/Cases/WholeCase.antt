@@ -1,5 +1,5 @@
--- Document 01, 'Sheet': the whole case, computed. "Its witness is 1+2X." Every field of WholeCase is closed, and holds by computation
--- alone, so this file pins the definitions to numbers that stand in document 01. What 'Bench values' says of it stands in WorkedValues.
+-- SPECIFICATION 12.4: the whole case, computed. "Its witness is 1+2X." Every field of WholeCase is closed, and holds by computation
+-- alone, so this file pins the definitions to numbers that stand in the specification. What SPECIFICATION 12.1 says of it stands in WorkedValues.
 use mathlib.Core.Path.{_≡_, refl}
 use mathlib.Core.List.{List, [], _∷_}
 use Prim.Native.Nat.{ℕ, zero, suc, _<_, _≤_}

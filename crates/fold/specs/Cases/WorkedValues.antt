@@ -1,5 +1,5 @@
--- Document 01, 'Bench values (* proved, in one table)': the values with a star, in its order, a field each. Each is closed and holds by
--- computation alone, so the definitions that the contracts cite are pinned to numbers that stand in document 01.
+-- SPECIFICATION 12.1: the proved values, in its order, a field each. Each is closed and holds by
+-- computation alone, so the definitions that the contracts cite are pinned to numbers that stand in the specification.
 use mathlib.Core.Path.{_≡_, refl}
 use mathlib.Core.List.{[], _∷_}
 use Prim.Native.Nat.{_^_}

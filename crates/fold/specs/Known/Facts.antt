@@ -1,4 +1,4 @@
--- What the tests of document 01's rows 1 and 2 leave known of d, n and r.
+-- What the tests of rows 1 and 2 (SPECIFICATION 7) leave known of d, n and r.
 use Prim.Native.Nat.{ℕ, _<_, _≤_}
 use Rattle.ring.specs.Element.{Degree}
 

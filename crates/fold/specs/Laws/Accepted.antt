@@ -1,4 +1,4 @@
--- The verdict, check by check: it is Accepted exactly when the nine facts of document 01's 'Verdict' hold, and Failed k exactly when check k is
+-- The verdict, check by check: it is Accepted exactly when the nine facts of SPECIFICATION 6 hold, and Failed k exactly when check k is
 -- the first that fails.
 use mathlib.Core.Path.{_≡_, refl, sym, ap}
 use mathlib.Core.Logic.{_↔_}

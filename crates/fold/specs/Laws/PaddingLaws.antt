@@ -55,7 +55,7 @@ module _ (d tz n ν m μ : ℕ) (some-ν : 0 < ν) (some-μ : 0 < μ) where
     zero-padding =
         record { zero-past = number-past d (nextParts tz ν μ) (nextRank n ν m μ) (width tz n ν m μ) fitting o covered }
 
-    -- "the library hands back that stretch of the caller's own slice": with zeros after it, it is that part of the padded opening
+    -- "the library hands back that chunk of the caller's own slice": with zeros after it, it is that part of the padded opening
     pub chunk-padded : (s : ℕ) → s < nextParts tz ν μ
         → take (nextRank n ν m μ * d) (drop (s * (nextRank n ν m μ * d)) (padded d tz n ν m μ o))
         ≡ cut d (width tz n ν m μ) o s ++ replicate ((nextRank n ν m μ - width tz n ν m μ s) * d) (pos 0)

@@ -1,5 +1,5 @@
 -- Demand 1, for any call whose answer is `answered` by the first of its tests that fails: it is refused by that test's number and by no other, and
--- what is `written` by it is then what was there. Document 01, 'Where a call stops'.
+-- what is `written` by it is then what was there. SPECIFICATION 7.
 --     FirstFails, Refuses    what it is to be refused by the first test that fails
 --     message-refuses, judgement-refuses, next-call-refuses, number-refuses    the calls, by what they answer where they do not refuse
 use mathlib.Core.Path.{_≡_, refl, sym, ap, subst, _∙_}

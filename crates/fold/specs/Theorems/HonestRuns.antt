@@ -1,7 +1,7 @@
--- Demand 3, honest runs: "For every statement, every witness that meets all its constraints, and whatever projection rows, ψ, ω, α, δ
--- and c come in, none of them refused, the verdict on the honest messages and opening is failed 1 exactly when 2·|p|² is above w·β²;
+-- Demand 3, honest runs (SPECIFICATION 9.4): "For every statement, every witness that meets all its constraints, and whatever projection rows, ψ, ω,
+-- α, δ and c come in, none of them refused, the verdict on the honest messages and opening is failed 1 exactly when 2·|p|² is above w·β²;
 -- otherwise failed 9 exactly when the squared length of all its digits is above the target bound; otherwise accepted."
--- Document 01: "z = Σ c_i s_i in two digits to base b": tz is 2. For another number of digits above 0, see `honest-runs-shaped`.
+-- SPECIFICATION 4.5: "z = Σ c_i s_i in two digits to base b": tz is 2. For another number of digits above 0, see `honest-runs-shaped`.
 use mathlib.Core.Path.{_≡_, ap}
 use mathlib.Core.Logic.{_↔_}
 use mathlib.Core.List.{List}

@@ -1,4 +1,4 @@
--- Document 01, 'Where a call stops': "Lowest number first". The numbers of each call's tests rise, so its refusal is the lowest number of a test
+-- SPECIFICATION 7.a: "Lowest number first". The numbers of each call's tests rise, so its refusal is the lowest number of a test
 -- that fails, whatever the arguments.
 --     lowest-first         the refusal is the number of a test that fails, and none that fails has a lower one
 --     commit-rising, ..    the calls

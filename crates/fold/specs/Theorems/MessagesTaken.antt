@@ -1,4 +1,4 @@
--- Document 01, 'Where a call stops': "a call tests only what it takes." The tests of a message are among those of the statement, the draws
+-- SPECIFICATION 7.a: "a call tests only what it takes." The tests of a message are among those of the statement, the draws
 -- and the witness, and of the lengths of what it writes: where none of these fails, no message refuses. Messages 1, 4 and 5 together test
 -- all of them but row 6. The question for a part tests some of the sizes, its number and the opening's length.
 --     commit-taken, project-taken, aggregate-taken, garbage-taken, amortize-taken     message 1 .. message 5

@@ -1,5 +1,5 @@
--- Demand 3, two openings: "For every two openings accepted for the same statement and the same u1, whatever else came with them, and
--- every part i such that their challenges c are equal at all other parts: if their t or g digits differ anywhere, the difference is a
+-- Demand 3, two openings (SPECIFICATION 9.6): "For every two openings accepted for the same statement and the same u1, whatever else came with them,
+-- and every part i such that their challenges c are equal at all other parts: if their t or g digits differ anywhere, the difference is a
 -- nonzero vector that B and C together send to zero, of squared length at most 4 times the target bound; if these digits are all equal,
 -- A(z - z') = (c_i - c'_i) t_i, and the squared length of z - z' is at most 4(1 + b²) times that bound."
 use mathlib.Core.Path.{_≡_, sym, ap, ap₂, _∙_}
@@ -112,7 +112,7 @@ module _ (𝓢 : Statement) (𝓓 𝓓′ : Draws) (𝓣 𝓣′ : Transcript) (
         both : 2 * zLength d n tz o + 2 * zLength d n tz o′ ≤ 4 * target
         both = omega (arith, one .facts .short, two .facts .short)
 
-    -- the whole of it, for the two z digits of document 01: 1 + b² is the sum of the squares of their weights 1 and b
+    -- the whole of it, for the two z digits of SPECIFICATION 4.5: 1 + b² is the sum of the squares of their weights 1 and b
     pub two-openings : tz ≡ 2 → (i : ℕ) → i < r → ((j : ℕ) → j < r → j ≢ i → el d (𝓓 .c) j ≡ el d (𝓓′ .c) j)
         → (𝓣 .u₁ ≡ 𝓣′ .u₁ → tgDigits 𝓢 o ≢ tgDigits 𝓢 o′ → ShortKernel 𝓢 (difference (tgDigits 𝓢 o) (tgDigits 𝓢 o′)))
         × (tgDigits 𝓢 o ≡ tgDigits 𝓢 o′ → ShortPreimage i (1 + b * b))

@@ -1,4 +1,4 @@
--- Document 01's whole case as a text: "The program of verdicts prints 0 0 in its two fields."
+-- The whole case of SPECIFICATION 12.4 as a text: "The program of verdicts prints 0 0 in its two fields."
 use mathlib.Core.Path.{_≡_, refl, ap, _∙_}
 use mathlib.Core.List.{[], _∷_}
 use native.Mathlib.Omega.{arith}

@@ -1,4 +1,4 @@
--- The answer to a text: document 01, 'Sheet'.
+-- The answer to a text: SPECIFICATION 10.
 --     numbers-answer    the verifier's refusal of a sheet's numbers is the reader's
 --     text-answer       the reader's refusal, or the verdict on the numbers: the verifier refuses nothing after the reader
 --     sheet-judged      the text of a sheet is judged, by the verdict on its numbers

@@ -1,4 +1,4 @@
--- What the tests of document 01's rows 1 to 4, 7 and 9 leave known in the work functions of messages 1, 2 and 5.
+-- What the tests of rows 1 to 4, 7 and 9 (SPECIFICATION 7) leave known in the work functions of messages 1, 2 and 5.
 --     CommitFacts                  message 1's sizes
 --     PartFacts                    A times one part of the witness
 --     TFacts, GFacts, OuterFacts   with the lengths of what each of its functions takes

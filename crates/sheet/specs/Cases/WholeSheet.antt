@@ -1,4 +1,4 @@
--- Document 01's whole case as a sheet: the lines that the header gives are those of the document, and no row refuses its numbers.
+-- The whole case of SPECIFICATION 12.4 as a sheet: the lines that the header gives are those that stand there, and no row refuses its numbers.
 use mathlib.Core.Path.{_≡_, refl}
 use mathlib.Core.List.{List, [], _∷_, _++_}
 use lib.IntN.{ℤ}

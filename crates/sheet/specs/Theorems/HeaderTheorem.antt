@@ -1,6 +1,6 @@
 -- The tests of a header are those that the library makes of the same sizes: rows 1 to 4, row 5 for ν and μ, row 6. So the reader refuses a
 -- header exactly where the next instance refuses its sizes, and by the same number.
---     header             document 01, 'Sheet': "Header: d n r K L w κ κ1 κ2 b b1 b2 t1 t2 ν μ β² β'²."
+--     header             SPECIFICATION 10.2: "Header: d n r K L w κ κ1 κ2 b b1 b2 t1 t2 ν μ β² β'²."
 --     header-tests       its tests
 use mathlib.Core.Path.{_≡_, refl}
 use mathlib.Core.List.{List, [], _∷_, _++_}

@@ -1,4 +1,4 @@
--- The reader is sound and complete: document 01, 'Sheet'.
+-- The reader is sound and complete: SPECIFICATION 10.
 --     sheet-exactly      the answer is a sheet's sizes and numbers exactly if the text is theirs and they are the numbers of a sheet
 --     header-line        "The header's layout is read first (12)": it passes exactly if the text starts with a line of 18 numbers
 --     other-lines        "then the other lines (12)": they pass exactly if the rest of the text is that of as many numbers as the sizes give

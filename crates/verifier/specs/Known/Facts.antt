@@ -1,4 +1,4 @@
--- What the tests of document 01's rows 1 to 7 leave known of the verifier's sizes and slices, and names for the blocks of its opening.
+-- What the tests of rows 1 to 7 (SPECIFICATION 7) leave known of the verifier's sizes and slices, and names for the blocks of its opening.
 use mathlib.Core.Path.{_≡_}
 use mathlib.Core.List.{List}
 use Prim.Native.Nat.{ℕ, _*_}
