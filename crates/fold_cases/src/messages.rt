@@ -116,7 +116,7 @@ pub fn run_aggregate(sizes: Sizes, lists: &[i32]) -> CAnswer
     let lengths = past_lists(lists, 5);
     let second_b_count = count_at(lengths, 0);
     let mut second_b = [FILL; ROOM];
-    aggregate(sizes, lists, &mut second_b[..b2_count])
+    aggregate(sizes, lists, &mut second_b[..second_b_count])
 }
 
 // Call 4: the whole and the constant-term functions, the rows, psi, omega, alpha, delta, D, the witness; h's digits, u2.
