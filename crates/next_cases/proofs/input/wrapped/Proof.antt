@@ -48,8 +48,8 @@ wrapped-spec =
     tie.close
     (tie.spec
     (λ c. let f = c .before .fits .x in rw (toZ-ofZ f) (below _ (less c) f))
-    (λ c. let f = c .before .fits .x in rw (toZ-ofZ f) (rw (toZ-ofZ (below _ (less c) f)) (below-nonNeg _ (less c), fits-natAbs tt (below _ (less c) f))))
+    (λ c. let f = c .before .fits .x in rw (toZ-ofZ f) (rw (toZ-ofZ (below _ (less c) f)) (below-nonNeg (c .before .args .x) (less c), fits-natAbs tt (below _ (less c) f))))
     (λ c. let f = c .before .fits .x in rw (toZ-ofZ f) (rw (toZ-ofZ (below _ (less c) f)) (below-small _ (less c) f)))
-    (λ c. let f = c .before .fits .x in rw (toZ-ofZ f) (rw (toZ-ofZ (below _ (less c) f)) (negative _ (less c))))
+    (λ c. let f = c .before .fits .x in rw (toZ-ofZ f) (rw (toZ-ofZ (below _ (less c) f)) (negative (c .before .args .x) (less c))))
     (λ c. let f = c .before .fits .x in rw (toZ-ofZ f) (no-less c, fits-natAbs tt f))
-    (λ c. rw (toZ-ofZ (c .before .fits .x)) (itself _ (no-less c))))
+    (λ c. rw (toZ-ofZ (c .before .fits .x)) (itself (c .before .args .x) (no-less c))))
