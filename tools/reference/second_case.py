@@ -26,7 +26,7 @@ SIZES = Sizes(
 PLACES = {"z": 13, "t": 22, "g": 58, "h": 87}
 
 # The definitions' name of the constant-term constraints.
-CONSTANT_TERMS = "term"
+CONSTANT_TERMS = "constantTerms"
 
 # The lists that are given, as SecondCaseNumbers names them.
 GIVEN = {
