@@ -54,9 +54,11 @@ pub fn read_sizes(wides: &[i64]) -> Sizes
     ensures { λ x. ⌜ x ≡ sizesOf (now (wides .entry)) ⌝ }
 {
     Sizes {
-        d: size_at(wides, 0),
-        n: size_at(wides, 1),
-        r: size_at(wides, 2),
+        shape: Shape {
+            d: size_at(wides, 0),
+            n: size_at(wides, 1),
+            r: size_at(wides, 2),
+        },
         k: size_at(wides, 3),
         l: size_at(wides, 4),
         w: size_at(wides, 5),

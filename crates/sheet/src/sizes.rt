@@ -38,9 +38,11 @@ pub fn fold_sizes(s: SheetSizes) -> Sizes
     ensures { λ r. ⌜ r ≡ foldSizes s ⌝ }
 {
     Sizes {
-        d: s.d,
-        n: s.n,
-        r: s.r,
+        shape: Shape {
+            d: s.d,
+            n: s.n,
+            r: s.r,
+        },
         k: s.k,
         l: s.l,
         w: s.w,

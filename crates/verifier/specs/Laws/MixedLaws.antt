@@ -115,7 +115,7 @@ pair-small r i q small h e = omega (arith, e, pair-bound r i i (omega arith) h, 
 
 -- g and h of an opening
 module _ (s : Sizes) (fits : Fits s) (o : List ℤ) (whole : Opening s o) where
-  pub g-garbage : (place : ℕ) → place ≡ gPlace 2 (s .n) (s .r) (s .kappa) (s .t1) → Garbage (s .d) (s .r) (s .b2) (s .t2) place o
+  pub g-garbage : (place : ℕ) → place ≡ gPlace 2 (s .shape .n) (s .shape .r) (s .kappa) (s .t1) → Garbage (s .shape .d) (s .shape .r) (s .b2) (s .t2) place o
   unfolding garbageSize
   g-garbage place e = record {
     degree = fits .shaped .degree;
