@@ -62,10 +62,9 @@ fn project(sizes: Sizes, lists: &[i32], p: &mut [i32]) -> CAnswer
         ⌜ Coded (λ answer. Projected (sizes .shape) (sizes .w) (nthList 0 (now (lists .entry))) (nthList 1 (now (lists .entry)))
         (now (p .entry)) answer (now (p .exit))) x ⌝ }
 {
-    let its = sizes.shape;
     let projections = nth_list(lists, 0);
     let witness = nth_list(lists, 1);
-    let answer = capi::lizkarg_project(its, sizes.w, projections, witness, p);
+    let answer = capi::lizkarg_project(sizes.shape, sizes.w, projections, witness, p);
     output::print_answer(answer);
     output::print_list(p);
     answer
@@ -87,14 +86,13 @@ fn aggregate(sizes: Sizes, lists: &[i32], second_b: &mut [i32]) -> CAnswer
         (nthList 1 (now (lists .entry))) (nthList 2 (now (lists .entry))) (nthList 3 (now (lists .entry)))
         (nthList 4 (now (lists .entry))) (now («second_b» .entry)) answer (now («second_b» .exit))) x ⌝ }
 {
-    let its = sizes.shape;
     let constant_terms = nth_list(lists, 0);
     let projections = nth_list(lists, 1);
     let psi = nth_list(lists, 2);
     let omega = nth_list(lists, 3);
     let witness = nth_list(lists, 4);
     let answer = capi::lizkarg_aggregate(
-        its,
+        sizes.shape,
         sizes.l,
         sizes.w,
         constant_terms,
@@ -174,10 +172,9 @@ fn amortize(sizes: Sizes, lists: &[i32], z: &mut [i32]) -> CAnswer
         ⌜ Coded (λ answer. Amortized (sizes .shape) (sizes .b) (nthList 0 (now (lists .entry))) (nthList 1 (now (lists .entry)))
         (now (z .entry)) answer (now (z .exit))) x ⌝ }
 {
-    let its = sizes.shape;
     let c = nth_list(lists, 0);
     let witness = nth_list(lists, 1);
-    let answer = capi::lizkarg_amortize(its, sizes.b, c, witness, z);
+    let answer = capi::lizkarg_amortize(sizes.shape, sizes.b, c, witness, z);
     output::print_answer(answer);
     output::print_list(z);
     answer

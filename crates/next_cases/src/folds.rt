@@ -21,7 +21,6 @@ use cases::lists::nth_list;
 use cases::numbers::size;
 use fold::CommitSizes;
 use fold::GarbageSizes;
-use fold::Shape;
 use fold::Sizes;
 
 fn commit(
@@ -85,8 +84,7 @@ fn project(
     let count = size(lengths, P, ROOM);
     let mut room = [FILL; ROOM];
     let p = &mut room[..count];
-    let shape = sizes.shape;
-    let answer = capi::lizkarg_project(shape, sizes.w, projections, witness, p);
+    let answer = capi::lizkarg_project(sizes.shape, sizes.w, projections, witness, p);
     print_answer(1, answer);
     keep(messages, lengths, P, p);
     answer
@@ -109,9 +107,8 @@ fn aggregate(
     let count = size(lengths, SECOND_B, ROOM);
     let mut room = [FILL; ROOM];
     let second_b = &mut room[..count];
-    let shape = sizes.shape;
     let answer = capi::lizkarg_aggregate(
-        shape,
+        sizes.shape,
         sizes.l,
         sizes.w,
         constant_terms,
@@ -193,8 +190,7 @@ fn amortize(
     let mut room = [FILL; ROOM];
     let z = &mut room[..count];
     let c = nth_list(draws, 3);
-    let shape = sizes.shape;
-    let answer = capi::lizkarg_amortize(shape, sizes.b, c, witness, z);
+    let answer = capi::lizkarg_amortize(sizes.shape, sizes.b, c, witness, z);
     print_answer(1, answer);
     keep(messages, lengths, Z, z);
     answer

@@ -6,6 +6,7 @@ ghost use mir.Val.{ofZ};
 ghost use Rattle.cases.specs.Numbers.{sizeOf};
 ghost use Rattle.next_cases.specs.Input.{wideSize, sizesOf};
 use cases::numbers::wide_at;
+use fold::Shape;
 use fold::Sizes;
 
 // Where the sizes of a case begin, how many they are, which numbers are ν and μ, and what follows the sizes.
