@@ -125,7 +125,7 @@ module _ (s : Sizes) (fits : Fits s) (o : List ℤ) (whole : Opening s o) where
     inside = rw e (g-within s o whole);
   }
 
-  pub h-garbage : (place : ℕ) → place ≡ hPlace 2 (s .n) (s .r) (s .kappa) (s .t1) (s .t2) → Garbage (s .d) (s .r) (s .b1) (s .t1) place o
+  pub h-garbage : (place : ℕ) → place ≡ hPlace 2 (s .shape .n) (s .shape .r) (s .kappa) (s .t1) (s .t2) → Garbage (s .shape .d) (s .shape .r) (s .b1) (s .t1) place o
   unfolding garbageSize
   h-garbage place e = record {
     degree = fits .shaped .degree;

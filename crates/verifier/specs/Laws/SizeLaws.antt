@@ -18,15 +18,15 @@ module _ (s : Sizes) (o : List ℤ) (whole : Opening s o) where
   unfolding openingSize
   z-within = omega (arith, whole .sized)
 
-  pub t-within : (tPlace 2 (s .n) + tSize (s .r) (s .kappa) (s .t1)) * s .d ≤ length o
+  pub t-within : (tPlace 2 (s .shape .n) + tSize (s .shape .r) (s .kappa) (s .t1)) * s .shape .d ≤ length o
   unfolding openingSize restSize tPlace
   t-within = omega (arith, whole .sized)
 
-  pub g-within : (gPlace 2 (s .n) (s .r) (s .kappa) (s .t1) + garbageSize (s .r) (s .t2)) * s .d ≤ length o
+  pub g-within : (gPlace 2 (s .shape .n) (s .shape .r) (s .kappa) (s .t1) + garbageSize (s .shape .r) (s .t2)) * s .shape .d ≤ length o
   unfolding openingSize restSize gPlace tPlace
   g-within = omega (arith, whole .sized)
 
-  pub h-within : (hPlace 2 (s .n) (s .r) (s .kappa) (s .t1) (s .t2) + garbageSize (s .r) (s .t1)) * s .d ≤ length o
+  pub h-within : (hPlace 2 (s .shape .n) (s .shape .r) (s .kappa) (s .t1) (s .t2) + garbageSize (s .shape .r) (s .t1)) * s .shape .d ≤ length o
   unfolding openingSize restSize hPlace gPlace tPlace
   h-within = omega (arith, whole .sized)
 
