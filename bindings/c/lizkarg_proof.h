@@ -7,7 +7,7 @@
  *     lizkarg_list numbers = {(int32_t *)calloc(length, sizeof(int32_t)), length};
  *     lizkarg_proof proof = lizkarg_proof_of(sizes, numbers);
  *
- * Fill the statement; then make each message and fill the draws that come after it. Or let lizkarg_read_sheet fill the block:
+ * Fill the statement; then make each message and fill the draws that come after it: prove.c. Or let lizkarg_read_sheet fill the block:
  * verdict.c. The lists may lie anywhere else, too; what lizkarg.h asks of pointers and lengths is asked of every list here. */
 #ifndef LIZKARG_PROOF_H
 #define LIZKARG_PROOF_H
