@@ -4,6 +4,7 @@
 import doctest
 import os
 import random
+import re
 import subprocess
 import sys
 from pathlib import Path
@@ -48,6 +49,10 @@ def test_answers():
     assert Accepted() and not Failed(3)
     assert str(Failed(9)) == "failed: check 9, the digits are longer than the target bound"
     assert str(Refused(7)) == "refused: 7, a list's length is not what the sizes give"
+    # the command verdict --words says the same; but it knows no parts
+    said = re.findall(r"[012]\.[0-9*]+\) echo (?:'([^']*)'|\"([^\"]*)\") ;;", (ROOT / "verdict").read_text())
+    rows = [str(Refused(number)).replace("L, w or a part number", "L or w") for number in range(1, 13) if number not in (7, 11)]
+    assert [one or other for one, other in said] == [str(Accepted()), *(str(Failed(check)) for check in range(1, 10)), *rows]
 
 
 def next_answer(z, s, proof):

@@ -62,6 +62,22 @@ fn words() {
     assert_eq!(Failed(5).to_string(), "failed: check 5, A z is not the sum of the c_i t_i");
     let error: Box<dyn std::error::Error> = Refused(7).into();
     assert_eq!(error.to_string(), "refused: 7, a list's length is not what the sizes give");
+    assert_ne!(Refused(11).reason(), Refused(99).reason());
+}
+
+/// The command `verdict --words` says the same; but it knows no parts.
+#[test]
+fn words_of_the_command() {
+    let command = include_str!("../../../verdict");
+    let said =
+        |sentence: String| command.contains(&format!(") echo '{sentence}' ;;")) || command.contains(&format!(") echo \"{sentence}\" ;;"));
+    assert!(said(Accepted.to_string()));
+    for check in 1..=9 {
+        assert!(said(Failed(check).to_string()), "{}", Failed(check));
+    }
+    for row in [1, 2, 3, 4, 5, 6, 8, 9, 10, 12] {
+        assert!(said(Refused(row).to_string().replace("L, w or a part number", "L or w")), "{}", Refused(row));
+    }
 }
 
 /// Row 7: the slice of 64 numbers has the length that the sizes give.
