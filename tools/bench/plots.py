@@ -170,8 +170,8 @@ def drawn(draw):
 
 
 def field(svg, name):
-    match = re.search(f"<dc:{name}>(.*?)</dc:{name}>|<dc:{name}>.*?<dc:title>(.*?)</dc:title>", svg, re.S)
-    return unescape(match.group(1) if match.group(1) is not None else match.group(2))
+    """A field of the picture's metadata, without the tags around it."""
+    return unescape(re.sub("<[^>]*>", "", re.search(f"<dc:{name}>(.*?)</dc:{name}>", svg, re.S).group(1)).strip())
 
 
 def compare(name, new):
