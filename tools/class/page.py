@@ -114,6 +114,10 @@ def page():
         named.setdefault((block, kind, number), 0)
         named[block, kind, number] += 1
     long_s, long_x, long_y = case.honest(case.TOO_LONG)
+    other_z = add(*(times(e, slot[0]) for e, slot in zip(case.OTHER_C, slots)))
+    assert times(a, other_z) == add(*(times(case.OTHER_C[i], t[i]) for i in range(3))) and times(other_z, other_z) == verifier.garbage_sum(s, y | {"c": fold.flat(case.OTHER_C)}, g)
+    assert fold.message_1(s, case.lists(case.READINGS[::-1]))["u1"] == y["u1"]
+    assert case.codes(case.SHORTER) == case.codes(case.READINGS)
 
     return f"""# A class with one control unit
 
@@ -274,10 +278,14 @@ the rows give p = {", ".join(str(k) for k in long_y["p"])}, and 2·({" + ".join(
 
 ## To try
 
-1. Make z from other challenges, say c1 = X, c2 = 1, c3 = 1, and check 5 and 6 by hand.
+1. Make z from other drawn pairs, say {", ".join(f"c{i + 1} = {pair(e)}" for i, e in enumerate(case.OTHER_C))}, and make checks 5 and 6 by hand.
 2. Exchange the readings of slots 1 and 3. Both codes are met. Does u1 stay?
 3. Find three slots that meet both codes, with squares that add up to less than {s.beta_squared}.
 4. Open examples/class.sheet in an editor (docs/SHEET.md says where each list stands), change one number, and say before the program does which check will fail.
+
+Answers. 1: z = {pair(other_z)}; check 5 has {pair(times(a, other_z))} on both sides, check 6 {pair(times(other_z, other_z))}. 2: It does, since on this page a digit counts alike
+for all slots; in a real unit each digit has a number of its own. 3: For one,
+{", ".join(f"{slot[0]} and {slot[1]}" for slot in case.SHORTER)}: the squares add up to {sum(k * k for slot in case.SHORTER for k in slot)}.
 """
 
 
