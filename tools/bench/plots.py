@@ -25,7 +25,7 @@ INK, GREY, BLUE, ORANGE, GREEN, PURPLE = "#1b2a38", "#8a97a3", "#0072b2", "#d55e
 
 matplotlib.rcParams.update({
     "svg.hashsalt": "lizkarg", "svg.fonttype": "none", "font.family": "DejaVu Sans", "font.size": 9, "text.color": INK, "axes.labelcolor": INK, "axes.edgecolor": GREY,
-    "xtick.color": INK, "ytick.color": INK, "axes.spines.top": False, "axes.spines.right": False, "text.parse_math": False,
+    "xtick.color": INK, "ytick.color": INK, "axes.spines.top": False, "axes.spines.right": False,
 })
 
 
