@@ -70,6 +70,16 @@ def ratio_numbers():
     return {name: [float(fold[row].get(name) or 0) for row in ROWS] for name, _ in OTHERS}, sizes
 
 
+def ratio_bar(panel, at, value):
+    """A bar from 1 to the ratio, and the ratio beside it."""
+    if not value:
+        panel.text(1.12, at, "not timed", va="center", fontsize=7, color=GREY)
+        return
+    faster = value >= 1
+    panel.barh(at, value - 1, left=1, height=0.62, color=BLUE if faster else ORANGE)
+    panel.text(value * 1.12 if faster else value / 1.12, at, f"{value:.2f}" if value < 10 else f"{value:.1f}", va="center", ha="left" if faster else "right", fontsize=8)
+
+
 def ratios():
     numbers, sizes = ratio_numbers()
     figure, panels = plt.subplots(1, len(OTHERS), sharey=True, figsize=(10.4, 4.0))
@@ -81,15 +91,10 @@ def ratios():
         panel.set_ylim(len(ROWS) - 0.4, -0.6)
         panel.set_title(f"{name}\n{said}", fontsize=8.5, loc="left", pad=6)
         for at, value in enumerate(numbers[name]):
-            if value:
-                panel.barh(at, value - 1, left=1, height=0.62, color=BLUE if value >= 1 else ORANGE)
-                panel.text(value * 1.12 if value >= 1 else value / 1.12, at, f"{value:.2f}" if value < 10 else f"{value:.1f}", va="center",
-                           ha="left" if value >= 1 else "right", fontsize=8)
-            else:
-                panel.text(1.12, at, "not timed", va="center", fontsize=7, color=GREY)
+            ratio_bar(panel, at, value)
         panel.axvline(1, color=INK, linewidth=0.8)
-        panel.axhline(6.5, color=GREY, linewidth=0.5)
-        panel.axhline(1.5, color=GREY, linewidth=0.5)
+        for between in (1.5, 6.5):
+            panel.axhline(between, color=GREY, linewidth=0.5)
         panel.spines[:].set_visible(False)
         panel.tick_params(left=False, bottom=False, labelbottom=False, which="both")
     panels[0].set_yticks(range(len(ROWS)), [row.replace(", per pair", "").replace(", all messages", "") for row in ROWS])
@@ -121,38 +126,52 @@ def growth_numbers():
     return found
 
 
+def growth_lines(panel, lines):
+    """The versions' times, each with its name at the end."""
+    for name, said, colour, marker, style in LINES:
+        if name in lines:
+            sizes, times = zip(*lines[name])
+            hollow = style == "none"
+            panel.plot(sizes, times, marker=marker, color=colour, linestyle=style, markersize=7 if hollow else 5, linewidth=1.6, markerfacecolor="none" if hollow else colour)
+            aside = {"ours": 1.08, "clang_tuned": 0.76}.get(name, 1)
+            panel.text(sizes[-1] * 1.13, times[-1] * aside, said, color=colour, va="center", fontsize=8)
+
+
+def proportion(panel, letter, lines):
+    """A line of the slope that is growth in proportion."""
+    (least, low), (most, _) = lines["ours"][0], lines["ours"][-1]
+    ends = [low / 3.2, low / 3.2 * most / least]
+    panel.plot([least, most], ends, color=GREY, linewidth=1, linestyle=":")
+    panel.text(most * 1.13, ends[1], f"in proportion to {letter}", color=GREY, va="center", fontsize=8)
+
+
+def growth_axes(panel, title, sizes):
+    panel.set_xscale("log", base=2)
+    panel.set_yscale("log")
+    panel.set_xticks(sizes, [str(size) for size in sizes])
+    panel.minorticks_off()
+    panel.set_xlim(sizes[0] * 0.85, sizes[-1] * 4.6)
+    panel.set_ylim(0.7, 1100)
+    panel.set_yticks([1, 10, 100, 1000], ["1 ms", "10 ms", "100 ms", "1 s"])
+    panel.grid(axis="y", color="#e3e8ec", linewidth=0.7)
+    panel.set_axisbelow(True)
+    panel.set_title(title, fontsize=9.5, loc="left")
+    panel.tick_params(length=3)
+    panel.spines["bottom"].set_bounds(sizes[0], sizes[-1])
+
+
 def growth():
-    numbers = growth_numbers()
-    fixed = dict(zip("nr", tables()[2][:2]))
+    numbers, (fixed_r, fixed_n, others) = growth_numbers(), tables()[2]
     figure, grid = plt.subplots(2, 3, sharey=True, figsize=(10.4, 6.6))
     figure.subplots_adjust(left=0.065, right=0.985, top=0.875, bottom=0.075, wspace=0.1, hspace=0.38)
-    for row, letter in zip(grid, "nr"):
-        for panel, step in zip(row, STEPS):
-            lines = numbers[letter, step]
-            for name, said, colour, marker, style in LINES:
-                if name in lines:
-                    sizes, times = zip(*lines[name])
-                    panel.plot(sizes, times, marker=marker, color=colour, linestyle=style, markersize=7 if style == "none" else 5, linewidth=1.6,
-                               markerfacecolor="none" if style == "none" else colour)
-                    up = {"ours": 1.08, "clang_tuned": 0.76}.get(name, 1)
-                    panel.text(sizes[-1] * 1.13, times[-1] * up, said, color=colour, va="center", fontsize=8)
-            if step == STEPS[0]:
-                low = lines["ours"][0][1] / 3.2
-                panel.plot([sizes[0], sizes[-1]], [low, low * sizes[-1] / sizes[0]], color=GREY, linewidth=1, linestyle=":")
-                panel.text(sizes[-1] * 1.13, low * sizes[-1] / sizes[0], f"in proportion to {letter}", color=GREY, va="center", fontsize=8)
-            panel.set_xscale("log", base=2)
-            panel.set_yscale("log")
-            panel.set_xticks(sizes, [str(size) for size in sizes])
-            panel.minorticks_off()
-            panel.set_xlim(sizes[0] * 0.85, sizes[-1] * 4.6)
-            panel.set_ylim(0.7, 1100)
-            panel.set_yticks([1, 10, 100, 1000], ["1 ms", "10 ms", "100 ms", "1 s"])
-            panel.grid(axis="y", color="#e3e8ec", linewidth=0.7)
-            panel.set_axisbelow(True)
-            panel.set_title(f"{step}, by {letter}" + (f" ({fixed[letter]})" if step == STEPS[0] else ""), fontsize=9.5, loc="left")
-            panel.tick_params(length=3)
-            panel.spines["bottom"].set_bounds(sizes[0], sizes[-1])
-    figure.text(0.012, 0.955, f"Time of a fold at d = 64, {tables()[2][2]}; both scales logarithmic", fontsize=10.5, weight="bold")
+    for panel, ((letter, step), lines) in zip(grid.flat, numbers.items()):
+        growth_lines(panel, lines)
+        first = step == STEPS[0]
+        if first:
+            proportion(panel, letter, lines)
+        fixed = fixed_r if letter == "n" else fixed_n
+        growth_axes(panel, f"{step}, by {letter}" + (f" ({fixed})" if first else ""), [size for size, _ in lines["ours"]])
+    figure.text(0.012, 0.955, f"Time of a fold at d = 64, {others}; both scales logarithmic", fontsize=10.5, weight="bold")
     return figure, {f"{letter}, {step}": lines for (letter, step), lines in numbers.items()}
 
 
