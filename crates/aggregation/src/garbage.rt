@@ -10,6 +10,7 @@ ghost use Rattle.fold.specs.PairElements.{pairElements};
 ghost use Rattle.aggregation.specs.Known.Facts.{HFacts, OuterFacts};
 ghost use Rattle.aggregation.specs.Garbage.{halved};
 use crate::products::write_products;
+use constraints::ConstraintSizes;
 use fold::GarbageSizes;
 use fold::Shape;
 use fold::counts::garbage_size;
@@ -81,18 +82,15 @@ pub fn write_h(
     let d = sizes.d;
     let n = sizes.n;
     let r = sizes.r;
-    let kc = sizes.k;
-    let l = sizes.l;
-    let w = sizes.w;
-    let b1 = sizes.b1;
-    let t1 = sizes.t1;
-    let shape = Shape { d, n, r };
+    let constraint_sizes = ConstraintSizes {
+        shape: Shape { d, n, r },
+        k: sizes.k,
+        l: sizes.l,
+        w: sizes.w,
+    };
     let mut products = [0i32; 16384];
     write_products(
-        shape,
-        kc,
-        l,
-        w,
+        constraint_sizes,
         whole,
         constant_terms,
         projections,
@@ -106,7 +104,7 @@ pub fn write_h(
     let mut values = [0i32; 8704];
     write_half_sums(d, r, &products, &mut values);
     let count = pair_count(r);
-    write_digits(d, b1, t1, count, &values, out);
+    write_digits(d, sizes.b1, sizes.t1, count, &values, out);
 }
 
 // The product of a matrix of m columns with the vector x, row by row.

@@ -7,6 +7,8 @@ use crate::folded::write_folded;
 use crate::tables::write_aggregate_a;
 use crate::tables::write_diagonal;
 use crate::tables::write_products;
+use constraints::ConstraintSizes;
+use fold::Shape;
 use fold::Sizes;
 
 pub fn write_tables(
@@ -33,9 +35,16 @@ pub fn write_tables(
         (now (folded .exit)) (now (products .exit)) (now («aggregate_a» .exit)) (now (diagonal .exit)) ⌝ }
 {
     let d = sizes.d;
+    let n = sizes.n;
     let r = sizes.r;
+    let constraint_sizes = ConstraintSizes {
+        shape: Shape { d, n, r },
+        k: sizes.k,
+        l: sizes.l,
+        w: sizes.w,
+    };
     write_folded(
-        sizes,
+        constraint_sizes,
         whole,
         constant_terms,
         projections,
@@ -47,6 +56,14 @@ pub fn write_tables(
         folded,
     );
     write_products(d, r, c, products);
-    write_aggregate_a(sizes, whole, constant_terms, psi, alpha, delta, aggregate_a);
+    write_aggregate_a(
+        constraint_sizes,
+        whole,
+        constant_terms,
+        psi,
+        alpha,
+        delta,
+        aggregate_a,
+    );
     write_diagonal(d, r, diagonal);
 }

@@ -14,6 +14,7 @@ ghost use Rattle.verifier.specs.Known.Facts.{Fits, Holds, Opening, gValu
 ghost use Rattle.verifier.specs.Mixed.{Garbage};
 ghost use Rattle.verifier.specs.Relation.{relationSummand};
 use crate::recomposed;
+use constraints::ConstraintSizes;
 use constraints::aggregated;
 use fold::Shape;
 use fold::Sizes;
@@ -43,15 +44,18 @@ fn relation_summand(
         (now (alpha .entry)) (now (delta .entry)) (now (opening .entry)) place q) ⌝ }
 {
     let d = sizes.d;
-    let shape = Shape {
-        d: sizes.d,
-        n: sizes.n,
-        r: sizes.r,
+    let constraint_sizes = ConstraintSizes {
+        shape: Shape {
+            d: sizes.d,
+            n: sizes.n,
+            r: sizes.r,
+        },
+        k: sizes.k,
+        l: sizes.l,
+        w: sizes.w,
     };
     let aggregate_a = aggregated::aggregate_a(
-        shape,
-        sizes.k,
-        sizes.l,
+        constraint_sizes,
         whole,
         constant_terms,
         psi,

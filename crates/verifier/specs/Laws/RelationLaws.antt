@@ -2,8 +2,10 @@
 use mathlib.Core.Path.{_≡_, refl, sym, ap, ap₂, _∙_}
 use mathlib.Core.Bool.{Bool}
 use mathlib.Core.List.{List}
-use Prim.Native.Nat.{ℕ, _+_, _*_, _<_, _≤_}
+use Prim.Native.Nat.{ℕ, _+_, _≤_}
+use native.Mathlib.Nat.{zero-add}
 use lib.IntN.{ℤ}
+use Rattle.integers.specs.Over.{over}
 use Rattle.algebra.specs.Sum.{sum}
 use Rattle.algebra.specs.Laws.SumLaws.{sum-cong}
 use Rattle.algebra.specs.Triangle.{pair, rows}
@@ -12,58 +14,40 @@ use Rattle.algebra.specs.DotProduct.{inner, mixed}
 use Rattle.ring.specs.Element.{R, lift, el, array, same}
 use Rattle.fold.specs.declared.Sizes.{Sizes}
 use Rattle.fold.specs.Sizes.{pairs}
-use Rattle.fold.specs.Entries.{aggregateA, aggregateΦ}
-use Rattle.fold.specs.Laws.EntryLaws.{aggregate-a, aggregate-φ}
-use Rattle.fold.specs.Messages.{aggregate, aggregateConstant}
+use Rattle.fold.specs.Entries.{aggregateA}
+use Rattle.fold.specs.Laws.EntryLaws.{aggregate-a}
+use Rattle.fold.specs.Messages.{elements, aggregate, aggregateConstant}
+use Rattle.fold.specs.Laws.WriterLaws.{el-written}
 use Rattle.fold.specs.Opening.{block, gPlace, hPlace, garbageOf}
 use Rattle.fold.specs.Verdict.{check₇, check₈}
-use Rattle.ring.specs.Laws.Loops.{held}
+use Rattle.ring.specs.Laws.Loops.{held, held-product}
 use Rattle.verifier.specs.Known.Facts.{gBlockOf, gValue, hValue}
 use Rattle.verifier.specs.Laws.PlaceLaws.{garbage-at}
 use Rattle.verifier.specs.Places.{garbageAt}
-use Rattle.verifier.specs.Relation.{phiSummand, phiProduct, linearSummand, relationSummand}
+use Rattle.verifier.specs.Relation.{linearSummand, relationSummand}
 
-module _ (s : Sizes) (whole constantTerms projections ψ ω α δ : List ℤ) where
-  module _ (z : List ℤ) where
-    pub phi-product : (i : ℕ) → sum (R (s .d)) (s .n) (λ y. phiSummand s whole constantTerms projections ψ ω α δ z (i * s .n + y) y) ≡ phiProduct s whole constantTerms projections ψ ω α δ z i
-    unfolding phiProduct
-    phi-product i = refl
+-- ---- check 7
 
-    pub phi-summand : (e y : ℕ) (phi value r : List ℤ) → s .d ≤ 64
-        → phi ≡ array (s .d) (aggregateΦ (s .d) (s .n) (s .r) (s .k) (s .l) (s .w) whole constantTerms projections ψ ω α δ e)
-        → value ≡ array (s .d) (el (s .d) z y) → r ≡ array (s .d) (R (s .d) .mul (lift (s .d) phi) (lift (s .d) value))
-        → r ≡ array (s .d) (phiSummand s whole constantTerms projections ψ ω α δ z e y)
-    unfolding phiSummand
-    phi-summand e y phi value r small ep ev er = er ∙ ap (array (s .d)) (ap₂ (R (s .d) .mul) (held small ep) (held small ev))
+-- φ_i stands at the beginning of a list
+pub linear-summand : (d n : ℕ) (φ : ℕ → ℕ → R d .Carrier) (c z : List ℤ) (i : ℕ) (old : List ℤ) {phi product challenge r : List ℤ} → d ≤ 64
+    → phi ≡ over old 0 (elements d n (φ i))
+    → product ≡ array d (sum (R d) n (λ y. R d .mul (el d phi (0 + y)) (el d z (0 + y))))
+    → challenge ≡ array d (el d c i) → r ≡ array d (R d .mul (lift d product) (lift d challenge))
+    → r ≡ array d (linearSummand d n φ c z i)
+unfolding linearSummand inner
+linear-summand d n φ c z i old small written is by product =
+    held-product _ _ small
+    (is ∙ ap (array d) (sum-cong (R d) n _ _ (λ y h. rw (zero-add y) (ap (λ u. R d .mul u (el d z y)) (el-written d n (φ i) old written y h))))) by product
 
-  module _ (c z : List ℤ) where
-    pub linear-summand : (i : ℕ) (product challenge r : List ℤ) → s .d ≤ 64 → product ≡ array (s .d) (phiProduct s whole constantTerms projections ψ ω α δ z i)
-        → challenge ≡ array (s .d) (el (s .d) c i) → r ≡ array (s .d) (R (s .d) .mul (lift (s .d) product) (lift (s .d) challenge))
-        → r ≡ array (s .d) (linearSummand s whole constantTerms projections ψ ω α δ c z i)
-    unfolding linearSummand
-    linear-summand i product challenge r small ep ec er =
-        er ∙ ap (array (s .d)) (ap₂ (R (s .d) .mul) (held small ep) (held small ec))
+pub check-seven : (s : Sizes) (φ : ℕ → ℕ → R (s .d) .Carrier) (c z o : List ℤ) {place : ℕ} {left right : List ℤ} {t : Bool} → s .d ≤ 64
+    → left ≡ array (s .d) (sum (R (s .d)) (s .r) (linearSummand (s .d) (s .n) φ c z)) → place ≡ hPlace 2 (s .n) (s .r) (s .kappa) (s .t1) (s .t2)
+    → right ≡ array (s .d) (mixed (R (s .d)) (s .r) (garbageOf (s .d) (s .r) (s .b1) (s .t1) (block (s .d) o place)) (el (s .d) c))
+    → t ≡ same (s .d) (lift (s .d) left) (lift (s .d) right) → t ≡ check₇ (s .d) (s .n) (s .r) c φ (el (s .d) z) (hValue s o)
+unfolding check₇ linearSummand
+check-seven s φ c z o small el ep er result = result ∙ ap₂ (same (s .d)) (held small el) (held small er ∙ rw ep refl)
 
-    linear-sum : sum (R (s .d)) (s .r) (linearSummand s whole constantTerms projections ψ ω α δ c z)
-        ≡ sum (R (s .d)) (s .r) (λ i. R (s .d) .mul (inner (R (s .d)) (s .n) (aggregate (s .d) (s .n) (s .r) (s .k) (s .l)
-        (s .w) whole constantTerms projections ψ ω α δ .φ i) (el (s .d) z)) (el (s .d) c i))
-    unfolding linearSummand phiProduct phiSummand inner
-    linear-sum =
-        sum-cong (R (s .d)) (s .r) _ _ (λ i _. ap (λ u. R (s .d) .mul u (el (s .d) c i)) (sum-cong (R (s .d)) (s .n) _ _ (λ y _.
-        ap (λ u. R (s .d) .mul u (el (s .d) z y)) (sym (aggregate-φ (s .d) (s .n) (s .r) (s .l) (s .w) constantTerms projections ψ ω
-        (s .k) whole α δ i y)))))
+-- ---- check 8
 
-    pub check-seven : (o : List ℤ) (place : ℕ) (left right : List ℤ) (t : Bool) → s .d ≤ 64
-        → left ≡ array (s .d) (sum (R (s .d)) (s .r) (linearSummand s whole constantTerms projections ψ ω α δ c z)) → place ≡ hPlace 2 (s .n) (s .r) (s .kappa) (s .t1) (s .t2)
-        → right ≡ array (s .d) (mixed (R (s .d)) (s .r) (garbageOf (s .d) (s .r) (s .b1) (s .t1) (block (s .d) o place)) (el (s .d) c))
-        → t ≡ same (s .d) (lift (s .d) left) (lift (s .d) right)
-        → t ≡ check₇ (s .d) (s .n) (s .r) c (aggregate (s .d) (s .n) (s .r) (s .k) (s .l) (s .w) whole constantTerms projections ψ ω α δ .φ) (el
-        (s .d) z) (hValue s o)
-    unfolding check₇
-    check-seven o place left right t small el ep er result =
-        result ∙ ap₂ (same (s .d)) (held small el ∙ linear-sum) (held small er ∙ rw ep refl)
-
--- element y of part i, of r parts of rank n
 module _ (s : Sizes) (whole constantTerms ψ α δ o : List ℤ) where
   pub relation-summand : (place q : ℕ) (a g r : List ℤ) → s .d ≤ 64
       → a ≡ array (s .d) (aggregateA (s .d) (s .n) (s .r) (s .k) (s .l) whole constantTerms ψ α δ q)

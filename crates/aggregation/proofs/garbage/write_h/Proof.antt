@@ -10,7 +10,7 @@ write-half-sums-requires : tie.Need-write-half-sums-requires
 write-half-sums-requires c κs =
     let s = c .before .before .before .before .before in
     let shaped = s .pre .aggregated .wholes .shaped in
-    let kept = c .before .before .before .write-products .kept .1 .1 .1 .1 .1 .1 .1 .1 .1 .1 .1 .1 .0 in
+    let kept = c .before .before .before .write-products .kept .1 .1 .1 .1 .1 .1 .1 .1 .1 .0 in
     (shaped .degree, (omega (arith, square-room shaped, kept), pairs-room shaped))
 
 write-digits-requires : tie.Need-write-digits-requires
@@ -36,7 +36,7 @@ returns : tie.Need-returns
 returns c =
     let s = c .before .before .before .before .before .before .before .before .before .before .before .before in
     let z = s .args .sizes in
-    h-written (z .d) (z .n) (z .r) (z .k) (z .l) (z .w) (z .b1) (z .t1) _ _ _ _ _ _ _ _ _ _
+    h-written (z .d) (z .n) (z .r) (z .b1) (z .t1) _ _ _ _
     (c .before .before .before .before .before .before .before .before .before .before .write-products .ensures) (pairs-room (s .pre .aggregated .wholes .shaped))
     (c .before .before .before .before .before .before .write-half-sums .ensures) (c .before .before .before .before .pair-count .ensures) (c .before .write-digits .ensures)
 
