@@ -8,7 +8,6 @@ use crate::tables::write_aggregate_a;
 use crate::tables::write_diagonal;
 use crate::tables::write_products;
 use constraints::ConstraintSizes;
-use fold::Shape;
 use fold::Sizes;
 
 pub fn write_tables(
@@ -26,19 +25,19 @@ pub fn write_tables(
     aggregate_a: &mut [i32],
     diagonal: &mut [i32],
 )
-    requires { ⌜ AggregateFacts (sizes .d) (sizes .n) (sizes .r) (sizes .k) (sizes .l) (sizes .w) (now whole) (now «constant_terms») (now projections) (now psi)
+    requires { ⌜ AggregateFacts (sizes .shape .d) (sizes .shape .n) (sizes .shape .r) (sizes .k) (sizes .l) (sizes .w) (now whole) (now «constant_terms») (now projections) (now psi)
         (now omega) (now alpha) (now delta) ⌝ }
-    requires { ⌜ sizes .r * sizes .d ≤ length (now c) ⌝ }
-    requires { ⌜ TableRoom (sizes .d) (sizes .n) (sizes .r) (now folded) (now products) (now «aggregate_a») (now diagonal) ⌝ }
-    ensures { λ _. ⌜ Tables (sizes .d) (sizes .n) (sizes .r) (sizes .k) (sizes .l) (sizes .w) (now (whole .entry)) (now («constant_terms» .entry))
+    requires { ⌜ sizes .shape .r * sizes .shape .d ≤ length (now c) ⌝ }
+    requires { ⌜ TableRoom (sizes .shape .d) (sizes .shape .n) (sizes .shape .r) (now folded) (now products) (now «aggregate_a») (now diagonal) ⌝ }
+    ensures { λ _. ⌜ Tables (sizes .shape .d) (sizes .shape .n) (sizes .shape .r) (sizes .k) (sizes .l) (sizes .w) (now (whole .entry)) (now («constant_terms» .entry))
         (now (projections .entry)) (now (psi .entry)) (now (omega .entry)) (now (alpha .entry)) (now (delta .entry)) (now (c .entry))
         (now (folded .exit)) (now (products .exit)) (now («aggregate_a» .exit)) (now (diagonal .exit)) ⌝ }
 {
-    let d = sizes.d;
-    let n = sizes.n;
-    let r = sizes.r;
+    let shape = sizes.shape;
+    let d = shape.d;
+    let r = shape.r;
     let constraint_sizes = ConstraintSizes {
-        shape: Shape { d, n, r },
+        shape,
         k: sizes.k,
         l: sizes.l,
         w: sizes.w,

@@ -15,7 +15,7 @@ linearSummand d n φ c z i = R d .mul (inner (R d) n (φ i) (el d z)) (el d c i)
 
 module _ (s : Sizes) (whole constantTerms ψ α δ o : List ℤ) where
   -- the aggregate's a times g, at pair number q
-  unfoldable pub relationSummand : ℕ → ℕ → R (s .d) .Carrier
+  unfoldable pub relationSummand : ℕ → ℕ → R (s .shape .d) .Carrier
   relationSummand place q =
-      R (s .d) .mul (aggregateA (s .d) (s .n) (s .r) (s .k) (s .l) whole constantTerms ψ α δ q) (garbageAt (s .d) (s .b2) (s .t2) (block
-      (s .d) o place) q)
+      R (s .shape .d) .mul (aggregateA (s .shape .d) (s .shape .n) (s .shape .r) (s .k) (s .l) whole constantTerms ψ α δ q) (garbageAt (s .shape .d) (s .b2) (s .t2) (block
+      (s .shape .d) o place) q)

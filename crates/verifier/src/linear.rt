@@ -13,7 +13,6 @@ use crate::amortized;
 use constraints::ConstraintSizes;
 use constraints::phi::write_phi_part;
 use constraints::row_groups;
-use fold::Shape;
 use fold::Sizes;
 use fold::places;
 use ring::element::Element;
@@ -88,24 +87,21 @@ pub fn linear_part(
     opening: &[i32],
 ) -> bool
     requires { ⌜ Fits sizes ⌝ }
-    requires { ⌜ AggregateFacts (sizes .d) (sizes .n) (sizes .r) (sizes .k) (sizes .l) (sizes .w) (now whole) (now «constant_terms») (now projections)
+    requires { ⌜ AggregateFacts (sizes .shape .d) (sizes .shape .n) (sizes .shape .r) (sizes .k) (sizes .l) (sizes .w) (now whole) (now «constant_terms») (now projections)
         (now psi) (now omega) (now alpha) (now delta) ⌝ }
-    requires { ⌜ Holds (sizes .d) (sizes .r) (now c) ⌝ }
-    requires { ⌜ sizes .n * sizes .d ≤ length (now z) ⌝ }
+    requires { ⌜ Holds (sizes .shape .d) (sizes .shape .r) (now c) ⌝ }
+    requires { ⌜ sizes .shape .n * sizes .shape .d ≤ length (now z) ⌝ }
     requires { ⌜ Opening sizes (now opening) ⌝ }
     ensures { λ r.
-        ⌜ r ≡ check₇ (sizes .d) (sizes .n) (sizes .r) (now (c .entry))
-        (aggregate (sizes .d) (sizes .n) (sizes .r) (sizes .k) (sizes .l) (sizes .w) (now (whole .entry)) (now («constant_terms» .entry))
+        ⌜ r ≡ check₇ (sizes .shape .d) (sizes .shape .n) (sizes .shape .r) (now (c .entry))
+        (aggregate (sizes .shape .d) (sizes .shape .n) (sizes .shape .r) (sizes .k) (sizes .l) (sizes .w) (now (whole .entry)) (now («constant_terms» .entry))
         (now (projections .entry)) (now (psi .entry)) (now (omega .entry)) (now (alpha .entry)) (now (delta .entry)) .φ)
-        (el (sizes .d) (now (z .entry))) (hValue sizes (now (opening .entry))) ⌝ }
+        (el (sizes .shape .d) (now (z .entry))) (hValue sizes (now (opening .entry))) ⌝ }
 {
-    let d = sizes.d;
+    let shape = sizes.shape;
+    let d = shape.d;
     let constraint_sizes = ConstraintSizes {
-        shape: Shape {
-            d: sizes.d,
-            n: sizes.n,
-            r: sizes.r,
-        },
+        shape,
         k: sizes.k,
         l: sizes.l,
         w: sizes.w,
@@ -123,6 +119,6 @@ pub fn linear_part(
         z,
     );
     let start = places::h_place(sizes);
-    let right = amortized::mixed_sum(d, sizes.r, sizes.b1, sizes.t1, opening, start, c);
+    let right = amortized::mixed_sum(d, shape.r, sizes.b1, sizes.t1, opening, start, c);
     left.equals(d, right)
 }
