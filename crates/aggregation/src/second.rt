@@ -11,6 +11,7 @@ ghost use Rattle.aggregation.specs.Known.Facts.{PairFacts, ValueFacts};
 ghost use Rattle.aggregation.specs.Rows.{Sums};
 ghost use Rattle.aggregation.specs.Values.{pairSummand, witnessSummand};
 use crate::rows;
+use constraints::projected_rows::projection_row;
 use constraints::row_groups;
 use constraints::second::second_row_a;
 use constraints::second::second_row_phi;
@@ -100,17 +101,8 @@ fn weigh_witness(
     let mut sums = [[0i32; 64]; 5];
     let mut e = 0;
     while e < count {
-        let row = second_row_phi(
-            shape,
-            l,
-            w,
-            constant_terms,
-            projections,
-            psi,
-            omega,
-            omega_sums,
-            e,
-        );
+        let projected = projection_row(shape, w, projections, omega, omega_sums, e);
+        let row = second_row_phi(shape, l, constant_terms, psi, projected, e);
         let element = Element::from_slice(d, witness, e);
         let y = element.coefficients;
         let more = rows::add_products(d, sums, row, y);

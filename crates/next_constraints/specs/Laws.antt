@@ -1,3 +1,4 @@
+pub mod FoldedLaws
 pub mod TableLaws
 pub mod BlockPlaces
 pub mod Order

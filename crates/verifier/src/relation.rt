@@ -14,6 +14,7 @@ ghost use Rattle.verifier.specs.Known.Facts.{Fits, Holds, Opening, gValu
 ghost use Rattle.verifier.specs.Mixed.{Garbage};
 ghost use Rattle.verifier.specs.Relation.{relationSummand};
 use crate::recomposed;
+use constraints::ConstraintSizes;
 use constraints::aggregated;
 use fold::Sizes;
 use fold::counts::pair_count;
@@ -41,11 +42,16 @@ fn relation_summand(
         ⌜ x .coefficients ≡ array (sizes .shape .d) (relationSummand sizes (now (whole .entry)) (now («constant_terms» .entry)) (now (psi .entry))
         (now (alpha .entry)) (now (delta .entry)) (now (opening .entry)) place q) ⌝ }
 {
-    let d = sizes.shape.d;
+    let shape = sizes.shape;
+    let d = shape.d;
+    let constraint_sizes = ConstraintSizes {
+        shape,
+        k: sizes.k,
+        l: sizes.l,
+        w: sizes.w,
+    };
     let aggregate_a = aggregated::aggregate_a(
-        sizes.shape,
-        sizes.k,
-        sizes.l,
+        constraint_sizes,
         whole,
         constant_terms,
         psi,
