@@ -233,5 +233,9 @@ VerifySized m =
     VerifyLimits (m .shape .d) (m .shape .n) (m .shape .r) (m .k) (m .l) (m .w) (m .kappa) (m .kappa1) (m .kappa2) (m .b) (m .b1) (m .b2) (m .t1) (m .t2)
     (m .bound) (m .target)
 
+-- z has tz digits, and two
+abbrev pub PartSizedWith : (tz : ℕ) → PartSizes → (i : ℕ) → Type 0
+PartSizedWith tz m i = PartLimits (m .shape .d) (m .shape .n) (m .shape .r) (m .kappa) (m .t1) (m .t2) tz (m .nu) (m .mu) i
+
 abbrev pub PartSized : PartSizes → (i : ℕ) → Type 0
-PartSized m i = PartLimits (m .shape .d) (m .shape .n) (m .shape .r) (m .kappa) (m .t1) (m .t2) 2 (m .nu) (m .mu) i
+PartSized m i = PartSizedWith 2 m i
