@@ -3,7 +3,7 @@ ghost use mathlib.Core.Path.{_≡_};
 ghost use Prim.Native.Nat.{_≤_};
 ghost use Rattle.fold.specs.Sizes.{pairs, functionSize, tSize, garbageSize, openingSize};
 
-// The number of digits of z: "z = Σ c_i s_i in two digits to base b". Functions that depend on it take it as tz.
+// The number of digits of z at today's entries: "z = Σ c_i s_i in two digits to base b". Functions take it as tz.
 pub const Z_DIGITS: usize = 2;
 
 // The number of pairs i ≤ j of r parts.
