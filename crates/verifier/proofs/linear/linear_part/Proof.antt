@@ -1,4 +1,5 @@
 -- `verifier::linear::linear_part` meets its contract.
+use native.Mathlib.Omega.{arith}
 use lib.ListN.{length-replicate}
 use lib.IntN.{pos}
 use Rattle.verifier.specs.Laws.MixedLaws.{h-garbage}
@@ -35,5 +36,5 @@ returns c =
 pub linear-part-spec : {M : Type 1} → statement M
 linear-part-spec =
     tie.close
-    (tie.spec write-omega-sums-requires linear-sum-requires (λ c κs. c .before .before .before .before .pre .0) mixed-sum-requires
+    (tie.spec write-omega-sums-requires linear-sum-requires (λ c κs. (omega arith, c .before .before .before .before .pre .0)) mixed-sum-requires
     (λ c κs. c .before .before .before .before .before .before .pre .0 .shaped .degree) returns)
