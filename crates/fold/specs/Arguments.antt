@@ -1,5 +1,5 @@
--- The arguments of the calls as the definitions take them: sizes stand in a struct, each slice is the list of its numbers, and z has two
--- digits ("z = Σ c_i s_i in two digits to base b"). Below, the number with which each call refuses, 0 where it does not.
+-- The arguments of the calls as the definitions take them: sizes stand in a struct, each slice is the list of its numbers. What depends on the
+-- number tz of z digits is defined `With` it, and again for the zCount digits of today's calls. Below, the number with which each call refuses, 0 where it does not.
 use mathlib.Core.List.{List}
 use Prim.Native.Nat.{ℕ}
 use lib.IntN.{ℤ}
@@ -9,17 +9,18 @@ use Rattle.fold.specs.declared.GarbageSizes.{GarbageSizes}
 use Rattle.fold.specs.declared.Sizes.{Sizes}
 use Rattle.fold.specs.declared.PartSizes.{PartSizes}
 use Rattle.fold.specs.Answers.{firstFailing}
+use Rattle.fold.specs.Sizes.{zCount}
 use Rattle.fold.specs.Statement.{Statement, Draws, Transcript}
 use Rattle.fold.specs.NextCall.{partRefusal, nextPart}
-pub use Rattle.fold.specs.Known.CallLimits.{CommitSized, GarbageSized, VerifySized, PartSized}
+pub use Rattle.fold.specs.Known.CallLimits.{CommitSized, GarbageSized, VerifySized, PartSizedWith, PartSized}
 use Rattle.fold.specs.Refusals.{commitTests, projectTests, aggregateTests, garbageTests, amortizeTests, verifyTests, productTests}
 
-abbrev pub statementOf : Sizes → (A B C D whole constantTerms : List ℤ) → Statement
-statementOf sizes A B C D whole constantTerms =
+abbrev pub statementWith : (tz : ℕ) → Sizes → (A B C D whole constantTerms : List ℤ) → Statement
+statementWith tz sizes A B C D whole constantTerms =
     record {
       relation = record { d = sizes .shape .d; n = sizes .shape .n; r = sizes .shape .r; K = sizes .k; L = sizes .l; bound = sizes .bound; whole = whole; constantTerms = constantTerms };
       w = sizes .w;
-      tz = 2;
+      tz = tz;
       κ = sizes .kappa;
       κ₁ = sizes .kappa1;
       κ₂ = sizes .kappa2;
@@ -34,6 +35,9 @@ statementOf sizes A B C D whole constantTerms =
       C = C;
       D = D;
     }
+
+abbrev pub statementOf : Sizes → (A B C D whole constantTerms : List ℤ) → Statement
+statementOf sizes A B C D whole constantTerms = statementWith zCount sizes A B C D whole constantTerms
 
 -- the structs that the messages take, from the sizes of a statement
 abbrev pub commitSizesOf : Sizes → CommitSizes
@@ -68,8 +72,11 @@ garbageRefusal m whole constantTerms projections ψ ω α δ D s hs u₂ =
     firstFailing
     (garbageTests (m .shape .d) (m .shape .n) (m .shape .r) (m .k) (m .l) (m .w) (m .kappa2) (m .b1) (m .t1) whole constantTerms projections ψ ω α δ D s hs u₂)
 
+abbrev pub amortizeRefusalWith : (tz : ℕ) → Shape → (b : ℕ) (c s zs : List ℤ) → ℕ
+amortizeRefusalWith tz m b c s zs = firstFailing (amortizeTests (m .d) (m .n) (m .r) tz b c s zs)
+
 abbrev pub amortizeRefusal : Shape → (b : ℕ) (c s zs : List ℤ) → ℕ
-amortizeRefusal m b c s zs = firstFailing (amortizeTests (m .d) (m .n) (m .r) 2 b c s zs)
+amortizeRefusal m b c s zs = amortizeRefusalWith zCount m b c s zs
 
 abbrev pub verifyRefusal : Statement → Draws → Transcript → (o : List ℤ) → ℕ
 verifyRefusal 𝓢 𝓓 𝓣 o = firstFailing (verifyTests 𝓢 𝓓 𝓣 o)
@@ -79,8 +86,14 @@ productRefusal d x y = firstFailing (productTests d x y)
 
 -- ---- a part of the next witness: its refusal, and the chunk handed back
 
+abbrev pub partRefusalWith : (tz : ℕ) → PartSizes → (i : ℕ) → List ℤ → ℕ
+partRefusalWith tz m i o = partRefusal (m .shape .d) (m .shape .n) (m .shape .r) (m .kappa) (m .t1) (m .t2) tz (m .nu) (m .mu) i o
+
 abbrev pub partRefusalOf : PartSizes → (i : ℕ) → List ℤ → ℕ
-partRefusalOf m i o = partRefusal (m .shape .d) (m .shape .n) (m .shape .r) (m .kappa) (m .t1) (m .t2) 2 (m .nu) (m .mu) i o
+partRefusalOf m i o = partRefusalWith zCount m i o
+
+abbrev pub nextPartWith : (tz : ℕ) → PartSizes → (i : ℕ) → List ℤ → List ℤ
+nextPartWith tz m i o = nextPart (m .shape .d) (m .shape .n) (m .shape .r) (m .kappa) (m .t1) (m .t2) tz (m .nu) (m .mu) i o
 
 abbrev pub nextPartOf : PartSizes → (i : ℕ) → List ℤ → List ℤ
-nextPartOf m i o = nextPart (m .shape .d) (m .shape .n) (m .shape .r) (m .kappa) (m .t1) (m .t2) 2 (m .nu) (m .mu) i o
+nextPartOf m i o = nextPartWith zCount m i o

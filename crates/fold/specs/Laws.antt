@@ -14,6 +14,7 @@ pub mod MessageRanges
 pub mod NextLaws
 pub mod NextOrder
 pub mod NextSolves
+pub mod OneDigit
 pub mod OpeningDifferences
 pub mod OpeningLaws
 pub mod PaddingLaws

@@ -6,6 +6,10 @@ use Rattle.algebra.specs.Triangle.{pairs-count}
 abbrev pub five : ℕ
 five = 5
 
+-- message 5: "z = Σ c_i s_i in two digits to base b". Definitions take the number of digits of z as tz; this is tz at today's calls.
+abbrev pub zCount : ℕ
+zCount = 2
+
 -- the number of pairs i ≤ j of r parts: (r² + r)/2
 unfoldable pub pairs : ℕ → ℕ
 pairs r = pairs-count r

@@ -64,7 +64,7 @@ module _ (𝓢 : Relation) where
     pub short : normSq s ≤ bound
 
 -- the relation, the matrices, the digits and the target bound: "Two openings are of one statement when the sizes, bases, bounds,
--- matrices A, B, C, D and constraints are equal." tz, the number of z digits, is 2.
+-- matrices A, B, C, D and constraints are equal." tz is the number of z digits.
 pub record Statement : Type 0 where
   pub relation : Relation
   pub w : ℕ

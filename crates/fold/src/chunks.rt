@@ -1,4 +1,5 @@
-// The sizes of the next instance and of its chunks: SPECIFICATION 8. Within the limits of rows 1 to 5 nothing wraps.
+// The sizes of the next instance and of its chunks, for an opening whose z has tz digits: SPECIFICATION 8. Within the limits of rows 1 to 5
+// nothing wraps.
 ghost use mathlib.Core.Path.{_≡_};
 ghost use Prim.Native.Nat.{_≤_, _<_};
 ghost use Rattle.algebra.specs.Triangle.{start};
@@ -52,12 +53,13 @@ pub fn chunk(whole: usize, count: usize, i: usize) -> usize
 }
 
 // Elements of part s, from 0, of the next witness.
-pub fn chunk_width(n: usize, nu: usize, m: usize, mu: usize, s: usize) -> usize
+pub fn chunk_width(tz: usize, n: usize, nu: usize, m: usize, mu: usize, s: usize) -> usize
+    requires { ⌜ tz ≤ 2 ⌝ }
     requires { ⌜ CutSizes n nu m mu ⌝ }
     requires { ⌜ s ≤ 16 ⌝ }
-    ensures { λ x. ⌜ x ≡ cuts.width 2 n nu m mu s ⌝ }
+    ensures { λ x. ⌜ x ≡ cuts.width tz n nu m mu s ⌝ }
 {
-    let of_z = 2 * nu;
+    let of_z = tz * nu;
     if s < of_z {
         return chunk(n, nu, s % nu);
     }
@@ -65,15 +67,16 @@ pub fn chunk_width(n: usize, nu: usize, m: usize, mu: usize, s: usize) -> usize
 }
 
 // Elements of the opening before part s.
-pub fn chunk_start(n: usize, nu: usize, m: usize, mu: usize, s: usize) -> usize
+pub fn chunk_start(tz: usize, n: usize, nu: usize, m: usize, mu: usize, s: usize) -> usize
+    requires { ⌜ tz ≤ 2 ⌝ }
     requires { ⌜ CutSizes n nu m mu ⌝ }
     requires { ⌜ s ≤ 16 ⌝ }
-    ensures { λ x. ⌜ x ≡ start (cuts.width 2 n nu m mu) s ⌝ }
+    ensures { λ x. ⌜ x ≡ start (cuts.width tz n nu m mu) s ⌝ }
 {
     let mut at = 0;
     let mut k = 0;
     while k < s {
-        let width = chunk_width(n, nu, m, mu, k);
+        let width = chunk_width(tz, n, nu, m, mu, k);
         at += width;
         k += 1;
     }

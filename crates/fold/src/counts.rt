@@ -1,7 +1,10 @@
-// How many elements the sizes give. Within the limits of rows 1 to 4 no product wraps.
+// How many elements the sizes give. Within the limits of rows 1 to 4, and for at most two digits of z, no product wraps.
 ghost use mathlib.Core.Path.{_≡_};
 ghost use Prim.Native.Nat.{_≤_};
 ghost use Rattle.fold.specs.Sizes.{pairs, functionSize, tSize, garbageSize, openingSize};
+
+// The number of digits of z at today's entries: "z = Σ c_i s_i in two digits to base b". Functions take it as tz.
+pub const Z_DIGITS: usize = 2;
 
 // The number of pairs i ≤ j of r parts.
 pub fn pair_count(r: usize) -> usize
@@ -35,13 +38,13 @@ pub fn garbage_size(r: usize, t: usize) -> usize
     pair_count(r) * t
 }
 
-// Elements of an opening whose z has two digits.
-pub fn opening_size(n: usize, r: usize, kappa: usize, t1: usize, t2: usize) -> usize
-    requires { ⌜ (n ≤ 256) × (r ≤ 16) × (kappa ≤ 8) × (t1 ≤ 8) × (t2 ≤ 8) ⌝ }
-    ensures { λ x. ⌜ x ≡ openingSize 2 n r kappa t1 t2 ⌝ }
+// Elements of an opening whose z has tz digits.
+pub fn opening_size(tz: usize, n: usize, r: usize, kappa: usize, t1: usize, t2: usize) -> usize
+    requires { ⌜ (tz ≤ 2) × (n ≤ 256) × (r ≤ 16) × (kappa ≤ 8) × (t1 ≤ 8) × (t2 ≤ 8) ⌝ }
+    ensures { λ x. ⌜ x ≡ openingSize tz n r kappa t1 t2 ⌝ }
 {
     let t = t_size(r, kappa, t1);
     let g = garbage_size(r, t2);
     let h = garbage_size(r, t1);
-    2 * n + (t + (g + h))
+    tz * n + (t + (g + h))
 }

@@ -9,7 +9,7 @@ use Prim.Native.Nat.{_*_}
 use lib.ListN.{take, drop}
 use lib.IntN.{ℤ}
 use Rattle.fold.specs.declared.Answer.{Answer}
-use Rattle.fold.specs.Sizes.{five, openingSize}
+use Rattle.fold.specs.Sizes.{five, zCount, openingSize}
 use Rattle.fold.specs.Refusals.{wholeLength, constantTermsLength, projectionLength}
 use Rattle.fold.specs.Arguments.{statementOf, drawsOf, transcriptOf}
 use Rattle.fold.specs.Verification.{verification}
@@ -23,7 +23,7 @@ module _ (s : SheetSizes) where
       let δ = five * s .d in
       let u₂ = s .kappa2 * s .d in
       let c = s .r * s .d in
-      let o = openingSize 2 (s .n) (s .r) (s .kappa) (s .t1) (s .t2) * s .d in
+      let o = openingSize zCount (s .n) (s .r) (s .kappa) (s .t1) (s .t2) * s .d in
       verification (statementOf (foldSizes s) A B C D whole constantTerms)
       (drawsOf projections ψ ω (take α xs) (take δ (drop α xs)) (take c (drop u₂ (drop δ (drop α xs)))))
       (transcriptOf u₁ p b″ (take u₂ (drop δ (drop α xs)))) (take o (drop c (drop u₂ (drop δ (drop α xs)))))

@@ -1,9 +1,10 @@
 // How many numbers some lists of a sheet have.
 ghost use mathlib.Core.Path.{_≡_};
 ghost use Prim.Native.Nat.{_*_};
-ghost use Rattle.fold.specs.Sizes.{tSize, garbageSize, openingSize};
+ghost use Rattle.fold.specs.Sizes.{zCount, tSize, garbageSize, openingSize};
 ghost use Rattle.fold.specs.Refusals.{wholeLength, constantTermsLength, projectionLength};
 ghost use Rattle.sheet.specs.Sections.{Bounded};
+use fold::counts::Z_DIGITS;
 use fold::counts::garbage_size;
 use fold::counts::opening_size;
 use fold::counts::t_size;
@@ -64,8 +65,8 @@ pub fn projections_length(s: SheetSizes) -> usize
 
 pub fn opening_length(s: SheetSizes) -> usize
     requires { ⌜ Bounded s ⌝ }
-    ensures { λ m. ⌜ m ≡ openingSize 2 (s .n) (s .r) (s .kappa) (s .t1) (s .t2) * s .d ⌝ }
+    ensures { λ m. ⌜ m ≡ openingSize zCount (s .n) (s .r) (s .kappa) (s .t1) (s .t2) * s .d ⌝ }
 {
-    let elements = opening_size(s.n, s.r, s.kappa, s.t1, s.t2);
+    let elements = opening_size(Z_DIGITS, s.n, s.r, s.kappa, s.t1, s.t2);
     sizes::list_length(elements, s.d)
 }

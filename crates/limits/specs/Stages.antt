@@ -31,11 +31,11 @@ boundRowsOf m = boundRows (pos (m .bound)) (pos (m .target))
 abbrev pub verifyBoundsOf : Sizes → List (ℕ × Bool)
 verifyBoundsOf m = sizeRowsOf m ++ boundRowsOf m
 
-abbrev pub nextBoundsOf : Sizes → (ν μ : ℕ) → List (ℕ × Bool)
-nextBoundsOf m ν μ = sizeRowsOf m ++ ((5, chunks 2 (pos ν) (pos μ)) ∷ boundRowsOf m)
+abbrev pub nextBoundsOf : (tz : ℕ) → Sizes → (ν μ : ℕ) → List (ℕ × Bool)
+nextBoundsOf tz m ν μ = sizeRowsOf m ++ ((5, chunks tz (pos ν) (pos μ)) ∷ boundRowsOf m)
 
-abbrev pub partBoundsOf : PartSizes → ℕ → List (ℕ × Bool)
-partBoundsOf m i = partBounds (m .shape .d) (m .shape .n) (m .shape .r) (m .kappa) (m .t1) (m .t2) 2 (m .nu) (m .mu) i
+abbrev pub partBoundsOf : (tz : ℕ) → PartSizes → ℕ → List (ℕ × Bool)
+partBoundsOf tz m i = partBounds (m .shape .d) (m .shape .n) (m .shape .r) (m .kappa) (m .t1) (m .t2) tz (m .nu) (m .mu) i
 
 -- ---- row 7
 
@@ -60,8 +60,8 @@ drawLengthsOf m whole constantTerms projections ψ ω α δ c =
 abbrev pub rankOf : Sizes → (ν μ : ℕ) → ℕ
 rankOf m ν μ = nextRank (m .shape .n) ν (restSize (m .shape .r) (m .kappa) (m .t1) (m .t2)) μ
 
-abbrev pub outLengthOf : Sizes → (ν μ : ℕ) → ℕ
-outLengthOf m ν μ = wholeLength (m .shape .d) (rankOf m ν μ) (nextParts 2 ν μ) (nextCount (m .kappa) (m .kappa1) (m .kappa2))
+abbrev pub outLengthOf : (tz : ℕ) → Sizes → (ν μ : ℕ) → ℕ
+outLengthOf tz m ν μ = wholeLength (m .shape .d) (rankOf m ν μ) (nextParts tz ν μ) (nextCount (m .kappa) (m .kappa1) (m .kappa2))
 
 -- the limits of the sizes of both kinds of constraints
 pub record ConstraintLimits (d n r K L w : ℕ) : Type 0 where

@@ -73,8 +73,9 @@ pub fn projections_fit(d: usize, n: usize, r: usize, w: usize, projections: &[i3
     sized(projections, length)
 }
 
-// The digits of z, t, g and h.
+// The digits of z, tz of them, of t, g and h.
 pub fn opening_fits(
+    tz: usize,
     d: usize,
     n: usize,
     r: usize,
@@ -83,10 +84,10 @@ pub fn opening_fits(
     t2: usize,
     opening: &[i32],
 ) -> bool
-    requires { ⌜ (d ≤ 64) × (n ≤ 256) × (r ≤ 16) × (kappa ≤ 8) × (t1 ≤ 8) × (t2 ≤ 8) ⌝ }
-    ensures { λ x. ⌜ x ≡ table.sized (now (opening .entry)) (openingSize 2 n r kappa t1 t2 * d) ⌝ }
+    requires { ⌜ (tz ≤ 2) × (d ≤ 64) × (n ≤ 256) × (r ≤ 16) × (kappa ≤ 8) × (t1 ≤ 8) × (t2 ≤ 8) ⌝ }
+    ensures { λ x. ⌜ x ≡ table.sized (now (opening .entry)) (openingSize tz n r kappa t1 t2 * d) ⌝ }
 {
-    let elements = opening_size(n, r, kappa, t1, t2);
+    let elements = opening_size(tz, n, r, kappa, t1, t2);
     list_fits(opening, elements, d)
 }
 
@@ -206,15 +207,23 @@ pub fn garbage_lengths(
         & list_fits(u2, sizes.kappa2, sizes.shape.d)
 }
 
-pub fn amortize_lengths(shape: Shape, b: usize, c: &[i32], witness: &[i32], z: &[i32]) -> bool
+pub fn amortize_lengths(
+    tz: usize,
+    shape: Shape,
+    b: usize,
+    c: &[i32],
+    witness: &[i32],
+    z: &[i32],
+) -> bool
+    requires { ⌜ tz ≤ 2 ⌝ }
     requires { ⌜ AmortizeLimits (shape .d) (shape .n) (shape .r) b ⌝ }
     ensures { λ x.
-        ⌜ x ≡ allOf (table.amortizeLengths (shape .d) (shape .n) (shape .r) 2 (now (c .entry)) (now (witness .entry))
+        ⌜ x ≡ allOf (table.amortizeLengths (shape .d) (shape .n) (shape .r) tz (now (c .entry)) (now (witness .entry))
         (now (z .entry))) ⌝ }
 {
     list_fits(c, shape.r, shape.d)
         & matrix_fits(witness, shape.r, shape.n, shape.d)
-        & matrix_fits(z, 2, shape.n, shape.d)
+        & matrix_fits(z, tz, shape.n, shape.d)
 }
 
 // The messages before the opening.

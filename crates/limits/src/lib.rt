@@ -24,6 +24,7 @@ use fold::CommitSizes;
 use fold::GarbageSizes;
 use fold::Shape;
 use fold::Sizes;
+use fold::counts::Z_DIGITS;
 use lengths::aggregate_lengths;
 use lengths::amortize_lengths;
 use lengths::commit_lengths;
@@ -205,7 +206,7 @@ pub fn amortize_refusal(shape: Shape, b: usize, c: &[i32], witness: &[i32], z: &
     if size != 0 {
         return size;
     }
-    let fits = amortize_lengths(shape, b, c, witness, z);
+    let fits = amortize_lengths(Z_DIGITS, shape, b, c, witness, z);
     if !fits {
         return 7;
     }
@@ -246,6 +247,7 @@ pub fn verify_refusal(
         return size;
     }
     let opened = opening_fits(
+        Z_DIGITS,
         sizes.shape.d,
         sizes.shape.n,
         sizes.shape.r,

@@ -1,11 +1,13 @@
 // The number with which the next instance refuses, 0 where it does not: SPECIFICATION 7.
 ghost use mathlib.Core.Path.{_≡_};
-ghost use Prim.Native.Nat.{_≤_};
+ghost use Prim.Native.Nat.{_<_, _≤_};
 ghost use Rattle.fold.specs.Answers.{firstFailing};
 ghost use Rattle.fold.specs.Refusals.{nextTests};
 ghost use Rattle.fold.specs.Refusals as table;
 ghost use Rattle.fold.specs.Arguments.{VerifySized, statementOf, drawsOf, transcriptOf};
+ghost use Rattle.fold.specs.Sizes.{restSize};
 ghost use Rattle.fold.specs.Known.CallLimits.{ChunkLimits};
+ghost use Rattle.fold.specs.Known.CutSizes.{CutSizes};
 ghost use Rattle.limits.specs.Stages as spec;
 use crate::bounds::size_rows;
 use crate::draws::draw_lengths;
@@ -21,15 +23,17 @@ use crate::rows::sized;
 use fold::Sizes;
 use fold::chunks::next_rank;
 use fold::chunks::rest_size;
+use fold::counts::Z_DIGITS;
 use residues::range::are_coefficients;
 use residues::range::are_projection_entries;
 
-// Rows 1 to 6: the sizes.
-pub fn next_bounds(sizes: Sizes, nu: usize, mu: usize) -> u8
-    ensures { λ x. ⌜ x ≡ firstFailing (spec.nextBoundsOf sizes nu mu) ⌝ }
+// Rows 1 to 6: the sizes, for tz digits of z.
+pub fn next_bounds(tz: usize, sizes: Sizes, nu: usize, mu: usize) -> u8
+    requires { ⌜ (0 < tz) × (tz ≤ 2) ⌝ }
+    ensures { λ x. ⌜ x ≡ firstFailing (spec.nextBoundsOf tz sizes nu mu) ⌝ }
 {
     let size = size_rows(sizes);
-    let five = chunk_counts(nu, mu);
+    let five = chunk_counts(tz, nu, mu);
     let six = length_bounds(sizes.bound, sizes.target);
     first(size == 0, size, first(five, 5, first(six, 6, 0)))
 }
@@ -37,7 +41,7 @@ pub fn next_bounds(sizes: Sizes, nu: usize, mu: usize) -> u8
 // n' for these sizes.
 pub fn rank_of(sizes: Sizes, nu: usize, mu: usize) -> usize
     requires { ⌜ VerifySized sizes ⌝ }
-    requires { ⌜ ChunkLimits 2 nu mu ⌝ }
+    requires { ⌜ CutSizes (sizes .shape .n) nu (restSize (sizes .shape .r) (sizes .kappa) (sizes .t1) (sizes .t2)) mu ⌝ }
     ensures { λ x. ⌜ x ≡ spec.rankOf sizes nu mu ⌝ }
 {
     let m = rest_size(sizes.shape.r, sizes.kappa, sizes.t1, sizes.t2);
@@ -55,13 +59,14 @@ pub fn next_fits(out: &[i32], d: usize, rank: usize, parts: usize, count: usize)
 }
 
 // Row 7: the list written.
-pub fn out_fits(sizes: Sizes, nu: usize, mu: usize, rank: usize, out: &[i32]) -> bool
+pub fn out_fits(tz: usize, sizes: Sizes, nu: usize, mu: usize, rank: usize, out: &[i32]) -> bool
+    requires { ⌜ 0 < tz ⌝ }
     requires { ⌜ VerifySized sizes ⌝ }
-    requires { ⌜ ChunkLimits 2 nu mu ⌝ }
+    requires { ⌜ ChunkLimits tz nu mu ⌝ }
     requires { ⌜ rank ≡ spec.rankOf sizes nu mu ⌝ }
-    ensures { λ x. ⌜ x ≡ table.sized (now (out .entry)) (spec.outLengthOf sizes nu mu) ⌝ }
+    ensures { λ x. ⌜ x ≡ table.sized (now (out .entry)) (spec.outLengthOf tz sizes nu mu) ⌝ }
 {
-    let parts = 2 * nu + mu;
+    let parts = tz * nu + mu;
     let count = sizes.kappa + sizes.kappa1 + sizes.kappa2 + 3;
     next_fits(out, sizes.shape.d, rank, parts, count)
 }
@@ -95,12 +100,12 @@ pub fn next_refusal(
         (now (psi .entry)) (now (omega .entry)) (now (alpha .entry)) (now (delta .entry)) (now (c .entry)))
         (transcriptOf (now (u1 .entry)) (now (p .entry)) (now («second_b» .entry)) (now (u2 .entry))) nu mu (now (out .entry))) ⌝ }
 {
-    let size = next_bounds(sizes, nu, mu);
+    let size = next_bounds(Z_DIGITS, sizes, nu, mu);
     if size != 0 {
         return size;
     }
     let rank = rank_of(sizes, nu, mu);
-    let fits = out_fits(sizes, nu, mu, rank, out)
+    let fits = out_fits(Z_DIGITS, sizes, nu, mu, rank, out)
         & message_lengths(sizes, u1, p, second_b, u2)
         & matrix_lengths(sizes, a_matrix, b_matrix, c_matrix, d_matrix)
         & draw_lengths(

@@ -1,5 +1,6 @@
 // The number with which the question for a part of the next witness refuses, 0 where it does not.
 ghost use mathlib.Core.Path.{_≡_};
+ghost use Prim.Native.Nat.{_<_, _≤_};
 ghost use lib.IntN.{pos};
 ghost use Rattle.fold.specs.Answers.{firstFailing};
 ghost use Rattle.fold.specs.Sizes.{nextParts};
@@ -14,32 +15,36 @@ use crate::rows::degree;
 use crate::rows::digit_count;
 use crate::rows::first;
 use fold::PartSizes;
+use fold::counts::Z_DIGITS;
 
-// Whether a part number is 1 to 2ν+μ, for any ν and μ: ν is taken off twice, so nothing wraps.
-pub fn part_number(nu: usize, mu: usize, part: usize) -> bool
-    ensures { λ x. ⌜ x ≡ table.between 1 (nextParts 2 nu mu) (pos part) ⌝ }
+// Whether a part number is 1 to r' = tz·ν+μ, for any ν and μ: ν is taken off digit by digit, so nothing wraps.
+pub fn part_number(tz: usize, nu: usize, mu: usize, part: usize) -> bool
+    ensures { λ x. ⌜ x ≡ table.between 1 (nextParts tz nu mu) (pos part) ⌝ }
 {
     if part == 0 {
         return false;
     }
-    if part <= nu {
-        return true;
+    let mut left = part;
+    let mut e = 0;
+    while e < tz {
+        if left <= nu {
+            return true;
+        }
+        left -= nu;
+        e += 1;
     }
-    let past = part - nu;
-    if past <= nu {
-        return true;
-    }
-    past - nu <= mu
+    left <= mu
 }
 
-// Rows 1 to 5.
-pub fn part_bounds(sizes: PartSizes, part: usize) -> u8
-    ensures { λ x. ⌜ x ≡ firstFailing (spec.partBoundsOf sizes part) ⌝ }
+// Rows 1 to 5, for tz digits of z.
+pub fn part_bounds(tz: usize, sizes: PartSizes, part: usize) -> u8
+    requires { ⌜ (0 < tz) × (tz ≤ 2) ⌝ }
+    ensures { λ x. ⌜ x ≡ firstFailing (spec.partBoundsOf tz sizes part) ⌝ }
 {
-    let two = shape(sizes.shape.n, sizes.shape.r) & part_number(sizes.nu, sizes.mu, part);
+    let two = shape(sizes.shape.n, sizes.shape.r) & part_number(tz, sizes.nu, sizes.mu, part);
     let three = commitment_rank(sizes.kappa);
     let four = digit_count(sizes.t1) & digit_count(sizes.t2);
-    let five = chunk_counts(sizes.nu, sizes.mu);
+    let five = chunk_counts(tz, sizes.nu, sizes.mu);
     first(
         degree(sizes.shape.d),
         1,
@@ -51,11 +56,12 @@ pub fn part_bounds(sizes: PartSizes, part: usize) -> u8
 pub fn next_part_refusal(sizes: PartSizes, part: usize, opening: &[i32]) -> u8
     ensures { λ x. ⌜ x ≡ partRefusalOf sizes part (now (opening .entry)) ⌝ }
 {
-    let size = part_bounds(sizes, part);
+    let size = part_bounds(Z_DIGITS, sizes, part);
     if size != 0 {
         return size;
     }
     let seven = opening_fits(
+        Z_DIGITS,
         sizes.shape.d,
         sizes.shape.n,
         sizes.shape.r,

@@ -60,16 +60,17 @@ pub fn digit_count(t: usize) -> bool
 }
 
 // Row 5. Each count is tested alone first, so that 2ν+μ never wraps.
-pub fn chunk_counts(nu: usize, mu: usize) -> bool
-    ensures { λ x. ⌜ x ≡ spec.chunks 2 (pos nu) (pos mu) ⌝ }
+pub fn chunk_counts(tz: usize, nu: usize, mu: usize) -> bool
+    requires { ⌜ (0 < tz) × (tz ≤ 2) ⌝ }
+    ensures { λ x. ⌜ x ≡ spec.chunks tz (pos nu) (pos mu) ⌝ }
 {
-    if 8 < nu {
+    if 16 < nu {
         return false;
     }
     if 16 < mu {
         return false;
     }
-    let together = 2 * nu + mu;
+    let together = tz * nu + mu;
     (1 <= nu) & (1 <= mu) & (together <= 16)
 }
 

@@ -14,6 +14,7 @@ use Rattle.fold.specs.declared.Shape.{Shape}
 use Rattle.ring.specs.Element.{R, lift, array}
 use Rattle.fold.specs.Answers.{answered, written}
 use Rattle.fold.specs.Arguments.{productRefusal, commitRefusal, projectRefusal, aggregateRefusal, garbageRefusal, amortizeRefusal}
+use Rattle.fold.specs.Sizes.{zCount}
 use Rattle.fold.specs.Messages.{p, b″, aggregate, hDigits, u₂, zDigits}
 use Rattle.prover.specs.Outputs.{tOf, gOf, u₁Of}
 use Rattle.lizkarg.specs.declared.Product.{Product}
@@ -58,4 +59,4 @@ pub record GarbageCommitted (sizes : GarbageSizes) (whole constantTerms projecti
 -- Message 5
 pub record Amortized (shape : Shape) (b : ℕ) (c s v : List ℤ) (answer : Answer) (v′ : List ℤ) : Type 0 where
   pub answer-is : answer ≡ answered (amortizeRefusal shape b c s v) Written
-  pub z-is : v′ ≡ written (amortizeRefusal shape b c s v) (zDigits (shape .d) (shape .n) (shape .r) 2 b c s) v
+  pub z-is : v′ ≡ written (amortizeRefusal shape b c s v) (zDigits (shape .d) (shape .n) (shape .r) zCount b c s) v

@@ -6,6 +6,7 @@ use fold::Answer;
 use fold::CommitSizes;
 use fold::GarbageSizes;
 use fold::Shape;
+use fold::counts::Z_DIGITS;
 pub use judge::judge_sheet;
 pub use limits::part::next_part_refusal;
 pub use next_instance::next_instance;
@@ -186,6 +187,6 @@ pub fn amortize(shape: Shape, b: usize, c: &[i32], witness: &[i32], z: &mut [i32
     if refusal != 0 {
         return Answer::Refused(refusal);
     }
-    prover::amortize::write_z(shape, b, c, witness, z);
+    prover::amortize::write_z(Z_DIGITS, shape, b, c, witness, z);
     Answer::Written
 }

@@ -16,6 +16,7 @@ ghost use Rattle.next_constraints.specs.Entries.{entry5, entry6, entry7,
 ghost use Rattle.next_constraints.specs.Entries.{middleEntry, outerEntry, coefficientAt};
 use crate::entries;
 use fold::Sizes;
+use fold::counts::Z_DIGITS;
 use fold::counts::garbage_size;
 use fold::counts::t_size;
 use fold::places;
@@ -30,12 +31,12 @@ fn check5_entry(sizes: Sizes, a_matrix: &[i32], c: &[i32], k: usize, p: usize) -
     ensures { λ x. ⌜ x .coefficients ≡ array (sizes .shape .d) (entry5 sizes (now («a_matrix» .entry)) (now (c .entry)) k p) ⌝ }
 {
     let d = sizes.shape.d;
-    let t_start = places::t_place(sizes);
+    let t_start = places::t_place(Z_DIGITS, sizes);
     if p < t_start {
         let from = k * sizes.shape.n;
         return entries::z_entry(d, sizes.shape.n, sizes.b, a_matrix, from, p);
     }
-    let g_start = places::g_place(sizes);
+    let g_start = places::g_place(Z_DIGITS, sizes);
     if p < g_start {
         let place = p - t_start;
         return entries::t_entry(d, sizes.kappa, sizes.b1, sizes.t1, c, k, place);
@@ -50,11 +51,11 @@ fn check6_entry(sizes: Sizes, products: &[i32], p: usize) -> Element
     ensures { λ x. ⌜ x .coefficients ≡ array (sizes .shape .d) (entry6 sizes (now (products .entry)) p) ⌝ }
 {
     let d = sizes.shape.d;
-    let g_start = places::g_place(sizes);
+    let g_start = places::g_place(Z_DIGITS, sizes);
     if p < g_start {
         return Element::additive_identity();
     }
-    let h_start = places::h_place(sizes);
+    let h_start = places::h_place(Z_DIGITS, sizes);
     if p < h_start {
         let place = p - g_start;
         return entries::garbage_entry(d, sizes.b2, sizes.t2, products, place);
@@ -72,11 +73,11 @@ fn check7_entry(sizes: Sizes, folded: &[i32], products: &[i32], p: usize) -> Ele
         ⌜ x .coefficients ≡ array (sizes .shape .d) (entry7 sizes (now (folded .entry)) (now (products .entry)) p) ⌝ }
 {
     let d = sizes.shape.d;
-    let t_start = places::t_place(sizes);
+    let t_start = places::t_place(Z_DIGITS, sizes);
     if p < t_start {
         return entries::z_entry(d, sizes.shape.n, sizes.b, folded, 0, p);
     }
-    let h_start = places::h_place(sizes);
+    let h_start = places::h_place(Z_DIGITS, sizes);
     if p < h_start {
         return Element::additive_identity();
     }
@@ -94,11 +95,11 @@ fn check8_entry(sizes: Sizes, aggregate_a: &[i32], diagonal: &[i32], p: usize) -
         ⌜ x .coefficients ≡ array (sizes .shape .d) (entry8 sizes (now («aggregate_a» .entry)) (now (diagonal .entry)) p) ⌝ }
 {
     let d = sizes.shape.d;
-    let g_start = places::g_place(sizes);
+    let g_start = places::g_place(Z_DIGITS, sizes);
     if p < g_start {
         return Element::additive_identity();
     }
-    let h_start = places::h_place(sizes);
+    let h_start = places::h_place(Z_DIGITS, sizes);
     if p < h_start {
         let place = p - g_start;
         return entries::garbage_entry(d, sizes.b2, sizes.t2, aggregate_a, place);
@@ -117,17 +118,17 @@ fn check3_entry(sizes: Sizes, b_matrix: &[i32], c_matrix: &[i32], k: usize, p: u
         ⌜ x .coefficients ≡ array (sizes .shape .d) (entry3 sizes (now («b_matrix» .entry)) (now («c_matrix» .entry)) k p) ⌝ }
 {
     let d = sizes.shape.d;
-    let t_start = places::t_place(sizes);
+    let t_start = places::t_place(Z_DIGITS, sizes);
     if p < t_start {
         return Element::additive_identity();
     }
-    let g_start = places::g_place(sizes);
+    let g_start = places::g_place(Z_DIGITS, sizes);
     if p < g_start {
         let size = t_size(sizes.shape.r, sizes.kappa, sizes.t1);
         let place = p - t_start;
         return entries::row_entry(d, size, b_matrix, k, place);
     }
-    let h_start = places::h_place(sizes);
+    let h_start = places::h_place(Z_DIGITS, sizes);
     if p < h_start {
         let size = garbage_size(sizes.shape.r, sizes.t2);
         let place = p - g_start;
@@ -145,7 +146,7 @@ fn check4_entry(sizes: Sizes, d_matrix: &[i32], k: usize, p: usize) -> Element
     ensures { λ x. ⌜ x .coefficients ≡ array (sizes .shape .d) (entry4 sizes (now («d_matrix» .entry)) k p) ⌝ }
 {
     let d = sizes.shape.d;
-    let h_start = places::h_place(sizes);
+    let h_start = places::h_place(Z_DIGITS, sizes);
     if p < h_start {
         return Element::additive_identity();
     }

@@ -8,6 +8,7 @@ ghost use Rattle.next_instance.specs.Known.Facts.{CutFacts};
 use fold::Sizes;
 use fold::chunks::next_rank;
 use fold::chunks::rest_size;
+use fold::counts::Z_DIGITS;
 use fold::counts::function_size;
 use fold::counts::pair_count;
 
@@ -31,7 +32,7 @@ pub fn cut_of(sizes: Sizes, nu: usize, mu: usize) -> Cut
 {
     let m = rest_size(sizes.shape.r, sizes.kappa, sizes.t1, sizes.t2);
     let rank = next_rank(sizes.shape.n, nu, m, mu);
-    let parts = 2 * nu + mu;
+    let parts = Z_DIGITS * nu + mu;
     let pairs = pair_count(parts);
     let size = function_size(rank, parts);
     Cut {

@@ -6,6 +6,7 @@ use fold::PartSizes;
 use fold::chunks::chunk_start;
 use fold::chunks::chunk_width;
 use fold::chunks::rest_size;
+use fold::counts::Z_DIGITS;
 use limits::part::next_part_refusal;
 
 // The first number of a part in the opening, and how many there are; 0 and 0 where it is refused. Laid out as C lays it out.
@@ -28,8 +29,8 @@ pub fn next_place(sizes: PartSizes, part: usize, opening: &[i32]) -> Place
     }
     let m = rest_size(sizes.shape.r, sizes.kappa, sizes.t1, sizes.t2);
     let s = part - 1;
-    let at = chunk_start(sizes.shape.n, sizes.nu, m, sizes.mu, s);
-    let width = chunk_width(sizes.shape.n, sizes.nu, m, sizes.mu, s);
+    let at = chunk_start(Z_DIGITS, sizes.shape.n, sizes.nu, m, sizes.mu, s);
+    let width = chunk_width(Z_DIGITS, sizes.shape.n, sizes.nu, m, sizes.mu, s);
     let start = at * sizes.shape.d;
     let length = width * sizes.shape.d;
     Place {

@@ -19,6 +19,7 @@ ghost use Rattle.next_instance.specs.Written.{tableOf, chunkEntry};
 use crate::cut::Cut;
 use fold::Sizes;
 use fold::chunks::chunk_width;
+use fold::counts::Z_DIGITS;
 use next_constraints::coefficients::coefficient;
 use ring::element::Element;
 
@@ -162,7 +163,7 @@ pub fn write_phi(
     let mut place = at;
     let mut s = 0;
     while s < parts {
-        let size = chunk_width(n, cut.nu, cut.m, cut.mu, s);
+        let size = chunk_width(Z_DIGITS, n, cut.nu, cut.m, cut.mu, s);
         write_chunk(
             sizes,
             rank,

@@ -1,4 +1,4 @@
-// Message 5: "Given c_1..c_r, z = Σ c_i s_i in two digits to base b."
+// Message 5: "Given c_1..c_r, z = Σ c_i s_i in two digits to base b." Here in tz digits.
 ghost use mathlib.Core.Path.{_≡_};
 ghost use Prim.Native.Nat.{_+_, _-_, _*_, _<_, _≤_};
 ghost use lib.ListN.{length};
@@ -55,15 +55,16 @@ fn write_folded(
     }
 }
 
-// z in two digits to base b: the low digits, then the high ones.
-pub fn write_z(shape: Shape, b: usize, c: &[i32], witness: &[i32], out: &mut [i32])
-    requires { ⌜ AmortizeFacts shape b (now c) (now witness) (now out) ⌝ }
-    ensures { λ _. ⌜ now (out .exit) ≡ zDigits (shape .d) (shape .n) (shape .r) 2 b (now (c .entry)) (now (witness .entry)) ⌝ }
+// z in tz digits to base b, the lowest first. The elements stand in the last place before they are split; one digit is z itself.
+pub fn write_z(tz: usize, shape: Shape, b: usize, c: &[i32], witness: &[i32], out: &mut [i32])
+    requires { ⌜ AmortizeFacts tz shape b (now c) (now witness) (now out) ⌝ }
+    ensures { λ _. ⌜ now (out .exit) ≡ zDigits (shape .d) (shape .n) (shape .r) tz b (now (c .entry)) (now (witness .entry)) ⌝ }
 {
     let d = shape.d;
     let n = shape.n;
     let r = shape.r;
-    write_folded(d, n, r, c, witness, out, n);
+    let last = (tz - 1) * n;
+    write_folded(d, n, r, c, witness, out, last);
     let width = n * d;
-    split_digits(b, 2, width, out);
+    split_digits(b, tz, width, out);
 }

@@ -10,7 +10,7 @@ use lib.ListN.{length, getD, take, drop}
 use lib.IntN.{ℤ, pos}
 use Rattle.integers.specs.Flat.{flat}
 use Rattle.fold.specs.Answers.{firstFailing}
-use Rattle.fold.specs.Sizes.{pairs, tSize, garbageSize, openingSize}
+use Rattle.fold.specs.Sizes.{zCount, pairs, tSize, garbageSize, openingSize}
 use Rattle.sheet.specs.declared.sizes.SheetSizes.{SheetSizes}
 use Rattle.sheet.specs.Field.{fieldText, Fits16}
 use Rattle.sheet.specs.Reading.{headerTests, sizesOf, numberTests}
@@ -62,7 +62,7 @@ module _ (s : SheetSizes) where
       ++ (elements (s .d) (s .k)
       ++ (elements (s .d) 5
       ++ (elements (s .d) (s .kappa2)
-      ++ (elements (s .d) (s .r) ++ elements (s .d) (openingSize 2 (s .n) (s .r) (s .kappa) (s .t1) (s .t2))))))
+      ++ (elements (s .d) (s .r) ++ elements (s .d) (openingSize zCount (s .n) (s .r) (s .kappa) (s .t1) (s .t2))))))
 
   unfoldable pub bodyLines : List ℕ
   bodyLines = matrixLines ++ (wholeLines ++ (termLines ++ (rowLines ++ (numberLines ++ lastLines))))

@@ -5,7 +5,7 @@ use mathlib.Core.List.{List, [], _∷_}
 use Prim.Native.Nat.{ℕ, zero, suc, _*_}
 use lib.ListN.{take, drop}
 use lib.IntN.{ℤ}
-use Rattle.fold.specs.Sizes.{five, tSize, garbageSize, openingSize}
+use Rattle.fold.specs.Sizes.{five, zCount, tSize, garbageSize, openingSize}
 use Rattle.fold.specs.Refusals.{wholeLength, constantTermsLength, projectionLength}
 use Rattle.sheet.specs.declared.sizes.SheetSizes.{SheetSizes}
 
@@ -29,7 +29,7 @@ listLengths s =
     ∷ five * s .d
     ∷ s .kappa2 * s .d
     ∷ s .r * s .d
-    ∷ openingSize 2 (s .n) (s .r) (s .kappa) (s .t1) (s .t2) * s .d
+    ∷ openingSize zCount (s .n) (s .r) (s .kappa) (s .t1) (s .t2) * s .d
     ∷ []
 
 -- list k, where lists of these lengths stand one after another

@@ -21,6 +21,7 @@ use Rattle.fold.specs.declared.Answer.{Answer}
 use Rattle.fold.specs.declared.Answer.the-variants as answer
 use Rattle.fold.specs.Answers.{firstFailing, answered, written}
 use Rattle.fold.specs.declared.Sizes.{Sizes}
+use Rattle.fold.specs.Sizes.{zCount}
 use Rattle.fold.specs.Refusals.{sizeRows, boundRows, chunks, challenges}
 use Rattle.sheet.specs.declared.sizes.SheetSizes.{SheetSizes}
 use Rattle.sheet.specs.declared.sizes.Sections.{Sections}
@@ -45,7 +46,7 @@ headerNumbers text = tab 18 (λ k. numberAt text (16 * k))
 unfoldable pub headerTests : List ℤ → List (ℕ × Bool)
 headerTests h =
     sizeRows (at 0) (at 1) (at 2) (at 3) (at 4) (at 5) (at 6) (at 7) (at 8) (at 9) (at 10) (at 11) (at 12) (at 13)
-    ++ ((5, chunks 2 (at 14) (at 15)) ∷ boundRows (at 16) (at 17))
+    ++ ((5, chunks zCount (at 14) (at 15)) ∷ boundRows (at 16) (at 17))
   where
     at : ℕ → ℤ
     at k = getD h k (pos 0)

@@ -6,7 +6,7 @@ use mathlib.Core.Path.{_≡_}
 use mathlib.Core.Bool.{Bool, true, cond}
 use Prim.Native.Nat.{ℕ, _+_, _*_, _-_, _%_, _≤_, _<_}
 use lib.Dec.{ltb, eqb}
-use Rattle.fold.specs.Sizes.{functionSize, tSize, garbageSize, openingSize}
+use Rattle.fold.specs.Sizes.{zCount, functionSize, tSize, garbageSize, openingSize}
 use Rattle.sheet.specs.declared.sizes.SheetSizes.{SheetSizes}
 use Rattle.sheet.specs.declared.sizes.Sections.{Sections}
 
@@ -39,7 +39,7 @@ module _ (s : SheetSizes) where
   rowCount = s .kappa1 + s .w * (s .r * s .n)
 
   unfoldable pub lastCount : ℕ
-  lastCount = 5 + (s .k + (5 + (s .kappa2 + (s .r + openingSize 2 (s .n) (s .r) (s .kappa) (s .t1) (s .t2)))))
+  lastCount = 5 + (s .k + (5 + (s .kappa2 + (s .r + openingSize zCount (s .n) (s .r) (s .kappa) (s .t1) (s .t2)))))
 
   -- numbers of one constant-term constraint, and numbers on lines of their own
   unfoldable pub termSize : ℕ

@@ -10,6 +10,7 @@ use crate::sizes::fold_sizes;
 use crate::walk::End;
 use crate::walk::laid_end;
 use crate::walk::number_at;
+use fold::counts::Z_DIGITS;
 use limits::next::next_bounds;
 use limits::rows::first;
 
@@ -90,6 +91,6 @@ pub fn header_refusal(text: &[u8]) -> u8
 {
     let s = sheet_sizes(text);
     let sizes = fold_sizes(s);
-    let refusal = next_bounds(sizes, s.nu, s.mu);
+    let refusal = next_bounds(Z_DIGITS, sizes, s.nu, s.mu);
     first(header_laid(text), 12, refusal)
 }

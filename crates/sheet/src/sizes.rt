@@ -6,6 +6,7 @@ ghost use Rattle.sheet.specs.Sections.{Bounded, Sectioned, matrixCount, 
 ghost use Rattle.sheet.specs.Sections.{total, projectionsFrom, challengesFrom, endsElement, endsTerm, endsLine};
 use fold::Shape;
 use fold::Sizes;
+use fold::counts::Z_DIGITS;
 use fold::counts::function_size;
 use fold::counts::garbage_size;
 use fold::counts::opening_size;
@@ -109,7 +110,7 @@ fn last_count(s: SheetSizes) -> usize
     requires { ⌜ Bounded s ⌝ }
     ensures { λ p. ⌜ (p ≡ lastCount s) × (p ≤ 3778) ⌝ }
 {
-    let opening = opening_size(s.n, s.r, s.kappa, s.t1, s.t2);
+    let opening = opening_size(Z_DIGITS, s.n, s.r, s.kappa, s.t1, s.t2);
     5 + (s.k + (5 + (s.kappa2 + (s.r + opening))))
 }
 

@@ -14,6 +14,7 @@ ghost use Rattle.verifier.specs.Mixed.{Garbage, mixedSummand, mixedRow};
 use crate::outer;
 use crate::recomposed;
 use fold::Sizes;
+use fold::counts::Z_DIGITS;
 use fold::places;
 use ring::element::Element;
 use ring::product;
@@ -29,7 +30,7 @@ fn folded_summand(sizes: Sizes, c: &[i32], opening: &[i32], i: usize, k: usize) 
         (tValue sizes (now (opening .entry)) i k)) ⌝ }
 {
     let d = sizes.shape.d;
-    let start = places::t_place(sizes);
+    let start = places::t_place(Z_DIGITS, sizes);
     let t = recomposed::t_of(d, sizes.kappa, sizes.b1, sizes.t1, opening, start, i, k);
     let challenge = Element::from_slice(d, c, i);
     challenge.product(d, t)
@@ -204,7 +205,7 @@ pub fn self_product(sizes: Sizes, c: &[i32], z: &[i32], opening: &[i32]) -> bool
     let left = Element {
         coefficients: product::inner(d, sizes.shape.n, z, 0, z, 0),
     };
-    let start = places::g_place(sizes);
+    let start = places::g_place(Z_DIGITS, sizes);
     let right = mixed_sum(d, sizes.shape.r, sizes.b2, sizes.t2, opening, start, c);
     left.equals(d, right)
 }

@@ -14,6 +14,7 @@ use constraints::ConstraintSizes;
 use constraints::phi::write_phi_part;
 use constraints::row_groups;
 use fold::Sizes;
+use fold::counts::Z_DIGITS;
 use fold::places;
 use ring::element::Element;
 use ring::product::inner;
@@ -118,7 +119,7 @@ pub fn linear_part(
         c,
         z,
     );
-    let start = places::h_place(sizes);
+    let start = places::h_place(Z_DIGITS, sizes);
     let right = amortized::mixed_sum(d, shape.r, sizes.b1, sizes.t1, opening, start, c);
     left.equals(d, right)
 }

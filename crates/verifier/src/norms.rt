@@ -6,6 +6,7 @@ ghost use Rattle.fold.specs.Verdict.{check₁, check₉};
 ghost use Rattle.verifier.specs.Known.Facts.{Fits, Opening};
 ghost use Rattle.verifier.specs.Norms.{withinThree};
 use fold::Sizes;
+use fold::counts::Z_DIGITS;
 use fold::places;
 use residues::length;
 
@@ -40,7 +41,7 @@ pub fn short_opening(sizes: Sizes, opening: &[i32]) -> bool
         (now (opening .entry)) ⌝ }
 {
     let d = sizes.shape.d;
-    let t_start = places::t_place(sizes) * d;
-    let h_start = places::h_place(sizes) * d;
+    let t_start = places::t_place(Z_DIGITS, sizes) * d;
+    let h_start = places::h_place(Z_DIGITS, sizes) * d;
     short_parts(sizes.target, t_start, h_start, opening)
 }

@@ -9,6 +9,7 @@ ghost use Rattle.fold.specs.Opening.{block};
 ghost use Rattle.fold.specs.Verdict.{check₃, check₄};
 ghost use Rattle.verifier.specs.Known.Facts.{Fits, Holds, Opening, tBlockOf, gBlockOf, hBlockOf};
 use fold::Sizes;
+use fold::counts::Z_DIGITS;
 use fold::counts::garbage_size;
 use fold::counts::t_size;
 use fold::places;
@@ -50,10 +51,10 @@ fn first_row(
 {
     let d = sizes.shape.d;
     let t_count = t_size(sizes.shape.r, sizes.kappa, sizes.t1);
-    let t_start = places::t_place(sizes);
+    let t_start = places::t_place(Z_DIGITS, sizes);
     let t_part = row_times(d, t_count, b_matrix, k, opening, t_start);
     let g_count = garbage_size(sizes.shape.r, sizes.t2);
-    let g_start = places::g_place(sizes);
+    let g_start = places::g_place(Z_DIGITS, sizes);
     let g_part = row_times(d, g_count, c_matrix, k, opening, g_start);
     let row = t_part.sum(d, g_part);
     let u = Element::from_slice(d, u1, k);
@@ -101,7 +102,7 @@ fn second_row(sizes: Sizes, d_matrix: &[i32], u2: &[i32], opening: &[i32], k: us
 {
     let d = sizes.shape.d;
     let count = garbage_size(sizes.shape.r, sizes.t1);
-    let start = places::h_place(sizes);
+    let start = places::h_place(Z_DIGITS, sizes);
     let row = row_times(d, count, d_matrix, k, opening, start);
     let u = Element::from_slice(d, u2, k);
     u.equals(d, row)

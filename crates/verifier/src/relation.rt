@@ -17,6 +17,7 @@ use crate::recomposed;
 use constraints::ConstraintSizes;
 use constraints::aggregated;
 use fold::Sizes;
+use fold::counts::Z_DIGITS;
 use fold::counts::pair_count;
 use fold::places;
 use ring::element::Element;
@@ -146,7 +147,7 @@ pub fn relation_holds(
         (now (delta .entry)) (now («second_b» .entry))) (gValue sizes (now (opening .entry))) (hValue sizes (now (opening .entry)))) ⌝ }
 {
     let d = sizes.shape.d;
-    let g_start = places::g_place(sizes);
+    let g_start = places::g_place(Z_DIGITS, sizes);
     let g_sum = relation_sum(
         sizes,
         whole,
@@ -157,7 +158,7 @@ pub fn relation_holds(
         opening,
         g_start,
     );
-    let h_start = places::h_place(sizes);
+    let h_start = places::h_place(Z_DIGITS, sizes);
     let h_sum = diagonal_sum(d, sizes.shape.r, sizes.b1, sizes.t1, opening, h_start);
     let left = g_sum.sum(d, h_sum);
     let right = aggregated::aggregate_constant(sizes.shape, sizes.k, whole, alpha, delta, second_b);

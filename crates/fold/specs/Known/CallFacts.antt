@@ -144,20 +144,20 @@ garbage-facts {d} {n} {r} {K} {L} {w} {κ₂} {b₁} {t₁} {whole} {constantTer
       projections-entries = passed .1 .1 .1 .1 .1 .1 .0;
     }
 
--- ---- message 5; z has two digits
+-- ---- message 5; z has tz digits
 
-pub record AmortizeFacts (d n r b : ℕ) (c s zs : List ℤ) : Type 0 where
+pub record AmortizeFacts (d n r tz b : ℕ) (c s zs : List ℤ) : Type 0 where
   pub limits : AmortizeLimits d n r b
   pub c-length : length c ≡ r * d
   pub s-length : length s ≡ r * n * d
-  pub zs-length : length zs ≡ 2 * n * d
+  pub zs-length : length zs ≡ tz * n * d
 
-pub amortize-facts : {d n r b : ℕ} {c s zs : List ℤ}
-    → firstFailing (amortizeTests d n r 2 b c s zs) ≡ 0
-    → AmortizeFacts d n r b c s zs
+pub amortize-facts : {d n r tz b : ℕ} {c s zs : List ℤ}
+    → firstFailing (amortizeTests d n r tz b c s zs) ≡ 0
+    → AmortizeFacts d n r tz b c s zs
 unfolding amortizeTests
-amortize-facts {d} {n} {r} {b} {c} {s} {zs} e =
-    let passed = refusal-passes (amortizeTests d n r 2 b c s zs) refl e in
+amortize-facts {d} {n} {r} {tz} {b} {c} {s} {zs} e =
+    let passed = refusal-passes (amortizeTests d n r tz b c s zs) refl e in
     let lengths = allOf-all _ (passed .1 .1 .1 .0) in
     record {
       limits = amortize-limits d n r b (early-passes (amortizeBounds d n r b) _ refl e);

@@ -1,7 +1,7 @@
--- What is known of the sizes of an opening that is cut into 2ν chunks of z and μ chunks of the rest, and how large the chunks can be.
+-- What is known of the sizes of an opening that is cut into ν chunks of each digit of z and μ chunks of the rest, and how large the chunks can be.
 use mathlib.Core.Path.{_≡_, refl, ap, ap₂, _∙_}
 use Prim.Native.Nat.{ℕ, _+_, _*_, _-_, _%_, _≤_, _<_}
-use native.Mathlib.Nat.{div-le-self}
+use native.Mathlib.Nat.{div-le-self, le-refl}
 use native.Mathlib.Numerals.{add-one}
 use native.Mathlib.Omega.{arith}
 use borrow.Author.Tests.{lt-ltb, le-ltb}
@@ -9,7 +9,7 @@ use Rattle.algebra.specs.Triangle.{start}
 use Rattle.fold.specs.Sizes.{ceiling, nextRank, restSize}
 use Rattle.fold.specs.Chunks.{chunk, width}
 use Rattle.fold.specs.Laws.ChunkLaws.{width-bound}
-use Rattle.fold.specs.Laws.SizeBounds.{tSize-bound, garbageSize-bound}
+use Rattle.fold.specs.Laws.SizeBounds.{product-bound, tSize-bound, garbageSize-bound}
 use Rattle.fold.specs.Known.CallLimits.{ChunkLimits}
 
 pub record CutSizes (n ν m μ : ℕ) : Type 0 where
@@ -17,23 +17,25 @@ pub record CutSizes (n ν m μ : ℕ) : Type 0 where
   pub m-small : m ≤ 4096
   pub ν-positive : 0 < ν
   pub μ-positive : 0 < μ
-  pub parts-small : 2 * ν + μ ≤ 16
+  pub ν-small : ν ≤ 16
+  pub μ-small : μ ≤ 16
 
 -- a number of elements that code has computed
 pub restSize-bound : (r κ t₁ t₂ : ℕ) → r ≤ 16 → κ ≤ 8 → t₁ ≤ 8 → t₂ ≤ 8 → restSize r κ t₁ t₂ ≤ 3200
 unfolding restSize
 restSize-bound r κ t₁ t₂ h k l u = omega (arith, tSize-bound r κ t₁ h k l, garbageSize-bound r t₂ h u, garbageSize-bound r t₁ h l)
 
--- the sizes of the cut, within the limits of rows 1 to 5
-pub cut-sizes : (r κ t₁ t₂ : ℕ) {n ν m μ : ℕ} → n ≤ 256 → r ≤ 16 → κ ≤ 8 → t₁ ≤ 8 → t₂ ≤ 8 → ChunkLimits 2 ν μ → m ≡ restSize r κ t₁ t₂
-    → CutSizes n ν m μ
-cut-sizes r κ t₁ t₂ a b c d f l e =
+-- the sizes of the cut, within the limits of rows 1 to 5; a z of no digits would leave ν free
+pub cut-sizes : (tz r κ t₁ t₂ : ℕ) {n ν m μ : ℕ} → 0 < tz → n ≤ 256 → r ≤ 16 → κ ≤ 8 → t₁ ≤ 8 → t₂ ≤ 8 → ChunkLimits tz ν μ
+    → m ≡ restSize r κ t₁ t₂ → CutSizes n ν m μ
+cut-sizes tz r κ t₁ t₂ {n} {ν} {m} {μ} some a b c d f l e =
     record {
       n-small = a;
       m-small = omega (arith, restSize-bound r κ t₁ t₂ b c d f, e);
       ν-positive = l .ν-positive;
       μ-positive = l .μ-positive;
-      parts-small = l .parts-small;
+      ν-small = omega (arith, product-bound 1 ν tz ν some (le-refl ν), l .parts-small);
+      μ-small = omega (arith, l .parts-small);
     }
 
 pub ceiling-bound : (a b : ℕ) → ceiling a b ≤ a + (b - 1)
@@ -43,10 +45,10 @@ ceiling-bound a b = div-le-self (a + (b - 1)) b
 pub nextRank-bound : (n ν m μ : ℕ) → CutSizes n ν m μ → nextRank n ν m μ ≤ 8192
 unfolding nextRank
 nextRank-bound n ν m μ sized =
-    omega (arith, ceiling-bound n ν, ceiling-bound m μ, sized .n-small, sized .m-small, sized .parts-small)
+    omega (arith, ceiling-bound n ν, ceiling-bound m μ, sized .n-small, sized .m-small, sized .ν-small, sized .μ-small)
 
-pub width-small : (n ν m μ : ℕ) → CutSizes n ν m μ → (s : ℕ) → width 2 n ν m μ s ≤ 8192
-width-small n ν m μ sized s = omega (arith, width-bound 2 n ν m μ s, nextRank-bound n ν m μ sized)
+pub width-small : (tz n ν m μ : ℕ) → CutSizes n ν m μ → (s : ℕ) → width tz n ν m μ s ≤ 8192
+width-small tz n ν m μ sized s = omega (arith, width-bound tz n ν m μ s, nextRank-bound n ν m μ sized)
 
 -- the next rank by the code's comparison
 pub rank-second : (n ν m μ : ℕ) {x y : ℕ} → x ≡ ceiling n ν → y ≡ ceiling m μ → x ≤ y → y ≡ nextRank n ν m μ
@@ -72,35 +74,35 @@ module _ (whole count i : ℕ) {size : ℕ} (e : size ≡ ceiling whole count) w
   chunk-full h = rw (← e) (omega (arith, h))
 
 -- a part of z, and one of the rest
-pub width-first : (n ν m μ s : ℕ) {x : ℕ} → s < 2 * ν → x ≡ chunk n ν (s % ν) → x ≡ width 2 n ν m μ s
+pub width-first : (tz n ν m μ s : ℕ) {x : ℕ} → s < tz * ν → x ≡ chunk n ν (s % ν) → x ≡ width tz n ν m μ s
 unfolding width
-width-first n ν m μ s h e = rw (lt-ltb s (2 * ν) h) e
+width-first tz n ν m μ s h e = rw (lt-ltb s (tz * ν) h) e
 
-pub width-later : (n ν m μ s : ℕ) {x : ℕ} → 2 * ν ≤ s → x ≡ chunk m μ (s - 2 * ν) → x ≡ width 2 n ν m μ s
+pub width-later : (tz n ν m μ s : ℕ) {x : ℕ} → tz * ν ≤ s → x ≡ chunk m μ (s - tz * ν) → x ≡ width tz n ν m μ s
 unfolding width
-width-later n ν m μ s h e = rw (le-ltb s (2 * ν) h) e
+width-later tz n ν m μ s h e = rw (le-ltb s (tz * ν) h) e
 
 -- ---- the loop of `chunk_start`
 
-pub record Begun (n ν m μ s at k : ℕ) : Type 0 where
+pub record Begun (tz n ν m μ s at k : ℕ) : Type 0 where
   pub below : k ≤ s
-  pub begun : at ≡ start (width 2 n ν m μ) k
+  pub begun : at ≡ start (width tz n ν m μ) k
   pub small : at ≤ k * 8192
 
-module _ (n ν m μ s : ℕ) where
-  pub begun-start : Begun n ν m μ s 0 0
+module _ (tz n ν m μ s : ℕ) where
+  pub begun-start : Begun tz n ν m μ s 0 0
   unfolding start
   begun-start = record { below = omega arith; begun = refl; small = omega arith }
 
-  pub begun-step : {at k x : ℕ} → CutSizes n ν m μ → Begun n ν m μ s at k → k < s → x ≡ width 2 n ν m μ k
-      → Begun n ν m μ s (at + x) (k + 1)
+  pub begun-step : {at k x : ℕ} → CutSizes n ν m μ → Begun tz n ν m μ s at k → k < s → x ≡ width tz n ν m μ k
+      → Begun tz n ν m μ s (at + x) (k + 1)
   unfolding start
   begun-step {at} {k} {x} sized b h e =
       record {
         below = omega (arith, h);
         begun = rw (add-one k) (ap₂ _+_ (b .begun) e);
-        small = omega (arith, b .small, e, width-small n ν m μ sized k);
+        small = omega (arith, b .small, e, width-small tz n ν m μ sized k);
       }
 
-  pub begun-end : {at k : ℕ} → Begun n ν m μ s at k → s ≤ k → at ≡ start (width 2 n ν m μ) s
-  begun-end {at} {k} b h = let e : k ≡ s = omega (arith, b .below, h) in b .begun ∙ ap (start (width 2 n ν m μ)) e
+  pub begun-end : {at k : ℕ} → Begun tz n ν m μ s at k → s ≤ k → at ≡ start (width tz n ν m μ) s
+  begun-end {at} {k} b h = let e : k ≡ s = omega (arith, b .below, h) in b .begun ∙ ap (start (width tz n ν m μ)) e

@@ -1,9 +1,10 @@
--- How large the blocks of an opening are, and where they start at most, for sizes that passed rows 1 to 6.
-use Prim.Native.Nat.{_≤_}
+-- How large the blocks of an opening are, and where they start at most, for sizes that passed rows 1 to 6 and at most two digits
+-- of z.
+use Prim.Native.Nat.{ℕ, _≤_}
 use native.Mathlib.Omega.{arith}
 use Rattle.fold.specs.declared.Sizes.{Sizes}
 use Rattle.fold.specs.Sizes.{tSize, garbageSize}
-use Rattle.fold.specs.Laws.SizeBounds.{tSize-bound, garbageSize-bound}
+use Rattle.fold.specs.Laws.SizeBounds.{product-bound, tSize-bound, garbageSize-bound}
 use Rattle.fold.specs.Opening.{tPlace, gPlace, hPlace}
 use Rattle.fold.specs.Arguments.{VerifySized}
 
@@ -17,14 +18,14 @@ module _ (s : Sizes) (fits : VerifySized s) where
   pub h-size-bound : garbageSize (s .shape .r) (s .t1) ≤ 1088
   h-size-bound = garbageSize-bound _ _ (fits .shaped .parts-small) (fits .t₁-most)
 
-  pub t-place-bound : tPlace 2 (s .shape .n) ≤ 512
+  pub t-place-bound : (tz : ℕ) → tz ≤ 2 → tPlace tz (s .shape .n) ≤ 512
   unfolding tPlace
-  t-place-bound = omega (arith, fits .shaped .rank-small)
+  t-place-bound tz few = product-bound tz (s .shape .n) 2 256 few (fits .shaped .rank-small)
 
-  pub g-place-bound : gPlace 2 (s .shape .n) (s .shape .r) (s .kappa) (s .t1) ≤ 1536
+  pub g-place-bound : (tz : ℕ) → tz ≤ 2 → gPlace tz (s .shape .n) (s .shape .r) (s .kappa) (s .t1) ≤ 1536
   unfolding gPlace
-  g-place-bound = omega (arith, t-place-bound, t-size-bound)
+  g-place-bound tz few = omega (arith, t-place-bound tz few, t-size-bound)
 
-  pub h-place-bound : hPlace 2 (s .shape .n) (s .shape .r) (s .kappa) (s .t1) (s .t2) ≤ 2624
+  pub h-place-bound : (tz : ℕ) → tz ≤ 2 → hPlace tz (s .shape .n) (s .shape .r) (s .kappa) (s .t1) (s .t2) ≤ 2624
   unfolding hPlace
-  h-place-bound = omega (arith, g-place-bound, g-size-bound)
+  h-place-bound tz few = omega (arith, g-place-bound tz few, g-size-bound)

@@ -1,5 +1,5 @@
 -- How large the lengths can be within the limits of rows 1 to 4: at most 136 pairs, 4232 elements of a constraint's functions, 1024 of
--- the t digits, 1088 of the g or h digits and 3712 of an opening.
+-- the t digits, 1088 of the g or h digits and 3712 of an opening, whose z has at most two digits.
 use mathlib.Core.Path.{_≡_}
 use Prim.Native.Nat.{ℕ, _+_, _*_, _/_, _^_, _≤_}
 use native.Mathlib.Nat.{mul-le-mul, lt-of-le-of-lt}
@@ -40,7 +40,7 @@ pub garbageSize-bound : (r t : ℕ) → r ≤ 16 → t ≤ 8 → garbageSize r t
 unfolding garbageSize
 garbageSize-bound r t h k = product-bound (pairs r) t 136 8 (pairs-bound r h) k
 
-pub openingSize-bound : (n r κ t₁ t₂ : ℕ) → n ≤ 256 → r ≤ 16 → κ ≤ 8 → t₁ ≤ 8 → t₂ ≤ 8 → openingSize 2 n r κ t₁ t₂ ≤ 3712
+pub openingSize-bound : (tz n r κ t₁ t₂ : ℕ) → tz ≤ 2 → n ≤ 256 → r ≤ 16 → κ ≤ 8 → t₁ ≤ 8 → t₂ ≤ 8 → openingSize tz n r κ t₁ t₂ ≤ 3712
 unfolding openingSize restSize
-openingSize-bound n r κ t₁ t₂ h k l u v =
-    omega (arith, tSize-bound r κ t₁ k l u, garbageSize-bound r t₂ k v, garbageSize-bound r t₁ k u)
+openingSize-bound tz n r κ t₁ t₂ few h k l u v =
+    omega (arith, product-bound tz n 2 256 few h, tSize-bound r κ t₁ k l u, garbageSize-bound r t₂ k v, garbageSize-bound r t₁ k u)

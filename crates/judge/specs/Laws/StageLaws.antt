@@ -6,7 +6,7 @@ use lib.ListN.{take, drop}
 use lib.IntN.{ℤ}
 use Rattle.fold.specs.declared.Sizes.{Sizes}
 use Rattle.fold.specs.declared.Answer.{Answer}
-use Rattle.fold.specs.Sizes.{tSize, garbageSize, openingSize}
+use Rattle.fold.specs.Sizes.{zCount, tSize, garbageSize, openingSize}
 use Rattle.fold.specs.Refusals.{wholeLength, constantTermsLength, projectionLength}
 use Rattle.fold.specs.Arguments.{statementOf, drawsOf, transcriptOf}
 use Rattle.fold.specs.Verification.{verification}
@@ -45,7 +45,7 @@ module _ (s : SheetSizes) {answer : Answer} (A B C D : List ℤ) where
   module _ (whole constantTerms u₁ projections : List ℤ) where
     pub last-stage : (p ψ ω b″ : List ℤ) {xs α δ u₂ c o y₁ y₂ y₃ y₄ : List ℤ}
         → Cut (s .k * s .d) xs α y₁ → Cut (5 * s .d) y₁ δ y₂ → Cut (s .kappa2 * s .d) y₂ u₂ y₃ → Cut (s .r * s .d) y₃ c y₄
-        → o ≡ take (openingSize 2 (s .n) (s .r) (s .kappa) (s .t1) (s .t2) * s .d) y₄
+        → o ≡ take (openingSize zCount (s .n) (s .r) (s .kappa) (s .t1) (s .t2) * s .d) y₄
         → {sizes : Sizes} → sizes ≡ foldSizes s
         → answer ≡ verification (statementOf sizes A B C D whole constantTerms) (drawsOf projections ψ ω α δ c) (transcriptOf u₁ p b″ u₂) o
         → answer ≡ lastStage s A B C D whole constantTerms u₁ projections p ψ ω b″ xs

@@ -1,5 +1,6 @@
 -- `limits::amortize_refusal` meets its contract: the sizes, then row 7, then the rows after it. Assumes nothing.
 use mathlib.Core.Path.{refl}
+use native.Mathlib.Omega.{arith}
 use Rattle.fold.specs.Refusals.{amortizeBounds, amortizeTests}
 use Rattle.fold.specs.Laws.RefusalLaws.{sized-iff}
 use Rattle.fold.specs.Laws.TestLaws.{stops}
@@ -20,7 +21,7 @@ amortize-lengths-requires : tie.Need-amortize-lengths-requires
 amortize-lengths-requires c κs =
     let a = c .before .before .args in
     let m = a .shape in
-    amortize-sized (m .d) (m .n) (m .r) (a .b) (c .before .amortize-bounds .ensures) (c .if1 .left)
+    (omega arith, amortize-sized (m .d) (m .n) (m .r) (a .b) (c .before .amortize-bounds .ensures) (c .if1 .left))
 
 returns-2 : tie.Need-returns-2
 unfolding amortizeTests

@@ -1,5 +1,6 @@
 -- `limits::verify_refusal` meets its contract: the sizes, then row 7, then the rows after it. Assumes nothing.
 use mathlib.Core.Path.{refl}
+use native.Mathlib.Omega.{arith}
 use Rattle.fold.specs.Refusals.{verifyTests}
 use Rattle.fold.specs.Laws.RefusalLaws.{sized-iff}
 use Rattle.fold.specs.Laws.TestLaws.{stops}
@@ -22,7 +23,7 @@ opening-fits-requires c κs =
     let m = c .before .before .args .sizes in
     let l = verify-sized m (c .before .verify-bounds .ensures) (c .if1 .left) in
     let x = l .shaped in
-    (x .degree .small, x .rank-small, x .parts-small, l .κ-small, l .t₁-most, l .t₂-most)
+    (omega arith, x .degree .small, x .rank-small, x .parts-small, l .κ-small, l .t₁-most, l .t₂-most)
 
 message-lengths-requires : tie.Need-message-lengths-requires
 message-lengths-requires c κs =

@@ -1,7 +1,7 @@
 -- The limits of a call's sizes, once its first rows have not refused.
 use mathlib.Core.Path.{_≡_, refl, sym, _∙_}
 use mathlib.Core.List.{_∷_}
-use Prim.Native.Nat.{ℕ}
+use Prim.Native.Nat.{ℕ, _<_}
 use lib.IntN.{pos}
 use Rattle.fold.specs.declared.CommitSizes.{CommitSizes}
 use Rattle.fold.specs.declared.GarbageSizes.{GarbageSizes}
@@ -11,7 +11,9 @@ use Rattle.fold.specs.Answers.{firstFailing}
 use Rattle.fold.specs.Laws.RefusalLaws.{Passes, refusal-passes, passes-front, passes-back}
 use Rattle.fold.specs.Known.CallLimits.{ProjectLimits, AggregateLimits, AmortizeLimits, ChunkLimits, chunk-limits, part-limits}
 use Rattle.fold.specs.Known.CallLimits.{commit-limits, project-limits, aggregate-limits, garbage-limits, amortize-limits, verify-limits}
-use Rattle.fold.specs.Arguments.{CommitSized, GarbageSized, VerifySized, PartSized}
+use Rattle.fold.specs.Known.CutSizes.{CutSizes, cut-sizes}
+use Rattle.fold.specs.Sizes.{restSize}
+use Rattle.fold.specs.Arguments.{CommitSized, GarbageSized, VerifySized, PartSizedWith}
 use Rattle.fold.specs.Refusals.{projectBounds, aggregateBounds, amortizeBounds, chunks}
 use Rattle.limits.specs.Stages.{commitBoundsOf, garbageBoundsOf, verifyBoundsOf, sizeRowsOf, boundRowsOf, nextBoundsOf, partBoundsOf}
 use Rattle.limits.specs.Stages.{ConstraintLimits}
@@ -36,20 +38,25 @@ verify-sized m e z =
     let p = refusal-passes (verifyBoundsOf m) refl (sym e ∙ z) in
     verify-limits _ _ _ _ _ _ _ _ _ _ _ _ _ _ _ _ (passes-front (sizeRowsOf m) (boundRowsOf m) p) (passes-back (sizeRowsOf m) (boundRowsOf m) p)
 
-module _ (m : Sizes) (ν μ : ℕ) {x : ℕ} (e : x ≡ firstFailing (nextBoundsOf m ν μ)) (z : x ≡ 0) where
-  passed : Passes (nextBoundsOf m ν μ)
-  passed = refusal-passes (nextBoundsOf m ν μ) refl (sym e ∙ z)
+module _ (tz : ℕ) (m : Sizes) (ν μ : ℕ) {x : ℕ} (e : x ≡ firstFailing (nextBoundsOf tz m ν μ)) (z : x ≡ 0) where
+  passed : Passes (nextBoundsOf tz m ν μ)
+  passed = refusal-passes (nextBoundsOf tz m ν μ) refl (sym e ∙ z)
 
   pub next-sized : VerifySized m
   next-sized =
       verify-limits _ _ _ _ _ _ _ _ _ _ _ _ _ _ _ _
-      (passes-front (sizeRowsOf m) ((5, chunks 2 (pos ν) (pos μ)) ∷ boundRowsOf m) passed) (passed .1 .1 .1 .1 .1)
+      (passes-front (sizeRowsOf m) ((5, chunks tz (pos ν) (pos μ)) ∷ boundRowsOf m) passed) (passed .1 .1 .1 .1 .1)
 
-  pub next-cut : ChunkLimits 2 ν μ
-  next-cut = chunk-limits 2 ν μ (passed .1 .1 .1 .1 .0)
+  pub next-cut : ChunkLimits tz ν μ
+  next-cut = chunk-limits tz ν μ (passed .1 .1 .1 .1 .0)
 
-pub part-sized : (m : PartSizes) (i : ℕ) {x : ℕ} → x ≡ firstFailing (partBoundsOf m i) → x ≡ 0 → PartSized m i
-part-sized m i e z = part-limits _ _ _ _ _ _ _ _ _ _ (refusal-passes (partBoundsOf m i) refl (sym e ∙ z))
+  pub next-cut-sizes : 0 < tz → CutSizes (m .shape .n) ν (restSize (m .shape .r) (m .kappa) (m .t1) (m .t2)) μ
+  next-cut-sizes some =
+      let l = next-sized in
+      cut-sizes tz _ _ _ _ some (l .shaped .rank-small) (l .shaped .parts-small) (l .κ-small) (l .t₁-most) (l .t₂-most) next-cut refl
+
+pub part-sized : (tz : ℕ) (m : PartSizes) (i : ℕ) {x : ℕ} → x ≡ firstFailing (partBoundsOf tz m i) → x ≡ 0 → PartSizedWith tz m i
+part-sized tz m i e z = part-limits _ _ _ _ _ _ _ _ _ _ (refusal-passes (partBoundsOf tz m i) refl (sym e ∙ z))
 
 -- the sizes of the constraints alone
 pub garbage-constraints : (m : GarbageSizes) → GarbageSized m → ConstraintLimits (m .shape .d) (m .shape .n) (m .shape .r) (m .k) (m .l) (m .w)

@@ -1,14 +1,16 @@
 -- Row 5 and a part number as the code tests them, with no sum that could wrap.
-use mathlib.Core.Path.{_≡_, refl, sym, _∙_}
+use mathlib.Core.Path.{_≡_, refl, sym, ap, _∙_}
 use mathlib.Core.Bool.{Bool, true, false, _&&_}
 use mathlib.Core.List.{[], _∷_}
 use Prim.Native.Nat.{ℕ, _+_, _*_, _-_, _≤_, _<_}
+use native.Mathlib.Nat.{le-refl}
 use native.Mathlib.Omega.{arith}
 use lib.Dec.{leb}
 use lib.IntN.{pos}
 use borrow.Author.Tests.{leb-true, leb-false, le-leb}
 use Rattle.fold.specs.Sizes.{nextParts}
 use Rattle.fold.specs.Refusals.{chunks, between}
+use Rattle.fold.specs.Laws.SizeBounds.{product-bound}
 use Rattle.fold.specs.Laws.RefusalLaws.{chunks-iff, between-iff}
 use Rattle.limits.specs.Laws.RowLaws.{joined-allOf}
 
@@ -28,33 +30,47 @@ leb-same a b c d f g = by (leb a b) refl
         above true h = let k = g (leb-true c d h) in let l = leb-false a b e in absurd (omega (arith, k, l))
         above false h = h
 
--- ---- row 5
+-- ---- row 5, for tz digits of z
 
-pub many-ν : (ν μ : ℕ) → 8 < ν → false ≡ chunks 2 (pos ν) (pos μ)
-many-ν ν μ h = untrue _ (λ e. let l = chunks-iff 2 ν μ .0 e .1 .1 in omega (arith, h, l))
+pub many-ν : (tz ν μ : ℕ) → 0 < tz → 16 < ν → false ≡ chunks tz (pos ν) (pos μ)
+many-ν tz ν μ some h =
+    untrue _ (λ e. let l = chunks-iff tz ν μ .0 e .1 .1 in omega (arith, h, l, product-bound 1 ν tz ν some (le-refl ν)))
 
-pub many-μ : (ν μ : ℕ) → 16 < μ → false ≡ chunks 2 (pos ν) (pos μ)
-many-μ ν μ h = untrue _ (λ e. let l = chunks-iff 2 ν μ .0 e .1 .1 in omega (arith, h, l))
+pub many-μ : (tz ν μ : ℕ) → 16 < μ → false ≡ chunks tz (pos ν) (pos μ)
+many-μ tz ν μ h = untrue _ (λ e. let l = chunks-iff tz ν μ .0 e .1 .1 in omega (arith, h, l))
 
-pub chunk-tests : (ν μ : ℕ) → leb 1 ν && leb 1 μ && leb (2 * ν + μ) 16 ≡ chunks 2 (pos ν) (pos μ)
+pub chunk-tests : (tz ν μ : ℕ) → leb 1 ν && leb 1 μ && leb (tz * ν + μ) 16 ≡ chunks tz (pos ν) (pos μ)
 unfolding chunks
-chunk-tests ν μ = joined-allOf (leb 1 ν) (leb 1 μ ∷ leb (2 * ν + μ) 16 ∷ [])
+chunk-tests tz ν μ = joined-allOf (leb 1 ν) (leb 1 μ ∷ leb (tz * ν + μ) 16 ∷ [])
 
--- ---- a part number
+-- ---- a part number i: `left` of it after ν is taken off e times
 
-pub part-zero : (ν μ i : ℕ) → i ≡ 0 → false ≡ between 1 (nextParts 2 ν μ) (pos i)
-part-zero ν μ i z = untrue _ (λ e. let l = between-iff 1 (nextParts 2 ν μ) i .0 e .0 in omega (arith, z, l))
+pub record TakenOff (tz ν i left e : ℕ) : Type 0 where
+  pub below : e ≤ tz
+  pub some : 0 < left
+  pub rest : i ≡ e * ν + left
 
-pub part-first : (ν μ i : ℕ) → (i ≡ 0 → ⊥) → i ≤ ν → true ≡ between 1 (nextParts 2 ν μ) (pos i)
-unfolding nextParts
-part-first ν μ i some h = sym (between-iff 1 (2 * ν + μ) i .1 (omega (arith, some), omega (arith, h)))
+module _ (tz ν i : ℕ) where
+  pub taken-start : (i ≡ 0 → ⊥) → TakenOff tz ν i i 0
+  taken-start some = record { below = omega arith; some = omega (arith, some); rest = omega arith }
 
-pub part-second : (ν μ i : ℕ) → (i ≡ 0 → ⊥) → i - ν ≤ ν → true ≡ between 1 (nextParts 2 ν μ) (pos i)
-unfolding nextParts
-part-second ν μ i some h = sym (between-iff 1 (2 * ν + μ) i .1 (omega (arith, some), omega (arith, h)))
+  pub taken-step : {left e : ℕ} → TakenOff tz ν i left e → e < tz → ν < left → TakenOff tz ν i (left - ν) (e + 1)
+  taken-step {left} {e} t h l = record { below = omega (arith, h); some = omega (arith, l); rest = omega (arith, t .rest, l) }
 
-pub part-rest : (ν μ i : ℕ) → (i ≡ 0 → ⊥) → ν < i - ν → leb (i - ν - ν) μ ≡ between 1 (nextParts 2 ν μ) (pos i)
-unfolding nextParts between
-part-rest ν μ i some h =
-    rw (le-leb 1 i (omega (arith, some)))
-    (leb-same (i - ν - ν) μ i (2 * ν + μ) (λ l. omega (arith, h, l)) (λ l. omega (arith, h, l)))
+module _ (tz ν μ i : ℕ) where
+  pub part-zero : i ≡ 0 → false ≡ between 1 (nextParts tz ν μ) (pos i)
+  part-zero z = untrue _ (λ e. let l = between-iff 1 (nextParts tz ν μ) i .0 e .0 in omega (arith, z, l))
+
+  pub part-of-z : {left e : ℕ} → TakenOff tz ν i left e → e < tz → left ≤ ν → true ≡ between 1 (nextParts tz ν μ) (pos i)
+  unfolding nextParts
+  part-of-z {left} {e} t h l =
+      let off = product-bound (e + 1) ν tz ν (omega (arith, h)) (le-refl ν) in
+      sym (between-iff 1 (tz * ν + μ) i .1 (omega (arith, t .rest, t .some), omega (arith, t .rest, l, off)))
+
+  pub part-of-rest : {left e : ℕ} → TakenOff tz ν i left e → tz ≤ e → leb left μ ≡ between 1 (nextParts tz ν μ) (pos i)
+  unfolding nextParts between
+  part-of-rest {left} {e} t h =
+      let all : e ≡ tz = omega (arith, t .below, h) in
+      let is : i ≡ tz * ν + left = t .rest ∙ ap (λ x. x * ν + left) all in
+      rw (le-leb 1 i (omega (arith, is, t .some)))
+      (leb-same left μ i (tz * ν + μ) (λ l. omega (arith, is, l)) (λ l. omega (arith, is, l)))

@@ -11,5 +11,5 @@ t-within r κ t₁ e h l u = omega (arith, tSize-bound r κ t₁ h l u)
 pub garbage-within : (r t : ℕ) {k : ℕ} → k ≡ garbageSize r t → r ≤ 16 → t ≤ 8 → k ≤ 8192
 garbage-within r t e h u = omega (arith, garbageSize-bound r t h u)
 
-pub opening-within : (n r κ t₁ t₂ : ℕ) {k : ℕ} → k ≡ openingSize 2 n r κ t₁ t₂ → n ≤ 256 → r ≤ 16 → κ ≤ 8 → t₁ ≤ 8 → t₂ ≤ 8 → k ≤ 8192
-opening-within n r κ t₁ t₂ e h l u v x = omega (arith, openingSize-bound n r κ t₁ t₂ h l u v x)
+pub opening-within : (tz n r κ t₁ t₂ : ℕ) {k : ℕ} → k ≡ openingSize tz n r κ t₁ t₂ → tz ≤ 2 → n ≤ 256 → r ≤ 16 → κ ≤ 8 → t₁ ≤ 8 → t₂ ≤ 8 → k ≤ 8192
+opening-within tz n r κ t₁ t₂ e few h l u v x = omega (arith, openingSize-bound tz n r κ t₁ t₂ few h l u v x)

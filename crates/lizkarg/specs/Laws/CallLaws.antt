@@ -16,6 +16,7 @@ use Rattle.fold.specs.declared.Shape.{Shape}
 use Rattle.fold.specs.Answers.{answered, written}
 use Rattle.fold.specs.Arguments.{productRefusal, commitRefusal, projectRefusal, aggregateRefusal, garbageRefusal, amortizeRefusal}
 use Rattle.fold.specs.Known.CallFacts as CallFacts
+use Rattle.fold.specs.Sizes.{zCount}
 use Rattle.fold.specs.Messages.{p, b″, u₂, zDigits}
 use Rattle.prover.specs.Known.Facts.{TFacts, GFacts, OuterFacts, ProjectFacts, AmortizeFacts}
 use Rattle.prover.specs.Known.Facts as ProverFacts
@@ -210,18 +211,20 @@ module _ (sizes : GarbageSizes) (whole constantTerms projections ψ ω α δ D s
 module _ {shape : Shape} {b : ℕ} {c s v : List ℤ} {x : ℕ} (number : x ≡ amortizeRefusal shape b c s v) where
   pub amortize-refused : (x ≡ 0 → ⊥) → Amortized shape b c s v (Refused x) v
   amortize-refused some =
-      record { answer-is = refused Written number some; z-is = kept (zDigits (shape .d) (shape .n) (shape .r) 2 b c s) v number some }
+      record { answer-is = refused Written number some; z-is = kept (zDigits (shape .d) (shape .n) (shape .r) zCount b c s) v number some }
 
-  pub amortize-facts : x ≡ 0 → AmortizeFacts shape b c s v
+  pub amortize-facts : x ≡ 0 → AmortizeFacts zCount shape b c s v
   amortize-facts none =
       let facts = CallFacts.amortize-facts (sym number ∙ none) in
       record {
         shaped = facts .limits .shaped;
+        some = omega arith;
+        few = omega arith;
         base = facts .limits .base;
         challenges = facts .c-length;
         witness = facts .s-length;
         output = facts .zs-length;
       }
 
-  pub amortize-written : {v′ : List ℤ} → x ≡ 0 → v′ ≡ zDigits (shape .d) (shape .n) (shape .r) 2 b c s → Amortized shape b c s v Written v′
+  pub amortize-written : {v′ : List ℤ} → x ≡ 0 → v′ ≡ zDigits (shape .d) (shape .n) (shape .r) zCount b c s → Amortized shape b c s v Written v′
   amortize-written none new = record { answer-is = answers Written (sym number ∙ none); z-is = writes v (sym number ∙ none) new }

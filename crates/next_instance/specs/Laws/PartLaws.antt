@@ -67,7 +67,7 @@ module _ (m : PartSizes) (i : ℕ) (o : List ℤ) {x : ℕ} (e : x ≡ partRefus
     pub part-cut : {k : ℕ} → k ≡ restOf m → CutSizes (m .shape .n) (m .nu) k (m .mu)
     part-cut h =
         let f = part-known in
-        cut-sizes (m .shape .r) (m .kappa) (m .t1) (m .t2) (f .shaped .rank-small) (f .shaped .parts-small) (f .κ-small) (f .t₁-most) (f .t₂-most) (f .cut) h
+        cut-sizes 2 (m .shape .r) (m .kappa) (m .t1) (m .t2) (omega arith) (f .shaped .rank-small) (f .shaped .parts-small) (f .κ-small) (f .t₁-most) (f .t₂-most) (f .cut) h
 
     pub part-before : i - 1 ≤ 16
     unfolding nextParts

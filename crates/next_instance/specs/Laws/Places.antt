@@ -33,7 +33,8 @@ module _ (s : Sizes) (cut : Cut) (facts : CutFacts s cut) where
         m-small = omega (arith, rest-small s fits, facts .rest-is);
         ν-positive = facts .ν-positive;
         μ-positive = facts .μ-positive;
-        parts-small = facts .parts-small;
+        ν-small = omega (arith, facts .parts-small);
+        μ-small = omega (arith, facts .parts-small);
       }
 
   pub part-below : {i : ℕ} → i < cut .parts → i < 2 * cut .nu + cut .mu

@@ -3,12 +3,12 @@
 --     PartFacts                    A times one part of the witness
 --     TFacts, GFacts, OuterFacts   with the lengths of what each of its functions takes
 --     ProjectFacts                 message 2
---     AmortizeFacts                message 5
+--     AmortizeFacts                message 5, for tz digits of z
 use mathlib.Core.Path.{_≡_, sym, ap, _∙_}
 use mathlib.Core.Bool.{true}
 use mathlib.Core.List.{List}
-use Prim.Native.Nat.{ℕ, _+_, _*_, _<_, _≤_}
-use native.Mathlib.Nat.{mul-le-mul}
+use Prim.Native.Nat.{ℕ, _+_, _*_, _-_, _<_, _≤_}
+use native.Mathlib.Nat.{mul-le-mul, le-refl}
 use native.Mathlib.Omega.{arith}
 use lib.ListN.{length}
 use lib.IntN.{ℤ}
@@ -61,14 +61,23 @@ pub record ProjectFacts (shape : Shape) (w : ℕ) (projections s out : List ℤ)
   pub witness : length s ≡ shape .r * shape .n * shape .d
   pub output : length out ≡ w
 
-pub record AmortizeFacts (shape : Shape) (b : ℕ) (c s out : List ℤ) : Type 0 where
+pub record AmortizeFacts (tz : ℕ) (shape : Shape) (b : ℕ) (c s out : List ℤ) : Type 0 where
   pub shaped : Shaped (shape .d) (shape .n) (shape .r)
+  pub some : 0 < tz
+  pub few : tz ≤ 2
   pub base : Base b
   pub challenges : length c ≡ shape .r * shape .d
   pub witness : length s ≡ shape .r * shape .n * shape .d
-  pub output : length out ≡ 2 * shape .n * shape .d
+  pub output : length out ≡ tz * shape .n * shape .d
 
 -- ---- what follows of the lengths
+
+-- z has room in the last of its places
+pub last-room : (d n tz : ℕ) {size : ℕ} → 0 < tz → size ≡ tz * n * d → ((tz - 1) * n + n) * d ≤ size
+last-room d n tz some e =
+    let last : tz ≡ (tz - 1) + 1 = omega (arith, some) in
+    let whole : (tz - 1) * n + n ≡ tz * n = omega (arith, ap (λ (t : ℕ). t * n) last) in
+    rw (whole, e) (le-refl (tz * n * d))
 
 pub t-length : {sizes : CommitSizes} {A s out : List ℤ} → TFacts sizes A s out
     → length out ≡ sizes .shape .r * (sizes .t1 * (sizes .kappa * sizes .shape .d))

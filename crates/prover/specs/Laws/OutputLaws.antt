@@ -1,11 +1,10 @@
 -- The sums of the messages as functions form them.
---     folded-digits                 z's two digits
+--     folded-digits                 the digits of z
 --     outer-sum                     a row of B·x + C·y from its two inner products
-use mathlib.Core.Path.{_≡_, sym, ap, ap₂, _∙_}
+use mathlib.Core.Path.{_≡_, ap₂, _∙_}
 use mathlib.Core.List.{List}
-use Prim.Native.Nat.{ℕ, _+_, _*_, _≤_}
-use native.Mathlib.Nat.{zero-add, one-mul, mul-assoc}
-use native.Mathlib.Omega.{arith}
+use Prim.Native.Nat.{ℕ, _+_, _*_, _-_, _<_, _≤_}
+use native.Mathlib.Nat.{zero-add, mul-assoc}
 use lib.ListN.{length, drop}
 use lib.IntN.{ℤ}
 use Rattle.integers.specs.Over.{over}
@@ -18,13 +17,12 @@ use Rattle.fold.specs.Messages.{elements, times, z, zDigits}
 use Rattle.fold.specs.Laws.WriterLaws.{split-elements}
 use Rattle.prover.specs.Outputs.{outer}
 
--- both digits, from the elements in the second half of a slice
-pub folded-digits : (d n r b : ℕ) (c s old : List ℤ) {new out : List ℤ} → length old ≡ 2 * n * d
-    → new ≡ over old (n * d) (elements d n (z d n r c s)) → out ≡ split b 2 (drop (1 * (n * d)) new) → out ≡ zDigits d n r 2 b c s
+-- the digits, from the elements in the last place of a slice
+pub folded-digits : (d n r tz b : ℕ) (c s old : List ℤ) {new out : List ℤ} → 0 < tz → length old ≡ tz * n * d
+    → new ≡ over old ((tz - 1) * n * d) (elements d n (z d n r c s)) → out ≡ split b tz (drop ((tz - 1) * (n * d)) new) → out ≡ zDigits d n r tz b c s
 unfolding zDigits
-folded-digits d n r b c s old size stored digits =
-    split-elements d b 2 n (z d n r c s) old (omega arith) (size ∙ mul-assoc 2 n d)
-    (stored ∙ ap (λ (m : ℕ). over old (m * d) (elements d n (z d n r c s))) (sym (one-mul n))) digits
+folded-digits d n r tz b c s old some size stored digits =
+    split-elements d b tz n (z d n r c s) old some (size ∙ mul-assoc tz n d) stored digits
 
 times-sum : (d m k : ℕ) (M x : List ℤ) → sum (R d) m (λ e. R d .mul (el d M (k * m + e)) (el d x (0 + e))) ≡ times d m M k (el d x)
 unfolding times inner

@@ -13,6 +13,7 @@ use lib.ListN.{getD}
 use lib.IntN.{ℤ, pos, negsuc, natAbs}
 use lib.Signed.{nonNeg, ltZ}
 use borrow.Author.Tests.{ltb-true}
+use Rattle.fold.specs.Sizes.{zCount}
 use Rattle.fold.specs.Arguments.{VerifySized}
 use Rattle.fold.specs.Refusals.{anyOf, between, degree, rank, parts, constraintCount, projectionCount, commitmentRank, base, digitCount}
 use Rattle.fold.specs.Refusals.{lengthBound, chunks}
@@ -86,17 +87,17 @@ lengthBound-size : (x : ℤ) → lengthBound (pos (size x)) ≡ lengthBound x
 unfolding lengthBound between
 lengthBound-size = size-test lengthBound (λ n. refl) refl
 
-chunks-size : (ν μ : ℤ) → chunks 2 (pos (size ν)) (pos (size μ)) ≡ chunks 2 ν μ
+chunks-size : (ν μ : ℤ) → chunks zCount (pos (size ν)) (pos (size μ)) ≡ chunks zCount ν μ
 unfolding chunks size
 chunks-size (pos ν) (pos μ) = refl
-chunks-size (pos ν) (negsuc μ) = sym (many-μ ν 18446744073709551615 (omega arith))
-chunks-size (negsuc ν) μ = sym (many-ν 18446744073709551615 (size μ) (omega arith))
+chunks-size (pos ν) (negsuc μ) = sym (many-μ zCount ν 18446744073709551615 (omega arith))
+chunks-size (negsuc ν) μ = sym (many-ν zCount 18446744073709551615 (size μ) (omega arith) (omega arith))
 
 module _ (h : List ℤ) where
   at : ℕ → ℤ
   at k = getD h k (pos 0)
 
-  pub header-sizes : nextBoundsOf (foldSizes (sizesOf h)) (sizesOf h .nu) (sizesOf h .mu) ≡ headerTests h
+  pub header-sizes : nextBoundsOf zCount (foldSizes (sizesOf h)) (sizesOf h .nu) (sizesOf h .mu) ≡ headerTests h
   unfolding headerTests sizesOf foldSizes at
   header-sizes =
       rw (
@@ -123,11 +124,11 @@ module _ (h : List ℤ) where
   -- ---- a header that is not refused
 
   module _ (p : Passes (headerTests h)) where
-    pub header-passes : Passes (nextBoundsOf (foldSizes (sizesOf h)) (sizesOf h .nu) (sizesOf h .mu))
+    pub header-passes : Passes (nextBoundsOf zCount (foldSizes (sizesOf h)) (sizesOf h .nu) (sizesOf h .mu))
     header-passes = subst Passes (sym header-sizes) p
 
     header-known : VerifySized (foldSizes (sizesOf h))
-    header-known = next-sized (foldSizes (sizesOf h)) (sizesOf h .nu) (sizesOf h .mu) refl (passes-refusal _ header-passes)
+    header-known = next-sized zCount (foldSizes (sizesOf h)) (sizesOf h .nu) (sizesOf h .mu) refl (passes-refusal _ header-passes)
 
     pub header-bounded : Bounded (sizesOf h)
     unfolding foldSizes

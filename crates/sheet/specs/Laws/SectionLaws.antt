@@ -5,7 +5,7 @@ use Prim.Native.Nat.{ℕ, _+_, _*_, _-_, _%_, _≤_, _<_}
 use native.Mathlib.Nat.{mul-le-mul}
 use native.Mathlib.Omega.{arith}
 use borrow.Author.Tests.{eq-eqb, ne-eqb, lt-ltb, le-ltb}
-use Rattle.fold.specs.Sizes.{functionSize, tSize, garbageSize, openingSize}
+use Rattle.fold.specs.Sizes.{zCount, functionSize, tSize, garbageSize, openingSize}
 use Rattle.fold.specs.Laws.SizeBounds.{functionSize-bound, tSize-bound, garbageSize-bound, openingSize-bound}
 use Rattle.sheet.specs.declared.sizes.SheetSizes.{SheetSizes}
 use Rattle.sheet.specs.declared.sizes.Sections.{Sections}
@@ -26,8 +26,8 @@ module _ {s : SheetSizes} (b : Bounded s) where
   pub function-few : {x : ℕ} → x ≡ functionSize (s .n) (s .r) → x ≤ 4232
   function-few e = rw e (functionSize-bound _ _ (b .rank) (b .parts))
 
-  pub opening-few : {x : ℕ} → x ≡ openingSize 2 (s .n) (s .r) (s .kappa) (s .t1) (s .t2) → x ≤ 3712
-  opening-few e = rw e (openingSize-bound _ _ _ _ _ (b .rank) (b .parts) (b .κ) (b .t₁) (b .t₂))
+  pub opening-few : {x : ℕ} → x ≡ openingSize zCount (s .n) (s .r) (s .kappa) (s .t1) (s .t2) → x ≤ 3712
+  opening-few e = rw e (openingSize-bound _ _ _ _ _ _ (omega arith) (b .rank) (b .parts) (b .κ) (b .t₁) (b .t₂))
 
   module _ {t g h : ℕ} (e : t ≡ tSize (s .r) (s .kappa) (s .t1)) (f : g ≡ garbageSize (s .r) (s .t2)) (k : h ≡ garbageSize (s .r) (s .t1)) where
     t-few : t ≤ 1024

@@ -7,6 +7,7 @@ use mathlib.Core.List.{List, [], _∷_, _++_}
 use Prim.Native.Nat.{ℕ}
 use lib.IntN.{ℤ, pos}
 use Rattle.fold.specs.Statement.{Relation, Statement, Draws}
+use Rattle.fold.specs.Sizes.{zCount}
 use Rattle.fold.specs.Refusals.{chunks, sizeTests, boundTests}
 use Rattle.sheet.specs.Reading.{headerTests}
 
@@ -36,6 +37,6 @@ module _ (𝓢 : Statement) (𝓓 : Draws) (ν μ : ℕ) where
       ∷ pos target
       ∷ []
 
-  pub header-tests : headerTests header ≡ sizeTests 𝓢 𝓓 ++ ((5, chunks 2 (pos ν) (pos μ)) ∷ boundTests 𝓢 𝓓)
+  pub header-tests : headerTests header ≡ sizeTests 𝓢 𝓓 ++ ((5, chunks zCount (pos ν) (pos μ)) ∷ boundTests 𝓢 𝓓)
   unfolding headerTests
   header-tests = refl

@@ -21,9 +21,9 @@ add-result c =
       arith,
       c .before .t-place .ensures,
       c .t-size .ensures,
-      t-place-bound (s .args .sizes) (s .pre),
+      t-place-bound (s .args .sizes) (s .pre .1) (s .args .tz) (s .pre .0),
       t-size-bound
-          (s .args .sizes) (s .pre),
+          (s .args .sizes) (s .pre .1),
     )
 
 returns : tie.Need-returns

@@ -21,9 +21,9 @@ add-result c =
       arith,
       c .before .g-place .ensures,
       c .garbage-size .ensures,
-      g-place-bound (s .args .sizes) (s .pre),
+      g-place-bound (s .args .sizes) (s .pre .1) (s .args .tz) (s .pre .0),
       g-size-bound
-          (s .args .sizes) (s .pre),
+          (s .args .sizes) (s .pre .1),
     )
 
 returns : tie.Need-returns

@@ -1,6 +1,6 @@
 -- `judge::numbers::judge_last` meets its contract. Assumes nothing.
 use Prim.Native.Nat.{_*_}
-use Rattle.fold.specs.Sizes.{openingSize}
+use Rattle.fold.specs.Sizes.{zCount, openingSize}
 use Rattle.judge.specs.Laws.StageLaws.{cut, cut-last, last-stage}
 use borrow.Author.Needs.{needs}
 use Rattle.judge.proofs.numbers.judge_last.Statement.{statement}
@@ -32,7 +32,7 @@ returns c =
     (cut (c14 .list-length2 .ensures) (c4 .front2 .ensures) (c9 .rest2 .ensures))
     (cut (c13 .list-length3 .ensures) (c3 .front3 .ensures) (c8 .rest3 .ensures))
     (cut (c12 .list-length4 .ensures) (c2 .front4 .ensures) (c7 .rest4 .ensures))
-    (cut-last {m = openingSize 2 (s .n) (s .r) (s .kappa) (s .t1) (s .t2) * s .d} _ (c11 .opening-length .ensures) (c1 .front5 .ensures))
+    (cut-last {m = openingSize zCount (s .n) (s .r) (s .kappa) (s .t1) (s .t2) * s .d} _ (c11 .opening-length .ensures) (c1 .front5 .ensures))
     (c6 .fold-sizes .ensures)
     (c .verify .ensures)
 

@@ -7,7 +7,7 @@ use Rattle.limits.proofs.lengths.opening_fits.Tie as tie
 list-fits-requires : tie.Need-list-fits-requires
 list-fits-requires c κs =
     let p = c .before .pre in
-    (opening-within _ _ _ _ _ (c .opening-size .ensures) (p .1) (p .2) (p .3) (p .4) (p .5), p .0)
+    (opening-within _ _ _ _ _ _ (c .opening-size .ensures) (p .0) (p .2) (p .3) (p .4) (p .5) (p .6), p .1)
 
 returns : tie.Need-returns
 returns c = rw (c .before .opening-size .ensures) at (c .list-fits .ensures)

@@ -22,7 +22,7 @@ next-bounds-spec =
     tie.close
     (tie.spec
     (λ c κs. tt)
-    (λ c κs. tt)
+    (λ c κs. c .before .pre)
     (λ c κs. tt)
     (λ c κs. tt)
     (λ c κs. tt)

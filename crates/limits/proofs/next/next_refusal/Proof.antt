@@ -1,13 +1,15 @@
 -- `limits::next::next_refusal` meets its contract: the sizes, then row 7, then the rows after it. Assumes nothing.
 use mathlib.Core.Path.{refl, ap}
 use lib.Dec.{leb}
+use native.Mathlib.Omega.{arith}
+use Rattle.fold.specs.Sizes.{zCount}
 use Rattle.fold.specs.Refusals.{nextTests}
 use Rattle.fold.specs.Laws.RefusalLaws.{sized-iff}
 use Rattle.fold.specs.Laws.TestLaws.{stops}
 use Rattle.limits.specs.Stages.{nextBoundsOf}
 use Rattle.limits.specs.Laws.RowLaws.{end, _&_, joined-row}
 use Rattle.limits.specs.Laws.StageLaws.{unfit, fit, fitting, single, none, append-rows}
-use Rattle.limits.specs.Known.StageLimits.{next-sized, next-cut}
+use Rattle.limits.specs.Known.StageLimits.{next-sized, next-cut, next-cut-sizes}
 use Rattle.limits.proofs.next.next_refusal.Statement.{statement}
 use Rattle.limits.proofs.next.next_refusal.Tie as tie
 
@@ -15,13 +17,13 @@ returns : tie.Need-returns
 unfolding nextTests
 returns c =
     let a = c .before .before .args in
-    stops (nextBoundsOf (a .sizes) (a .nu) (a .mu)) _ (c .before .next-bounds .ensures) (c .if1 .taken)
+    stops (nextBoundsOf zCount (a .sizes) (a .nu) (a .mu)) _ (c .before .next-bounds .ensures) (c .if1 .taken)
 
 rank-of-requires : tie.Need-rank-of-requires
 rank-of-requires c κs =
     let a = c .before .before .args in
     let e = c .before .next-bounds .ensures in
-    (next-sized (a .sizes) (a .nu) (a .mu) e (c .if1 .left), next-cut (a .sizes) (a .nu) (a .mu) e (c .if1 .left))
+    (next-sized zCount (a .sizes) (a .nu) (a .mu) e (c .if1 .left), next-cut-sizes zCount (a .sizes) (a .nu) (a .mu) e (c .if1 .left) (omega arith))
 
 out-fits-requires : tie.Need-out-fits-requires
 out-fits-requires c κs =
@@ -29,14 +31,14 @@ out-fits-requires c κs =
     let a = c1 .before .before .args in
     let e = c1 .before .next-bounds .ensures in
     let z = c1 .if1 .left in
-    (next-sized (a .sizes) (a .nu) (a .mu) e z, (next-cut (a .sizes) (a .nu) (a .mu) e z, c .rank-of .ensures))
+    (omega arith, (next-sized zCount (a .sizes) (a .nu) (a .mu) e z, (next-cut zCount (a .sizes) (a .nu) (a .mu) e z, c .rank-of .ensures)))
 
 message-lengths-requires : tie.Need-message-lengths-requires
 message-lengths-requires c κs =
     let c1 = c .before in
     let c2 = c1 .before in
     let a = c2 .before .before .args in
-    next-sized (a .sizes) (a .nu) (a .mu) (c2 .before .next-bounds .ensures) (c2 .if1 .left)
+    next-sized zCount (a .sizes) (a .nu) (a .mu) (c2 .before .next-bounds .ensures) (c2 .if1 .left)
 
 matrix-lengths-requires : tie.Need-matrix-lengths-requires
 matrix-lengths-requires c κs =
@@ -44,7 +46,7 @@ matrix-lengths-requires c κs =
     let c2 = c1 .before in
     let c3 = c2 .before in
     let a = c3 .before .before .args in
-    next-sized (a .sizes) (a .nu) (a .mu) (c3 .before .next-bounds .ensures) (c3 .if1 .left)
+    next-sized zCount (a .sizes) (a .nu) (a .mu) (c3 .before .next-bounds .ensures) (c3 .if1 .left)
 
 draw-lengths-requires : tie.Need-draw-lengths-requires
 draw-lengths-requires c κs =
@@ -53,7 +55,7 @@ draw-lengths-requires c κs =
     let c3 = c2 .before in
     let c4 = c3 .before in
     let a = c4 .before .before .args in
-    next-sized (a .sizes) (a .nu) (a .mu) (c4 .before .next-bounds .ensures) (c4 .if1 .left)
+    next-sized zCount (a .sizes) (a .nu) (a .mu) (c4 .before .next-bounds .ensures) (c4 .if1 .left)
 
 returns-2 : tie.Need-returns-2
 unfolding nextTests
@@ -70,7 +72,7 @@ returns-2 c =
     let opened = append-rows _ _ (joined-row (c4 .out-fits .ensures & end)) (c3 .message-lengths .ensures) in
     let lists = append-rows _ _ opened (c2 .matrix-lengths .ensures) in
     let fits = append-rows _ _ lists (c1 .draw-lengths .ensures) in
-    unfit (nextBoundsOf (a .sizes) (a .nu) (a .mu)) 7 _ _ refl (c7 .next-bounds .ensures) (c6 .if1 .left) fits (c .if2 .taken)
+    unfit (nextBoundsOf zCount (a .sizes) (a .nu) (a .mu)) 7 _ _ refl (c7 .next-bounds .ensures) (c6 .if1 .left) fits (c .if2 .taken)
 
 constraint-ranges-requires : tie.Need-constraint-ranges-requires
 constraint-ranges-requires c κs = c .before .are-projection-entries .ensures
@@ -117,7 +119,7 @@ returns-3 c =
     let read = append-rows _ _ (c7 .message-ranges .ensures) (c6 .constraint-ranges .ensures) in
     let ranges = append-rows _ _ read (joined-row (c5 .are-coefficients .ensures & end)) in
     let small = ap (λ x. leb x 256) (c14 .rank-of .ensures) in
-    fit (nextBoundsOf (a .sizes) (a .nu) (a .mu)) 7 _ _ refl (c16 .next-bounds .ensures) (c15 .if1 .left) fits (c9 .if2 .left)
+    fit (nextBoundsOf zCount (a .sizes) (a .nu) (a .mu)) 7 _ _ refl (c16 .next-bounds .ensures) (c15 .if1 .left) fits (c9 .if2 .left)
     (single 8 _ ranges (c .first4 .ensures)
     (single 9 _ (c8 .are-projection-entries .ensures) (c1 .first3 .ensures)
     (single 10 _ (c4 .challenges .ensures) (c2 .first2 .ensures)
@@ -127,7 +129,7 @@ pub next-refusal-spec : {M : Type 1} → statement M
 next-refusal-spec =
     tie.close
     (tie.spec
-    (λ c κs. tt)
+    (λ c κs. (omega arith, omega arith))
     returns
     rank-of-requires
     out-fits-requires

@@ -10,18 +10,19 @@ use Rattle.limits.proofs.next.out_fits.Tie as tie
 next-fits-requires : tie.Need-next-fits-requires
 next-fits-requires c κs =
     let p = c .before .before .pre in
-    let l = p .0 in
+    let l = p .1 .0 in
     let x = l .shaped in
-    let z = cut-sizes _ _ _ _ (x .rank-small) (x .parts-small) (l .κ-small) (l .t₁-most) (l .t₂-most) (p .1 .0) refl in (
+    let cut = p .1 .1 .0 in
+    let z = cut-sizes _ _ _ _ _ (p .0) (x .rank-small) (x .parts-small) (l .κ-small) (l .t₁-most) (l .t₂-most) cut refl in (
       x .degree .small,
-      omega (arith, p .1 .1, nextRank-bound _ _ _ _ z),
-      p .1 .0 .parts-small,
+      omega (arith, p .1 .1 .1, nextRank-bound _ _ _ _ z),
+      cut .parts-small,
       omega (arith, l .κ-small, l .κ₁-small, l .κ₂-small),
     )
 
 returns : tie.Need-returns
 unfolding nextParts nextCount
-returns c = rw (c .before .before .before .pre .1 .1) at (c .next-fits .ensures)
+returns c = rw (c .before .before .before .pre .1 .1 .1) at (c .next-fits .ensures)
 
 pub out-fits-spec : {M : Type 1} → statement M
 out-fits-spec =

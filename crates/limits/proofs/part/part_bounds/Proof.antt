@@ -32,7 +32,7 @@ part-bounds-spec =
     (λ c κs. tt)
     (λ c κs. tt)
     (λ c κs. tt)
-    (λ c κs. tt)
+    (λ c κs. c .before .before .before .before .before .pre)
     (λ c κs. tt)
     (λ c κs. tt)
     (λ c κs. tt)

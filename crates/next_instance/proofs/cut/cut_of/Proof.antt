@@ -16,7 +16,8 @@ next-rank-requires c κs =
       m-small = omega (arith, rest-small (s .args .sizes) (s .pre .0), c .rest-size .ensures);
       ν-positive = limits .ν-positive;
       μ-positive = limits .μ-positive;
-      parts-small = limits .parts-small;
+      ν-small = omega (arith, limits .parts-small);
+      μ-small = omega (arith, limits .parts-small);
     }
 
 function-size-requires : tie.Need-function-size-requires

@@ -28,14 +28,14 @@ chunk-start-requires c κs =
     let c1 = c .before in
     let a = c1 .before .before .args in
     let e = c1 .before .next-part-refusal .ensures in
-    (part-cut (a .sizes) (a .part) _ e (c1 .if1 .left) (c .rest-size .ensures), part-before (a .sizes) (a .part) _ e (c1 .if1 .left))
+    (omega arith, (part-cut (a .sizes) (a .part) _ e (c1 .if1 .left) (c .rest-size .ensures), part-before (a .sizes) (a .part) _ e (c1 .if1 .left)))
 
 chunk-width-requires : tie.Need-chunk-width-requires
 chunk-width-requires c κs =
     let c1 = c .before .before in
     let a = c1 .before .before .args in
     let e = c1 .before .next-part-refusal .ensures in
-    (part-cut (a .sizes) (a .part) _ e (c1 .if1 .left) (c .before .rest-size .ensures), part-before (a .sizes) (a .part) _ e (c1 .if1 .left))
+    (omega arith, (part-cut (a .sizes) (a .part) _ e (c1 .if1 .left) (c .before .rest-size .ensures), part-before (a .sizes) (a .part) _ e (c1 .if1 .left)))
 
 mul-start : tie.Need-mul-start
 mul-start c =

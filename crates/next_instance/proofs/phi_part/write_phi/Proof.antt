@@ -32,7 +32,7 @@ chunk-width-requires c κs =
     let cut = s .pre .1 .1 .0 in
     let sizes = s .args .sizes in
     let below = part-below sizes (s .args .cut) cut (c .loop-test .taken) in
-    (cut-sizes sizes (s .args .cut) cut (s .pre .0 .limits), omega (arith, below, cut .parts-small))
+    (omega arith, (cut-sizes sizes (s .args .cut) cut (s .pre .0 .limits), omega (arith, below, cut .parts-small)))
 
 write-chunk-requires : tie.Need-write-chunk-requires Inv-loop μ-loop
 write-chunk-requires c κs =

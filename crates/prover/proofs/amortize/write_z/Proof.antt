@@ -1,29 +1,43 @@
--- `prover::amortize::write_z` meets its contract: z stands in the second half of the slice before it is split.
+-- `prover::amortize::write_z` meets its contract: z stands in the last place of the slice before it is split.
 use borrow.Author.Needs.{needs}
+use native.Mathlib.Omega.{arith}
+use native.Mathlib.Nat.{le-refl}
+use Rattle.fold.specs.Laws.SizeBounds.{product-fits}
+use Rattle.prover.specs.Known.Facts.{last-room}
 use Rattle.prover.specs.Laws.OutputLaws.{folded-digits}
 use Rattle.prover.proofs.amortize.write_z.Statement.{statement}
 use Rattle.prover.proofs.amortize.write_z.Tie as tie
 
+mul-last : tie.Need-mul-last
+mul-last c = let p = c .pre in product-fits _ _ 2 256 (omega (arith, p .few)) (p .shaped .rank-small) tt
+
 write-folded-requires : tie.Need-write-folded-requires
-write-folded-requires c κs = search needs
+write-folded-requires c κs =
+    let p = c .before .pre in
+    let z = c .before .args .shape in
+    (p .shaped .degree, (rw (p .challenges) (le-refl _), rw (p .witness) (le-refl _), last-room (z .d) (z .n) (c .before .args .tz) (p .some) (p .output)))
 
 mul-width : tie.Need-mul-width
-mul-width c = search needs
-
-split-digits-requires : tie.Need-split-digits-requires
-split-digits-requires c κs = search needs
-
-same-length : tie.Need-same-length
-same-length c = search needs
+mul-width c =
+    let p = c .before .before .before .pre in
+    product-fits _ _ 256 64 (p .shaped .rank-small) (p .shaped .degree .small) tt
 
 returns : tie.Need-returns
 returns c =
     let s = c .before .before .before .before .before .before in
     let a = s .args in
     let z = a .shape in
-    folded-digits (z .d) (z .n) (z .r) (a .b) (a .c .now) (a .witness .now) (a .out .now) (s .pre .output)
+    folded-digits (z .d) (z .n) (z .r) (a .tz) (a .b) (a .c .now) (a .witness .now) (a .out .now) (s .pre .some) (s .pre .output)
     (c .before .before .before .before .write-folded .ensures) (c .before .split-digits .ensures)
 
 pub write-z-spec : {M : Type 1} → statement M
 write-z-spec =
-    tie.close (tie.spec write-folded-requires mul-width split-digits-requires same-length returns)
+    tie.close
+    (tie.spec
+    (λ c. search needs)
+    mul-last
+    write-folded-requires
+    mul-width
+    (λ c κs. search needs)
+    (λ c. search needs)
+    returns)

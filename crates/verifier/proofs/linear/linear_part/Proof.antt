@@ -1,4 +1,5 @@
 -- `verifier::linear::linear_part` meets its contract.
+use native.Mathlib.Omega.{arith}
 use Rattle.verifier.specs.Laws.MixedLaws.{h-garbage}
 use Rattle.verifier.specs.Laws.RelationLaws.{check-seven}
 use Rattle.verifier.proofs.linear.linear_part.Statement.{statement}
@@ -21,5 +22,5 @@ returns c =
 pub linear-part-spec : {M : Type 1} → statement M
 linear-part-spec =
     tie.close
-    (tie.spec (λ c κs. let s = c .before in (s .pre .1 .0, (s .pre .1 .1 .0, s .pre .1 .1 .1 .0))) (λ c κs. c .before .before .pre .0) mixed-sum-requires
+    (tie.spec (λ c κs. let s = c .before in (s .pre .1 .0, (s .pre .1 .1 .0, s .pre .1 .1 .1 .0))) (λ c κs. (omega arith, c .before .before .pre .0)) mixed-sum-requires
     (λ c κs. c .before .before .before .before .pre .0 .shaped .degree) returns)

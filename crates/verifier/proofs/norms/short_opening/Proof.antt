@@ -3,6 +3,7 @@ use mathlib.Core.Path.{ap, _∙_}
 use Prim.Native.Nat.{ℕ, _*_, _≤_}
 use native.Mathlib.Omega.{arith}
 use native.Mathlib.Nat.{mul-le-mul, mul-le-mul-right}
+use Rattle.fold.specs.Sizes.{zCount}
 use Rattle.fold.specs.Laws.PlaceBounds.{t-place-bound, h-place-bound}
 use Rattle.verifier.specs.Laws.SizeLaws.{h-within, t-before-h}
 use Rattle.verifier.specs.Laws.NormLaws.{check-nine}
@@ -13,13 +14,13 @@ use Rattle.verifier.proofs.norms.short_opening.Tie as tie
 mul-t-start : tie.Need-mul-t-start
 mul-t-start c =
     let s = c .before in
-    let small : c .t-place .result ≤ 512 = rw (c .t-place .ensures) (t-place-bound (s .args .sizes) (s .pre .0)) in
+    let small : c .t-place .result ≤ 512 = rw (c .t-place .ensures) (t-place-bound (s .args .sizes) (s .pre .0) zCount (omega arith)) in
     omega (arith, mul-le-mul small (s .pre .0 .shaped .degree .small))
 
 mul-h-start : tie.Need-mul-h-start
 mul-h-start c =
     let s = c .before .before in
-    let small : c .h-place .result ≤ 2624 = rw (c .h-place .ensures) (h-place-bound (s .args .sizes) (s .pre .0)) in
+    let small : c .h-place .result ≤ 2624 = rw (c .h-place .ensures) (h-place-bound (s .args .sizes) (s .pre .0) zCount (omega arith)) in
     omega (arith, mul-le-mul small (s .pre .0 .shaped .degree .small))
 
 short-parts-requires : tie.Need-short-parts-requires
