@@ -2,7 +2,7 @@
 
     plots.py --compare    whether the kept pictures are these: byte for byte where this version of matplotlib drew them, else by the numbers that they show
 
-A picture keeps the numbers that it shows in its description, and the version of matplotlib as its creator.
+A picture keeps the version of matplotlib and the numbers that it shows in its description.
 """
 
 import io
@@ -183,26 +183,27 @@ TITLES = {"ratios": "Times of the alternatives divided by ours", "growth": "Time
 def drawn(draw):
     figure, numbers = draw()
     text = io.BytesIO()
-    figure.savefig(text, format="svg", metadata={"Date": None, "Title": TITLES[draw.__name__], "Creator": f"matplotlib {matplotlib.__version__}", "Description": repr(numbers)})
+    figure.savefig(text, format="svg", metadata={"Date": None, "Creator": None, "Title": TITLES[draw.__name__], "Description": f"matplotlib {matplotlib.__version__}: {numbers}"})
     plt.close(figure)
     return text.getvalue().decode()
 
 
-def field(svg, name):
-    """A field of the picture's metadata, without the tags around it."""
-    return unescape(re.sub("<[^>]*>", "", re.search(f"<dc:{name}>(.*?)</dc:{name}>", svg, re.S).group(1)).strip())
+def described(svg):
+    """The version of matplotlib, and the numbers shown."""
+    return unescape(re.search("<dc:description>(.*?)</dc:description>", svg, re.S).group(1)).split(": ", 1)
 
 
 def compare(name, new):
     kept = (HERE / PICTURES / name).read_text()
-    if field(kept, "creator") == field(new, "creator"):
-        if kept != new:
-            sys.exit(f"{name} is not what docs/PERFORMANCE.md gives: tools/bench/plots draws it anew")
-        print(f"{name}: the same bytes")
-    elif field(kept, "description") == field(new, "description"):
-        print(f"{name}: the same numbers; kept by {field(kept, 'creator')}, here {field(new, 'creator')}, so the bytes were not compared")
-    else:
+    (kept_by, kept_numbers), (here, numbers) = described(kept), described(new)
+    if kept_numbers != numbers:
         sys.exit(f"{name} shows other numbers than docs/PERFORMANCE.md: tools/bench/plots draws it anew")
+    if kept_by != here:
+        print(f"{name}: the same numbers; kept by {kept_by}, here {here}, so the bytes were not compared")
+    elif kept != new:
+        sys.exit(f"{name} is not what docs/PERFORMANCE.md gives: tools/bench/plots draws it anew")
+    else:
+        print(f"{name}: the same bytes")
 
 
 def main():
