@@ -59,7 +59,7 @@ pub fn digit_count(t: usize) -> bool
     (2 <= t) & (t <= 8)
 }
 
-// Row 5. Each count is tested alone first, so that 2ν+μ never wraps.
+// Row 5. Each count is tested alone first, so that tz·ν+μ never wraps.
 pub fn chunk_counts(tz: usize, nu: usize, mu: usize) -> bool
     requires { ⌜ (0 < tz) × (tz ≤ 2) ⌝ }
     ensures { λ x. ⌜ x ≡ spec.chunks tz (pos nu) (pos mu) ⌝ }

@@ -15,7 +15,8 @@ write-folded-requires : tie.Need-write-folded-requires
 write-folded-requires c κs =
     let p = c .before .pre in
     let z = c .before .args .shape in
-    (p .shaped .degree, (rw (p .challenges) (le-refl _), rw (p .witness) (le-refl _), last-room (z .d) (z .n) (c .before .args .tz) (p .some) (p .output)))
+    let room = last-room (z .d) (z .n) (c .before .args .tz) (p .some) (p .output) in
+    (p .shaped .degree, (rw (p .challenges) (le-refl _), rw (p .witness) (le-refl _), omega (arith, room)))
 
 mul-width : tie.Need-mul-width
 mul-width c =
