@@ -1,5 +1,5 @@
 -- What a call that is not refused knows of its arguments, as far as its work needs it: the limits of its sizes, the length of every list, and
--- that projection rows keep row 9. For each call a record, and the law that no refusal gives it.
+-- that projection rows keep row 9. For each call a record, and the law that no refusal gives it: rows by number, within a row each fact by what it says.
 --     CommitFacts, ProjectFacts, AggregateFacts, GarbageFacts, AmortizeFacts, VerifyFacts
 --     commit-facts, project-facts, aggregate-facts, garbage-facts, amortize-facts, verify-facts
 use mathlib.Core.Path.{_≡_, refl}
@@ -16,7 +16,8 @@ use Rattle.fold.specs.Answers.{firstFailing}
 use Rattle.fold.specs.Refusals.{allOf, lengths, wholeLength, constantTermsLength, projectionLength, sizeTests}
 use Rattle.fold.specs.Refusals.{commitBounds, projectBounds, aggregateBounds, garbageBounds, amortizeBounds}
 use Rattle.fold.specs.Refusals.{commitTests, projectTests, aggregateTests, garbageTests, amortizeTests, verifyTests}
-use Rattle.fold.specs.Laws.RefusalLaws.{refusal-passes, early-passes, allOf-all, allOf-drop, sized-iff}
+use Rattle.fold.specs.Laws.RefusalLaws.{allOf-all, tested}
+use Rattle.fold.specs.Laws.TestLaws.{holds, early-holds}
 use Rattle.fold.specs.Known.CallLimits.{CommitLimits, ProjectLimits, AggregateLimits, GarbageLimits, AmortizeLimits, VerifyLimits}
 use Rattle.fold.specs.Known.CallLimits.{commit-limits, project-limits, aggregate-limits, garbage-limits, amortize-limits, verify-limits}
 
@@ -37,18 +38,9 @@ pub commit-facts : {d n r κ κ₁ b₁ b₂ t₁ t₂ : ℕ} {A B C s ts gs u�
     → CommitFacts d n r κ κ₁ b₁ b₂ t₁ t₂ A B C s ts gs u₁
 unfolding commitTests
 commit-facts {d} {n} {r} {κ} {κ₁} {b₁} {b₂} {t₁} {t₂} {A} {B} {C} {s} {ts} {gs} {u₁} e =
-    let passed = refusal-passes (commitTests d n r κ κ₁ b₁ b₂ t₁ t₂ A B C s ts gs u₁) refl e in
-    let lengths = allOf-all _ (passed .1 .1 .1 .1 .0) in
-    record {
-      limits = commit-limits d n r κ κ₁ b₁ b₂ t₁ t₂ (early-passes (commitBounds d n r κ κ₁ b₁ b₂ t₁ t₂) _ refl e);
-      A-length = sized-iff A _ .0 (lengths .0);
-      B-length = sized-iff B _ .0 (lengths .1 .0);
-      C-length = sized-iff C _ .0 (lengths .1 .1 .0);
-      s-length = sized-iff s _ .0 (lengths .1 .1 .1 .0);
-      ts-length = sized-iff ts _ .0 (lengths .1 .1 .1 .1 .0);
-      gs-length = sized-iff gs _ .0 (lengths .1 .1 .1 .1 .1 .0);
-      u₁-length = sized-iff u₁ _ .0 (lengths .1 .1 .1 .1 .1 .1 .0);
-    }
+    let row = holds (commitTests d n r κ κ₁ b₁ b₂ t₁ t₂ A B C s ts gs u₁) refl e in
+    let limits = commit-limits d n r κ κ₁ b₁ b₂ t₁ t₂ (early-holds (commitBounds d n r κ κ₁ b₁ b₂ t₁ t₂) _ refl e) in
+    search (tested, limits, allOf-all _ (row 7))
 
 -- ---- message 2
 
@@ -64,15 +56,9 @@ pub project-facts : {d n r w : ℕ} {projections s p : List ℤ}
     → ProjectFacts d n r w projections s p
 unfolding projectTests
 project-facts {d} {n} {r} {w} {projections} {s} {p} e =
-    let passed = refusal-passes (projectTests d n r w projections s p) refl e in
-    let lengths = allOf-all _ (passed .1 .1 .0) in
-    record {
-      limits = project-limits d n r w (early-passes (projectBounds d n r w) _ refl e);
-      projections-length = sized-iff projections _ .0 (lengths .0);
-      s-length = sized-iff s _ .0 (lengths .1 .0);
-      p-length = sized-iff p _ .0 (lengths .1 .1 .0);
-      projections-entries = passed .1 .1 .1 .1 .0;
-    }
+    let row = holds (projectTests d n r w projections s p) refl e in
+    let limits = project-limits d n r w (early-holds (projectBounds d n r w) _ refl e) in
+    search (tested, limits, allOf-all _ (row 7), row 9)
 
 -- ---- message 3
 
@@ -91,18 +77,9 @@ pub aggregate-facts : {d n r L w : ℕ} {constantTerms projections ψ ω s b″ 
     → AggregateFacts d n r L w constantTerms projections ψ ω s b″
 unfolding aggregateTests
 aggregate-facts {d} {n} {r} {L} {w} {constantTerms} {projections} {ψ} {ω} {s} {b″} e =
-    let passed = refusal-passes (aggregateTests d n r L w constantTerms projections ψ ω s b″) refl e in
-    let lengths = allOf-all _ (passed .1 .1 .0) in
-    record {
-      limits = aggregate-limits d n r L w (early-passes (aggregateBounds d n r L w) _ refl e);
-      constant-terms-length = sized-iff constantTerms _ .0 (lengths .0);
-      projections-length = sized-iff projections _ .0 (lengths .1 .0);
-      ψ-length = sized-iff ψ _ .0 (lengths .1 .1 .0);
-      ω-length = sized-iff ω _ .0 (lengths .1 .1 .1 .0);
-      s-length = sized-iff s _ .0 (lengths .1 .1 .1 .1 .0);
-      b″-length = sized-iff b″ _ .0 (lengths .1 .1 .1 .1 .1 .0);
-      projections-entries = passed .1 .1 .1 .1 .0;
-    }
+    let row = holds (aggregateTests d n r L w constantTerms projections ψ ω s b″) refl e in
+    let limits = aggregate-limits d n r L w (early-holds (aggregateBounds d n r L w) _ refl e) in
+    search (tested, limits, allOf-all _ (row 7), row 9)
 
 -- ---- message 4
 
@@ -126,23 +103,9 @@ pub garbage-facts : {d n r K L w κ₂ b₁ t₁ : ℕ} {whole constantTerms pro
     → GarbageFacts d n r K L w κ₂ b₁ t₁ whole constantTerms projections ψ ω α δ D s hs u₂
 unfolding garbageTests
 garbage-facts {d} {n} {r} {K} {L} {w} {κ₂} {b₁} {t₁} {whole} {constantTerms} {projections} {ψ} {ω} {α} {δ} {D} {s} {hs} {u₂} e =
-    let passed = refusal-passes (garbageTests d n r K L w κ₂ b₁ t₁ whole constantTerms projections ψ ω α δ D s hs u₂) refl e in
-    let lengths = allOf-all _ (passed .1 .1 .1 .1 .0) in
-    record {
-      limits = garbage-limits d n r K L w κ₂ b₁ t₁ (early-passes (garbageBounds d n r K L w κ₂ b₁ t₁) _ refl e);
-      whole-length = sized-iff whole _ .0 (lengths .0);
-      constant-terms-length = sized-iff constantTerms _ .0 (lengths .1 .0);
-      projections-length = sized-iff projections _ .0 (lengths .1 .1 .0);
-      ψ-length = sized-iff ψ _ .0 (lengths .1 .1 .1 .0);
-      ω-length = sized-iff ω _ .0 (lengths .1 .1 .1 .1 .0);
-      α-length = sized-iff α _ .0 (lengths .1 .1 .1 .1 .1 .0);
-      δ-length = sized-iff δ _ .0 (lengths .1 .1 .1 .1 .1 .1 .0);
-      D-length = sized-iff D _ .0 (lengths .1 .1 .1 .1 .1 .1 .1 .0);
-      s-length = sized-iff s _ .0 (lengths .1 .1 .1 .1 .1 .1 .1 .1 .0);
-      hs-length = sized-iff hs _ .0 (lengths .1 .1 .1 .1 .1 .1 .1 .1 .1 .0);
-      u₂-length = sized-iff u₂ _ .0 (lengths .1 .1 .1 .1 .1 .1 .1 .1 .1 .1 .0);
-      projections-entries = passed .1 .1 .1 .1 .1 .1 .0;
-    }
+    let row = holds (garbageTests d n r K L w κ₂ b₁ t₁ whole constantTerms projections ψ ω α δ D s hs u₂) refl e in
+    let limits = garbage-limits d n r K L w κ₂ b₁ t₁ (early-holds (garbageBounds d n r K L w κ₂ b₁ t₁) _ refl e) in
+    search (tested, limits, allOf-all _ (row 7), row 9)
 
 -- ---- message 5; z has two digits
 
@@ -157,14 +120,9 @@ pub amortize-facts : {d n r b : ℕ} {c s zs : List ℤ}
     → AmortizeFacts d n r b c s zs
 unfolding amortizeTests
 amortize-facts {d} {n} {r} {b} {c} {s} {zs} e =
-    let passed = refusal-passes (amortizeTests d n r 2 b c s zs) refl e in
-    let lengths = allOf-all _ (passed .1 .1 .1 .0) in
-    record {
-      limits = amortize-limits d n r b (early-passes (amortizeBounds d n r b) _ refl e);
-      c-length = sized-iff c _ .0 (lengths .0);
-      s-length = sized-iff s _ .0 (lengths .1 .0);
-      zs-length = sized-iff zs _ .0 (lengths .1 .1 .0);
-    }
+    let row = holds (amortizeTests d n r 2 b c s zs) refl e in
+    let limits = amortize-limits d n r b (early-holds (amortizeBounds d n r b) _ refl e) in
+    search (tested, limits, allOf-all _ (row 7))
 
 -- ---- the verifier, with the opening o, and the next instance
 
@@ -194,26 +152,7 @@ module _ (𝓢 : Statement) (𝓓 : Draws) (𝓣 : Transcript) where
     pub c-length : length c ≡ r * d
 
   pub lengths-known : allOf (lengths 𝓢 𝓓 𝓣) ≡ true → Lengths
-  lengths-known e =
-      let each = allOf-all _ e in
-      record {
-        u₁-length = sized-iff u₁ _ .0 (each .0);
-        p-length = sized-iff p _ .0 (each .1 .0);
-        b″-length = sized-iff b″ _ .0 (each .1 .1 .0);
-        u₂-length = sized-iff u₂ _ .0 (each .1 .1 .1 .0);
-        A-length = sized-iff A _ .0 (each .1 .1 .1 .1 .0);
-        B-length = sized-iff B _ .0 (each .1 .1 .1 .1 .1 .0);
-        C-length = sized-iff C _ .0 (each .1 .1 .1 .1 .1 .1 .0);
-        D-length = sized-iff D _ .0 (each .1 .1 .1 .1 .1 .1 .1 .0);
-        whole-length = sized-iff whole _ .0 (each .1 .1 .1 .1 .1 .1 .1 .1 .0);
-        constant-terms-length = sized-iff constantTerms _ .0 (each .1 .1 .1 .1 .1 .1 .1 .1 .1 .0);
-        projections-length = sized-iff projections _ .0 (each .1 .1 .1 .1 .1 .1 .1 .1 .1 .1 .0);
-        ψ-length = sized-iff ψ _ .0 (each .1 .1 .1 .1 .1 .1 .1 .1 .1 .1 .1 .0);
-        ω-length = sized-iff ω _ .0 (each .1 .1 .1 .1 .1 .1 .1 .1 .1 .1 .1 .1 .0);
-        α-length = sized-iff α _ .0 (each .1 .1 .1 .1 .1 .1 .1 .1 .1 .1 .1 .1 .1 .0);
-        δ-length = sized-iff δ _ .0 (each .1 .1 .1 .1 .1 .1 .1 .1 .1 .1 .1 .1 .1 .1 .0);
-        c-length = sized-iff c _ .0 (each .1 .1 .1 .1 .1 .1 .1 .1 .1 .1 .1 .1 .1 .1 .1 .0);
-      }
+  lengths-known e = search (tested, allOf-all _ e)
 
   pub record VerifyFacts (o : List ℤ) : Type 0 where
     pub limits : VerifyLimits d n r K L w κ κ₁ κ₂ b b₁ b₂ t₁ t₂ bound target
@@ -224,13 +163,6 @@ module _ (𝓢 : Statement) (𝓓 : Draws) (𝓣 : Transcript) where
   pub verify-facts : (o : List ℤ) → firstFailing (verifyTests 𝓢 𝓓 𝓣 o) ≡ 0 → VerifyFacts o
   unfolding verifyTests
   verify-facts o e =
-      let passed = refusal-passes (verifyTests 𝓢 𝓓 𝓣 o) refl e in
-      let sizes = passed .1 .1 .1 .1 .1 .0 in
-      record {
-        limits =
-            verify-limits d n r K L w κ κ₁ κ₂ b b₁ b₂ t₁ t₂ bound target
-            (early-passes (sizeTests 𝓢 𝓓) _ refl e) (passed .1 .1 .1 .1 .0, tt);
-        lists = lengths-known (allOf-drop 1 _ sizes);
-        o-length = sized-iff o _ .0 (allOf-all _ sizes .0);
-        projections-entries = passed .1 .1 .1 .1 .1 .1 .1 .0;
-      }
+      let row = holds (verifyTests 𝓢 𝓓 𝓣 o) refl e in
+      let limits = verify-limits d n r K L w κ κ₁ κ₂ b b₁ b₂ t₁ t₂ bound target (early-holds (sizeTests 𝓢 𝓓) _ refl e) (row 6) in
+      search (tested, limits, allOf-all _ (row 7), row 9)

@@ -12,8 +12,8 @@ use Rattle.fold.specs.Statement.{Relation}
 use Rattle.fold.specs.Statement.{Statement, Draws, Transcript}
 use Rattle.fold.specs.Answers.{firstFailing}
 use Rattle.fold.specs.Refusals.{wholeLength, sizeTests, nextTests}
-use Rattle.fold.specs.Laws.RefusalLaws.{early-passes, allOf-head, allOf-drop, sized-iff}
-use Rattle.fold.specs.Laws.TestLaws.{holds}
+use Rattle.fold.specs.Laws.RefusalLaws.{allOf-all, tested}
+use Rattle.fold.specs.Laws.TestLaws.{holds, early-holds}
 use Rattle.fold.specs.Known.CallLimits.{VerifyLimits, ChunkLimits, verify-limits, chunk-limits}
 use Rattle.fold.specs.Known.CallFacts.{Lengths, lengths-known}
 
@@ -34,12 +34,5 @@ module _ (𝓢 : Statement) (𝓓 : Draws) (𝓣 : Transcript) (ν μ : ℕ) (ou
   unfolding nextTests
   next-facts e =
       let row = holds (nextTests 𝓢 𝓓 𝓣 ν μ out) refl e in
-      record {
-        limits =
-            verify-limits d n r K L w κ κ₁ κ₂ b b₁ b₂ t₁ t₂ bound target (early-passes (sizeTests 𝓢 𝓓) _ refl e) (row 6, tt);
-        lists = lengths-known 𝓢 𝓓 𝓣 (allOf-drop 1 _ (row 7));
-        cut = chunk-limits tz ν μ (row 5);
-        rank-small = leb-true _ 256 (row 11);
-        out-length = sized-iff out _ .0 (allOf-head _ _ (row 7));
-        projections-entries = row 9;
-      }
+      let limits = verify-limits d n r K L w κ κ₁ κ₂ b b₁ b₂ t₁ t₂ bound target (early-holds (sizeTests 𝓢 𝓓) _ refl e) (row 6) in
+      search (tested, chunk-limits, leb-true, limits, row 5, allOf-all _ (row 7), row 9, row 11)

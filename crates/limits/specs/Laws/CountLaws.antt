@@ -9,7 +9,8 @@ use lib.IntN.{pos}
 use borrow.Author.Tests.{leb-true, leb-false, le-leb}
 use Rattle.fold.specs.Sizes.{nextParts}
 use Rattle.fold.specs.Refusals.{chunks, between}
-use Rattle.fold.specs.Laws.RefusalLaws.{chunks-iff, between-iff}
+use Rattle.fold.specs.Laws.RefusalLaws.{between-iff}
+use Rattle.fold.specs.Known.CallLimits.{chunk-limits}
 use Rattle.limits.specs.Laws.RowLaws.{joined-allOf}
 
 untrue : (t : Bool) → (t ≡ true → ⊥) → false ≡ t
@@ -31,10 +32,10 @@ leb-same a b c d f g = by (leb a b) refl
 -- ---- row 5
 
 pub many-ν : (ν μ : ℕ) → 8 < ν → false ≡ chunks 2 (pos ν) (pos μ)
-many-ν ν μ h = untrue _ (λ e. let l = chunks-iff 2 ν μ .0 e .1 .1 in omega (arith, h, l))
+many-ν ν μ h = untrue _ (λ e. omega (arith, h, chunk-limits 2 ν μ e .parts-small))
 
 pub many-μ : (ν μ : ℕ) → 16 < μ → false ≡ chunks 2 (pos ν) (pos μ)
-many-μ ν μ h = untrue _ (λ e. let l = chunks-iff 2 ν μ .0 e .1 .1 in omega (arith, h, l))
+many-μ ν μ h = untrue _ (λ e. omega (arith, h, chunk-limits 2 ν μ e .parts-small))
 
 pub chunk-tests : (ν μ : ℕ) → leb 1 ν && leb 1 μ && leb (2 * ν + μ) 16 ≡ chunks 2 (pos ν) (pos μ)
 unfolding chunks
