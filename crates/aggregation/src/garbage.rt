@@ -75,12 +75,12 @@ pub fn write_h(
     witness: &[i32],
     out: &mut [i32],
 )
-    requires { ⌜ HFacts (sizes .d) (sizes .n) (sizes .r) (sizes .k) (sizes .l) (sizes .w) (sizes .b1) (sizes .t1) (now whole) (now «constant_terms») (now projections) (now psi) (now omega) (now alpha) (now delta) (now witness) (now out) ⌝ }
-    ensures { λ _. ⌜ now (out .exit) ≡ hDigits (sizes .d) (sizes .n) (sizes .r) (sizes .b1) (sizes .t1) (aggregate (sizes .d) (sizes .n) (sizes .r) (sizes .k) (sizes .l) (sizes .w) (now (whole .entry)) (now («constant_terms» .entry)) (now (projections .entry)) (now (psi .entry)) (now (omega .entry)) (now (alpha .entry)) (now (delta .entry)) .φ) (now (witness .entry)) ⌝ }
+    requires { ⌜ HFacts (sizes .shape .d) (sizes .shape .n) (sizes .shape .r) (sizes .k) (sizes .l) (sizes .w) (sizes .b1) (sizes .t1) (now whole) (now «constant_terms») (now projections) (now psi) (now omega) (now alpha) (now delta) (now witness) (now out) ⌝ }
+    ensures { λ _. ⌜ now (out .exit) ≡ hDigits (sizes .shape .d) (sizes .shape .n) (sizes .shape .r) (sizes .b1) (sizes .t1) (aggregate (sizes .shape .d) (sizes .shape .n) (sizes .shape .r) (sizes .k) (sizes .l) (sizes .w) (now (whole .entry)) (now («constant_terms» .entry)) (now (projections .entry)) (now (psi .entry)) (now (omega .entry)) (now (alpha .entry)) (now (delta .entry)) .φ) (now (witness .entry)) ⌝ }
 {
-    let d = sizes.d;
-    let n = sizes.n;
-    let r = sizes.r;
+    let d = sizes.shape.d;
+    let n = sizes.shape.n;
+    let r = sizes.shape.r;
     let kc = sizes.k;
     let l = sizes.l;
     let w = sizes.w;
@@ -128,9 +128,9 @@ fn write_rows(d: usize, rows: usize, m: usize, matrix: &[i32], x: &[i32], out: &
 
 // u2 = D·(h digits).
 pub fn write_u2(sizes: GarbageSizes, d_matrix: &[i32], digits: &[i32], out: &mut [i32])
-    requires { ⌜ OuterFacts (sizes .d) (sizes .r) (sizes .kappa2) (sizes .t1) (now «d_matrix») (now digits) (now out) ⌝ }
-    ensures { λ _. ⌜ now (out .exit) ≡ u₂ (sizes .d) (sizes .r) (sizes .kappa2) (sizes .t1) (now («d_matrix» .entry)) (now (digits .entry)) ⌝ }
+    requires { ⌜ OuterFacts (sizes .shape .d) (sizes .shape .r) (sizes .kappa2) (sizes .t1) (now «d_matrix») (now digits) (now out) ⌝ }
+    ensures { λ _. ⌜ now (out .exit) ≡ u₂ (sizes .shape .d) (sizes .shape .r) (sizes .kappa2) (sizes .t1) (now («d_matrix» .entry)) (now (digits .entry)) ⌝ }
 {
-    let m = garbage_size(sizes.r, sizes.t1);
-    write_rows(sizes.d, sizes.kappa2, m, d_matrix, digits, out);
+    let m = garbage_size(sizes.shape.r, sizes.t1);
+    write_rows(sizes.shape.d, sizes.kappa2, m, d_matrix, digits, out);
 }

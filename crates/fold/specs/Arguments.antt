@@ -17,7 +17,7 @@ use Rattle.fold.specs.Refusals.{commitTests, projectTests, aggregateTest
 abbrev pub statementOf : Sizes → (A B C D whole constantTerms : List ℤ) → Statement
 statementOf sizes A B C D whole constantTerms =
     record {
-      relation = record { d = sizes .d; n = sizes .n; r = sizes .r; K = sizes .k; L = sizes .l; bound = sizes .bound; whole = whole; constantTerms = constantTerms };
+      relation = record { d = sizes .shape .d; n = sizes .shape .n; r = sizes .shape .r; K = sizes .k; L = sizes .l; bound = sizes .bound; whole = whole; constantTerms = constantTerms };
       w = sizes .w;
       tz = 2;
       κ = sizes .kappa;
@@ -36,16 +36,13 @@ statementOf sizes A B C D whole constantTerms =
     }
 
 -- the structs that the messages take, from the sizes of a statement
-abbrev pub shapeOf : Sizes → Shape
-shapeOf m = record { d = m .d; n = m .n; r = m .r }
-
 abbrev pub commitSizesOf : Sizes → CommitSizes
 commitSizesOf m =
-    record { d = m .d; n = m .n; r = m .r; kappa = m .kappa; kappa1 = m .kappa1; b1 = m .b1; b2 = m .b2; t1 = m .t1; t2 = m .t2 }
+    record { shape = m .shape; kappa = m .kappa; kappa1 = m .kappa1; b1 = m .b1; b2 = m .b2; t1 = m .t1; t2 = m .t2 }
 
 abbrev pub garbageSizesOf : Sizes → GarbageSizes
 garbageSizesOf m =
-    record { d = m .d; n = m .n; r = m .r; k = m .k; l = m .l; w = m .w; kappa2 = m .kappa2; b1 = m .b1; t1 = m .t1 }
+    record { shape = m .shape; k = m .k; l = m .l; w = m .w; kappa2 = m .kappa2; b1 = m .b1; t1 = m .t1 }
 
 abbrev pub drawsOf : (projections ψ ω α δ c : List ℤ) → Draws
 drawsOf projections ψ ω α δ c = record { projections = projections; ψ = ψ; ω = ω; α = α; δ = δ; c = c }
@@ -58,7 +55,7 @@ transcriptOf u₁ p b″ u₂ = record { u₁ = u₁; p = p; b″ = b″; u₂ =
 abbrev pub commitRefusal : CommitSizes → (A B C s ts gs u₁ : List ℤ) → ℕ
 commitRefusal m A B C s ts gs u₁ =
     firstFailing
-    (commitTests (m .d) (m .n) (m .r) (m .kappa) (m .kappa1) (m .b1) (m .b2) (m .t1) (m .t2) A B C s ts gs u₁)
+    (commitTests (m .shape .d) (m .shape .n) (m .shape .r) (m .kappa) (m .kappa1) (m .b1) (m .b2) (m .t1) (m .t2) A B C s ts gs u₁)
 
 abbrev pub projectRefusal : Shape → (w : ℕ) (projections s p : List ℤ) → ℕ
 projectRefusal m w projections s p = firstFailing (projectTests (m .d) (m .n) (m .r) w projections s p)
@@ -69,7 +66,7 @@ aggregateRefusal m L w constantTerms projections ψ ω s b″ = firstFailing (ag
 abbrev pub garbageRefusal : GarbageSizes → (whole constantTerms projections ψ ω α δ D s hs u₂ : List ℤ) → ℕ
 garbageRefusal m whole constantTerms projections ψ ω α δ D s hs u₂ =
     firstFailing
-    (garbageTests (m .d) (m .n) (m .r) (m .k) (m .l) (m .w) (m .kappa2) (m .b1) (m .t1) whole constantTerms projections ψ ω α δ D s hs u₂)
+    (garbageTests (m .shape .d) (m .shape .n) (m .shape .r) (m .k) (m .l) (m .w) (m .kappa2) (m .b1) (m .t1) whole constantTerms projections ψ ω α δ D s hs u₂)
 
 abbrev pub amortizeRefusal : Shape → (b : ℕ) (c s zs : List ℤ) → ℕ
 amortizeRefusal m b c s zs = firstFailing (amortizeTests (m .d) (m .n) (m .r) 2 b c s zs)
@@ -83,7 +80,7 @@ productRefusal d x y = firstFailing (productTests d x y)
 -- ---- a part of the next witness: its refusal, and the chunk handed back
 
 abbrev pub partRefusalOf : PartSizes → (i : ℕ) → List ℤ → ℕ
-partRefusalOf m i o = partRefusal (m .d) (m .n) (m .r) (m .kappa) (m .t1) (m .t2) 2 (m .nu) (m .mu) i o
+partRefusalOf m i o = partRefusal (m .shape .d) (m .shape .n) (m .shape .r) (m .kappa) (m .t1) (m .t2) 2 (m .nu) (m .mu) i o
 
 abbrev pub nextPartOf : PartSizes → (i : ℕ) → List ℤ → List ℤ
-nextPartOf m i o = nextPart (m .d) (m .n) (m .r) (m .kappa) (m .t1) (m .t2) 2 (m .nu) (m .mu) i o
+nextPartOf m i o = nextPart (m .shape .d) (m .shape .n) (m .shape .r) (m .kappa) (m .t1) (m .t2) 2 (m .nu) (m .mu) i o

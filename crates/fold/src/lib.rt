@@ -31,9 +31,7 @@ pub struct Shape {
 // The sizes of message 1.
 #[repr(C)]
 pub struct CommitSizes {
-    pub d: usize,
-    pub n: usize,
-    pub r: usize,
+    pub shape: Shape,
     pub kappa: usize,
     pub kappa1: usize,
     pub b1: usize,
@@ -45,9 +43,7 @@ pub struct CommitSizes {
 // The sizes of message 4.
 #[repr(C)]
 pub struct GarbageSizes {
-    pub d: usize,
-    pub n: usize,
-    pub r: usize,
+    pub shape: Shape,
     pub k: usize,
     pub l: usize,
     pub w: usize,
@@ -59,9 +55,7 @@ pub struct GarbageSizes {
 // The sizes of the verifier; `bound` is β² and `target` is β'².
 #[repr(C)]
 pub struct Sizes {
-    pub d: usize,
-    pub n: usize,
-    pub r: usize,
+    pub shape: Shape,
     pub k: usize,
     pub l: usize,
     pub w: usize,
@@ -80,9 +74,7 @@ pub struct Sizes {
 // The sizes of an opening and of its cut into ν and μ chunks.
 #[repr(C)]
 pub struct PartSizes {
-    pub d: usize,
-    pub n: usize,
-    pub r: usize,
+    pub shape: Shape,
     pub kappa: usize,
     pub t1: usize,
     pub t2: usize,

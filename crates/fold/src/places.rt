@@ -8,25 +8,25 @@ use crate::counts::t_size;
 
 pub fn t_place(sizes: Sizes) -> usize
     requires { ⌜ VerifySized sizes ⌝ }
-    ensures { λ a. ⌜ a ≡ tPlace 2 (sizes .n) ⌝ }
+    ensures { λ a. ⌜ a ≡ tPlace 2 (sizes .shape .n) ⌝ }
 {
-    2 * sizes.n
+    2 * sizes.shape.n
 }
 
 pub fn g_place(sizes: Sizes) -> usize
     requires { ⌜ VerifySized sizes ⌝ }
-    ensures { λ a. ⌜ a ≡ gPlace 2 (sizes .n) (sizes .r) (sizes .kappa) (sizes .t1) ⌝ }
+    ensures { λ a. ⌜ a ≡ gPlace 2 (sizes .shape .n) (sizes .shape .r) (sizes .kappa) (sizes .t1) ⌝ }
 {
     let start = t_place(sizes);
-    let size = t_size(sizes.r, sizes.kappa, sizes.t1);
+    let size = t_size(sizes.shape.r, sizes.kappa, sizes.t1);
     start + size
 }
 
 pub fn h_place(sizes: Sizes) -> usize
     requires { ⌜ VerifySized sizes ⌝ }
-    ensures { λ a. ⌜ a ≡ hPlace 2 (sizes .n) (sizes .r) (sizes .kappa) (sizes .t1) (sizes .t2) ⌝ }
+    ensures { λ a. ⌜ a ≡ hPlace 2 (sizes .shape .n) (sizes .shape .r) (sizes .kappa) (sizes .t1) (sizes .t2) ⌝ }
 {
     let start = g_place(sizes);
-    let size = garbage_size(sizes.r, sizes.t2);
+    let size = garbage_size(sizes.shape.r, sizes.t2);
     start + size
 }

@@ -9,7 +9,7 @@ use Rattle.fold.specs.declared.Answer.{Answer}
 use Rattle.fold.specs.declared.Answer.the-variants.{Written}
 use Rattle.fold.specs.declared.Sizes.{Sizes}
 use Rattle.fold.specs.Answers.{answered}
-use Rattle.fold.specs.Arguments.{statementOf, drawsOf, transcriptOf, shapeOf, commitSizesOf, garbageSizesOf}
+use Rattle.fold.specs.Arguments.{statementOf, drawsOf, transcriptOf, commitSizesOf, garbageSizesOf}
 use Rattle.fold.specs.Arguments.{commitRefusal, projectRefusal, aggregateRefusal, garbageRefusal, amortizeRefusal}
 use Rattle.fold.specs.Verification.{verification}
 use Rattle.cases.specs.Numbers.{padded, word, sizeAt}
@@ -25,12 +25,12 @@ module _ (sizes : Sizes) (xs : List ℤ) where
       Written
 
   unfoldable pub projectAnswer : Answer
-  projectAnswer = answered (projectRefusal (shapeOf sizes) (sizes .w) (nthList 0 xs) (nthList 1 xs) (room 2 0 xs)) Written
+  projectAnswer = answered (projectRefusal (sizes .shape) (sizes .w) (nthList 0 xs) (nthList 1 xs) (room 2 0 xs)) Written
 
   unfoldable pub aggregateAnswer : Answer
   aggregateAnswer =
       answered
-      (aggregateRefusal (shapeOf sizes) (sizes .l) (sizes .w) (nthList 0 xs) (nthList 1 xs) (nthList 2 xs) (nthList 3 xs) (nthList 4 xs)
+      (aggregateRefusal (sizes .shape) (sizes .l) (sizes .w) (nthList 0 xs) (nthList 1 xs) (nthList 2 xs) (nthList 3 xs) (nthList 4 xs)
       (room 5 0 xs))
       Written
 
@@ -42,7 +42,7 @@ module _ (sizes : Sizes) (xs : List ℤ) where
       Written
 
   unfoldable pub amortizeAnswer : Answer
-  amortizeAnswer = answered (amortizeRefusal (shapeOf sizes) (sizes .b) (nthList 0 xs) (nthList 1 xs) (room 2 0 xs)) Written
+  amortizeAnswer = answered (amortizeRefusal (sizes .shape) (sizes .b) (nthList 0 xs) (nthList 1 xs) (room 2 0 xs)) Written
 
   unfoldable pub verifyAnswer : Answer
   verifyAnswer =

@@ -15,9 +15,7 @@ naturalAt xs k = P (getD xs k (pos 0))
 unfoldable pub sizesOf : List ℤ → Sizes
 sizesOf xs =
     record {
-      d = naturalAt xs 1;
-      n = naturalAt xs 2;
-      r = naturalAt xs 3;
+      shape = record { d = naturalAt xs 1; n = naturalAt xs 2; r = naturalAt xs 3 };
       k = naturalAt xs 4;
       l = naturalAt xs 5;
       w = naturalAt xs 6;

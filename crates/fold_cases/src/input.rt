@@ -3,7 +3,7 @@ ghost use mathlib.Core.Path.{_≡_};
 ghost use lib.IntN.{pos};
 ghost use lib.ListN.{length, replicate, take};
 ghost use Rattle.cases.specs.Numbers.{sizeAt};
-ghost use Rattle.fold.specs.Arguments.{shapeOf, commitSizesOf, garbageSizesOf};
+ghost use Rattle.fold.specs.Arguments.{commitSizesOf, garbageSizesOf};
 ghost use Rattle.fold_cases.specs.Input.{naturalAt, sizesOf};
 use cases::numbers::natural;
 use cases::numbers::size;
@@ -39,9 +39,11 @@ pub fn read_sizes(wides: &[i64]) -> Sizes
     ensures { λ r. ⌜ r ≡ sizesOf (now (wides .entry)) ⌝ }
 {
     Sizes {
-        d: size_at(wides, 1),
-        n: size_at(wides, 2),
-        r: size_at(wides, 3),
+        shape: Shape {
+            d: size_at(wides, 1),
+            n: size_at(wides, 2),
+            r: size_at(wides, 3),
+        },
         k: size_at(wides, 4),
         l: size_at(wides, 5),
         w: size_at(wides, 6),
@@ -58,23 +60,11 @@ pub fn read_sizes(wides: &[i64]) -> Sizes
     }
 }
 
-pub fn shape(sizes: Sizes) -> Shape
-    ensures { λ r. ⌜ r ≡ shapeOf sizes ⌝ }
-{
-    Shape {
-        d: sizes.d,
-        n: sizes.n,
-        r: sizes.r,
-    }
-}
-
 pub fn commit_sizes(sizes: Sizes) -> CommitSizes
     ensures { λ r. ⌜ r ≡ commitSizesOf sizes ⌝ }
 {
     CommitSizes {
-        d: sizes.d,
-        n: sizes.n,
-        r: sizes.r,
+        shape: sizes.shape,
         kappa: sizes.kappa,
         kappa1: sizes.kappa1,
         b1: sizes.b1,
@@ -88,9 +78,7 @@ pub fn garbage_sizes(sizes: Sizes) -> GarbageSizes
     ensures { λ r. ⌜ r ≡ garbageSizesOf sizes ⌝ }
 {
     GarbageSizes {
-        d: sizes.d,
-        n: sizes.n,
-        r: sizes.r,
+        shape: sizes.shape,
         k: sizes.k,
         l: sizes.l,
         w: sizes.w,

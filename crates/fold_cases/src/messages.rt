@@ -4,14 +4,13 @@ ghost use mathlib.Core.Path.{_≡_};
 ghost use Rattle.lizkarg.specs.Calls.{Committed, Projected, Aggregated, GarbageCommitted, Amortized};
 ghost use Rattle.capi.specs.Codes.{Coded, codeOf};
 ghost use Rattle.cases.specs.Lists.{nthList};
-ghost use Rattle.fold.specs.Arguments.{shapeOf, commitSizesOf, garbageSizesOf};
+ghost use Rattle.fold.specs.Arguments.{commitSizesOf, garbageSizesOf};
 ghost use Rattle.fold_cases.specs.Answers.{commitAnswer, projectAnswer, aggregateAnswer, garbageAnswer, amortizeAnswer};
 use crate::input::FILL;
 use crate::input::ROOM;
 use crate::input::commit_sizes;
 use crate::input::count_at;
 use crate::input::garbage_sizes;
-use crate::input::shape;
 use crate::output;
 use capi::types::CAnswer;
 use cases::lists::nth_list;
@@ -60,13 +59,12 @@ pub fn run_commit(sizes: Sizes, lists: &[i32]) -> CAnswer
 // Call 2: the rows, the witness; p.
 fn project(sizes: Sizes, lists: &[i32], p: &mut [i32]) -> CAnswer
     ensures { λ x.
-        ⌜ Coded (λ answer. Projected (shapeOf sizes) (sizes .w) (nthList 0 (now (lists .entry))) (nthList 1 (now (lists .entry)))
+        ⌜ Coded (λ answer. Projected (sizes .shape) (sizes .w) (nthList 0 (now (lists .entry))) (nthList 1 (now (lists .entry)))
         (now (p .entry)) answer (now (p .exit))) x ⌝ }
 {
-    let its = shape(sizes);
     let projections = nth_list(lists, 0);
     let witness = nth_list(lists, 1);
-    let answer = capi::lizkarg_project(its, sizes.w, projections, witness, p);
+    let answer = capi::lizkarg_project(sizes.shape, sizes.w, projections, witness, p);
     output::print_answer(answer);
     output::print_list(p);
     answer
@@ -84,18 +82,17 @@ pub fn run_project(sizes: Sizes, lists: &[i32]) -> CAnswer
 // Call 3: the constant-term functions, the rows, psi, omega, the witness; b''.
 fn aggregate(sizes: Sizes, lists: &[i32], second_b: &mut [i32]) -> CAnswer
     ensures { λ x.
-        ⌜ Coded (λ answer. Aggregated (shapeOf sizes) (sizes .l) (sizes .w) (nthList 0 (now (lists .entry)))
+        ⌜ Coded (λ answer. Aggregated (sizes .shape) (sizes .l) (sizes .w) (nthList 0 (now (lists .entry)))
         (nthList 1 (now (lists .entry))) (nthList 2 (now (lists .entry))) (nthList 3 (now (lists .entry)))
         (nthList 4 (now (lists .entry))) (now («second_b» .entry)) answer (now («second_b» .exit))) x ⌝ }
 {
-    let its = shape(sizes);
     let constant_terms = nth_list(lists, 0);
     let projections = nth_list(lists, 1);
     let psi = nth_list(lists, 2);
     let omega = nth_list(lists, 3);
     let witness = nth_list(lists, 4);
     let answer = capi::lizkarg_aggregate(
-        its,
+        sizes.shape,
         sizes.l,
         sizes.w,
         constant_terms,
@@ -172,13 +169,12 @@ pub fn run_commit_garbage(sizes: Sizes, lists: &[i32]) -> CAnswer
 // Call 5: the challenges, the witness; z's digits.
 fn amortize(sizes: Sizes, lists: &[i32], z: &mut [i32]) -> CAnswer
     ensures { λ x.
-        ⌜ Coded (λ answer. Amortized (shapeOf sizes) (sizes .b) (nthList 0 (now (lists .entry))) (nthList 1 (now (lists .entry)))
+        ⌜ Coded (λ answer. Amortized (sizes .shape) (sizes .b) (nthList 0 (now (lists .entry))) (nthList 1 (now (lists .entry)))
         (now (z .entry)) answer (now (z .exit))) x ⌝ }
 {
-    let its = shape(sizes);
     let c = nth_list(lists, 0);
     let witness = nth_list(lists, 1);
-    let answer = capi::lizkarg_amortize(its, sizes.b, c, witness, z);
+    let answer = capi::lizkarg_amortize(sizes.shape, sizes.b, c, witness, z);
     output::print_answer(answer);
     output::print_list(z);
     answer

@@ -15,14 +15,14 @@ use Rattle.fold.specs.Refusals.{sized, wholeLength, commitLengths, constraintLe
 -- ---- rows 1 to 6
 
 abbrev pub commitBoundsOf : CommitSizes → List (ℕ × Bool)
-commitBoundsOf m = commitBounds (m .d) (m .n) (m .r) (m .kappa) (m .kappa1) (m .b1) (m .b2) (m .t1) (m .t2)
+commitBoundsOf m = commitBounds (m .shape .d) (m .shape .n) (m .shape .r) (m .kappa) (m .kappa1) (m .b1) (m .b2) (m .t1) (m .t2)
 
 abbrev pub garbageBoundsOf : GarbageSizes → List (ℕ × Bool)
-garbageBoundsOf m = garbageBounds (m .d) (m .n) (m .r) (m .k) (m .l) (m .w) (m .kappa2) (m .b1) (m .t1)
+garbageBoundsOf m = garbageBounds (m .shape .d) (m .shape .n) (m .shape .r) (m .k) (m .l) (m .w) (m .kappa2) (m .b1) (m .t1)
 
 abbrev pub sizeRowsOf : Sizes → List (ℕ × Bool)
 sizeRowsOf m =
-    sizeRows (pos (m .d)) (pos (m .n)) (pos (m .r)) (pos (m .k)) (pos (m .l)) (pos (m .w)) (pos (m .kappa)) (pos (m .kappa1))
+    sizeRows (pos (m .shape .d)) (pos (m .shape .n)) (pos (m .shape .r)) (pos (m .k)) (pos (m .l)) (pos (m .w)) (pos (m .kappa)) (pos (m .kappa1))
     (pos (m .kappa2)) (pos (m .b)) (pos (m .b1)) (pos (m .b2)) (pos (m .t1)) (pos (m .t2))
 
 abbrev pub boundRowsOf : Sizes → List (ℕ × Bool)
@@ -35,33 +35,33 @@ abbrev pub nextBoundsOf : Sizes → (ν μ : ℕ) → List (ℕ × Bool)
 nextBoundsOf m ν μ = sizeRowsOf m ++ ((5, chunks 2 (pos ν) (pos μ)) ∷ boundRowsOf m)
 
 abbrev pub partBoundsOf : PartSizes → ℕ → List (ℕ × Bool)
-partBoundsOf m i = partBounds (m .d) (m .n) (m .r) (m .kappa) (m .t1) (m .t2) 2 (m .nu) (m .mu) i
+partBoundsOf m i = partBounds (m .shape .d) (m .shape .n) (m .shape .r) (m .kappa) (m .t1) (m .t2) 2 (m .nu) (m .mu) i
 
 -- ---- row 7
 
 abbrev pub commitLengthsOf : CommitSizes → (A B C s ts gs u₁ : List ℤ) → List Bool
-commitLengthsOf m A B C s ts gs u₁ = commitLengths (m .d) (m .n) (m .r) (m .kappa) (m .kappa1) (m .t1) (m .t2) A B C s ts gs u₁
+commitLengthsOf m A B C s ts gs u₁ = commitLengths (m .shape .d) (m .shape .n) (m .shape .r) (m .kappa) (m .kappa1) (m .t1) (m .t2) A B C s ts gs u₁
 
 abbrev pub garbageLengthsOf : GarbageSizes → (D s hs u₂ : List ℤ) → List Bool
-garbageLengthsOf m D s hs u₂ = garbageLengths (m .d) (m .n) (m .r) (m .kappa2) (m .t1) D s hs u₂
+garbageLengthsOf m D s hs u₂ = garbageLengths (m .shape .d) (m .shape .n) (m .shape .r) (m .kappa2) (m .t1) D s hs u₂
 
 abbrev pub messageLengthsOf : Sizes → (u₁ p b″ u₂ : List ℤ) → List Bool
-messageLengthsOf m u₁ p b″ u₂ = messageLengths (m .d) (m .w) (m .kappa1) (m .kappa2) u₁ p b″ u₂
+messageLengthsOf m u₁ p b″ u₂ = messageLengths (m .shape .d) (m .w) (m .kappa1) (m .kappa2) u₁ p b″ u₂
 
 abbrev pub matrixLengthsOf : Sizes → (A B C D : List ℤ) → List Bool
-matrixLengthsOf m A B C D = matrixLengths (m .d) (m .n) (m .r) (m .kappa) (m .kappa1) (m .kappa2) (m .t1) (m .t2) A B C D
+matrixLengthsOf m A B C D = matrixLengths (m .shape .d) (m .shape .n) (m .shape .r) (m .kappa) (m .kappa1) (m .kappa2) (m .t1) (m .t2) A B C D
 
 -- both kinds of constraints and all draws
 abbrev pub drawLengthsOf : Sizes → (whole constantTerms projections ψ ω α δ c : List ℤ) → List Bool
 drawLengthsOf m whole constantTerms projections ψ ω α δ c =
-    constraintLengths (m .d) (m .n) (m .r) (m .k) (m .l) (m .w) whole constantTerms projections ψ ω α δ ++ (sized c (m .r * m .d) ∷ [])
+    constraintLengths (m .shape .d) (m .shape .n) (m .shape .r) (m .k) (m .l) (m .w) whole constantTerms projections ψ ω α δ ++ (sized c (m .shape .r * m .shape .d) ∷ [])
 
 -- the rank of the next instance, and the length of its constraints
 abbrev pub rankOf : Sizes → (ν μ : ℕ) → ℕ
-rankOf m ν μ = nextRank (m .n) ν (restSize (m .r) (m .kappa) (m .t1) (m .t2)) μ
+rankOf m ν μ = nextRank (m .shape .n) ν (restSize (m .shape .r) (m .kappa) (m .t1) (m .t2)) μ
 
 abbrev pub outLengthOf : Sizes → (ν μ : ℕ) → ℕ
-outLengthOf m ν μ = wholeLength (m .d) (rankOf m ν μ) (nextParts 2 ν μ) (nextCount (m .kappa) (m .kappa1) (m .kappa2))
+outLengthOf m ν μ = wholeLength (m .shape .d) (rankOf m ν μ) (nextParts 2 ν μ) (nextCount (m .kappa) (m .kappa1) (m .kappa2))
 
 -- the limits of the sizes of both kinds of constraints
 pub record ConstraintLimits (d n r K L w : ℕ) : Type 0 where

@@ -19,11 +19,11 @@ use fold::Sizes;
 pub fn commit_bounds(sizes: CommitSizes) -> u8
     ensures { λ x. ⌜ x ≡ firstFailing (spec.commitBoundsOf sizes) ⌝ }
 {
-    let two = groups::shape(sizes.n, sizes.r);
+    let two = groups::shape(sizes.shape.n, sizes.shape.r);
     let three = groups::ranks(sizes.kappa, sizes.kappa1);
     let four = groups::digits(sizes.b1, sizes.b2, sizes.t1, sizes.t2);
     first(
-        degree(sizes.d),
+        degree(sizes.shape.d),
         1,
         first(two, 2, first(three, 3, first(four, 4, 0))),
     )
@@ -47,11 +47,12 @@ pub fn aggregate_bounds(shape: Shape, l: usize, w: usize) -> u8
 pub fn garbage_bounds(sizes: GarbageSizes) -> u8
     ensures { λ x. ⌜ x ≡ firstFailing (spec.garbageBoundsOf sizes) ⌝ }
 {
-    let two = groups::shape(sizes.n, sizes.r) & groups::counts(sizes.k, sizes.l, sizes.w);
+    let two = groups::shape(sizes.shape.n, sizes.shape.r)
+        & groups::counts(sizes.k, sizes.l, sizes.w);
     let three = commitment_rank(sizes.kappa2);
     let four = base(sizes.b1) & digit_count(sizes.t1);
     first(
-        degree(sizes.d),
+        degree(sizes.shape.d),
         1,
         first(two, 2, first(three, 3, first(four, 4, 0))),
     )
@@ -68,11 +69,12 @@ pub fn amortize_bounds(shape: Shape, b: usize) -> u8
 pub fn size_rows(sizes: Sizes) -> u8
     ensures { λ x. ⌜ x ≡ firstFailing (spec.sizeRowsOf sizes) ⌝ }
 {
-    let two = groups::shape(sizes.n, sizes.r) & groups::counts(sizes.k, sizes.l, sizes.w);
+    let two = groups::shape(sizes.shape.n, sizes.shape.r)
+        & groups::counts(sizes.k, sizes.l, sizes.w);
     let three = groups::ranks(sizes.kappa, sizes.kappa1) & commitment_rank(sizes.kappa2);
     let four = base(sizes.b) & groups::digits(sizes.b1, sizes.b2, sizes.t1, sizes.t2);
     first(
-        degree(sizes.d),
+        degree(sizes.shape.d),
         1,
         first(two, 2, first(three, 3, first(four, 4, 0))),
     )

@@ -5,7 +5,6 @@ ghost use Rattle.fold.specs.Arguments.{VerifySized};
 ghost use Rattle.limits.specs.Stages as spec;
 use crate::lengths::constraint_lengths;
 use crate::lengths::list_fits;
-use fold::Shape;
 use fold::Sizes;
 
 pub fn draw_lengths(
@@ -24,13 +23,8 @@ pub fn draw_lengths(
         ⌜ x ≡ allOf (spec.drawLengthsOf sizes (now (whole .entry)) (now («constant_terms» .entry)) (now (projections .entry))
         (now (psi .entry)) (now (omega .entry)) (now (alpha .entry)) (now (delta .entry)) (now (c .entry))) ⌝ }
 {
-    let shape = Shape {
-        d: sizes.d,
-        n: sizes.n,
-        r: sizes.r,
-    };
     constraint_lengths(
-        shape,
+        sizes.shape,
         sizes.k,
         sizes.l,
         sizes.w,
@@ -42,5 +36,5 @@ pub fn draw_lengths(
         alpha,
         delta,
     )
-        & list_fits(c, sizes.r, sizes.d)
+        & list_fits(c, sizes.shape.r, sizes.shape.d)
 }

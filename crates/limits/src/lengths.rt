@@ -105,15 +105,15 @@ pub fn commit_lengths(
         ⌜ x ≡ allOf (spec.commitLengthsOf sizes (now («a_matrix» .entry)) (now («b_matrix» .entry)) (now («c_matrix» .entry)) (now (witness .entry))
         (now (t .entry)) (now (g .entry)) (now (u1 .entry))) ⌝ }
 {
-    let t_elements = t_size(sizes.r, sizes.kappa, sizes.t1);
-    let g_elements = garbage_size(sizes.r, sizes.t2);
-    matrix_fits(a_matrix, sizes.kappa, sizes.n, sizes.d)
-        & matrix_fits(b_matrix, sizes.kappa1, t_elements, sizes.d)
-        & matrix_fits(c_matrix, sizes.kappa1, g_elements, sizes.d)
-        & matrix_fits(witness, sizes.r, sizes.n, sizes.d)
-        & list_fits(t, t_elements, sizes.d)
-        & list_fits(g, g_elements, sizes.d)
-        & list_fits(u1, sizes.kappa1, sizes.d)
+    let t_elements = t_size(sizes.shape.r, sizes.kappa, sizes.t1);
+    let g_elements = garbage_size(sizes.shape.r, sizes.t2);
+    matrix_fits(a_matrix, sizes.kappa, sizes.shape.n, sizes.shape.d)
+        & matrix_fits(b_matrix, sizes.kappa1, t_elements, sizes.shape.d)
+        & matrix_fits(c_matrix, sizes.kappa1, g_elements, sizes.shape.d)
+        & matrix_fits(witness, sizes.shape.r, sizes.shape.n, sizes.shape.d)
+        & list_fits(t, t_elements, sizes.shape.d)
+        & list_fits(g, g_elements, sizes.shape.d)
+        & list_fits(u1, sizes.kappa1, sizes.shape.d)
 }
 
 pub fn project_lengths(
@@ -199,11 +199,11 @@ pub fn garbage_lengths(
         ⌜ x ≡ allOf (spec.garbageLengthsOf sizes (now («d_matrix» .entry)) (now (witness .entry)) (now (h .entry))
         (now (u2 .entry))) ⌝ }
 {
-    let elements = garbage_size(sizes.r, sizes.t1);
-    matrix_fits(d_matrix, sizes.kappa2, elements, sizes.d)
-        & matrix_fits(witness, sizes.r, sizes.n, sizes.d)
-        & list_fits(h, elements, sizes.d)
-        & list_fits(u2, sizes.kappa2, sizes.d)
+    let elements = garbage_size(sizes.shape.r, sizes.t1);
+    matrix_fits(d_matrix, sizes.kappa2, elements, sizes.shape.d)
+        & matrix_fits(witness, sizes.shape.r, sizes.shape.n, sizes.shape.d)
+        & list_fits(h, elements, sizes.shape.d)
+        & list_fits(u2, sizes.kappa2, sizes.shape.d)
 }
 
 pub fn amortize_lengths(shape: Shape, b: usize, c: &[i32], witness: &[i32], z: &[i32]) -> bool
@@ -224,10 +224,10 @@ pub fn message_lengths(sizes: Sizes, u1: &[i32], p: &[i32], second_b: &[i32], u2
         ⌜ x ≡ allOf (spec.messageLengthsOf sizes (now (u1 .entry)) (now (p .entry)) (now («second_b» .entry))
         (now (u2 .entry))) ⌝ }
 {
-    list_fits(u1, sizes.kappa1, sizes.d)
+    list_fits(u1, sizes.kappa1, sizes.shape.d)
         & sized(p, sizes.w)
-        & five_fit(second_b, sizes.d)
-        & list_fits(u2, sizes.kappa2, sizes.d)
+        & five_fit(second_b, sizes.shape.d)
+        & list_fits(u2, sizes.kappa2, sizes.shape.d)
 }
 
 pub fn matrix_lengths(
@@ -242,11 +242,11 @@ pub fn matrix_lengths(
         ⌜ x ≡ allOf (spec.matrixLengthsOf sizes (now («a_matrix» .entry)) (now («b_matrix» .entry)) (now («c_matrix» .entry))
         (now («d_matrix» .entry))) ⌝ }
 {
-    let t_elements = t_size(sizes.r, sizes.kappa, sizes.t1);
-    let g_elements = garbage_size(sizes.r, sizes.t2);
-    let h_elements = garbage_size(sizes.r, sizes.t1);
-    matrix_fits(a_matrix, sizes.kappa, sizes.n, sizes.d)
-        & matrix_fits(b_matrix, sizes.kappa1, t_elements, sizes.d)
-        & matrix_fits(c_matrix, sizes.kappa1, g_elements, sizes.d)
-        & matrix_fits(d_matrix, sizes.kappa2, h_elements, sizes.d)
+    let t_elements = t_size(sizes.shape.r, sizes.kappa, sizes.t1);
+    let g_elements = garbage_size(sizes.shape.r, sizes.t2);
+    let h_elements = garbage_size(sizes.shape.r, sizes.t1);
+    matrix_fits(a_matrix, sizes.kappa, sizes.shape.n, sizes.shape.d)
+        & matrix_fits(b_matrix, sizes.kappa1, t_elements, sizes.shape.d)
+        & matrix_fits(c_matrix, sizes.kappa1, g_elements, sizes.shape.d)
+        & matrix_fits(d_matrix, sizes.kappa2, h_elements, sizes.shape.d)
 }

@@ -164,13 +164,8 @@ pub fn garbage_refusal(
     if size != 0 {
         return size;
     }
-    let shape = Shape {
-        d: sizes.d,
-        n: sizes.n,
-        r: sizes.r,
-    };
     let fits = constraint_lengths(
-        shape,
+        sizes.shape,
         sizes.k,
         sizes.l,
         sizes.w,
@@ -251,9 +246,9 @@ pub fn verify_refusal(
         return size;
     }
     let opened = opening_fits(
-        sizes.d,
-        sizes.n,
-        sizes.r,
+        sizes.shape.d,
+        sizes.shape.n,
+        sizes.shape.r,
         sizes.kappa,
         sizes.t1,
         sizes.t2,
@@ -290,7 +285,7 @@ pub fn verify_refusal(
             delta,
         )
         & are_coefficients(c);
-    let rule = challenges(sizes.d, sizes.r, c);
+    let rule = challenges(sizes.shape.d, sizes.shape.r, c);
     first(ranges, 8, first(entries, 9, first(rule, 10, 0)))
 }
 

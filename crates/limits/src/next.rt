@@ -40,8 +40,8 @@ pub fn rank_of(sizes: Sizes, nu: usize, mu: usize) -> usize
     requires { ⌜ ChunkLimits 2 nu mu ⌝ }
     ensures { λ x. ⌜ x ≡ spec.rankOf sizes nu mu ⌝ }
 {
-    let m = rest_size(sizes.r, sizes.kappa, sizes.t1, sizes.t2);
-    next_rank(sizes.n, nu, m, mu)
+    let m = rest_size(sizes.shape.r, sizes.kappa, sizes.t1, sizes.t2);
+    next_rank(sizes.shape.n, nu, m, mu)
 }
 
 // Row 7: numbers of `count` whole constraints on `parts` parts of `rank` elements. The rank may be above 256 here, which row 11 tells.
@@ -63,7 +63,7 @@ pub fn out_fits(sizes: Sizes, nu: usize, mu: usize, rank: usize, out: &[i32]) ->
 {
     let parts = 2 * nu + mu;
     let count = sizes.kappa + sizes.kappa1 + sizes.kappa2 + 3;
-    next_fits(out, sizes.d, rank, parts, count)
+    next_fits(out, sizes.shape.d, rank, parts, count)
 }
 
 // The next instance: the statement, the draws, the messages; the list written for its length.
@@ -130,7 +130,7 @@ pub fn next_refusal(
             delta,
         )
         & are_coefficients(c);
-    let rule = challenges(sizes.d, sizes.r, c);
+    let rule = challenges(sizes.shape.d, sizes.shape.r, c);
     let small = rank <= 256;
     first(
         ranges,

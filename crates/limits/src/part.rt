@@ -36,12 +36,12 @@ pub fn part_number(nu: usize, mu: usize, part: usize) -> bool
 pub fn part_bounds(sizes: PartSizes, part: usize) -> u8
     ensures { λ x. ⌜ x ≡ firstFailing (spec.partBoundsOf sizes part) ⌝ }
 {
-    let two = shape(sizes.n, sizes.r) & part_number(sizes.nu, sizes.mu, part);
+    let two = shape(sizes.shape.n, sizes.shape.r) & part_number(sizes.nu, sizes.mu, part);
     let three = commitment_rank(sizes.kappa);
     let four = digit_count(sizes.t1) & digit_count(sizes.t2);
     let five = chunk_counts(sizes.nu, sizes.mu);
     first(
-        degree(sizes.d),
+        degree(sizes.shape.d),
         1,
         first(two, 2, first(three, 3, first(four, 4, first(five, 5, 0)))),
     )
@@ -56,9 +56,9 @@ pub fn next_part_refusal(sizes: PartSizes, part: usize, opening: &[i32]) -> u8
         return size;
     }
     let seven = opening_fits(
-        sizes.d,
-        sizes.n,
-        sizes.r,
+        sizes.shape.d,
+        sizes.shape.n,
+        sizes.shape.r,
         sizes.kappa,
         sizes.t1,
         sizes.t2,

@@ -46,14 +46,14 @@ pub record Aggregated (shape : Shape) (L w : ℕ) (constantTerms projections ψ 
 -- Message 4: the digits of h for the sizes of a struct
 abbrev pub hOf : GarbageSizes → (whole constantTerms projections ψ ω α δ s : List ℤ) → List ℤ
 hOf m whole constantTerms projections ψ ω α δ s =
-    hDigits (m .d) (m .n) (m .r) (m .b1) (m .t1) (aggregate (m .d) (m .n) (m .r) (m .k) (m .l) (m .w) whole constantTerms projections ψ ω α δ .φ) s
+    hDigits (m .shape .d) (m .shape .n) (m .shape .r) (m .b1) (m .t1) (aggregate (m .shape .d) (m .shape .n) (m .shape .r) (m .k) (m .l) (m .w) whole constantTerms projections ψ ω α δ .φ) s
 
 pub record GarbageCommitted (sizes : GarbageSizes) (whole constantTerms projections ψ ω α δ D s h u : List ℤ) (answer : Answer) (h′ u′ : List ℤ) : Type 0 where
   pub answer-is : answer ≡ answered (garbageRefusal sizes whole constantTerms projections ψ ω α δ D s h u) Written
   pub h-is : h′ ≡ written (garbageRefusal sizes whole constantTerms projections ψ ω α δ D s h u) (hOf sizes whole constantTerms projections ψ ω α δ s) h
   pub u-is : u′
       ≡ written (garbageRefusal sizes whole constantTerms projections ψ ω α δ D s h u)
-      (u₂ (sizes .d) (sizes .r) (sizes .kappa2) (sizes .t1) D (hOf sizes whole constantTerms projections ψ ω α δ s)) u
+      (u₂ (sizes .shape .d) (sizes .shape .r) (sizes .kappa2) (sizes .t1) D (hOf sizes whole constantTerms projections ψ ω α δ s)) u
 
 -- Message 5
 pub record Amortized (shape : Shape) (b : ℕ) (c s v : List ℤ) (answer : Answer) (v′ : List ℤ) : Type 0 where

@@ -16,9 +16,7 @@ wideSize xs place = ofZ w64 (getD xs place (pos 0))
 unfoldable pub sizesOf : List ℤ → Sizes
 sizesOf xs =
     record {
-      d = wideSize xs 0;
-      n = wideSize xs 1;
-      r = wideSize xs 2;
+      shape = record { d = wideSize xs 0; n = wideSize xs 1; r = wideSize xs 2 };
       k = wideSize xs 3;
       l = wideSize xs 4;
       w = wideSize xs 5;
@@ -37,4 +35,4 @@ sizesOf xs =
 -- the sizes of an opening and of its cut
 abbrev pub partSizesOf : Sizes → (ν μ : ℕ) → PartSizes
 partSizesOf m ν μ =
-    record { d = m .d; n = m .n; r = m .r; kappa = m .kappa; t1 = m .t1; t2 = m .t2; nu = ν; mu = μ }
+    record { shape = m .shape; kappa = m .kappa; t1 = m .t1; t2 = m .t2; nu = ν; mu = μ }

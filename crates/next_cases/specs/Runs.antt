@@ -6,7 +6,7 @@ use Prim.Native.Nat.{ℕ, _-_}
 use lib.IntN.{ℤ}
 use lib.ListN.{length, drop}
 use Rattle.fold.specs.declared.Sizes.{Sizes}
-use Rattle.fold.specs.Arguments.{statementOf, drawsOf, transcriptOf, shapeOf, commitSizesOf, garbageSizesOf}
+use Rattle.fold.specs.Arguments.{statementOf, drawsOf, transcriptOf, commitSizesOf, garbageSizesOf}
 use Rattle.fold.specs.Statement.{Statement, Draws, Transcript}
 use Rattle.fold.specs.Verification.{verification}
 use Rattle.lizkarg.specs.Calls.{Committed, Projected, Aggregated, GarbageCommitted, Amortized}
@@ -50,13 +50,13 @@ pub record Committing (sizes : Sizes) (setup s lengths m : List ℤ) (code : CAn
 
 pub record Projecting (sizes : Sizes) (projections s lengths m : List ℤ) (code : CAnswer) (m′ : List ℤ) : Type 0 where
   pub p′ : List ℤ
-  pub called : Coded (λ answer. Projected (shapeOf sizes) (sizes .w) projections s (blank lengths 5) answer p′) code
+  pub called : Coded (λ answer. Projected (sizes .shape) (sizes .w) projections s (blank lengths 5) answer p′) code
   pub keeps : m′ ≡ kept m lengths 5 p′
 
 pub record Aggregating (sizes : Sizes) (constantTerms projections ψ draws s lengths m : List ℤ) (code : CAnswer) (m′ : List ℤ) : Type 0 where
   pub b′ : List ℤ
   pub called : Coded
-      (λ answer. Aggregated (shapeOf sizes) (sizes .l) (sizes .w) constantTerms projections ψ (nthList 0 draws) s (blank lengths 6) answer b′)
+      (λ answer. Aggregated (sizes .shape) (sizes .l) (sizes .w) constantTerms projections ψ (nthList 0 draws) s (blank lengths 6) answer b′)
       code
   pub keeps : m′ ≡ kept m lengths 6 b′
 
@@ -71,7 +71,7 @@ pub record GarbageCommitting (sizes : Sizes) (setup whole constantTerms projecti
 
 pub record Amortizing (sizes : Sizes) (draws s lengths m : List ℤ) (code : CAnswer) (m′ : List ℤ) : Type 0 where
   pub z′ : List ℤ
-  pub called : Coded (λ answer. Amortized (shapeOf sizes) (sizes .b) (nthList 3 draws) s (blank lengths 0) answer z′) code
+  pub called : Coded (λ answer. Amortized (sizes .shape) (sizes .b) (nthList 3 draws) s (blank lengths 0) answer z′) code
   pub keeps : m′ ≡ kept m lengths 0 z′
 
 -- what the verifier and the next instance are given

@@ -21,7 +21,6 @@ use cases::lists::nth_list;
 use cases::numbers::size;
 use fold::CommitSizes;
 use fold::GarbageSizes;
-use fold::Shape;
 use fold::Sizes;
 
 fn commit(
@@ -46,9 +45,7 @@ fn commit(
     let g = &mut g_room[..g_count];
     let u1 = &mut u1_room[..u1_count];
     let its = CommitSizes {
-        d: sizes.d,
-        n: sizes.n,
-        r: sizes.r,
+        shape: sizes.shape,
         kappa: sizes.kappa,
         kappa1: sizes.kappa1,
         b1: sizes.b1,
@@ -87,12 +84,7 @@ fn project(
     let count = size(lengths, P, ROOM);
     let mut room = [FILL; ROOM];
     let p = &mut room[..count];
-    let shape = Shape {
-        d: sizes.d,
-        n: sizes.n,
-        r: sizes.r,
-    };
-    let answer = capi::lizkarg_project(shape, sizes.w, projections, witness, p);
+    let answer = capi::lizkarg_project(sizes.shape, sizes.w, projections, witness, p);
     print_answer(1, answer);
     keep(messages, lengths, P, p);
     answer
@@ -115,13 +107,8 @@ fn aggregate(
     let count = size(lengths, SECOND_B, ROOM);
     let mut room = [FILL; ROOM];
     let second_b = &mut room[..count];
-    let shape = Shape {
-        d: sizes.d,
-        n: sizes.n,
-        r: sizes.r,
-    };
     let answer = capi::lizkarg_aggregate(
-        shape,
+        sizes.shape,
         sizes.l,
         sizes.w,
         constant_terms,
@@ -160,9 +147,7 @@ fn commit_garbage(
     let h = &mut h_room[..h_count];
     let u2 = &mut u2_room[..u2_count];
     let its = GarbageSizes {
-        d: sizes.d,
-        n: sizes.n,
-        r: sizes.r,
+        shape: sizes.shape,
         k: sizes.k,
         l: sizes.l,
         w: sizes.w,
@@ -205,12 +190,7 @@ fn amortize(
     let mut room = [FILL; ROOM];
     let z = &mut room[..count];
     let c = nth_list(draws, 3);
-    let shape = Shape {
-        d: sizes.d,
-        n: sizes.n,
-        r: sizes.r,
-    };
-    let answer = capi::lizkarg_amortize(shape, sizes.b, c, witness, z);
+    let answer = capi::lizkarg_amortize(sizes.shape, sizes.b, c, witness, z);
     print_answer(1, answer);
     keep(messages, lengths, Z, z);
     answer

@@ -6,6 +6,7 @@ ghost use mir.Val.{ofZ};
 ghost use Rattle.cases.specs.Numbers.{sizeOf};
 ghost use Rattle.next_cases.specs.Input.{wideSize, sizesOf};
 use cases::numbers::wide_at;
+use fold::Shape;
 use fold::Sizes;
 
 // Where the sizes of a case begin, how many they are, which numbers are ν and μ, and what follows the sizes.
@@ -54,9 +55,11 @@ pub fn read_sizes(wides: &[i64]) -> Sizes
     ensures { λ x. ⌜ x ≡ sizesOf (now (wides .entry)) ⌝ }
 {
     Sizes {
-        d: size_at(wides, 0),
-        n: size_at(wides, 1),
-        r: size_at(wides, 2),
+        shape: Shape {
+            d: size_at(wides, 0),
+            n: size_at(wides, 1),
+            r: size_at(wides, 2),
+        },
         k: size_at(wides, 3),
         l: size_at(wides, 4),
         w: size_at(wides, 5),

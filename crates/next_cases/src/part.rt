@@ -22,9 +22,7 @@ pub fn part_sizes(sizes: Sizes, nu: usize, mu: usize) -> PartSizes
     ensures { λ x. ⌜ x ≡ partSizesOf sizes nu mu ⌝ }
 {
     PartSizes {
-        d: sizes.d,
-        n: sizes.n,
-        r: sizes.r,
+        shape: sizes.shape,
         kappa: sizes.kappa,
         t1: sizes.t1,
         t2: sizes.t2,

@@ -168,11 +168,11 @@ fn with_witness(
     ensures { λ x.
         ⌜ SecondRun sizes (now (whole .entry)) (witnessOf first sizes (now (opening .entry))) (now (lists .entry)) x ⌝ }
 {
-    let width = product(sizes.n, sizes.d);
-    let count = fitting(product(sizes.r, width));
+    let width = product(sizes.shape.n, sizes.shape.d);
+    let count = fitting(product(sizes.shape.r, width));
     let mut room = [FILL; ROOM];
     let witness = &mut room[..count];
-    write_witness(first, sizes.r, width, opening, witness);
+    write_witness(first, sizes.shape.r, width, opening, witness);
     run_second(sizes, whole, witness, lists)
 }
 

@@ -14,17 +14,17 @@ use Rattle.fold.specs.Messages.{aggregateConstant}
 use Rattle.fold.specs.Arguments.{VerifySized}
 use Rattle.constraints.specs.Known.Facts.{WholeFacts}
 
-unfoldable pub constantAt : (s : Sizes) (whole α δ b″ u₁ u₂ : List ℤ) (x : ℕ) → R (s .d) .Carrier
+unfoldable pub constantAt : (s : Sizes) (whole α δ b″ u₁ u₂ : List ℤ) (x : ℕ) → R (s .shape .d) .Carrier
 constantAt s whole α δ b″ u₁ u₂ x =
-    cond (ltb x (s .kappa + 2)) (R (s .d) .zero)
-    (cond (eqb x (s .kappa + 2)) (aggregateConstant (s .d) (s .n) (s .r) (s .k) whole α δ b″)
-    (cond (ltb x (s .kappa + 3 + s .kappa1)) (el (s .d) u₁ (x - (s .kappa + 3))) (el (s .d) u₂ (x - (s .kappa + 3 + s .kappa1)))))
+    cond (ltb x (s .kappa + 2)) (R (s .shape .d) .zero)
+    (cond (eqb x (s .kappa + 2)) (aggregateConstant (s .shape .d) (s .shape .n) (s .shape .r) (s .k) whole α δ b″)
+    (cond (ltb x (s .kappa + 3 + s .kappa1)) (el (s .shape .d) u₁ (x - (s .kappa + 3))) (el (s .shape .d) u₂ (x - (s .kappa + 3 + s .kappa1)))))
 
 -- what the constants ask of the lists that they read
 pub record ConstantFacts (s : Sizes) (whole α δ b″ u₁ u₂ : List ℤ) : Type 0 where
   pub limits : VerifySized s
-  pub wholes : WholeFacts (s .d) (s .n) (s .r) (s .k) whole α
-  pub δ-length : length δ ≡ 5 * s .d
-  pub b″-length : length b″ ≡ 5 * s .d
-  pub u₁-length : length u₁ ≡ s .kappa1 * s .d
-  pub u₂-length : length u₂ ≡ s .kappa2 * s .d
+  pub wholes : WholeFacts (s .shape .d) (s .shape .n) (s .shape .r) (s .k) whole α
+  pub δ-length : length δ ≡ 5 * s .shape .d
+  pub b″-length : length b″ ≡ 5 * s .shape .d
+  pub u₁-length : length u₁ ≡ s .kappa1 * s .shape .d
+  pub u₂-length : length u₂ ≡ s .kappa2 * s .shape .d

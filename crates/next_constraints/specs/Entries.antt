@@ -36,46 +36,46 @@ module _ (d : ℕ) where
 -- ---- the checks
 
 module _ (s : Sizes) where
-  open CommRing (R (s .d)) using (Carrier as Rd, zero as 𝟘)
+  open CommRing (R (s .shape .d)) using (Carrier as Rd, zero as 𝟘)
 
   -- where the blocks of t, g and h start
   abbrev pub tFrom : ℕ
-  tFrom = tPlace 2 (s .n)
+  tFrom = tPlace 2 (s .shape .n)
 
   abbrev pub gFrom : ℕ
-  gFrom = gPlace 2 (s .n) (s .r) (s .kappa) (s .t1)
+  gFrom = gPlace 2 (s .shape .n) (s .shape .r) (s .kappa) (s .t1)
 
   abbrev pub hFrom : ℕ
-  hFrom = hPlace 2 (s .n) (s .r) (s .kappa) (s .t1) (s .t2)
+  hFrom = hPlace 2 (s .shape .n) (s .shape .r) (s .kappa) (s .t1) (s .t2)
 
   unfoldable pub entry5 : (A c : List ℤ) (k p : ℕ) → Rd
   entry5 A c k p =
-      cond (ltb p tFrom) (zEntry (s .d) (s .n) (s .b) A (k * s .n) p)
-      (cond (ltb p gFrom) (tEntry (s .d) (s .kappa) (s .b1) (s .t1) c k (p - tFrom)) 𝟘)
+      cond (ltb p tFrom) (zEntry (s .shape .d) (s .shape .n) (s .b) A (k * s .shape .n) p)
+      (cond (ltb p gFrom) (tEntry (s .shape .d) (s .kappa) (s .b1) (s .t1) c k (p - tFrom)) 𝟘)
 
   unfoldable pub entry6 : (products : List ℤ) (p : ℕ) → Rd
   entry6 products p =
-      cond (ltb p gFrom) 𝟘 (cond (ltb p hFrom) (garbageEntry (s .d) (s .b2) (s .t2) products (p - gFrom)) 𝟘)
+      cond (ltb p gFrom) 𝟘 (cond (ltb p hFrom) (garbageEntry (s .shape .d) (s .b2) (s .t2) products (p - gFrom)) 𝟘)
 
   unfoldable pub entry7 : (folded products : List ℤ) (p : ℕ) → Rd
   entry7 folded products p =
-      cond (ltb p tFrom) (zEntry (s .d) (s .n) (s .b) folded 0 p)
-      (cond (ltb p hFrom) 𝟘 (garbageEntry (s .d) (s .b1) (s .t1) products (p - hFrom)))
+      cond (ltb p tFrom) (zEntry (s .shape .d) (s .shape .n) (s .b) folded 0 p)
+      (cond (ltb p hFrom) 𝟘 (garbageEntry (s .shape .d) (s .b1) (s .t1) products (p - hFrom)))
 
   unfoldable pub entry8 : (aggregatedA diagonal : List ℤ) (p : ℕ) → Rd
   entry8 aggregatedA diagonal p =
       cond (ltb p gFrom) 𝟘
-      (cond (ltb p hFrom) (garbageEntry (s .d) (s .b2) (s .t2) aggregatedA (p - gFrom))
-      (garbageEntry (s .d) (s .b1) (s .t1) diagonal (p - hFrom)))
+      (cond (ltb p hFrom) (garbageEntry (s .shape .d) (s .b2) (s .t2) aggregatedA (p - gFrom))
+      (garbageEntry (s .shape .d) (s .b1) (s .t1) diagonal (p - hFrom)))
 
   unfoldable pub entry3 : (B C : List ℤ) (k p : ℕ) → Rd
   entry3 B C k p =
       cond (ltb p tFrom) 𝟘
-      (cond (ltb p gFrom) (el (s .d) B (k * tSize (s .r) (s .kappa) (s .t1) + (p - tFrom)))
-      (cond (ltb p hFrom) (el (s .d) C (k * garbageSize (s .r) (s .t2) + (p - gFrom))) 𝟘))
+      (cond (ltb p gFrom) (el (s .shape .d) B (k * tSize (s .shape .r) (s .kappa) (s .t1) + (p - tFrom)))
+      (cond (ltb p hFrom) (el (s .shape .d) C (k * garbageSize (s .shape .r) (s .t2) + (p - gFrom))) 𝟘))
 
   unfoldable pub entry4 : (D : List ℤ) (k p : ℕ) → Rd
-  entry4 D k p = cond (ltb p hFrom) 𝟘 (el (s .d) D (k * garbageSize (s .r) (s .t1) + (p - hFrom)))
+  entry4 D k p = cond (ltb p hFrom) 𝟘 (el (s .shape .d) D (k * garbageSize (s .shape .r) (s .t1) + (p - hFrom)))
 
   -- ---- the order of the constraints
 

@@ -24,16 +24,16 @@ use ring::element::Element;
 // Check 5, row k: A on z, -c_i b1^e on row k of t.
 fn check5_entry(sizes: Sizes, a_matrix: &[i32], c: &[i32], k: usize, p: usize) -> Element
     requires { ⌜ VerifySized sizes ⌝ }
-    requires { ⌜ length (now «a_matrix») ≡ sizes .kappa * sizes .n * sizes .d ⌝ }
-    requires { ⌜ length (now c) ≡ sizes .r * sizes .d ⌝ }
+    requires { ⌜ length (now «a_matrix») ≡ sizes .kappa * sizes .shape .n * sizes .shape .d ⌝ }
+    requires { ⌜ length (now c) ≡ sizes .shape .r * sizes .shape .d ⌝ }
     requires { ⌜ k < sizes .kappa ⌝ }
-    ensures { λ x. ⌜ x .coefficients ≡ array (sizes .d) (entry5 sizes (now («a_matrix» .entry)) (now (c .entry)) k p) ⌝ }
+    ensures { λ x. ⌜ x .coefficients ≡ array (sizes .shape .d) (entry5 sizes (now («a_matrix» .entry)) (now (c .entry)) k p) ⌝ }
 {
-    let d = sizes.d;
+    let d = sizes.shape.d;
     let t_start = places::t_place(sizes);
     if p < t_start {
-        let from = k * sizes.n;
-        return entries::z_entry(d, sizes.n, sizes.b, a_matrix, from, p);
+        let from = k * sizes.shape.n;
+        return entries::z_entry(d, sizes.shape.n, sizes.b, a_matrix, from, p);
     }
     let g_start = places::g_place(sizes);
     if p < g_start {
@@ -46,10 +46,10 @@ fn check5_entry(sizes: Sizes, a_matrix: &[i32], c: &[i32], k: usize, p: usize) -
 // Check 6: the products of challenges on g.
 fn check6_entry(sizes: Sizes, products: &[i32], p: usize) -> Element
     requires { ⌜ VerifySized sizes ⌝ }
-    requires { ⌜ pairs (sizes .r) * sizes .d ≤ length (now products) ⌝ }
-    ensures { λ x. ⌜ x .coefficients ≡ array (sizes .d) (entry6 sizes (now (products .entry)) p) ⌝ }
+    requires { ⌜ pairs (sizes .shape .r) * sizes .shape .d ≤ length (now products) ⌝ }
+    ensures { λ x. ⌜ x .coefficients ≡ array (sizes .shape .d) (entry6 sizes (now (products .entry)) p) ⌝ }
 {
-    let d = sizes.d;
+    let d = sizes.shape.d;
     let g_start = places::g_place(sizes);
     if p < g_start {
         return Element::additive_identity();
@@ -65,16 +65,16 @@ fn check6_entry(sizes: Sizes, products: &[i32], p: usize) -> Element
 // Check 7: Σ φ_i c_i on z, the products of challenges on h.
 fn check7_entry(sizes: Sizes, folded: &[i32], products: &[i32], p: usize) -> Element
     requires { ⌜ VerifySized sizes ⌝ }
-    requires { ⌜ sizes .n * sizes .d ≤ length (now folded) ⌝ }
-    requires { ⌜ pairs (sizes .r) * sizes .d ≤ length (now products) ⌝ }
-    requires { ⌜ p < openingSize 2 (sizes .n) (sizes .r) (sizes .kappa) (sizes .t1) (sizes .t2) ⌝ }
+    requires { ⌜ sizes .shape .n * sizes .shape .d ≤ length (now folded) ⌝ }
+    requires { ⌜ pairs (sizes .shape .r) * sizes .shape .d ≤ length (now products) ⌝ }
+    requires { ⌜ p < openingSize 2 (sizes .shape .n) (sizes .shape .r) (sizes .kappa) (sizes .t1) (sizes .t2) ⌝ }
     ensures { λ x.
-        ⌜ x .coefficients ≡ array (sizes .d) (entry7 sizes (now (folded .entry)) (now (products .entry)) p) ⌝ }
+        ⌜ x .coefficients ≡ array (sizes .shape .d) (entry7 sizes (now (folded .entry)) (now (products .entry)) p) ⌝ }
 {
-    let d = sizes.d;
+    let d = sizes.shape.d;
     let t_start = places::t_place(sizes);
     if p < t_start {
-        return entries::z_entry(d, sizes.n, sizes.b, folded, 0, p);
+        return entries::z_entry(d, sizes.shape.n, sizes.b, folded, 0, p);
     }
     let h_start = places::h_place(sizes);
     if p < h_start {
@@ -87,13 +87,13 @@ fn check7_entry(sizes: Sizes, folded: &[i32], products: &[i32], p: usize) -> Ele
 // Check 8: the aggregate's a on g, the diagonal on h.
 fn check8_entry(sizes: Sizes, aggregate_a: &[i32], diagonal: &[i32], p: usize) -> Element
     requires { ⌜ VerifySized sizes ⌝ }
-    requires { ⌜ pairs (sizes .r) * sizes .d ≤ length (now «aggregate_a») ⌝ }
-    requires { ⌜ pairs (sizes .r) * sizes .d ≤ length (now diagonal) ⌝ }
-    requires { ⌜ p < openingSize 2 (sizes .n) (sizes .r) (sizes .kappa) (sizes .t1) (sizes .t2) ⌝ }
+    requires { ⌜ pairs (sizes .shape .r) * sizes .shape .d ≤ length (now «aggregate_a») ⌝ }
+    requires { ⌜ pairs (sizes .shape .r) * sizes .shape .d ≤ length (now diagonal) ⌝ }
+    requires { ⌜ p < openingSize 2 (sizes .shape .n) (sizes .shape .r) (sizes .kappa) (sizes .t1) (sizes .t2) ⌝ }
     ensures { λ x.
-        ⌜ x .coefficients ≡ array (sizes .d) (entry8 sizes (now («aggregate_a» .entry)) (now (diagonal .entry)) p) ⌝ }
+        ⌜ x .coefficients ≡ array (sizes .shape .d) (entry8 sizes (now («aggregate_a» .entry)) (now (diagonal .entry)) p) ⌝ }
 {
-    let d = sizes.d;
+    let d = sizes.shape.d;
     let g_start = places::g_place(sizes);
     if p < g_start {
         return Element::additive_identity();
@@ -110,26 +110,26 @@ fn check8_entry(sizes: Sizes, aggregate_a: &[i32], diagonal: &[i32], p: usize) -
 // Check 3, row k: B on t, C on g.
 fn check3_entry(sizes: Sizes, b_matrix: &[i32], c_matrix: &[i32], k: usize, p: usize) -> Element
     requires { ⌜ VerifySized sizes ⌝ }
-    requires { ⌜ length (now «b_matrix») ≡ sizes .kappa1 * tSize (sizes .r) (sizes .kappa) (sizes .t1) * sizes .d ⌝ }
-    requires { ⌜ length (now «c_matrix») ≡ sizes .kappa1 * garbageSize (sizes .r) (sizes .t2) * sizes .d ⌝ }
+    requires { ⌜ length (now «b_matrix») ≡ sizes .kappa1 * tSize (sizes .shape .r) (sizes .kappa) (sizes .t1) * sizes .shape .d ⌝ }
+    requires { ⌜ length (now «c_matrix») ≡ sizes .kappa1 * garbageSize (sizes .shape .r) (sizes .t2) * sizes .shape .d ⌝ }
     requires { ⌜ k < sizes .kappa1 ⌝ }
     ensures { λ x.
-        ⌜ x .coefficients ≡ array (sizes .d) (entry3 sizes (now («b_matrix» .entry)) (now («c_matrix» .entry)) k p) ⌝ }
+        ⌜ x .coefficients ≡ array (sizes .shape .d) (entry3 sizes (now («b_matrix» .entry)) (now («c_matrix» .entry)) k p) ⌝ }
 {
-    let d = sizes.d;
+    let d = sizes.shape.d;
     let t_start = places::t_place(sizes);
     if p < t_start {
         return Element::additive_identity();
     }
     let g_start = places::g_place(sizes);
     if p < g_start {
-        let size = t_size(sizes.r, sizes.kappa, sizes.t1);
+        let size = t_size(sizes.shape.r, sizes.kappa, sizes.t1);
         let place = p - t_start;
         return entries::row_entry(d, size, b_matrix, k, place);
     }
     let h_start = places::h_place(sizes);
     if p < h_start {
-        let size = garbage_size(sizes.r, sizes.t2);
+        let size = garbage_size(sizes.shape.r, sizes.t2);
         let place = p - g_start;
         return entries::row_entry(d, size, c_matrix, k, place);
     }
@@ -139,17 +139,17 @@ fn check3_entry(sizes: Sizes, b_matrix: &[i32], c_matrix: &[i32], k: usize, p: u
 // Check 4, row k: D on h.
 fn check4_entry(sizes: Sizes, d_matrix: &[i32], k: usize, p: usize) -> Element
     requires { ⌜ VerifySized sizes ⌝ }
-    requires { ⌜ length (now «d_matrix») ≡ sizes .kappa2 * garbageSize (sizes .r) (sizes .t1) * sizes .d ⌝ }
+    requires { ⌜ length (now «d_matrix») ≡ sizes .kappa2 * garbageSize (sizes .shape .r) (sizes .t1) * sizes .shape .d ⌝ }
     requires { ⌜ k < sizes .kappa2 ⌝ }
-    requires { ⌜ p < openingSize 2 (sizes .n) (sizes .r) (sizes .kappa) (sizes .t1) (sizes .t2) ⌝ }
-    ensures { λ x. ⌜ x .coefficients ≡ array (sizes .d) (entry4 sizes (now («d_matrix» .entry)) k p) ⌝ }
+    requires { ⌜ p < openingSize 2 (sizes .shape .n) (sizes .shape .r) (sizes .kappa) (sizes .t1) (sizes .t2) ⌝ }
+    ensures { λ x. ⌜ x .coefficients ≡ array (sizes .shape .d) (entry4 sizes (now («d_matrix» .entry)) k p) ⌝ }
 {
-    let d = sizes.d;
+    let d = sizes.shape.d;
     let h_start = places::h_place(sizes);
     if p < h_start {
         return Element::additive_identity();
     }
-    let size = garbage_size(sizes.r, sizes.t1);
+    let size = garbage_size(sizes.shape.r, sizes.t1);
     let place = p - h_start;
     entries::row_entry(d, size, d_matrix, k, place)
 }
@@ -165,10 +165,10 @@ fn middle_entry(
     p: usize,
 ) -> Element
     requires { ⌜ VerifySized sizes ⌝ }
-    requires { ⌜ TableRoom (sizes .d) (sizes .n) (sizes .r) (now folded) (now products) (now «aggregate_a») (now diagonal) ⌝ }
-    requires { ⌜ p < openingSize 2 (sizes .n) (sizes .r) (sizes .kappa) (sizes .t1) (sizes .t2) ⌝ }
+    requires { ⌜ TableRoom (sizes .shape .d) (sizes .shape .n) (sizes .shape .r) (now folded) (now products) (now «aggregate_a») (now diagonal) ⌝ }
+    requires { ⌜ p < openingSize 2 (sizes .shape .n) (sizes .shape .r) (sizes .kappa) (sizes .t1) (sizes .t2) ⌝ }
     ensures { λ x.
-        ⌜ x .coefficients ≡ array (sizes .d) (middleEntry sizes (now (folded .entry)) (now (products .entry))
+        ⌜ x .coefficients ≡ array (sizes .shape .d) (middleEntry sizes (now (folded .entry)) (now (products .entry))
         (now («aggregate_a» .entry)) (now (diagonal .entry)) y p) ⌝ }
 {
     if y == 0 {
@@ -190,13 +190,13 @@ fn outer_entry(
     p: usize,
 ) -> Element
     requires { ⌜ VerifySized sizes ⌝ }
-    requires { ⌜ length (now «b_matrix») ≡ sizes .kappa1 * tSize (sizes .r) (sizes .kappa) (sizes .t1) * sizes .d ⌝ }
-    requires { ⌜ length (now «c_matrix») ≡ sizes .kappa1 * garbageSize (sizes .r) (sizes .t2) * sizes .d ⌝ }
-    requires { ⌜ length (now «d_matrix») ≡ sizes .kappa2 * garbageSize (sizes .r) (sizes .t1) * sizes .d ⌝ }
+    requires { ⌜ length (now «b_matrix») ≡ sizes .kappa1 * tSize (sizes .shape .r) (sizes .kappa) (sizes .t1) * sizes .shape .d ⌝ }
+    requires { ⌜ length (now «c_matrix») ≡ sizes .kappa1 * garbageSize (sizes .shape .r) (sizes .t2) * sizes .shape .d ⌝ }
+    requires { ⌜ length (now «d_matrix») ≡ sizes .kappa2 * garbageSize (sizes .shape .r) (sizes .t1) * sizes .shape .d ⌝ }
     requires { ⌜ y < sizes .kappa1 + sizes .kappa2 ⌝ }
-    requires { ⌜ p < openingSize 2 (sizes .n) (sizes .r) (sizes .kappa) (sizes .t1) (sizes .t2) ⌝ }
+    requires { ⌜ p < openingSize 2 (sizes .shape .n) (sizes .shape .r) (sizes .kappa) (sizes .t1) (sizes .t2) ⌝ }
     ensures { λ x.
-        ⌜ x .coefficients ≡ array (sizes .d) (outerEntry sizes (now («b_matrix» .entry)) (now («c_matrix» .entry))
+        ⌜ x .coefficients ≡ array (sizes .shape .d) (outerEntry sizes (now («b_matrix» .entry)) (now («c_matrix» .entry))
         (now («d_matrix» .entry)) y p) ⌝ }
 {
     let rows = sizes.kappa1;
@@ -222,11 +222,11 @@ fn ordered_entry(
     p: usize,
 ) -> Element
     requires { ⌜ EntryFacts sizes (now «a_matrix») (now «b_matrix») (now «c_matrix») (now «d_matrix») (now c) ⌝ }
-    requires { ⌜ TableRoom (sizes .d) (sizes .n) (sizes .r) (now folded) (now products) (now «aggregate_a») (now diagonal) ⌝ }
+    requires { ⌜ TableRoom (sizes .shape .d) (sizes .shape .n) (sizes .shape .r) (now folded) (now products) (now «aggregate_a») (now diagonal) ⌝ }
     requires { ⌜ x < nextCount (sizes .kappa) (sizes .kappa1) (sizes .kappa2) ⌝ }
-    requires { ⌜ p < openingSize 2 (sizes .n) (sizes .r) (sizes .kappa) (sizes .t1) (sizes .t2) ⌝ }
+    requires { ⌜ p < openingSize 2 (sizes .shape .n) (sizes .shape .r) (sizes .kappa) (sizes .t1) (sizes .t2) ⌝ }
     ensures { λ y.
-        ⌜ y .coefficients ≡ array (sizes .d) (coefficientAt sizes (now («a_matrix» .entry)) (now («b_matrix» .entry)) (now («c_matrix» .entry))
+        ⌜ y .coefficients ≡ array (sizes .shape .d) (coefficientAt sizes (now («a_matrix» .entry)) (now («b_matrix» .entry)) (now («c_matrix» .entry))
         (now («d_matrix» .entry)) (now (c .entry)) (now (folded .entry)) (now (products .entry)) (now («aggregate_a» .entry))
         (now (diagonal .entry)) x p) ⌝ }
 {
@@ -257,16 +257,16 @@ pub fn coefficient(
     p: usize,
 ) -> Element
     requires { ⌜ EntryFacts sizes (now «a_matrix») (now «b_matrix») (now «c_matrix») (now «d_matrix») (now c) ⌝ }
-    requires { ⌜ TableRoom (sizes .d) (sizes .n) (sizes .r) (now folded) (now products) (now «aggregate_a») (now diagonal) ⌝ }
+    requires { ⌜ TableRoom (sizes .shape .d) (sizes .shape .n) (sizes .shape .r) (now folded) (now products) (now «aggregate_a») (now diagonal) ⌝ }
     requires { ⌜ x < nextCount (sizes .kappa) (sizes .kappa1) (sizes .kappa2) ⌝ }
-    requires { ⌜ p < openingSize 2 (sizes .n) (sizes .r) (sizes .kappa) (sizes .t1) (sizes .t2) ⌝ }
+    requires { ⌜ p < openingSize 2 (sizes .shape .n) (sizes .shape .r) (sizes .kappa) (sizes .t1) (sizes .t2) ⌝ }
     ensures { λ y.
         ⌜ ((whole constantTerms projections ψ ω α δ : List ℤ) (𝓣 : Transcript) (ν μ : ℕ)
-        → Tables (sizes .d) (sizes .n) (sizes .r) (sizes .k) (sizes .l) (sizes .w) whole constantTerms projections ψ ω α δ (now (c .entry))
+        → Tables (sizes .shape .d) (sizes .shape .n) (sizes .shape .r) (sizes .k) (sizes .l) (sizes .w) whole constantTerms projections ψ ω α δ (now (c .entry))
         (now (folded .entry)) (now (products .entry)) (now («aggregate_a» .entry)) (now (diagonal .entry))
-        → y .coefficients ≡ array (sizes .d) (getD (constraint
+        → y .coefficients ≡ array (sizes .shape .d) (getD (constraint
         (statementOf sizes (now («a_matrix» .entry)) (now («b_matrix» .entry)) (now («c_matrix» .entry)) (now («d_matrix» .entry)) whole constantTerms)
-        (drawsOf projections ψ ω α δ (now (c .entry))) 𝓣 ν μ x .table) p (R (sizes .d) .zero))) ⌝ }
+        (drawsOf projections ψ ω α δ (now (c .entry))) 𝓣 ν μ x .table) p (R (sizes .shape .d) .zero))) ⌝ }
 {
     ordered_entry(
         sizes,

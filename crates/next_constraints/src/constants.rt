@@ -16,7 +16,6 @@ ghost use Rattle.fold.specs.NextInstance.{squares, constraint};
 ghost use Rattle.next_constraints.specs.Coefficients.{constantAt, ConstantFacts};
 use crate::entries::power;
 use constraints::aggregated;
-use fold::Shape;
 use fold::Sizes;
 use residues::modulus;
 use ring::element::Element;
@@ -67,12 +66,12 @@ pub fn a_entry(sizes: Sizes, nu: usize, x: usize, s: usize, s2: usize) -> Elemen
     requires { ⌜ (s < 16) × (s2 < 16) ⌝ }
     ensures { λ r.
         ⌜ ((A B C D whole constantTerms projections ψ ω α δ c : List ℤ) (𝓣 : Transcript) (μ : ℕ)
-        → r .coefficients ≡ array (sizes .d) (constraint (statementOf sizes A B C D whole constantTerms) (drawsOf projections ψ ω α δ c) 𝓣 nu μ x .a
+        → r .coefficients ≡ array (sizes .shape .d) (constraint (statementOf sizes A B C D whole constantTerms) (drawsOf projections ψ ω α δ c) 𝓣 nu μ x .a
         s s2)) ⌝ }
 {
     let sixth = sizes.kappa;
     if x == sixth {
-        return square(sizes.d, nu, sizes.b, s, s2);
+        return square(sizes.shape.d, nu, sizes.b, s, s2);
     }
     Element::additive_identity()
 }
@@ -91,21 +90,16 @@ fn ordered_constant(
     requires { ⌜ ConstantFacts sizes (now whole) (now alpha) (now delta) (now «second_b») (now u1) (now u2) ⌝ }
     requires { ⌜ x < nextCount (sizes .kappa) (sizes .kappa1) (sizes .kappa2) ⌝ }
     ensures { λ r.
-        ⌜ r .coefficients ≡ array (sizes .d) (constantAt sizes (now (whole .entry)) (now (alpha .entry)) (now (delta .entry))
+        ⌜ r .coefficients ≡ array (sizes .shape .d) (constantAt sizes (now (whole .entry)) (now (alpha .entry)) (now (delta .entry))
         (now («second_b» .entry)) (now (u1 .entry)) (now (u2 .entry)) x) ⌝ }
 {
-    let d = sizes.d;
+    let d = sizes.shape.d;
     let eighth = sizes.kappa + 2;
     if x < eighth {
         return Element::additive_identity();
     }
     if x == eighth {
-        let shape = Shape {
-            d: sizes.d,
-            n: sizes.n,
-            r: sizes.r,
-        };
-        return aggregated::aggregate_constant(shape, sizes.k, whole, alpha, delta, second_b);
+        return aggregated::aggregate_constant(sizes.shape, sizes.k, whole, alpha, delta, second_b);
     }
     let third = sizes.kappa + 3;
     let fourth = third + sizes.kappa1;
@@ -132,7 +126,7 @@ pub fn constant_entry(
     requires { ⌜ x < nextCount (sizes .kappa) (sizes .kappa1) (sizes .kappa2) ⌝ }
     ensures { λ r.
         ⌜ ((A B C D constantTerms projections ψ ω c p : List ℤ) (ν μ : ℕ)
-        → r .coefficients ≡ array (sizes .d) (constraint (statementOf sizes A B C D (now (whole .entry)) constantTerms)
+        → r .coefficients ≡ array (sizes .shape .d) (constraint (statementOf sizes A B C D (now (whole .entry)) constantTerms)
         (drawsOf projections ψ ω (now (alpha .entry)) (now (delta .entry)) c)
         (transcriptOf (now (u1 .entry)) p (now («second_b» .entry)) (now (u2 .entry))) ν μ x .constant)) ⌝ }
 {

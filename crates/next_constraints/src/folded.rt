@@ -10,7 +10,6 @@ ghost use Rattle.constraints.specs.RowGroups.{OmegaSums};
 ghost use Rattle.next_constraints.specs.Folded.{foldedSummand, foldedSum};
 use constraints::aggregated::aggregate_phi;
 use constraints::row_groups;
-use fold::Shape;
 use fold::Sizes;
 use ring::element::Element;
 
@@ -29,24 +28,19 @@ fn folded_summand(
     k: usize,
     i: usize,
 ) -> Element
-    requires { ⌜ AggregateFacts (sizes .d) (sizes .n) (sizes .r) (sizes .k) (sizes .l) (sizes .w) (now whole) (now «constant_terms») (now projections) (now psi)
+    requires { ⌜ AggregateFacts (sizes .shape .d) (sizes .shape .n) (sizes .shape .r) (sizes .k) (sizes .l) (sizes .w) (now whole) (now «constant_terms») (now projections) (now psi)
         (now omega) (now alpha) (now delta) ⌝ }
     requires { ⌜ OmegaSums (sizes .w) (now omega) (now «omega_sums») ⌝ }
-    requires { ⌜ (sizes .r * sizes .d ≤ length (now c)) × (k < sizes .n) × (i < sizes .r) ⌝ }
-    ensures { λ x. ⌜ x .coefficients ≡ array (sizes .d) (foldedSummand (sizes .d) (sizes .n) (sizes .r) (sizes .k) (sizes .l) (sizes .w)
+    requires { ⌜ (sizes .shape .r * sizes .shape .d ≤ length (now c)) × (k < sizes .shape .n) × (i < sizes .shape .r) ⌝ }
+    ensures { λ x. ⌜ x .coefficients ≡ array (sizes .shape .d) (foldedSummand (sizes .shape .d) (sizes .shape .n) (sizes .shape .r) (sizes .k) (sizes .l) (sizes .w)
         (now (whole .entry)) (now («constant_terms» .entry)) (now (projections .entry)) (now (psi .entry)) (now (omega .entry)) (now (alpha .entry))
         (now (delta .entry)) (now (c .entry)) k i) ⌝ }
 {
-    let d = sizes.d;
-    let shape = Shape {
-        d: sizes.d,
-        n: sizes.n,
-        r: sizes.r,
-    };
-    let start = i * sizes.n;
+    let d = sizes.shape.d;
+    let start = i * sizes.shape.n;
     let place = start + k;
     let phi = aggregate_phi(
-        shape,
+        sizes.shape,
         sizes.k,
         sizes.l,
         sizes.w,
@@ -78,16 +72,16 @@ fn folded_element(
     c: &[i32],
     k: usize,
 ) -> Element
-    requires { ⌜ AggregateFacts (sizes .d) (sizes .n) (sizes .r) (sizes .k) (sizes .l) (sizes .w) (now whole) (now «constant_terms») (now projections) (now psi)
+    requires { ⌜ AggregateFacts (sizes .shape .d) (sizes .shape .n) (sizes .shape .r) (sizes .k) (sizes .l) (sizes .w) (now whole) (now «constant_terms») (now projections) (now psi)
         (now omega) (now alpha) (now delta) ⌝ }
     requires { ⌜ OmegaSums (sizes .w) (now omega) (now «omega_sums») ⌝ }
-    requires { ⌜ (sizes .r * sizes .d ≤ length (now c)) × (k < sizes .n) ⌝ }
-    ensures { λ x. ⌜ x .coefficients ≡ array (sizes .d) (foldedSum (sizes .d) (sizes .n) (sizes .r) (sizes .k) (sizes .l) (sizes .w)
+    requires { ⌜ (sizes .shape .r * sizes .shape .d ≤ length (now c)) × (k < sizes .shape .n) ⌝ }
+    ensures { λ x. ⌜ x .coefficients ≡ array (sizes .shape .d) (foldedSum (sizes .shape .d) (sizes .shape .n) (sizes .shape .r) (sizes .k) (sizes .l) (sizes .w)
         (now (whole .entry)) (now («constant_terms» .entry)) (now (projections .entry)) (now (psi .entry)) (now (omega .entry)) (now (alpha .entry))
         (now (delta .entry)) (now (c .entry)) k) ⌝ }
 {
-    let d = sizes.d;
-    let parts = sizes.r;
+    let d = sizes.shape.d;
+    let parts = sizes.shape.r;
     let mut sum = Element::additive_identity();
     let mut i = 0;
     while i < parts {
@@ -124,17 +118,17 @@ pub fn write_folded(
     c: &[i32],
     out: &mut [i32],
 )
-    requires { ⌜ AggregateFacts (sizes .d) (sizes .n) (sizes .r) (sizes .k) (sizes .l) (sizes .w) (now whole) (now «constant_terms») (now projections) (now psi)
+    requires { ⌜ AggregateFacts (sizes .shape .d) (sizes .shape .n) (sizes .shape .r) (sizes .k) (sizes .l) (sizes .w) (now whole) (now «constant_terms») (now projections) (now psi)
         (now omega) (now alpha) (now delta) ⌝ }
-    requires { ⌜ (sizes .r * sizes .d ≤ length (now c)) × (sizes .n * sizes .d ≤ length (now out)) ⌝ }
-    ensures { λ _. ⌜ now (out .exit) ≡ over (now (out .entry)) 0 (elements (sizes .d) (sizes .n) (foldedSum (sizes .d) (sizes .n) (sizes .r)
+    requires { ⌜ (sizes .shape .r * sizes .shape .d ≤ length (now c)) × (sizes .shape .n * sizes .shape .d ≤ length (now out)) ⌝ }
+    ensures { λ _. ⌜ now (out .exit) ≡ over (now (out .entry)) 0 (elements (sizes .shape .d) (sizes .shape .n) (foldedSum (sizes .shape .d) (sizes .shape .n) (sizes .shape .r)
         (sizes .k) (sizes .l) (sizes .w) (now (whole .entry)) (now («constant_terms» .entry)) (now (projections .entry)) (now (psi .entry)) (now (omega .entry))
         (now (alpha .entry)) (now (delta .entry)) (now (c .entry)))) ⌝ }
 {
     let mut omega_sums = [0i64; 25920];
     row_groups::write_omega_sums(sizes.w, omega, &mut omega_sums);
-    let d = sizes.d;
-    let rank = sizes.n;
+    let d = sizes.shape.d;
+    let rank = sizes.shape.n;
     let mut k = 0;
     while k < rank {
         let element = folded_element(

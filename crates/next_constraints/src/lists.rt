@@ -24,16 +24,16 @@ pub fn write_tables(
     aggregate_a: &mut [i32],
     diagonal: &mut [i32],
 )
-    requires { ⌜ AggregateFacts (sizes .d) (sizes .n) (sizes .r) (sizes .k) (sizes .l) (sizes .w) (now whole) (now «constant_terms») (now projections) (now psi)
+    requires { ⌜ AggregateFacts (sizes .shape .d) (sizes .shape .n) (sizes .shape .r) (sizes .k) (sizes .l) (sizes .w) (now whole) (now «constant_terms») (now projections) (now psi)
         (now omega) (now alpha) (now delta) ⌝ }
-    requires { ⌜ sizes .r * sizes .d ≤ length (now c) ⌝ }
-    requires { ⌜ TableRoom (sizes .d) (sizes .n) (sizes .r) (now folded) (now products) (now «aggregate_a») (now diagonal) ⌝ }
-    ensures { λ _. ⌜ Tables (sizes .d) (sizes .n) (sizes .r) (sizes .k) (sizes .l) (sizes .w) (now (whole .entry)) (now («constant_terms» .entry))
+    requires { ⌜ sizes .shape .r * sizes .shape .d ≤ length (now c) ⌝ }
+    requires { ⌜ TableRoom (sizes .shape .d) (sizes .shape .n) (sizes .shape .r) (now folded) (now products) (now «aggregate_a») (now diagonal) ⌝ }
+    ensures { λ _. ⌜ Tables (sizes .shape .d) (sizes .shape .n) (sizes .shape .r) (sizes .k) (sizes .l) (sizes .w) (now (whole .entry)) (now («constant_terms» .entry))
         (now (projections .entry)) (now (psi .entry)) (now (omega .entry)) (now (alpha .entry)) (now (delta .entry)) (now (c .entry))
         (now (folded .exit)) (now (products .exit)) (now («aggregate_a» .exit)) (now (diagonal .exit)) ⌝ }
 {
-    let d = sizes.d;
-    let r = sizes.r;
+    let d = sizes.shape.d;
+    let r = sizes.shape.r;
     write_folded(
         sizes,
         whole,

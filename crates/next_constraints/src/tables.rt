@@ -15,7 +15,6 @@ ghost use Rattle.fold.specs.NextInstance.{product};
 ghost use Rattle.fold.specs.PairElements.{pairElements};
 ghost use Rattle.constraints.specs.Known.Facts.{WholeFacts, TermFacts};
 use constraints::aggregated::aggregate_a;
-use fold::Shape;
 use fold::Sizes;
 use fold::counts::pair_count;
 use ring::element::Element;
@@ -131,19 +130,14 @@ fn aggregate_a_entry(
     delta: &[i32],
     e: usize,
 ) -> Element
-    requires { ⌜ WholeFacts (sizes .d) (sizes .n) (sizes .r) (sizes .k) (now whole) (now alpha) ⌝ }
-    requires { ⌜ TermFacts (sizes .d) (sizes .n) (sizes .r) (sizes .l) (now «constant_terms») (now psi) ⌝ }
-    requires { ⌜ (length (now delta) ≡ 5 * sizes .d) × (e < pairs (sizes .r)) ⌝ }
-    ensures { λ x. ⌜ x .coefficients ≡ array (sizes .d) (aggregateA (sizes .d) (sizes .n) (sizes .r) (sizes .k) (sizes .l) (now (whole .entry))
+    requires { ⌜ WholeFacts (sizes .shape .d) (sizes .shape .n) (sizes .shape .r) (sizes .k) (now whole) (now alpha) ⌝ }
+    requires { ⌜ TermFacts (sizes .shape .d) (sizes .shape .n) (sizes .shape .r) (sizes .l) (now «constant_terms») (now psi) ⌝ }
+    requires { ⌜ (length (now delta) ≡ 5 * sizes .shape .d) × (e < pairs (sizes .shape .r)) ⌝ }
+    ensures { λ x. ⌜ x .coefficients ≡ array (sizes .shape .d) (aggregateA (sizes .shape .d) (sizes .shape .n) (sizes .shape .r) (sizes .k) (sizes .l) (now (whole .entry))
         (now («constant_terms» .entry)) (now (psi .entry)) (now (alpha .entry)) (now (delta .entry)) e) ⌝ }
 {
-    let shape = Shape {
-        d: sizes.d,
-        n: sizes.n,
-        r: sizes.r,
-    };
     aggregate_a(
-        shape,
+        sizes.shape,
         sizes.k,
         sizes.l,
         whole,
@@ -165,14 +159,14 @@ pub fn write_aggregate_a(
     delta: &[i32],
     out: &mut [i32],
 )
-    requires { ⌜ WholeFacts (sizes .d) (sizes .n) (sizes .r) (sizes .k) (now whole) (now alpha) ⌝ }
-    requires { ⌜ TermFacts (sizes .d) (sizes .n) (sizes .r) (sizes .l) (now «constant_terms») (now psi) ⌝ }
-    requires { ⌜ (length (now delta) ≡ 5 * sizes .d) × (pairs (sizes .r) * sizes .d ≤ length (now out)) ⌝ }
-    ensures { λ _. ⌜ now (out .exit) ≡ over (now (out .entry)) 0 (elements (sizes .d) (pairs (sizes .r)) (aggregateA (sizes .d) (sizes .n)
-        (sizes .r) (sizes .k) (sizes .l) (now (whole .entry)) (now («constant_terms» .entry)) (now (psi .entry)) (now (alpha .entry)) (now (delta .entry)))) ⌝ }
+    requires { ⌜ WholeFacts (sizes .shape .d) (sizes .shape .n) (sizes .shape .r) (sizes .k) (now whole) (now alpha) ⌝ }
+    requires { ⌜ TermFacts (sizes .shape .d) (sizes .shape .n) (sizes .shape .r) (sizes .l) (now «constant_terms») (now psi) ⌝ }
+    requires { ⌜ (length (now delta) ≡ 5 * sizes .shape .d) × (pairs (sizes .shape .r) * sizes .shape .d ≤ length (now out)) ⌝ }
+    ensures { λ _. ⌜ now (out .exit) ≡ over (now (out .entry)) 0 (elements (sizes .shape .d) (pairs (sizes .shape .r)) (aggregateA (sizes .shape .d) (sizes .shape .n)
+        (sizes .shape .r) (sizes .k) (sizes .l) (now (whole .entry)) (now («constant_terms» .entry)) (now (psi .entry)) (now (alpha .entry)) (now (delta .entry)))) ⌝ }
 {
-    let d = sizes.d;
-    let count = pair_count(sizes.r);
+    let d = sizes.shape.d;
+    let count = pair_count(sizes.shape.r);
     let mut e = 0;
     while e < count {
         let entry = aggregate_a_entry(sizes, whole, constant_terms, psi, alpha, delta, e);

@@ -14,14 +14,14 @@ use Rattle.next_instance.specs.declared.part.Place.{Place}
 
 -- m and n' for these sizes
 abbrev pub restOf : PartSizes → ℕ
-restOf m = restSize (m .r) (m .kappa) (m .t1) (m .t2)
+restOf m = restSize (m .shape .r) (m .kappa) (m .t1) (m .t2)
 
 abbrev pub rankOf : PartSizes → ℕ
-rankOf m = nextRank (m .n) (m .nu) (restOf m) (m .mu)
+rankOf m = nextRank (m .shape .n) (m .nu) (restOf m) (m .mu)
 
 -- how many elements each part has, the first being part 0 here
 abbrev pub widthOf : PartSizes → ℕ → ℕ
-widthOf m = width 2 (m .n) (m .nu) (restOf m) (m .mu)
+widthOf m = width 2 (m .shape .n) (m .nu) (restOf m) (m .mu)
 
 -- refused: 0 and 0
 unfoldable pub placeIf : ℕ → (first count : ℕ) → Place
@@ -29,7 +29,7 @@ placeIf zero first count = record { start = first; length = count }
 placeIf (suc n) first count = record { start = 0; length = 0 }
 
 unfoldable pub placeOf : PartSizes → (i : ℕ) → List ℤ → Place
-placeOf m i o = placeIf (partRefusalOf m i o) (start (widthOf m) (i - 1) * m .d) (widthOf m (i - 1) * m .d)
+placeOf m i o = placeIf (partRefusalOf m i o) (start (widthOf m) (i - 1) * m .shape .d) (widthOf m (i - 1) * m .shape .d)
 
 -- the place is the definition's, it is inside the opening, and what stands there is the part
 pub record Placed (m : PartSizes) (i : ℕ) (o : List ℤ) (place : Place) : Type 0 where

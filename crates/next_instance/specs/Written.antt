@@ -17,10 +17,10 @@ use Rattle.fold.specs.Constraint.{Constraint}
 use Rattle.fold.specs.NextInstance.{constraint}
 
 module _ (s : Sizes) (A B C D c whole constantTerms projections ψ ω α δ : List ℤ) (𝓣 : Transcript) (ν μ : ℕ) where
-  abbrev pub constraintOf : ℕ → Constraint (s .d)
+  abbrev pub constraintOf : ℕ → Constraint (s .shape .d)
   constraintOf x = constraint (statementOf s A B C D whole constantTerms) (drawsOf projections ψ ω α δ c) 𝓣 ν μ x
 
-  abbrev pub tableOf : ℕ → List (R (s .d) .Carrier)
+  abbrev pub tableOf : ℕ → List (R (s .shape .d) .Carrier)
   tableOf x = constraintOf x .table
 
 -- `size` coefficients from coefficient `first` on, and zero past them

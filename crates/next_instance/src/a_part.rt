@@ -26,13 +26,13 @@ fn write_a_row(
 )
     requires { ⌜ VerifySized sizes ⌝ }
     requires { ⌜ (0 < nu) × (nu ≤ 16) × (parts ≤ 16) × (x < nextCount (sizes .kappa) (sizes .kappa1) (sizes .kappa2)) × (s ≤ parts) ⌝ }
-    requires { ⌜ (at + (parts - s)) * sizes .d ≤ length (now out) ⌝ }
+    requires { ⌜ (at + (parts - s)) * sizes .shape .d ≤ length (now out) ⌝ }
     ensures { λ _.
         ⌜ ((A B C D whole constantTerms projections psi omega alpha delta c : List ℤ) (transcript : Transcript) (μ : ℕ) →
-        now (out .exit) ≡ over (now (out .entry)) (at * sizes .d) (elements (sizes .d) (parts - s)
+        now (out .exit) ≡ over (now (out .entry)) (at * sizes .shape .d) (elements (sizes .shape .d) (parts - s)
         (λ k. constraint (statementOf sizes A B C D whole constantTerms) (drawsOf projections psi omega alpha delta c) transcript nu μ x .a s (s + k)))) ⌝ }
 {
-    let d = sizes.d;
+    let d = sizes.shape.d;
     let count = parts - s;
     let mut k = 0;
     while k < count {
@@ -46,10 +46,10 @@ fn write_a_row(
 pub fn write_a(sizes: Sizes, nu: usize, parts: usize, x: usize, out: &mut [i32])
     requires { ⌜ VerifySized sizes ⌝ }
     requires { ⌜ (0 < nu) × (nu ≤ 16) × (parts ≤ 16) × (x < nextCount (sizes .kappa) (sizes .kappa1) (sizes .kappa2)) ⌝ }
-    requires { ⌜ pairs parts * sizes .d ≤ length (now out) ⌝ }
+    requires { ⌜ pairs parts * sizes .shape .d ≤ length (now out) ⌝ }
     ensures { λ _.
         ⌜ ((A B C D whole constantTerms projections psi omega alpha delta c : List ℤ) (transcript : Transcript) (μ : ℕ) →
-        now (out .exit) ≡ over (now (out .entry)) 0 (pairElements (sizes .d) parts
+        now (out .exit) ≡ over (now (out .entry)) 0 (pairElements (sizes .shape .d) parts
         (constraint (statementOf sizes A B C D whole constantTerms) (drawsOf projections psi omega alpha delta c) transcript nu μ x .a))) ⌝ }
 {
     let mut at = 0;

@@ -26,11 +26,11 @@ pub struct Cut {
 pub fn cut_of(sizes: Sizes, nu: usize, mu: usize) -> Cut
     requires { ⌜ VerifySized sizes ⌝ }
     requires { ⌜ ChunkLimits 2 nu mu ⌝ }
-    requires { ⌜ nextRank (sizes .n) nu (restSize (sizes .r) (sizes .kappa) (sizes .t1) (sizes .t2)) mu ≤ 256 ⌝ }
+    requires { ⌜ nextRank (sizes .shape .n) nu (restSize (sizes .shape .r) (sizes .kappa) (sizes .t1) (sizes .t2)) mu ≤ 256 ⌝ }
     ensures { λ cut. ⌜ CutFacts sizes cut × (cut .nu ≡ nu) × (cut .mu ≡ mu) ⌝ }
 {
-    let m = rest_size(sizes.r, sizes.kappa, sizes.t1, sizes.t2);
-    let rank = next_rank(sizes.n, nu, m, mu);
+    let m = rest_size(sizes.shape.r, sizes.kappa, sizes.t1, sizes.t2);
+    let rank = next_rank(sizes.shape.n, nu, m, mu);
     let parts = 2 * nu + mu;
     let pairs = pair_count(parts);
     let size = function_size(rank, parts);

@@ -26,12 +26,12 @@ pub fn next_place(sizes: PartSizes, part: usize, opening: &[i32]) -> Place
             length: 0,
         };
     }
-    let m = rest_size(sizes.r, sizes.kappa, sizes.t1, sizes.t2);
+    let m = rest_size(sizes.shape.r, sizes.kappa, sizes.t1, sizes.t2);
     let s = part - 1;
-    let at = chunk_start(sizes.n, sizes.nu, m, sizes.mu, s);
-    let width = chunk_width(sizes.n, sizes.nu, m, sizes.mu, s);
-    let start = at * sizes.d;
-    let length = width * sizes.d;
+    let at = chunk_start(sizes.shape.n, sizes.nu, m, sizes.mu, s);
+    let width = chunk_width(sizes.shape.n, sizes.nu, m, sizes.mu, s);
+    let start = at * sizes.shape.d;
+    let length = width * sizes.shape.d;
     Place {
         start: start,
         length: length,

@@ -40,13 +40,13 @@ fn chunk_entry(
     k: usize,
 ) -> Element
     requires { ⌜ EntryFacts sizes (now «a_matrix») (now «b_matrix») (now «c_matrix») (now «d_matrix») (now c) ⌝ }
-    requires { ⌜ TableRoom (sizes .d) (sizes .n) (sizes .r) (now folded) (now products) (now «aggregate_a») (now diagonal) ⌝ }
-    requires { ⌜ (x < nextCount (sizes .kappa) (sizes .kappa1) (sizes .kappa2)) × (start + size ≤ openingSize 2 (sizes .n) (sizes .r) (sizes .kappa) (sizes .t1) (sizes .t2)) ⌝ }
+    requires { ⌜ TableRoom (sizes .shape .d) (sizes .shape .n) (sizes .shape .r) (now folded) (now products) (now «aggregate_a») (now diagonal) ⌝ }
+    requires { ⌜ (x < nextCount (sizes .kappa) (sizes .kappa1) (sizes .kappa2)) × (start + size ≤ openingSize 2 (sizes .shape .n) (sizes .shape .r) (sizes .kappa) (sizes .t1) (sizes .t2)) ⌝ }
     ensures { λ e.
         ⌜ ((whole constantTerms projections psi omega alpha delta : List ℤ) (transcript : Transcript) (ν μ : ℕ) →
-        Tables (sizes .d) (sizes .n) (sizes .r) (sizes .k) (sizes .l) (sizes .w) whole constantTerms projections psi omega alpha delta (now (c .entry))
+        Tables (sizes .shape .d) (sizes .shape .n) (sizes .shape .r) (sizes .k) (sizes .l) (sizes .w) whole constantTerms projections psi omega alpha delta (now (c .entry))
         (now (folded .entry)) (now (products .entry)) (now («aggregate_a» .entry)) (now (diagonal .entry)) →
-        e .coefficients ≡ array (sizes .d) (chunkEntry (sizes .d)
+        e .coefficients ≡ array (sizes .shape .d) (chunkEntry (sizes .shape .d)
         (tableOf sizes (now («a_matrix» .entry)) (now («b_matrix» .entry)) (now («c_matrix» .entry)) (now («d_matrix» .entry)) (now (c .entry))
         whole constantTerms projections psi omega alpha delta transcript ν μ x) start size k)) ⌝ }
 {
@@ -90,18 +90,18 @@ fn write_chunk(
     at: usize,
 )
     requires { ⌜ EntryFacts sizes (now «a_matrix») (now «b_matrix») (now «c_matrix») (now «d_matrix») (now c) ⌝ }
-    requires { ⌜ TableRoom (sizes .d) (sizes .n) (sizes .r) (now folded) (now products) (now «aggregate_a») (now diagonal) ⌝ }
-    requires { ⌜ (x < nextCount (sizes .kappa) (sizes .kappa1) (sizes .kappa2)) × (start + size ≤ openingSize 2 (sizes .n) (sizes .r) (sizes .kappa) (sizes .t1) (sizes .t2)) ⌝ }
-    requires { ⌜ (at + rank) * sizes .d ≤ length (now out) ⌝ }
+    requires { ⌜ TableRoom (sizes .shape .d) (sizes .shape .n) (sizes .shape .r) (now folded) (now products) (now «aggregate_a») (now diagonal) ⌝ }
+    requires { ⌜ (x < nextCount (sizes .kappa) (sizes .kappa1) (sizes .kappa2)) × (start + size ≤ openingSize 2 (sizes .shape .n) (sizes .shape .r) (sizes .kappa) (sizes .t1) (sizes .t2)) ⌝ }
+    requires { ⌜ (at + rank) * sizes .shape .d ≤ length (now out) ⌝ }
     ensures { λ _.
         ⌜ ((whole constantTerms projections psi omega alpha delta : List ℤ) (transcript : Transcript) (ν μ : ℕ) →
-        Tables (sizes .d) (sizes .n) (sizes .r) (sizes .k) (sizes .l) (sizes .w) whole constantTerms projections psi omega alpha delta (now (c .entry))
+        Tables (sizes .shape .d) (sizes .shape .n) (sizes .shape .r) (sizes .k) (sizes .l) (sizes .w) whole constantTerms projections psi omega alpha delta (now (c .entry))
         (now (folded .entry)) (now (products .entry)) (now («aggregate_a» .entry)) (now (diagonal .entry)) →
-        now (out .exit) ≡ over (now (out .entry)) (at * sizes .d) (elements (sizes .d) rank (chunkEntry (sizes .d)
+        now (out .exit) ≡ over (now (out .entry)) (at * sizes .shape .d) (elements (sizes .shape .d) rank (chunkEntry (sizes .shape .d)
         (tableOf sizes (now («a_matrix» .entry)) (now («b_matrix» .entry)) (now («c_matrix» .entry)) (now («d_matrix» .entry)) (now (c .entry))
         whole constantTerms projections psi omega alpha delta transcript ν μ x) start size))) ⌝ }
 {
-    let d = sizes.d;
+    let d = sizes.shape.d;
     let mut k = 0;
     while k < rank {
         let element = chunk_entry(
@@ -143,19 +143,19 @@ pub fn write_phi(
     at: usize,
 )
     requires { ⌜ EntryFacts sizes (now «a_matrix») (now «b_matrix») (now «c_matrix») (now «d_matrix») (now c) ⌝ }
-    requires { ⌜ TableRoom (sizes .d) (sizes .n) (sizes .r) (now folded) (now products) (now «aggregate_a») (now diagonal) ⌝ }
+    requires { ⌜ TableRoom (sizes .shape .d) (sizes .shape .n) (sizes .shape .r) (now folded) (now products) (now «aggregate_a») (now diagonal) ⌝ }
     requires { ⌜ CutFacts sizes cut ⌝ }
-    requires { ⌜ (x < nextCount (sizes .kappa) (sizes .kappa1) (sizes .kappa2)) × ((at + cut .parts * cut .rank) * sizes .d ≤ length (now out)) ⌝ }
+    requires { ⌜ (x < nextCount (sizes .kappa) (sizes .kappa1) (sizes .kappa2)) × ((at + cut .parts * cut .rank) * sizes .shape .d ≤ length (now out)) ⌝ }
     ensures { λ _.
         ⌜ ((whole constantTerms projections psi omega alpha delta : List ℤ) (transcript : Transcript) (ν μ : ℕ) →
-        Tables (sizes .d) (sizes .n) (sizes .r) (sizes .k) (sizes .l) (sizes .w) whole constantTerms projections psi omega alpha delta (now (c .entry))
+        Tables (sizes .shape .d) (sizes .shape .n) (sizes .shape .r) (sizes .k) (sizes .l) (sizes .w) whole constantTerms projections psi omega alpha delta (now (c .entry))
         (now (folded .entry)) (now (products .entry)) (now («aggregate_a» .entry)) (now (diagonal .entry)) →
-        now (out .exit) ≡ over (now (out .entry)) (at * sizes .d) (flat (cut .parts) (λ s. elements (sizes .d) (cut .rank) (φ′ (sizes .d)
-        (width 2 (sizes .n) (cut .nu) (cut .m) (cut .mu))
+        now (out .exit) ≡ over (now (out .entry)) (at * sizes .shape .d) (flat (cut .parts) (λ s. elements (sizes .shape .d) (cut .rank) (φ′ (sizes .shape .d)
+        (width 2 (sizes .shape .n) (cut .nu) (cut .m) (cut .mu))
         (tableOf sizes (now («a_matrix» .entry)) (now («b_matrix» .entry)) (now («c_matrix» .entry)) (now («d_matrix» .entry)) (now (c .entry))
         whole constantTerms projections psi omega alpha delta transcript ν μ x) s)))) ⌝ }
 {
-    let n = sizes.n;
+    let n = sizes.shape.n;
     let rank = cut.rank;
     let parts = cut.parts;
     let mut start = 0;

@@ -48,21 +48,21 @@ fn write_constraint(
     out: &mut [i32],
 )
     requires { ⌜ EntryFacts sizes (now «a_matrix») (now «b_matrix») (now «c_matrix») (now «d_matrix») (now c) ⌝ }
-    requires { ⌜ TableRoom (sizes .d) (sizes .n) (sizes .r) (now folded) (now products) (now «aggregate_a») (now diagonal) ⌝ }
+    requires { ⌜ TableRoom (sizes .shape .d) (sizes .shape .n) (sizes .shape .r) (now folded) (now products) (now «aggregate_a») (now diagonal) ⌝ }
     requires { ⌜ ConstantFacts sizes (now whole) (now alpha) (now delta) (now «second_b») (now u1) (now u2) ⌝ }
     requires { ⌜ CutFacts sizes cut ⌝ }
-    requires { ⌜ (x < nextCount (sizes .kappa) (sizes .kappa1) (sizes .kappa2)) × (length (now out) ≡ (functionSize (cut .rank) (cut .parts) + 1) * sizes .d) ⌝ }
+    requires { ⌜ (x < nextCount (sizes .kappa) (sizes .kappa1) (sizes .kappa2)) × (length (now out) ≡ (functionSize (cut .rank) (cut .parts) + 1) * sizes .shape .d) ⌝ }
     ensures { λ _.
         ⌜ ((constantTerms projections psi omega p : List ℤ) →
-        Tables (sizes .d) (sizes .n) (sizes .r) (sizes .k) (sizes .l) (sizes .w) (now (whole .entry)) constantTerms projections psi omega
+        Tables (sizes .shape .d) (sizes .shape .n) (sizes .shape .r) (sizes .k) (sizes .l) (sizes .w) (now (whole .entry)) constantTerms projections psi omega
         (now (alpha .entry)) (now (delta .entry)) (now (c .entry))
         (now (folded .entry)) (now (products .entry)) (now («aggregate_a» .entry)) (now (diagonal .entry)) →
-        now (out .exit) ≡ laidOut (sizes .d) (cut .rank) (cut .parts) (width 2 (sizes .n) (cut .nu) (cut .m) (cut .mu))
+        now (out .exit) ≡ laidOut (sizes .shape .d) (cut .rank) (cut .parts) (width 2 (sizes .shape .n) (cut .nu) (cut .m) (cut .mu))
         (constraintOf sizes (now («a_matrix» .entry)) (now («b_matrix» .entry)) (now («c_matrix» .entry)) (now («d_matrix» .entry)) (now (c .entry))
         (now (whole .entry)) constantTerms projections psi omega (now (alpha .entry)) (now (delta .entry))
         (transcriptOf (now (u1 .entry)) p (now («second_b» .entry)) (now (u2 .entry))) (cut .nu) (cut .mu) x)) ⌝ }
 {
-    let d = sizes.d;
+    let d = sizes.shape.d;
     write_a(sizes, cut.nu, cut.parts, x, out);
     write_phi(
         sizes,
@@ -106,23 +106,23 @@ fn write_constraints(
     out: &mut [i32],
 )
     requires { ⌜ EntryFacts sizes (now «a_matrix») (now «b_matrix») (now «c_matrix») (now «d_matrix») (now c) ⌝ }
-    requires { ⌜ TableRoom (sizes .d) (sizes .n) (sizes .r) (now folded) (now products) (now «aggregate_a») (now diagonal) ⌝ }
+    requires { ⌜ TableRoom (sizes .shape .d) (sizes .shape .n) (sizes .shape .r) (now folded) (now products) (now «aggregate_a») (now diagonal) ⌝ }
     requires { ⌜ ConstantFacts sizes (now whole) (now alpha) (now delta) (now «second_b») (now u1) (now u2) ⌝ }
     requires { ⌜ CutFacts sizes cut ⌝ }
-    requires { ⌜ length (now out) ≡ wholeLength (sizes .d) (cut .rank) (cut .parts) (nextCount (sizes .kappa) (sizes .kappa1) (sizes .kappa2)) ⌝ }
+    requires { ⌜ length (now out) ≡ wholeLength (sizes .shape .d) (cut .rank) (cut .parts) (nextCount (sizes .kappa) (sizes .kappa1) (sizes .kappa2)) ⌝ }
     ensures { λ _.
         ⌜ ((constantTerms projections psi omega p : List ℤ) →
-        Tables (sizes .d) (sizes .n) (sizes .r) (sizes .k) (sizes .l) (sizes .w) (now (whole .entry)) constantTerms projections psi omega
+        Tables (sizes .shape .d) (sizes .shape .n) (sizes .shape .r) (sizes .k) (sizes .l) (sizes .w) (now (whole .entry)) constantTerms projections psi omega
         (now (alpha .entry)) (now (delta .entry)) (now (c .entry))
         (now (folded .entry)) (now (products .entry)) (now («aggregate_a» .entry)) (now (diagonal .entry)) →
-        now (out .exit) ≡ flat (nextCount (sizes .kappa) (sizes .kappa1) (sizes .kappa2)) (λ x. laidOut (sizes .d) (cut .rank) (cut .parts)
-        (width 2 (sizes .n) (cut .nu) (cut .m) (cut .mu))
+        now (out .exit) ≡ flat (nextCount (sizes .kappa) (sizes .kappa1) (sizes .kappa2)) (λ x. laidOut (sizes .shape .d) (cut .rank) (cut .parts)
+        (width 2 (sizes .shape .n) (cut .nu) (cut .m) (cut .mu))
         (constraintOf sizes (now («a_matrix» .entry)) (now («b_matrix» .entry)) (now («c_matrix» .entry)) (now («d_matrix» .entry)) (now (c .entry))
         (now (whole .entry)) constantTerms projections psi omega (now (alpha .entry)) (now (delta .entry))
         (transcriptOf (now (u1 .entry)) p (now («second_b» .entry)) (now (u2 .entry))) (cut .nu) (cut .mu) x))) ⌝ }
 {
     let count = sizes.kappa + sizes.kappa1 + sizes.kappa2 + 3;
-    let size = (cut.size + 1) * sizes.d;
+    let size = (cut.size + 1) * sizes.shape.d;
     let mut at = 0;
     let mut x = 0;
     while x < count {

@@ -75,9 +75,9 @@ pub fn write_t(sizes: CommitSizes, a_matrix: &[i32], witness: &[i32], out: &mut 
     requires { ⌜ TFacts sizes (now «a_matrix») (now witness) (now out) ⌝ }
     ensures { λ _. ⌜ now (out .exit) ≡ tOf sizes (now («a_matrix» .entry)) (now (witness .entry)) ⌝ }
 {
-    let d = sizes.d;
-    let n = sizes.n;
-    let r = sizes.r;
+    let d = sizes.shape.d;
+    let n = sizes.shape.n;
+    let r = sizes.shape.r;
     let kappa = sizes.kappa;
     let b1 = sizes.b1;
     let t1 = sizes.t1;
@@ -107,9 +107,9 @@ pub fn write_g(sizes: CommitSizes, witness: &[i32], out: &mut [i32])
     requires { ⌜ GFacts sizes (now witness) (now out) ⌝ }
     ensures { λ _. ⌜ now (out .exit) ≡ gOf sizes (now (witness .entry)) ⌝ }
 {
-    let d = sizes.d;
-    let n = sizes.n;
-    let r = sizes.r;
+    let d = sizes.shape.d;
+    let n = sizes.shape.n;
+    let r = sizes.shape.r;
     let b2 = sizes.b2;
     let t2 = sizes.t2;
     let mut products = [0i32; 8704];
@@ -180,7 +180,17 @@ pub fn write_u1(
     requires { ⌜ OuterFacts sizes (now «b_matrix») (now «c_matrix») (now t) (now g) (now out) ⌝ }
     ensures { λ _. ⌜ now (out .exit) ≡ u₁Of sizes (now («b_matrix» .entry)) (now («c_matrix» .entry)) (now (t .entry)) (now (g .entry)) ⌝ }
 {
-    let m = t_size(sizes.r, sizes.kappa, sizes.t1);
-    let l = garbage_size(sizes.r, sizes.t2);
-    write_outer(sizes.d, sizes.kappa1, m, b_matrix, t, l, c_matrix, g, out);
+    let m = t_size(sizes.shape.r, sizes.kappa, sizes.t1);
+    let l = garbage_size(sizes.shape.r, sizes.t2);
+    write_outer(
+        sizes.shape.d,
+        sizes.kappa1,
+        m,
+        b_matrix,
+        t,
+        l,
+        c_matrix,
+        g,
+        out,
+    );
 }

@@ -83,9 +83,7 @@ sizesOf h = record {
 -- the sizes that the fold takes; ν and μ stand beside them
 unfoldable pub foldSizes : SheetSizes → Sizes
 foldSizes s = record {
-  d = s .d;
-  n = s .n;
-  r = s .r;
+  shape = record { d = s .d; n = s .n; r = s .r };
   k = s .k;
   l = s .l;
   w = s .w;

@@ -4,6 +4,7 @@ ghost use Prim.Native.Nat.{_+_, _*_, _≤_, _<_};
 ghost use Rattle.sheet.specs.Reading.{foldSizes};
 ghost use Rattle.sheet.specs.Sections.{Bounded, Sectioned, matrixCount, wholeCount, rowCount, lastCount, termSize};
 ghost use Rattle.sheet.specs.Sections.{total, projectionsFrom, challengesFrom, endsElement, endsTerm, endsLine};
+use fold::Shape;
 use fold::Sizes;
 use fold::counts::function_size;
 use fold::counts::garbage_size;
@@ -38,9 +39,11 @@ pub fn fold_sizes(s: SheetSizes) -> Sizes
     ensures { λ r. ⌜ r ≡ foldSizes s ⌝ }
 {
     Sizes {
-        d: s.d,
-        n: s.n,
-        r: s.r,
+        shape: Shape {
+            d: s.d,
+            n: s.n,
+            r: s.r,
+        },
         k: s.k,
         l: s.l,
         w: s.w,

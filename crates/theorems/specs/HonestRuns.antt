@@ -10,7 +10,7 @@ use Rattle.fold.specs.declared.Answer.{Answer}
 use Rattle.fold.specs.declared.Answer.the-variants.{Judged, Written}
 use Rattle.fold.specs.declared.Sizes.{Sizes}
 use Rattle.fold.specs.Answers.{firstFailing}
-use Rattle.fold.specs.Arguments.{statementOf, drawsOf, transcriptOf, shapeOf, commitSizesOf, garbageSizesOf}
+use Rattle.fold.specs.Arguments.{statementOf, drawsOf, transcriptOf, commitSizesOf, garbageSizesOf}
 use Rattle.fold.specs.Statement.{Meets, Statement, Draws}
 use Rattle.fold.specs.Messages.{opening}
 use Rattle.fold.specs.Verification.{verification}
@@ -31,10 +31,10 @@ module _ (sizes : Sizes) (A B C D whole constantTerms projections ψ ω α δ c 
   pub record HonestRun (u₁ p b″ u₂ z t g h : List ℤ) : Type 0 where
     pub before : record { t : List ℤ; g : List ℤ; u₁ : List ℤ; p : List ℤ; b″ : List ℤ; h : List ℤ; u₂ : List ℤ; z : List ℤ }
     pub message-1 : Committed (commitSizesOf sizes) A B C s (before .t) (before .g) (before .u₁) Written t g u₁
-    pub message-2 : Projected (shapeOf sizes) (sizes .w) projections s (before .p) Written p
-    pub message-3 : Aggregated (shapeOf sizes) (sizes .l) (sizes .w) constantTerms projections ψ ω s (before .b″) Written b″
+    pub message-2 : Projected (sizes .shape) (sizes .w) projections s (before .p) Written p
+    pub message-3 : Aggregated (sizes .shape) (sizes .l) (sizes .w) constantTerms projections ψ ω s (before .b″) Written b″
     pub message-4 : GarbageCommitted (garbageSizesOf sizes) whole constantTerms projections ψ ω α δ D s (before .h) (before .u₂) Written h u₂
-    pub message-5 : Amortized (shapeOf sizes) (sizes .b) c s (before .z) Written z
+    pub message-5 : Amortized (sizes .shape) (sizes .b) c s (before .z) Written z
 
   -- what `verify` answered on these numbers, where β² and β'² keep row 6: no message takes them, and all else the calls have tested
   pub honest-calls : {u₁ p b″ u₂ z t g h : List ℤ} → HonestRun u₁ p b″ u₂ z t g h → firstFailing (boundTests 𝓢 𝓓) ≡ 0 → Meets (𝓢 .relation) s

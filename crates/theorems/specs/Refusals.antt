@@ -32,7 +32,7 @@ multiply-refuses d x y = message-refuses _ refl refl (λ kept. tt)
 
 -- messages 1 to 5
 pub commit-refuses : {m : CommitSizes} {A B C s t g u t′ g′ u′ : List ℤ} {answer : Answer} → Committed m A B C s t g u answer t′ g′ u′
-    → Refuses (commitTests (m .d) (m .n) (m .r) (m .kappa) (m .kappa1) (m .b1) (m .b2) (m .t1) (m .t2) A B C s t g u) answer
+    → Refuses (commitTests (m .shape .d) (m .shape .n) (m .shape .r) (m .kappa) (m .kappa1) (m .b1) (m .b2) (m .t1) (m .t2) A B C s t g u) answer
     ((t′ ≡ t) × (g′ ≡ g) × (u′ ≡ u))
 unfolding commitTests
 commit-refuses call =
@@ -50,7 +50,7 @@ aggregate-refuses call = message-refuses _ refl (call .answer-is) (λ kept. call
 
 pub garbage-refuses : {m : GarbageSizes} {whole constantTerms projections ψ ω α δ D s h u h′ u′ : List ℤ} {answer : Answer}
     → GarbageCommitted m whole constantTerms projections ψ ω α δ D s h u answer h′ u′
-    → Refuses (garbageTests (m .d) (m .n) (m .r) (m .k) (m .l) (m .w) (m .kappa2) (m .b1) (m .t1) whole constantTerms projections ψ ω α δ D s h u) answer
+    → Refuses (garbageTests (m .shape .d) (m .shape .n) (m .shape .r) (m .k) (m .l) (m .w) (m .kappa2) (m .b1) (m .t1) whole constantTerms projections ψ ω α δ D s h u) answer
     ((h′ ≡ h) × (u′ ≡ u))
 unfolding garbageTests
 garbage-refuses call = message-refuses _ refl (call .answer-is) (λ kept. (call .h-is ∙ kept _ _, call .u-is ∙ kept _ _))
@@ -73,7 +73,7 @@ next-refuses call = next-call-refuses _ refl _ (call .answer-is) (λ kept. call 
 
 -- a part of the next witness: "the chunk is empty, and a question beside it answers that number, else 0"; a number k + 1 is that of a row
 pub part-refuses : (m : PartSizes) (i : ℕ) (o : List ℤ) (number : ℕ) (part : List ℤ) → number ≡ partRefusalOf m i o → part ≡ nextPartOf m i o → (k : ℕ)
-    → ((number ≡ suc k) ↔ FirstFails (suc k) (partTests (m .d) (m .n) (m .r) (m .kappa) (m .t1) (m .t2) 2 (m .nu) (m .mu) i o))
+    → ((number ≡ suc k) ↔ FirstFails (suc k) (partTests (m .shape .d) (m .shape .n) (m .shape .r) (m .kappa) (m .t1) (m .t2) 2 (m .nu) (m .mu) i o))
     × (number ≡ suc k → part ≡ [])
 unfolding partRefusal nextPart
 part-refuses m i o number part is handed = number-refuses _ _ is handed

@@ -17,11 +17,11 @@ use Rattle.verifier.specs.Known.Facts.{Holds}
 
 -- what check 2 needs of its slices
 pub record Terms (s : Sizes) (constantTerms ψ ω p b″ : List ℤ) : Type 0 where
-  pub terms : length constantTerms ≡ constantTermsLength (s .d) (s .n) (s .r) (s .l)
+  pub terms : length constantTerms ≡ constantTermsLength (s .shape .d) (s .shape .n) (s .shape .r) (s .l)
   pub psi : length ψ ≡ 5 * s .l
   pub omega-length : length ω ≡ 5 * s .w
   pub projections : length p ≡ s .w
-  pub second : Holds (s .d) 5 b″
+  pub second : Holds (s .shape .d) 5 b″
 
 -- product l of a weighted sum
 unfoldable pub weighted : List ℤ → ℕ → List ℤ → ℕ → ℕ → ℕ → Zq .Carrier

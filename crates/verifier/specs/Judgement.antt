@@ -26,25 +26,25 @@ openingChecksOf s A whole constantTerms projections ψ ω b″ α δ c o =
 
 -- z stands at the start of a list
 pub record Recomposed (s : Sizes) (o z : List ℤ) : Type 0 where
-  pub room : s .n * s .d ≤ length z
-  pub agree : (i : ℕ) → i < s .n → el (s .d) z i ≡ zValue s o i
+  pub room : s .shape .n * s .shape .d ≤ length z
+  pub agree : (i : ℕ) → i < s .shape .n → el (s .shape .d) z i ≡ zValue s o i
 
 -- what checks 3 and 4 ask of their lists
 pub record OuterFacts (s : Sizes) (B C D u₁ u₂ o : List ℤ) : Type 0 where
   pub fits : Fits s
-  pub first-matrix : Holds (s .d) (s .kappa1 * tSize (s .r) (s .kappa) (s .t1)) B
-  pub second-matrix : Holds (s .d) (s .kappa1 * garbageSize (s .r) (s .t2)) C
-  pub third-matrix : Holds (s .d) (s .kappa2 * garbageSize (s .r) (s .t1)) D
-  pub first : Holds (s .d) (s .kappa1) u₁
-  pub second : Holds (s .d) (s .kappa2) u₂
+  pub first-matrix : Holds (s .shape .d) (s .kappa1 * tSize (s .shape .r) (s .kappa) (s .t1)) B
+  pub second-matrix : Holds (s .shape .d) (s .kappa1 * garbageSize (s .shape .r) (s .t2)) C
+  pub third-matrix : Holds (s .shape .d) (s .kappa2 * garbageSize (s .shape .r) (s .t1)) D
+  pub first : Holds (s .shape .d) (s .kappa1) u₁
+  pub second : Holds (s .shape .d) (s .kappa2) u₂
   pub opening : Opening s o
 
 -- what checks 5 to 9 ask
 pub record OpeningFacts (s : Sizes) (A whole constantTerms projections ψ ω b″ α δ c o : List ℤ) : Type 0 where
   pub fits : Fits s
-  pub matrix : Holds (s .d) (s .kappa * s .n) A
-  pub aggregated : AggregateFacts (s .d) (s .n) (s .r) (s .k) (s .l) (s .w) whole constantTerms projections ψ ω α δ
-  pub weights : Holds (s .d) 5 δ
-  pub second : Holds (s .d) 5 b″
-  pub challenges : Holds (s .d) (s .r) c
+  pub matrix : Holds (s .shape .d) (s .kappa * s .shape .n) A
+  pub aggregated : AggregateFacts (s .shape .d) (s .shape .n) (s .shape .r) (s .k) (s .l) (s .w) whole constantTerms projections ψ ω α δ
+  pub weights : Holds (s .shape .d) 5 δ
+  pub second : Holds (s .shape .d) 5 b″
+  pub challenges : Holds (s .shape .d) (s .shape .r) c
   pub opening : Opening s o

@@ -12,21 +12,21 @@ use Rattle.verifier.specs.Places.{garbageAt}
 module _ (s : Sizes) (whole constantTerms projections ψ ω α δ : List ℤ) where
   module _ (z : List ℤ) where
     -- element e of the aggregate's φ, times element y of z
-    unfoldable pub phiSummand : ℕ → ℕ → R (s .d) .Carrier
-    phiSummand e y = R (s .d) .mul (aggregateΦ (s .d) (s .n) (s .r) (s .k) (s .l) (s .w) whole constantTerms projections ψ ω α δ e) (el (s .d) z y)
+    unfoldable pub phiSummand : ℕ → ℕ → R (s .shape .d) .Carrier
+    phiSummand e y = R (s .shape .d) .mul (aggregateΦ (s .shape .d) (s .shape .n) (s .shape .r) (s .k) (s .l) (s .w) whole constantTerms projections ψ ω α δ e) (el (s .shape .d) z y)
 
     -- <φ_i, z>
-    unfoldable pub phiProduct : ℕ → R (s .d) .Carrier
-    phiProduct i = sum (R (s .d)) (s .n) (λ y. phiSummand (i * s .n + y) y)
+    unfoldable pub phiProduct : ℕ → R (s .shape .d) .Carrier
+    phiProduct i = sum (R (s .shape .d)) (s .shape .n) (λ y. phiSummand (i * s .shape .n + y) y)
 
   module _ (c z : List ℤ) where
     -- <φ_i, z> c_i
-    unfoldable pub linearSummand : ℕ → R (s .d) .Carrier
-    linearSummand i = R (s .d) .mul (phiProduct z i) (el (s .d) c i)
+    unfoldable pub linearSummand : ℕ → R (s .shape .d) .Carrier
+    linearSummand i = R (s .shape .d) .mul (phiProduct z i) (el (s .shape .d) c i)
 
 module _ (s : Sizes) (whole constantTerms ψ α δ o : List ℤ) where
   -- the aggregate's a times g, at pair number q
-  unfoldable pub relationSummand : ℕ → ℕ → R (s .d) .Carrier
+  unfoldable pub relationSummand : ℕ → ℕ → R (s .shape .d) .Carrier
   relationSummand place q =
-      R (s .d) .mul (aggregateA (s .d) (s .n) (s .r) (s .k) (s .l) whole constantTerms ψ α δ q) (garbageAt (s .d) (s .b2) (s .t2) (block
-      (s .d) o place) q)
+      R (s .shape .d) .mul (aggregateA (s .shape .d) (s .shape .n) (s .shape .r) (s .k) (s .l) whole constantTerms ψ α δ q) (garbageAt (s .shape .d) (s .b2) (s .t2) (block
+      (s .shape .d) o place) q)

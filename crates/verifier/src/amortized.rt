@@ -21,14 +21,14 @@ use ring::product;
 // c_i times row k of t_i.
 fn folded_summand(sizes: Sizes, c: &[i32], opening: &[i32], i: usize, k: usize) -> Element
     requires { ⌜ Fits sizes ⌝ }
-    requires { ⌜ Holds (sizes .d) (sizes .r) (now c) ⌝ }
+    requires { ⌜ Holds (sizes .shape .d) (sizes .shape .r) (now c) ⌝ }
     requires { ⌜ Opening sizes (now opening) ⌝ }
-    requires { ⌜ (i < sizes .r) × (k < sizes .kappa) ⌝ }
+    requires { ⌜ (i < sizes .shape .r) × (k < sizes .kappa) ⌝ }
     ensures { λ x.
-        ⌜ x .coefficients ≡ array (sizes .d) (R (sizes .d) .mul (el (sizes .d) (now (c .entry)) i)
+        ⌜ x .coefficients ≡ array (sizes .shape .d) (R (sizes .shape .d) .mul (el (sizes .shape .d) (now (c .entry)) i)
         (tValue sizes (now (opening .entry)) i k)) ⌝ }
 {
-    let d = sizes.d;
+    let d = sizes.shape.d;
     let start = places::t_place(sizes);
     let t = recomposed::t_of(d, sizes.kappa, sizes.b1, sizes.t1, opening, start, i, k);
     let challenge = Element::from_slice(d, c, i);
@@ -38,15 +38,15 @@ fn folded_summand(sizes: Sizes, c: &[i32], opening: &[i32], i: usize, k: usize) 
 // Row k of Σ c_i t_i.
 fn folded_row(sizes: Sizes, c: &[i32], opening: &[i32], k: usize) -> Element
     requires { ⌜ Fits sizes ⌝ }
-    requires { ⌜ Holds (sizes .d) (sizes .r) (now c) ⌝ }
+    requires { ⌜ Holds (sizes .shape .d) (sizes .shape .r) (now c) ⌝ }
     requires { ⌜ Opening sizes (now opening) ⌝ }
     requires { ⌜ k < sizes .kappa ⌝ }
     ensures { λ x.
-        ⌜ x .coefficients ≡ array (sizes .d) (sum (R (sizes .d)) (sizes .r)
-        (λ i. R (sizes .d) .mul (el (sizes .d) (now (c .entry)) i) (tValue sizes (now (opening .entry)) i k))) ⌝ }
+        ⌜ x .coefficients ≡ array (sizes .shape .d) (sum (R (sizes .shape .d)) (sizes .shape .r)
+        (λ i. R (sizes .shape .d) .mul (el (sizes .shape .d) (now (c .entry)) i) (tValue sizes (now (opening .entry)) i k))) ⌝ }
 {
-    let d = sizes.d;
-    let count = sizes.r;
+    let d = sizes.shape.d;
+    let count = sizes.shape.r;
     let mut acc = Element::additive_identity();
     let mut i = 0;
     while i < count {
@@ -67,18 +67,18 @@ fn amortized_row(
     k: usize,
 ) -> bool
     requires { ⌜ Fits sizes ⌝ }
-    requires { ⌜ Holds (sizes .d) (sizes .kappa * sizes .n) (now «a_matrix») ⌝ }
-    requires { ⌜ Holds (sizes .d) (sizes .r) (now c) ⌝ }
-    requires { ⌜ sizes .n * sizes .d ≤ length (now z) ⌝ }
+    requires { ⌜ Holds (sizes .shape .d) (sizes .kappa * sizes .shape .n) (now «a_matrix») ⌝ }
+    requires { ⌜ Holds (sizes .shape .d) (sizes .shape .r) (now c) ⌝ }
+    requires { ⌜ sizes .shape .n * sizes .shape .d ≤ length (now z) ⌝ }
     requires { ⌜ Opening sizes (now opening) ⌝ }
     requires { ⌜ k < sizes .kappa ⌝ }
     ensures { λ r.
-        ⌜ r ≡ same (sizes .d) (times (sizes .d) (sizes .n) (now («a_matrix» .entry)) k (el (sizes .d) (now (z .entry))))
-        (sum (R (sizes .d)) (sizes .r) (λ i. R (sizes .d) .mul (el (sizes .d) (now (c .entry)) i)
+        ⌜ r ≡ same (sizes .shape .d) (times (sizes .shape .d) (sizes .shape .n) (now («a_matrix» .entry)) k (el (sizes .shape .d) (now (z .entry))))
+        (sum (R (sizes .shape .d)) (sizes .shape .r) (λ i. R (sizes .shape .d) .mul (el (sizes .shape .d) (now (c .entry)) i)
         (tValue sizes (now (opening .entry)) i k))) ⌝ }
 {
-    let d = sizes.d;
-    let left = outer::row_times(d, sizes.n, a_matrix, k, z, 0);
+    let d = sizes.shape.d;
+    let left = outer::row_times(d, sizes.shape.n, a_matrix, k, z, 0);
     let right = folded_row(sizes, c, opening, k);
     left.equals(d, right)
 }
@@ -86,13 +86,13 @@ fn amortized_row(
 // Check 5: every row of A z, with z read from the start of a slice.
 pub fn amortized(sizes: Sizes, a_matrix: &[i32], c: &[i32], z: &[i32], opening: &[i32]) -> bool
     requires { ⌜ Fits sizes ⌝ }
-    requires { ⌜ Holds (sizes .d) (sizes .kappa * sizes .n) (now «a_matrix») ⌝ }
-    requires { ⌜ Holds (sizes .d) (sizes .r) (now c) ⌝ }
-    requires { ⌜ sizes .n * sizes .d ≤ length (now z) ⌝ }
+    requires { ⌜ Holds (sizes .shape .d) (sizes .kappa * sizes .shape .n) (now «a_matrix») ⌝ }
+    requires { ⌜ Holds (sizes .shape .d) (sizes .shape .r) (now c) ⌝ }
+    requires { ⌜ sizes .shape .n * sizes .shape .d ≤ length (now z) ⌝ }
     requires { ⌜ Opening sizes (now opening) ⌝ }
     ensures { λ r.
-        ⌜ r ≡ check₅ (sizes .d) (sizes .n) (sizes .r) (sizes .kappa) (now («a_matrix» .entry)) (now (c .entry))
-        (el (sizes .d) (now (z .entry))) (tValue sizes (now (opening .entry))) ⌝ }
+        ⌜ r ≡ check₅ (sizes .shape .d) (sizes .shape .n) (sizes .shape .r) (sizes .kappa) (now («a_matrix» .entry)) (now (c .entry))
+        (el (sizes .shape .d) (now (z .entry))) (tValue sizes (now (opening .entry))) ⌝ }
 {
     let rows = sizes.kappa;
     let mut all = true;
@@ -193,18 +193,18 @@ pub fn mixed_sum(
 // Check 6: <z,z> is the mixed sum of g, with z read from the start of a slice.
 pub fn self_product(sizes: Sizes, c: &[i32], z: &[i32], opening: &[i32]) -> bool
     requires { ⌜ Fits sizes ⌝ }
-    requires { ⌜ Holds (sizes .d) (sizes .r) (now c) ⌝ }
-    requires { ⌜ sizes .n * sizes .d ≤ length (now z) ⌝ }
+    requires { ⌜ Holds (sizes .shape .d) (sizes .shape .r) (now c) ⌝ }
+    requires { ⌜ sizes .shape .n * sizes .shape .d ≤ length (now z) ⌝ }
     requires { ⌜ Opening sizes (now opening) ⌝ }
     ensures { λ r.
-        ⌜ r ≡ check₆ (sizes .d) (sizes .n) (sizes .r) (now (c .entry)) (el (sizes .d) (now (z .entry)))
+        ⌜ r ≡ check₆ (sizes .shape .d) (sizes .shape .n) (sizes .shape .r) (now (c .entry)) (el (sizes .shape .d) (now (z .entry)))
         (gValue sizes (now (opening .entry))) ⌝ }
 {
-    let d = sizes.d;
+    let d = sizes.shape.d;
     let left = Element {
-        coefficients: product::inner(d, sizes.n, z, 0, z, 0),
+        coefficients: product::inner(d, sizes.shape.n, z, 0, z, 0),
     };
     let start = places::g_place(sizes);
-    let right = mixed_sum(d, sizes.r, sizes.b2, sizes.t2, opening, start, c);
+    let right = mixed_sum(d, sizes.shape.r, sizes.b2, sizes.t2, opening, start, c);
     left.equals(d, right)
 }

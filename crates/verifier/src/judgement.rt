@@ -151,7 +151,7 @@ fn opening_checks(
         (now (opening .entry))) ⌝ }
 {
     let mut z = [0i32; 16384];
-    recomposed::write_z(sizes.d, sizes.n, sizes.b, opening, &mut z);
+    recomposed::write_z(sizes.shape.d, sizes.shape.n, sizes.b, opening, &mut z);
     recomposed_checks(
         sizes,
         a_matrix,

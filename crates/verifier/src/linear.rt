@@ -13,7 +13,6 @@ ghost use Rattle.verifier.specs.Relation.{phiSummand, phiProduct, linear
 use crate::amortized;
 use constraints::aggregated;
 use constraints::row_groups;
-use fold::Shape;
 use fold::Sizes;
 use fold::places;
 use ring::element::Element;
@@ -33,23 +32,18 @@ fn phi_summand(
     e: usize,
     y: usize,
 ) -> Element
-    requires { ⌜ AggregateFacts (sizes .d) (sizes .n) (sizes .r) (sizes .k) (sizes .l) (sizes .w) (now whole) (now «constant_terms») (now projections)
+    requires { ⌜ AggregateFacts (sizes .shape .d) (sizes .shape .n) (sizes .shape .r) (sizes .k) (sizes .l) (sizes .w) (now whole) (now «constant_terms») (now projections)
         (now psi) (now omega) (now alpha) (now delta) ⌝ }
     requires { ⌜ OmegaSums (sizes .w) (now omega) (now «omega_sums») ⌝ }
-    requires { ⌜ sizes .n * sizes .d ≤ length (now z) ⌝ }
-    requires { ⌜ (e < sizes .r * sizes .n) × (y < sizes .n) ⌝ }
+    requires { ⌜ sizes .shape .n * sizes .shape .d ≤ length (now z) ⌝ }
+    requires { ⌜ (e < sizes .shape .r * sizes .shape .n) × (y < sizes .shape .n) ⌝ }
     ensures { λ x.
-        ⌜ x .coefficients ≡ array (sizes .d) (phiSummand sizes (now (whole .entry)) (now («constant_terms» .entry)) (now (projections .entry))
+        ⌜ x .coefficients ≡ array (sizes .shape .d) (phiSummand sizes (now (whole .entry)) (now («constant_terms» .entry)) (now (projections .entry))
         (now (psi .entry)) (now (omega .entry)) (now (alpha .entry)) (now (delta .entry)) (now (z .entry)) e y) ⌝ }
 {
-    let d = sizes.d;
-    let shape = Shape {
-        d: sizes.d,
-        n: sizes.n,
-        r: sizes.r,
-    };
+    let d = sizes.shape.d;
     let phi = aggregated::aggregate_phi(
-        shape,
+        sizes.shape,
         sizes.k,
         sizes.l,
         sizes.w,
@@ -81,17 +75,17 @@ fn phi_product(
     z: &[i32],
     i: usize,
 ) -> Element
-    requires { ⌜ AggregateFacts (sizes .d) (sizes .n) (sizes .r) (sizes .k) (sizes .l) (sizes .w) (now whole) (now «constant_terms») (now projections)
+    requires { ⌜ AggregateFacts (sizes .shape .d) (sizes .shape .n) (sizes .shape .r) (sizes .k) (sizes .l) (sizes .w) (now whole) (now «constant_terms») (now projections)
         (now psi) (now omega) (now alpha) (now delta) ⌝ }
     requires { ⌜ OmegaSums (sizes .w) (now omega) (now «omega_sums») ⌝ }
-    requires { ⌜ sizes .n * sizes .d ≤ length (now z) ⌝ }
-    requires { ⌜ i < sizes .r ⌝ }
+    requires { ⌜ sizes .shape .n * sizes .shape .d ≤ length (now z) ⌝ }
+    requires { ⌜ i < sizes .shape .r ⌝ }
     ensures { λ x.
-        ⌜ x .coefficients ≡ array (sizes .d) (phiProduct sizes (now (whole .entry)) (now («constant_terms» .entry)) (now (projections .entry))
+        ⌜ x .coefficients ≡ array (sizes .shape .d) (phiProduct sizes (now (whole .entry)) (now («constant_terms» .entry)) (now (projections .entry))
         (now (psi .entry)) (now (omega .entry)) (now (alpha .entry)) (now (delta .entry)) (now (z .entry)) i) ⌝ }
 {
-    let d = sizes.d;
-    let rank = sizes.n;
+    let d = sizes.shape.d;
+    let rank = sizes.shape.n;
     let first = i * rank;
     let mut acc = Element::additive_identity();
     let mut y = 0;
@@ -130,18 +124,18 @@ fn linear_sum(
     c: &[i32],
     z: &[i32],
 ) -> Element
-    requires { ⌜ AggregateFacts (sizes .d) (sizes .n) (sizes .r) (sizes .k) (sizes .l) (sizes .w) (now whole) (now «constant_terms») (now projections)
+    requires { ⌜ AggregateFacts (sizes .shape .d) (sizes .shape .n) (sizes .shape .r) (sizes .k) (sizes .l) (sizes .w) (now whole) (now «constant_terms») (now projections)
         (now psi) (now omega) (now alpha) (now delta) ⌝ }
     requires { ⌜ OmegaSums (sizes .w) (now omega) (now «omega_sums») ⌝ }
-    requires { ⌜ Holds (sizes .d) (sizes .r) (now c) ⌝ }
-    requires { ⌜ sizes .n * sizes .d ≤ length (now z) ⌝ }
+    requires { ⌜ Holds (sizes .shape .d) (sizes .shape .r) (now c) ⌝ }
+    requires { ⌜ sizes .shape .n * sizes .shape .d ≤ length (now z) ⌝ }
     ensures { λ x.
-        ⌜ x .coefficients ≡ array (sizes .d) (sum (R (sizes .d)) (sizes .r)
+        ⌜ x .coefficients ≡ array (sizes .shape .d) (sum (R (sizes .shape .d)) (sizes .shape .r)
         (linearSummand sizes (now (whole .entry)) (now («constant_terms» .entry)) (now (projections .entry)) (now (psi .entry)) (now (omega .entry))
         (now (alpha .entry)) (now (delta .entry)) (now (c .entry)) (now (z .entry)))) ⌝ }
 {
-    let d = sizes.d;
-    let count = sizes.r;
+    let d = sizes.shape.d;
+    let count = sizes.shape.r;
     let mut acc = Element::additive_identity();
     let mut i = 0;
     while i < count {
@@ -181,20 +175,20 @@ pub fn linear_part(
     opening: &[i32],
 ) -> bool
     requires { ⌜ Fits sizes ⌝ }
-    requires { ⌜ AggregateFacts (sizes .d) (sizes .n) (sizes .r) (sizes .k) (sizes .l) (sizes .w) (now whole) (now «constant_terms») (now projections)
+    requires { ⌜ AggregateFacts (sizes .shape .d) (sizes .shape .n) (sizes .shape .r) (sizes .k) (sizes .l) (sizes .w) (now whole) (now «constant_terms») (now projections)
         (now psi) (now omega) (now alpha) (now delta) ⌝ }
-    requires { ⌜ Holds (sizes .d) (sizes .r) (now c) ⌝ }
-    requires { ⌜ sizes .n * sizes .d ≤ length (now z) ⌝ }
+    requires { ⌜ Holds (sizes .shape .d) (sizes .shape .r) (now c) ⌝ }
+    requires { ⌜ sizes .shape .n * sizes .shape .d ≤ length (now z) ⌝ }
     requires { ⌜ Opening sizes (now opening) ⌝ }
     ensures { λ r.
-        ⌜ r ≡ check₇ (sizes .d) (sizes .n) (sizes .r) (now (c .entry))
-        (aggregate (sizes .d) (sizes .n) (sizes .r) (sizes .k) (sizes .l) (sizes .w) (now (whole .entry)) (now («constant_terms» .entry))
+        ⌜ r ≡ check₇ (sizes .shape .d) (sizes .shape .n) (sizes .shape .r) (now (c .entry))
+        (aggregate (sizes .shape .d) (sizes .shape .n) (sizes .shape .r) (sizes .k) (sizes .l) (sizes .w) (now (whole .entry)) (now («constant_terms» .entry))
         (now (projections .entry)) (now (psi .entry)) (now (omega .entry)) (now (alpha .entry)) (now (delta .entry)) .φ)
-        (el (sizes .d) (now (z .entry))) (hValue sizes (now (opening .entry))) ⌝ }
+        (el (sizes .shape .d) (now (z .entry))) (hValue sizes (now (opening .entry))) ⌝ }
 {
     let mut omega_sums = [0i64; 25920];
     row_groups::write_omega_sums(sizes.w, omega, &mut omega_sums);
-    let d = sizes.d;
+    let d = sizes.shape.d;
     let left = linear_sum(
         sizes,
         whole,
@@ -209,6 +203,6 @@ pub fn linear_part(
         z,
     );
     let start = places::h_place(sizes);
-    let right = amortized::mixed_sum(d, sizes.r, sizes.b1, sizes.t1, opening, start, c);
+    let right = amortized::mixed_sum(d, sizes.shape.r, sizes.b1, sizes.t1, opening, start, c);
     left.equals(d, right)
 }

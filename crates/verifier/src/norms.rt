@@ -36,10 +36,10 @@ pub fn short_opening(sizes: Sizes, opening: &[i32]) -> bool
     requires { ⌜ Fits sizes ⌝ }
     requires { ⌜ Opening sizes (now opening) ⌝ }
     ensures { λ r.
-        ⌜ r ≡ check₉ (sizes .d) (sizes .n) (sizes .r) 2 (sizes .kappa) (sizes .t1) (sizes .t2) (sizes .target)
+        ⌜ r ≡ check₉ (sizes .shape .d) (sizes .shape .n) (sizes .shape .r) 2 (sizes .kappa) (sizes .t1) (sizes .t2) (sizes .target)
         (now (opening .entry)) ⌝ }
 {
-    let d = sizes.d;
+    let d = sizes.shape.d;
     let t_start = places::t_place(sizes) * d;
     let h_start = places::h_place(sizes) * d;
     short_parts(sizes.target, t_start, h_start, opening)

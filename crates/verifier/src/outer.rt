@@ -38,21 +38,21 @@ fn first_row(
     k: usize,
 ) -> bool
     requires { ⌜ Fits sizes ⌝ }
-    requires { ⌜ Holds (sizes .d) (sizes .kappa1 * tSize (sizes .r) (sizes .kappa) (sizes .t1)) (now «b_matrix») ⌝ }
-    requires { ⌜ Holds (sizes .d) (sizes .kappa1 * garbageSize (sizes .r) (sizes .t2)) (now «c_matrix») ⌝ }
-    requires { ⌜ Holds (sizes .d) (sizes .kappa1) (now u1) ⌝ }
+    requires { ⌜ Holds (sizes .shape .d) (sizes .kappa1 * tSize (sizes .shape .r) (sizes .kappa) (sizes .t1)) (now «b_matrix») ⌝ }
+    requires { ⌜ Holds (sizes .shape .d) (sizes .kappa1 * garbageSize (sizes .shape .r) (sizes .t2)) (now «c_matrix») ⌝ }
+    requires { ⌜ Holds (sizes .shape .d) (sizes .kappa1) (now u1) ⌝ }
     requires { ⌜ Opening sizes (now opening) ⌝ }
     requires { ⌜ k < sizes .kappa1 ⌝ }
     ensures { λ r.
-        ⌜ r ≡ same (sizes .d) (el (sizes .d) (now (u1 .entry)) k) (outer₁ (sizes .d) (sizes .r) (sizes .kappa) (sizes .t1)
+        ⌜ r ≡ same (sizes .shape .d) (el (sizes .shape .d) (now (u1 .entry)) k) (outer₁ (sizes .shape .d) (sizes .shape .r) (sizes .kappa) (sizes .t1)
         (sizes .t2) (now («b_matrix» .entry)) (now («c_matrix» .entry)) k (tBlockOf sizes (now (opening .entry)))
         (gBlockOf sizes (now (opening .entry)))) ⌝ }
 {
-    let d = sizes.d;
-    let t_count = t_size(sizes.r, sizes.kappa, sizes.t1);
+    let d = sizes.shape.d;
+    let t_count = t_size(sizes.shape.r, sizes.kappa, sizes.t1);
     let t_start = places::t_place(sizes);
     let t_part = row_times(d, t_count, b_matrix, k, opening, t_start);
-    let g_count = garbage_size(sizes.r, sizes.t2);
+    let g_count = garbage_size(sizes.shape.r, sizes.t2);
     let g_start = places::g_place(sizes);
     let g_part = row_times(d, g_count, c_matrix, k, opening, g_start);
     let row = t_part.sum(d, g_part);
@@ -69,12 +69,12 @@ pub fn first_outer(
     opening: &[i32],
 ) -> bool
     requires { ⌜ Fits sizes ⌝ }
-    requires { ⌜ Holds (sizes .d) (sizes .kappa1 * tSize (sizes .r) (sizes .kappa) (sizes .t1)) (now «b_matrix») ⌝ }
-    requires { ⌜ Holds (sizes .d) (sizes .kappa1 * garbageSize (sizes .r) (sizes .t2)) (now «c_matrix») ⌝ }
-    requires { ⌜ Holds (sizes .d) (sizes .kappa1) (now u1) ⌝ }
+    requires { ⌜ Holds (sizes .shape .d) (sizes .kappa1 * tSize (sizes .shape .r) (sizes .kappa) (sizes .t1)) (now «b_matrix») ⌝ }
+    requires { ⌜ Holds (sizes .shape .d) (sizes .kappa1 * garbageSize (sizes .shape .r) (sizes .t2)) (now «c_matrix») ⌝ }
+    requires { ⌜ Holds (sizes .shape .d) (sizes .kappa1) (now u1) ⌝ }
     requires { ⌜ Opening sizes (now opening) ⌝ }
     ensures { λ r.
-        ⌜ r ≡ check₃ (sizes .d) (sizes .r) (sizes .kappa) (sizes .kappa1) (sizes .t1) (sizes .t2) (now («b_matrix» .entry))
+        ⌜ r ≡ check₃ (sizes .shape .d) (sizes .shape .r) (sizes .kappa) (sizes .kappa1) (sizes .t1) (sizes .t2) (now («b_matrix» .entry))
         (now («c_matrix» .entry)) (now (u1 .entry)) (tBlockOf sizes (now (opening .entry))) (gBlockOf sizes (now (opening .entry))) ⌝ }
 {
     let rows = sizes.kappa1;
@@ -91,16 +91,16 @@ pub fn first_outer(
 // Row k of u2 is D·(h digits).
 fn second_row(sizes: Sizes, d_matrix: &[i32], u2: &[i32], opening: &[i32], k: usize) -> bool
     requires { ⌜ Fits sizes ⌝ }
-    requires { ⌜ Holds (sizes .d) (sizes .kappa2 * garbageSize (sizes .r) (sizes .t1)) (now «d_matrix») ⌝ }
-    requires { ⌜ Holds (sizes .d) (sizes .kappa2) (now u2) ⌝ }
+    requires { ⌜ Holds (sizes .shape .d) (sizes .kappa2 * garbageSize (sizes .shape .r) (sizes .t1)) (now «d_matrix») ⌝ }
+    requires { ⌜ Holds (sizes .shape .d) (sizes .kappa2) (now u2) ⌝ }
     requires { ⌜ Opening sizes (now opening) ⌝ }
     requires { ⌜ k < sizes .kappa2 ⌝ }
     ensures { λ r.
-        ⌜ r ≡ same (sizes .d) (el (sizes .d) (now (u2 .entry)) k) (outer₂ (sizes .d) (sizes .r) (sizes .t1)
+        ⌜ r ≡ same (sizes .shape .d) (el (sizes .shape .d) (now (u2 .entry)) k) (outer₂ (sizes .shape .d) (sizes .shape .r) (sizes .t1)
         (now («d_matrix» .entry)) k (hBlockOf sizes (now (opening .entry)))) ⌝ }
 {
-    let d = sizes.d;
-    let count = garbage_size(sizes.r, sizes.t1);
+    let d = sizes.shape.d;
+    let count = garbage_size(sizes.shape.r, sizes.t1);
     let start = places::h_place(sizes);
     let row = row_times(d, count, d_matrix, k, opening, start);
     let u = Element::from_slice(d, u2, k);
@@ -110,11 +110,11 @@ fn second_row(sizes: Sizes, d_matrix: &[i32], u2: &[i32], opening: &[i32], k: us
 // Check 4: every row of u2.
 pub fn second_outer(sizes: Sizes, d_matrix: &[i32], u2: &[i32], opening: &[i32]) -> bool
     requires { ⌜ Fits sizes ⌝ }
-    requires { ⌜ Holds (sizes .d) (sizes .kappa2 * garbageSize (sizes .r) (sizes .t1)) (now «d_matrix») ⌝ }
-    requires { ⌜ Holds (sizes .d) (sizes .kappa2) (now u2) ⌝ }
+    requires { ⌜ Holds (sizes .shape .d) (sizes .kappa2 * garbageSize (sizes .shape .r) (sizes .t1)) (now «d_matrix») ⌝ }
+    requires { ⌜ Holds (sizes .shape .d) (sizes .kappa2) (now u2) ⌝ }
     requires { ⌜ Opening sizes (now opening) ⌝ }
     ensures { λ r.
-        ⌜ r ≡ check₄ (sizes .d) (sizes .r) (sizes .kappa2) (sizes .t1) (now («d_matrix» .entry)) (now (u2 .entry))
+        ⌜ r ≡ check₄ (sizes .shape .d) (sizes .shape .r) (sizes .kappa2) (sizes .t1) (now («d_matrix» .entry)) (now (u2 .entry))
         (hBlockOf sizes (now (opening .entry))) ⌝ }
 {
     let rows = sizes.kappa2;

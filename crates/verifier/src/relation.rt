@@ -15,7 +15,6 @@ ghost use Rattle.verifier.specs.Mixed.{Garbage};
 ghost use Rattle.verifier.specs.Relation.{relationSummand};
 use crate::recomposed;
 use constraints::aggregated;
-use fold::Shape;
 use fold::Sizes;
 use fold::counts::pair_count;
 use fold::places;
@@ -33,23 +32,18 @@ fn relation_summand(
     place: usize,
     q: usize,
 ) -> Element
-    requires { ⌜ WholeFacts (sizes .d) (sizes .n) (sizes .r) (sizes .k) (now whole) (now alpha) ⌝ }
-    requires { ⌜ TermFacts (sizes .d) (sizes .n) (sizes .r) (sizes .l) (now «constant_terms») (now psi) ⌝ }
-    requires { ⌜ Holds (sizes .d) 5 (now delta) ⌝ }
-    requires { ⌜ Garbage (sizes .d) (sizes .r) (sizes .b2) (sizes .t2) place (now opening) ⌝ }
-    requires { ⌜ q < pairs (sizes .r) ⌝ }
+    requires { ⌜ WholeFacts (sizes .shape .d) (sizes .shape .n) (sizes .shape .r) (sizes .k) (now whole) (now alpha) ⌝ }
+    requires { ⌜ TermFacts (sizes .shape .d) (sizes .shape .n) (sizes .shape .r) (sizes .l) (now «constant_terms») (now psi) ⌝ }
+    requires { ⌜ Holds (sizes .shape .d) 5 (now delta) ⌝ }
+    requires { ⌜ Garbage (sizes .shape .d) (sizes .shape .r) (sizes .b2) (sizes .t2) place (now opening) ⌝ }
+    requires { ⌜ q < pairs (sizes .shape .r) ⌝ }
     ensures { λ x.
-        ⌜ x .coefficients ≡ array (sizes .d) (relationSummand sizes (now (whole .entry)) (now («constant_terms» .entry)) (now (psi .entry))
+        ⌜ x .coefficients ≡ array (sizes .shape .d) (relationSummand sizes (now (whole .entry)) (now («constant_terms» .entry)) (now (psi .entry))
         (now (alpha .entry)) (now (delta .entry)) (now (opening .entry)) place q) ⌝ }
 {
-    let d = sizes.d;
-    let shape = Shape {
-        d: sizes.d,
-        n: sizes.n,
-        r: sizes.r,
-    };
+    let d = sizes.shape.d;
     let aggregate_a = aggregated::aggregate_a(
-        shape,
+        sizes.shape,
         sizes.k,
         sizes.l,
         whole,
@@ -74,17 +68,17 @@ fn relation_sum(
     opening: &[i32],
     place: usize,
 ) -> Element
-    requires { ⌜ WholeFacts (sizes .d) (sizes .n) (sizes .r) (sizes .k) (now whole) (now alpha) ⌝ }
-    requires { ⌜ TermFacts (sizes .d) (sizes .n) (sizes .r) (sizes .l) (now «constant_terms») (now psi) ⌝ }
-    requires { ⌜ Holds (sizes .d) 5 (now delta) ⌝ }
-    requires { ⌜ Garbage (sizes .d) (sizes .r) (sizes .b2) (sizes .t2) place (now opening) ⌝ }
+    requires { ⌜ WholeFacts (sizes .shape .d) (sizes .shape .n) (sizes .shape .r) (sizes .k) (now whole) (now alpha) ⌝ }
+    requires { ⌜ TermFacts (sizes .shape .d) (sizes .shape .n) (sizes .shape .r) (sizes .l) (now «constant_terms») (now psi) ⌝ }
+    requires { ⌜ Holds (sizes .shape .d) 5 (now delta) ⌝ }
+    requires { ⌜ Garbage (sizes .shape .d) (sizes .shape .r) (sizes .b2) (sizes .t2) place (now opening) ⌝ }
     ensures { λ x.
-        ⌜ x .coefficients ≡ array (sizes .d) (sum (R (sizes .d)) (pairs (sizes .r))
+        ⌜ x .coefficients ≡ array (sizes .shape .d) (sum (R (sizes .shape .d)) (pairs (sizes .shape .r))
         (relationSummand sizes (now (whole .entry)) (now («constant_terms» .entry)) (now (psi .entry)) (now (alpha .entry))
         (now (delta .entry)) (now (opening .entry)) place)) ⌝ }
 {
-    let d = sizes.d;
-    let count = pair_count(sizes.r);
+    let d = sizes.shape.d;
+    let count = pair_count(sizes.shape.r);
     let mut acc = Element::additive_identity();
     let mut q = 0;
     while q < count {
@@ -134,23 +128,18 @@ pub fn relation_holds(
     opening: &[i32],
 ) -> bool
     requires { ⌜ Fits sizes ⌝ }
-    requires { ⌜ WholeFacts (sizes .d) (sizes .n) (sizes .r) (sizes .k) (now whole) (now alpha) ⌝ }
-    requires { ⌜ TermFacts (sizes .d) (sizes .n) (sizes .r) (sizes .l) (now «constant_terms») (now psi) ⌝ }
-    requires { ⌜ (Holds (sizes .d) 5 (now delta)) × (Holds (sizes .d) 5 (now «second_b»)) ⌝ }
+    requires { ⌜ WholeFacts (sizes .shape .d) (sizes .shape .n) (sizes .shape .r) (sizes .k) (now whole) (now alpha) ⌝ }
+    requires { ⌜ TermFacts (sizes .shape .d) (sizes .shape .n) (sizes .shape .r) (sizes .l) (now «constant_terms») (now psi) ⌝ }
+    requires { ⌜ (Holds (sizes .shape .d) 5 (now delta)) × (Holds (sizes .shape .d) 5 (now «second_b»)) ⌝ }
     requires { ⌜ Opening sizes (now opening) ⌝ }
     ensures { λ r.
-        ⌜ ((w : ℕ) (projections omega : List ℤ) → r ≡ check₈ (sizes .d) (sizes .r)
-        (aggregate (sizes .d) (sizes .n) (sizes .r) (sizes .k) (sizes .l) w (now (whole .entry)) (now («constant_terms» .entry)) projections
+        ⌜ ((w : ℕ) (projections omega : List ℤ) → r ≡ check₈ (sizes .shape .d) (sizes .shape .r)
+        (aggregate (sizes .shape .d) (sizes .shape .n) (sizes .shape .r) (sizes .k) (sizes .l) w (now (whole .entry)) (now («constant_terms» .entry)) projections
         (now (psi .entry)) omega (now (alpha .entry)) (now (delta .entry)) .a)
-        (aggregateConstant (sizes .d) (sizes .n) (sizes .r) (sizes .k) (now (whole .entry)) (now (alpha .entry))
+        (aggregateConstant (sizes .shape .d) (sizes .shape .n) (sizes .shape .r) (sizes .k) (now (whole .entry)) (now (alpha .entry))
         (now (delta .entry)) (now («second_b» .entry))) (gValue sizes (now (opening .entry))) (hValue sizes (now (opening .entry)))) ⌝ }
 {
-    let d = sizes.d;
-    let shape = Shape {
-        d: sizes.d,
-        n: sizes.n,
-        r: sizes.r,
-    };
+    let d = sizes.shape.d;
     let g_start = places::g_place(sizes);
     let g_sum = relation_sum(
         sizes,
@@ -163,8 +152,8 @@ pub fn relation_holds(
         g_start,
     );
     let h_start = places::h_place(sizes);
-    let h_sum = diagonal_sum(d, sizes.r, sizes.b1, sizes.t1, opening, h_start);
+    let h_sum = diagonal_sum(d, sizes.shape.r, sizes.b1, sizes.t1, opening, h_start);
     let left = g_sum.sum(d, h_sum);
-    let right = aggregated::aggregate_constant(shape, sizes.k, whole, alpha, delta, second_b);
+    let right = aggregated::aggregate_constant(sizes.shape, sizes.k, whole, alpha, delta, second_b);
     left.equals(d, right)
 }

@@ -54,11 +54,11 @@ fn constant_term_holds(
     requires { ⌜ Terms sizes (now «constant_terms») (now psi) (now omega) (now p) (now «second_b») ⌝ }
     requires { ⌜ k < 5 ⌝ }
     ensures { λ r.
-        ⌜ r ≡ termHolds (sizes .d) (sizes .n) (sizes .r) (sizes .l) (sizes .w) (now («constant_terms» .entry)) (now (psi .entry))
+        ⌜ r ≡ termHolds (sizes .shape .d) (sizes .shape .n) (sizes .shape .r) (sizes .l) (sizes .w) (now («constant_terms» .entry)) (now (psi .entry))
         (now (omega .entry)) (now (p .entry)) (now («second_b» .entry)) k ⌝ }
 {
-    let d = sizes.d;
-    let last = function_size(sizes.n, sizes.r) * d;
+    let d = sizes.shape.d;
+    let last = function_size(sizes.shape.n, sizes.shape.r) * d;
     let terms = weighted_sum(sizes.l, psi, k * sizes.l, constant_terms, last, last + 1);
     let projected = weighted_sum(sizes.w, omega, k * sizes.w, p, 0, 1);
     let expected = modulus::add(terms, projected);
@@ -79,7 +79,7 @@ pub fn constant_terms_hold(
     requires { ⌜ Fits sizes ⌝ }
     requires { ⌜ Terms sizes (now «constant_terms») (now psi) (now omega) (now p) (now «second_b») ⌝ }
     ensures { λ r.
-        ⌜ r ≡ check₂ (sizes .d) (sizes .n) (sizes .r) (sizes .l) (sizes .w) (now («constant_terms» .entry)) (now (psi .entry))
+        ⌜ r ≡ check₂ (sizes .shape .d) (sizes .shape .n) (sizes .shape .r) (sizes .l) (sizes .w) (now («constant_terms» .entry)) (now (psi .entry))
         (now (omega .entry)) (now (p .entry)) (now («second_b» .entry)) ⌝ }
 {
     let mut all = true;

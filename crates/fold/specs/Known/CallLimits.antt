@@ -126,15 +126,15 @@ part-limits d n r κ t₁ t₂ tz ν μ i row =
 -- ---- the limits of sizes that stand in a struct
 
 abbrev pub CommitSized : CommitSizes → Type 0
-CommitSized m = CommitLimits (m .d) (m .n) (m .r) (m .kappa) (m .kappa1) (m .b1) (m .b2) (m .t1) (m .t2)
+CommitSized m = CommitLimits (m .shape .d) (m .shape .n) (m .shape .r) (m .kappa) (m .kappa1) (m .b1) (m .b2) (m .t1) (m .t2)
 
 abbrev pub GarbageSized : GarbageSizes → Type 0
-GarbageSized m = GarbageLimits (m .d) (m .n) (m .r) (m .k) (m .l) (m .w) (m .kappa2) (m .b1) (m .t1)
+GarbageSized m = GarbageLimits (m .shape .d) (m .shape .n) (m .shape .r) (m .k) (m .l) (m .w) (m .kappa2) (m .b1) (m .t1)
 
 abbrev pub VerifySized : Sizes → Type 0
 VerifySized m =
-    VerifyLimits (m .d) (m .n) (m .r) (m .k) (m .l) (m .w) (m .kappa) (m .kappa1) (m .kappa2) (m .b) (m .b1) (m .b2) (m .t1) (m .t2)
+    VerifyLimits (m .shape .d) (m .shape .n) (m .shape .r) (m .k) (m .l) (m .w) (m .kappa) (m .kappa1) (m .kappa2) (m .b) (m .b1) (m .b2) (m .t1) (m .t2)
     (m .bound) (m .target)
 
 abbrev pub PartSized : PartSizes → (i : ℕ) → Type 0
-PartSized m i = PartLimits (m .d) (m .n) (m .r) (m .kappa) (m .t1) (m .t2) 2 (m .nu) (m .mu) i
+PartSized m i = PartLimits (m .shape .d) (m .shape .n) (m .shape .r) (m .kappa) (m .t1) (m .t2) 2 (m .nu) (m .mu) i

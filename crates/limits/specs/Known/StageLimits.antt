@@ -51,10 +51,10 @@ pub part-sized : (m : PartSizes) (i : ℕ) {x : ℕ} → x ≡ firstFailing (par
 part-sized m i e z = part-limits _ _ _ _ _ _ _ _ _ _ (holds (partBoundsOf m i) refl (sym e ∙ z))
 
 -- the sizes of the constraints alone
-pub garbage-constraints : (m : GarbageSizes) → GarbageSized m → ConstraintLimits (m .d) (m .n) (m .r) (m .k) (m .l) (m .w)
+pub garbage-constraints : (m : GarbageSizes) → GarbageSized m → ConstraintLimits (m .shape .d) (m .shape .n) (m .shape .r) (m .k) (m .l) (m .w)
 garbage-constraints m l =
     record { shaped = l .shaped; K-small = l .K-small; L-small = l .L-small; w-small = l .w-small }
 
-pub verify-constraints : (m : Sizes) → VerifySized m → ConstraintLimits (m .d) (m .n) (m .r) (m .k) (m .l) (m .w)
+pub verify-constraints : (m : Sizes) → VerifySized m → ConstraintLimits (m .shape .d) (m .shape .n) (m .shape .r) (m .k) (m .l) (m .w)
 verify-constraints m l =
     record { shaped = l .shaped; K-small = l .K-small; L-small = l .L-small; w-small = l .w-small }

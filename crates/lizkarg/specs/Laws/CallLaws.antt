@@ -81,7 +81,7 @@ module _ (sizes : CommitSizes) (A B C s t g u : List ℤ) {x : ℕ} (number : x 
         u-is = kept (u₁Of sizes B C (tOf sizes A s) (gOf sizes s)) u number some;
       }
 
-  facts : x ≡ 0 → CallFacts.CommitFacts (sizes .d) (sizes .n) (sizes .r) (sizes .kappa) (sizes .kappa1) (sizes .b1) (sizes .b2) (sizes .t1) (sizes .t2) A B C s t g u
+  facts : x ≡ 0 → CallFacts.CommitFacts (sizes .shape .d) (sizes .shape .n) (sizes .shape .r) (sizes .kappa) (sizes .kappa1) (sizes .b1) (sizes .b2) (sizes .t1) (sizes .t2) A B C s t g u
   facts none = CallFacts.commit-facts (sym number ∙ none)
 
   limits : x ≡ 0 → ProverFacts.CommitFacts sizes
@@ -174,7 +174,7 @@ module _ (shape : Shape) (L w : ℕ) (constantTerms projections ψ ω s v : List
 module _ (sizes : GarbageSizes) (whole constantTerms projections ψ ω α δ D s h u : List ℤ) {x : ℕ}
     (number : x ≡ garbageRefusal sizes whole constantTerms projections ψ ω α δ D s h u) where
   garbage-found : x ≡ 0
-      → CallFacts.GarbageFacts (sizes .d) (sizes .n) (sizes .r) (sizes .k) (sizes .l) (sizes .w) (sizes .kappa2) (sizes .b1) (sizes .t1)
+      → CallFacts.GarbageFacts (sizes .shape .d) (sizes .shape .n) (sizes .shape .r) (sizes .k) (sizes .l) (sizes .w) (sizes .kappa2) (sizes .b1) (sizes .t1)
       whole constantTerms projections ψ ω α δ D s h u
   garbage-found none = CallFacts.garbage-facts (sym number ∙ none)
 
@@ -183,26 +183,26 @@ module _ (sizes : GarbageSizes) (whole constantTerms projections ψ ω α δ D s
       record {
         answer-is = refused Written number some;
         h-is = kept (hOf sizes whole constantTerms projections ψ ω α δ s) h number some;
-        u-is = kept (u₂ (sizes .d) (sizes .r) (sizes .kappa2) (sizes .t1) D (hOf sizes whole constantTerms projections ψ ω α δ s)) u number some;
+        u-is = kept (u₂ (sizes .shape .d) (sizes .shape .r) (sizes .kappa2) (sizes .t1) D (hOf sizes whole constantTerms projections ψ ω α δ s)) u number some;
       }
 
   pub garbage-h : x ≡ 0
-      → HFacts (sizes .d) (sizes .n) (sizes .r) (sizes .k) (sizes .l) (sizes .w) (sizes .b1) (sizes .t1) whole constantTerms projections ψ ω α δ s h
+      → HFacts (sizes .shape .d) (sizes .shape .n) (sizes .shape .r) (sizes .k) (sizes .l) (sizes .w) (sizes .b1) (sizes .t1) whole constantTerms projections ψ ω α δ s h
   garbage-h none = AggregationFacts.h-facts (garbage-found none)
 
   pub garbage-u : {h′ : List ℤ} → x ≡ 0 → length h′ ≡ length h
-      → AggregationFacts.OuterFacts (sizes .d) (sizes .r) (sizes .kappa2) (sizes .t1) D h′ u
+      → AggregationFacts.OuterFacts (sizes .shape .d) (sizes .shape .r) (sizes .kappa2) (sizes .t1) D h′ u
   garbage-u none long = AggregationFacts.outer-facts (garbage-found none) long
 
   pub garbage-written : {h′ u′ : List ℤ} → x ≡ 0 → h′ ≡ hOf sizes whole constantTerms projections ψ ω α δ s
-      → u′ ≡ u₂ (sizes .d) (sizes .r) (sizes .kappa2) (sizes .t1) D h′
+      → u′ ≡ u₂ (sizes .shape .d) (sizes .shape .r) (sizes .kappa2) (sizes .t1) D h′
       → GarbageCommitted sizes whole constantTerms projections ψ ω α δ D s h u Written h′ u′
   garbage-written none h-new u-new =
       let zero-is = sym number ∙ none in
       record {
         answer-is = answers Written zero-is;
         h-is = writes h zero-is h-new;
-        u-is = writes u zero-is (u-new ∙ ap (u₂ (sizes .d) (sizes .r) (sizes .kappa2) (sizes .t1) D) h-new);
+        u-is = writes u zero-is (u-new ∙ ap (u₂ (sizes .shape .d) (sizes .shape .r) (sizes .kappa2) (sizes .t1) D) h-new);
       }
 
 -- ---- message 5

@@ -8,7 +8,7 @@ use lib.IntN.{ℤ, pos}
 use lib.ListN.{length, take, drop, replicate, length-replicate, length-drop}
 use Rattle.integers.specs.Over.{over}
 use Rattle.fold.specs.declared.Sizes.{Sizes}
-use Rattle.fold.specs.Arguments.{statementOf, drawsOf, transcriptOf, shapeOf, commitSizesOf, garbageSizesOf}
+use Rattle.fold.specs.Arguments.{statementOf, drawsOf, transcriptOf, commitSizesOf, garbageSizesOf}
 use Rattle.fold.specs.Verification.{verification}
 use Rattle.lizkarg.specs.Calls.{Committed, Projected, Aggregated, GarbageCommitted, Amortized}
 use Rattle.fold.specs.declared.PartSizes.{PartSizes}
@@ -80,25 +80,25 @@ module _ {sizes : Sizes} {s lengths m : List ℤ} {code : CAnswer} {m′ : List 
       }
 
   pub projecting : {projections p′ : List ℤ} {n : ℕ} → n ≡ sizeAt 32768 lengths 5
-      → Coded (λ answer. Projected (shapeOf sizes) (sizes .w) projections s (front n) answer p′) code → m′ ≡ kept m lengths 5 p′
+      → Coded (λ answer. Projected (sizes .shape) (sizes .w) projections s (front n) answer p′) code → m′ ≡ kept m lengths 5 p′
       → Projecting sizes projections s lengths m code m′
   projecting {projections} {p′} n called keeps =
       let p = blank-is 32768 lengths 5 n in
       record {
         p′ = p′;
-        called = coe 0 1 (i. Coded (λ answer. Projected (shapeOf sizes) (sizes .w) projections s (p i) answer p′) code) called;
+        called = coe 0 1 (i. Coded (λ answer. Projected (sizes .shape) (sizes .w) projections s (p i) answer p′) code) called;
         keeps = keeps;
       }
 
   pub aggregating : {constantTerms projections ψ draws ω b′ : List ℤ} {n : ℕ} → ω ≡ nthList 0 draws
       → n ≡ sizeAt 32768 lengths 6
-      → Coded (λ answer. Aggregated (shapeOf sizes) (sizes .l) (sizes .w) constantTerms projections ψ ω s (front n) answer b′) code → m′ ≡ kept m lengths 6 b′
+      → Coded (λ answer. Aggregated (sizes .shape) (sizes .l) (sizes .w) constantTerms projections ψ ω s (front n) answer b′) code → m′ ≡ kept m lengths 6 b′
       → Aggregating sizes constantTerms projections ψ draws s lengths m code m′
   aggregating {constantTerms} {projections} {ψ} {b′ = b′} ω n called keeps =
       let b = blank-is 32768 lengths 6 n in
       record {
         b′ = b′;
-        called = coe 0 1 (i. Coded (λ answer. Aggregated (shapeOf sizes) (sizes .l) (sizes .w) constantTerms projections ψ (ω i) s (b i) answer b′) code) called;
+        called = coe 0 1 (i. Coded (λ answer. Aggregated (sizes .shape) (sizes .l) (sizes .w) constantTerms projections ψ (ω i) s (b i) answer b′) code) called;
         keeps = keeps;
       }
 
@@ -121,13 +121,13 @@ module _ {sizes : Sizes} {s lengths m : List ℤ} {code : CAnswer} {m′ : List 
       }
 
   pub amortizing : {draws c z′ : List ℤ} {n : ℕ} → c ≡ nthList 3 draws
-      → n ≡ sizeAt 32768 lengths 0 → Coded (λ answer. Amortized (shapeOf sizes) (sizes .b) c s (front n) answer z′) code
+      → n ≡ sizeAt 32768 lengths 0 → Coded (λ answer. Amortized (sizes .shape) (sizes .b) c s (front n) answer z′) code
       → m′ ≡ kept m lengths 0 z′ → Amortizing sizes draws s lengths m code m′
   amortizing {z′ = z′} c n called keeps =
       let z = blank-is 32768 lengths 0 n in
       record {
         z′ = z′;
-        called = coe 0 1 (i. Coded (λ answer. Amortized (shapeOf sizes) (sizes .b) (c i) s (z i) answer z′) code) called;
+        called = coe 0 1 (i. Coded (λ answer. Amortized (sizes .shape) (sizes .b) (c i) s (z i) answer z′) code) called;
         keeps = keeps;
       }
 

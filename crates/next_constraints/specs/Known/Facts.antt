@@ -10,8 +10,8 @@ use Rattle.fold.specs.Arguments.{VerifySized}
 
 pub record EntryFacts (s : Sizes) (A B C D c : List ℤ) : Type 0 where
   pub limits : VerifySized s
-  pub A-length : length A ≡ s .kappa * s .n * s .d
-  pub B-length : length B ≡ s .kappa1 * tSize (s .r) (s .kappa) (s .t1) * s .d
-  pub C-length : length C ≡ s .kappa1 * garbageSize (s .r) (s .t2) * s .d
-  pub D-length : length D ≡ s .kappa2 * garbageSize (s .r) (s .t1) * s .d
-  pub c-length : length c ≡ s .r * s .d
+  pub A-length : length A ≡ s .kappa * s .shape .n * s .shape .d
+  pub B-length : length B ≡ s .kappa1 * tSize (s .shape .r) (s .kappa) (s .t1) * s .shape .d
+  pub C-length : length C ≡ s .kappa1 * garbageSize (s .shape .r) (s .t2) * s .shape .d
+  pub D-length : length D ≡ s .kappa2 * garbageSize (s .shape .r) (s .t1) * s .shape .d
+  pub c-length : length c ≡ s .shape .r * s .shape .d

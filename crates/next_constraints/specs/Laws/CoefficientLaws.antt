@@ -24,36 +24,36 @@ use Rattle.next_constraints.specs.Laws.EntryTables.{is-5, is-6, is-7, is
 use Rattle.next_constraints.specs.Laws.Order.{constraint-5, constraint-6, constraint-7, constraint-8, constraint-3, constraint-4}
 use Rattle.next_constraints.specs.Coefficients.{constantAt}
 
-unfoldable pub aAt : (s : Sizes) (ν x i j : ℕ) → R (s .d) .Carrier
-aAt s ν x i j = cond (eqb x (s .kappa)) (squares (s .d) 2 ν (s .b) i j) (R (s .d) .zero)
+unfoldable pub aAt : (s : Sizes) (ν x i j : ℕ) → R (s .shape .d) .Carrier
+aAt s ν x i j = cond (eqb x (s .kappa)) (squares (s .shape .d) 2 ν (s .b) i j) (R (s .shape .d) .zero)
 
 module _ (s : Sizes) (x : ℕ) where
   module _ (ν i j : ℕ) where
-    pub a-six : x ≡ s .kappa → aAt s ν x i j ≡ squares (s .d) 2 ν (s .b) i j
+    pub a-six : x ≡ s .kappa → aAt s ν x i j ≡ squares (s .shape .d) 2 ν (s .b) i j
     unfolding aAt
     a-six e = rw (eq-eqb x (s .kappa) e)
 
-    pub a-other : (x ≡ s .kappa → ⊥) → aAt s ν x i j ≡ R (s .d) .zero
+    pub a-other : (x ≡ s .kappa → ⊥) → aAt s ν x i j ≡ R (s .shape .d) .zero
     unfolding aAt
     a-other e = rw (ne-eqb x (s .kappa) e)
 
   module _ (whole α δ b″ u₁ u₂ : List ℤ) where
-    pub constant-before : x < s .kappa + 2 → constantAt s whole α δ b″ u₁ u₂ x ≡ R (s .d) .zero
+    pub constant-before : x < s .kappa + 2 → constantAt s whole α δ b″ u₁ u₂ x ≡ R (s .shape .d) .zero
     unfolding constantAt
     constant-before h = rw (lt-ltb x (s .kappa + 2) h)
 
     pub constant-8 : s .kappa + 2 ≤ x → x ≡ s .kappa + 2
-        → constantAt s whole α δ b″ u₁ u₂ x ≡ aggregateConstant (s .d) (s .n) (s .r) (s .k) whole α δ b″
+        → constantAt s whole α δ b″ u₁ u₂ x ≡ aggregateConstant (s .shape .d) (s .shape .n) (s .shape .r) (s .k) whole α δ b″
     unfolding constantAt
     constant-8 l e = rw (le-ltb x (s .kappa + 2) l, eq-eqb x (s .kappa + 2) e)
 
     pub constant-3 : s .kappa + 2 ≤ x → (x ≡ s .kappa + 2 → ⊥) → x < s .kappa + 3 + s .kappa1
-        → constantAt s whole α δ b″ u₁ u₂ x ≡ el (s .d) u₁ (x - (s .kappa + 3))
+        → constantAt s whole α δ b″ u₁ u₂ x ≡ el (s .shape .d) u₁ (x - (s .kappa + 3))
     unfolding constantAt
     constant-3 l e h = rw (le-ltb x (s .kappa + 2) l, ne-eqb x (s .kappa + 2) e, lt-ltb x (s .kappa + 3 + s .kappa1) h)
 
     pub constant-4 : s .kappa + 2 ≤ x → (x ≡ s .kappa + 2 → ⊥) → s .kappa + 3 + s .kappa1 ≤ x
-        → constantAt s whole α δ b″ u₁ u₂ x ≡ el (s .d) u₂ (x - (s .kappa + 3 + s .kappa1))
+        → constantAt s whole α δ b″ u₁ u₂ x ≡ el (s .shape .d) u₂ (x - (s .kappa + 3 + s .kappa1))
     unfolding constantAt
     constant-4 l e h = rw (le-ltb x (s .kappa + 2) l, ne-eqb x (s .kappa + 2) e, le-ltb x (s .kappa + 3 + s .kappa1) h)
 
@@ -93,13 +93,13 @@ module _ (s : Sizes) (fits : VerifySized s) (A B C D c whole constantTerms proje
   abbrev 𝓓 : Draws
   𝓓 = drawsOf projections ψ ω α δ c
 
-  abbrev of : Constraint (s .d)
+  abbrev of : Constraint (s .shape .d)
   of = constraint 𝓢 𝓓 𝓣 ν μ x
 
-  module _ {folded products aggregatedA diagonal : List ℤ} (p : ℕ) (inside : p < openingSize 2 (s .n) (s .r) (s .kappa) (s .t1) (s .t2))
-      (tables : Tables (s .d) (s .n) (s .r) (s .k) (s .l) (s .w) whole constantTerms projections ψ ω α δ c folded products aggregatedA diagonal) where
-    at-place : {u : Constraint (s .d)} → of ≡ u → getD (u .table) p (R (s .d) .zero) ≡ getD (of .table) p (R (s .d) .zero)
-    at-place e = ap (λ v. getD (v .table) p (R (s .d) .zero)) (sym e)
+  module _ {folded products aggregatedA diagonal : List ℤ} (p : ℕ) (inside : p < openingSize 2 (s .shape .n) (s .shape .r) (s .kappa) (s .t1) (s .t2))
+      (tables : Tables (s .shape .d) (s .shape .n) (s .shape .r) (s .k) (s .l) (s .w) whole constantTerms projections ψ ω α δ c folded products aggregatedA diagonal) where
+    at-place : {u : Constraint (s .shape .d)} → of ≡ u → getD (u .table) p (R (s .shape .d) .zero) ≡ getD (of .table) p (R (s .shape .d) .zero)
+    at-place e = ap (λ v. getD (v .table) p (R (s .shape .d) .zero)) (sym e)
 
     middle : (y : ℕ) → y < 3 → x ≡ s .kappa + y
         → coefficientAt s A B C D c folded products aggregatedA diagonal x p ≡ middleEntry s folded products aggregatedA diagonal y p
@@ -114,7 +114,7 @@ module _ (s : Sizes) (fits : VerifySized s) (A B C D c whole constantTerms proje
         step.coefficient-outer s p A B C D c folded products aggregatedA diagonal x (omega arith) (omega arith)
         ∙ ap (λ z. outerEntry s B C D z p) rest
 
-    pub coefficient-is : coefficientAt s A B C D c folded products aggregatedA diagonal x p ≡ getD (of .table) p (R (s .d) .zero)
+    pub coefficient-is : coefficientAt s A B C D c folded products aggregatedA diagonal x p ≡ getD (of .table) p (R (s .shape .d) .zero)
     coefficient-is = by-order (s .kappa) (s .kappa1) (s .kappa2) x _ x-inside (record {
       five = λ h.
           step.coefficient-5 s p A B C D c folded products aggregatedA diagonal x h
@@ -159,7 +159,7 @@ module _ (s : Sizes) (fits : VerifySized s) (A B C D c whole constantTerms proje
     four = λ k h l. a-other s x ν i j (λ e. omega arith) ∙ here (constraint-4 𝓢 𝓓 𝓣 ν μ x k h l);
   })
     where
-      here : {u : Constraint (s .d)} → of ≡ u → u .a i j ≡ of .a i j
+      here : {u : Constraint (s .shape .d)} → of ≡ u → u .a i j ≡ of .a i j
       here e = ap (λ v. v .a i j) (sym e)
 
   pub constant-is : constantAt s whole α δ (𝓣 .b″) (𝓣 .u₁) (𝓣 .u₂) x ≡ of .constant
@@ -171,14 +171,14 @@ module _ (s : Sizes) (fits : VerifySized s) (A B C D c whole constantTerms proje
     three = λ k e l.
         let rest : x - (s .kappa + 3) ≡ k = omega arith in
         constant-3 s x _ _ _ _ _ _ (omega arith) (λ h. omega arith) (omega arith)
-        ∙ ap (el (s .d) (𝓣 .u₁)) rest
+        ∙ ap (el (s .shape .d) (𝓣 .u₁)) rest
         ∙ here (constraint-3 𝓢 𝓓 𝓣 ν μ x k e l);
     four = λ k e l.
         let rest : x - (s .kappa + 3 + s .kappa1) ≡ k = omega arith in
         constant-4 s x _ _ _ _ _ _ (omega arith) (λ h. omega arith) (omega arith)
-        ∙ ap (el (s .d) (𝓣 .u₂)) rest
+        ∙ ap (el (s .shape .d) (𝓣 .u₂)) rest
         ∙ here (constraint-4 𝓢 𝓓 𝓣 ν μ x k e l);
   })
     where
-      here : {u : Constraint (s .d)} → of ≡ u → u .constant ≡ of .constant
+      here : {u : Constraint (s .shape .d)} → of ≡ u → u .constant ≡ of .constant
       here e = ap (λ v. v .constant) (sym e)

@@ -52,13 +52,13 @@ part-room d r κ t p l some-κ some-t h fits =
 
 module _ (s : Sizes) (p : ℕ) {t g h : ℕ} (et : t ≡ tFrom s) (eg : g ≡ gFrom s) (eh : h ≡ hFrom s) where
   -- p within its block
-  pub in-t : t ≤ p → p < g → p - t < tSize (s .r) (s .kappa) (s .t1)
+  pub in-t : t ≤ p → p < g → p - t < tSize (s .shape .r) (s .kappa) (s .t1)
   in-t l b = omega (arith, starts s .g-after-t)
 
-  pub in-g : g ≤ p → p < h → p - g < garbageSize (s .r) (s .t2)
+  pub in-g : g ≤ p → p < h → p - g < garbageSize (s .shape .r) (s .t2)
   in-g l b = omega (arith, starts s .h-after-g)
 
-  pub in-h : h ≤ p → p < openingSize 2 (s .n) (s .r) (s .kappa) (s .t1) (s .t2) → p - h < garbageSize (s .r) (s .t1)
+  pub in-h : h ≤ p → p < openingSize 2 (s .shape .n) (s .shape .r) (s .kappa) (s .t1) (s .t2) → p - h < garbageSize (s .shape .r) (s .t1)
   in-h l b = omega (arith, starts s .all-after-h)
 
 module _ (s : Sizes) (fits : VerifySized s) where

@@ -21,83 +21,83 @@ module _ (d κ b₁ t₁ : ℕ) (c : List ℤ) (k p : ℕ) where
 
 module _ (s : Sizes) (p : ℕ) where
   module _ (A c : List ℤ) (k : ℕ) where
-    pub entry5-z : p < tFrom s → entry5 s A c k p ≡ zEntry (s .d) (s .n) (s .b) A (k * s .n) p
+    pub entry5-z : p < tFrom s → entry5 s A c k p ≡ zEntry (s .shape .d) (s .shape .n) (s .b) A (k * s .shape .n) p
     unfolding entry5
     entry5-z h = rw (lt-ltb p (tFrom s) h)
 
-    pub entry5-t : tFrom s ≤ p → p < gFrom s → entry5 s A c k p ≡ tEntry (s .d) (s .kappa) (s .b1) (s .t1) c k (p - tFrom s)
+    pub entry5-t : tFrom s ≤ p → p < gFrom s → entry5 s A c k p ≡ tEntry (s .shape .d) (s .kappa) (s .b1) (s .t1) c k (p - tFrom s)
     unfolding entry5
     entry5-t l h = rw (le-ltb p (tFrom s) l, lt-ltb p (gFrom s) h)
 
-    pub entry5-rest : tFrom s ≤ p → gFrom s ≤ p → entry5 s A c k p ≡ R (s .d) .zero
+    pub entry5-rest : tFrom s ≤ p → gFrom s ≤ p → entry5 s A c k p ≡ R (s .shape .d) .zero
     unfolding entry5
     entry5-rest l h = rw (le-ltb p (tFrom s) l, le-ltb p (gFrom s) h)
 
   module _ (products : List ℤ) where
-    pub entry6-before : p < gFrom s → entry6 s products p ≡ R (s .d) .zero
+    pub entry6-before : p < gFrom s → entry6 s products p ≡ R (s .shape .d) .zero
     unfolding entry6
     entry6-before h = rw (lt-ltb p (gFrom s) h)
 
-    pub entry6-g : gFrom s ≤ p → p < hFrom s → entry6 s products p ≡ garbageEntry (s .d) (s .b2) (s .t2) products (p - gFrom s)
+    pub entry6-g : gFrom s ≤ p → p < hFrom s → entry6 s products p ≡ garbageEntry (s .shape .d) (s .b2) (s .t2) products (p - gFrom s)
     unfolding entry6
     entry6-g l h = rw (le-ltb p (gFrom s) l, lt-ltb p (hFrom s) h)
 
-    pub entry6-rest : gFrom s ≤ p → hFrom s ≤ p → entry6 s products p ≡ R (s .d) .zero
+    pub entry6-rest : gFrom s ≤ p → hFrom s ≤ p → entry6 s products p ≡ R (s .shape .d) .zero
     unfolding entry6
     entry6-rest l h = rw (le-ltb p (gFrom s) l, le-ltb p (hFrom s) h)
 
   module _ (folded products : List ℤ) where
-    pub entry7-z : p < tFrom s → entry7 s folded products p ≡ zEntry (s .d) (s .n) (s .b) folded 0 p
+    pub entry7-z : p < tFrom s → entry7 s folded products p ≡ zEntry (s .shape .d) (s .shape .n) (s .b) folded 0 p
     unfolding entry7
     entry7-z h = rw (lt-ltb p (tFrom s) h)
 
-    pub entry7-between : tFrom s ≤ p → p < hFrom s → entry7 s folded products p ≡ R (s .d) .zero
+    pub entry7-between : tFrom s ≤ p → p < hFrom s → entry7 s folded products p ≡ R (s .shape .d) .zero
     unfolding entry7
     entry7-between l h = rw (le-ltb p (tFrom s) l, lt-ltb p (hFrom s) h)
 
-    pub entry7-h : tFrom s ≤ p → hFrom s ≤ p → entry7 s folded products p ≡ garbageEntry (s .d) (s .b1) (s .t1) products (p - hFrom s)
+    pub entry7-h : tFrom s ≤ p → hFrom s ≤ p → entry7 s folded products p ≡ garbageEntry (s .shape .d) (s .b1) (s .t1) products (p - hFrom s)
     unfolding entry7
     entry7-h l h = rw (le-ltb p (tFrom s) l, le-ltb p (hFrom s) h)
 
   module _ (aggregatedA diagonal : List ℤ) where
-    pub entry8-before : p < gFrom s → entry8 s aggregatedA diagonal p ≡ R (s .d) .zero
+    pub entry8-before : p < gFrom s → entry8 s aggregatedA diagonal p ≡ R (s .shape .d) .zero
     unfolding entry8
     entry8-before h = rw (lt-ltb p (gFrom s) h)
 
     pub entry8-g : gFrom s ≤ p → p < hFrom s
-        → entry8 s aggregatedA diagonal p ≡ garbageEntry (s .d) (s .b2) (s .t2) aggregatedA (p - gFrom s)
+        → entry8 s aggregatedA diagonal p ≡ garbageEntry (s .shape .d) (s .b2) (s .t2) aggregatedA (p - gFrom s)
     unfolding entry8
     entry8-g l h = rw (le-ltb p (gFrom s) l, lt-ltb p (hFrom s) h)
 
-    pub entry8-h : gFrom s ≤ p → hFrom s ≤ p → entry8 s aggregatedA diagonal p ≡ garbageEntry (s .d) (s .b1) (s .t1) diagonal (p - hFrom s)
+    pub entry8-h : gFrom s ≤ p → hFrom s ≤ p → entry8 s aggregatedA diagonal p ≡ garbageEntry (s .shape .d) (s .b1) (s .t1) diagonal (p - hFrom s)
     unfolding entry8
     entry8-h l h = rw (le-ltb p (gFrom s) l, le-ltb p (hFrom s) h)
 
   module _ (B C : List ℤ) (k : ℕ) where
-    pub entry3-z : p < tFrom s → entry3 s B C k p ≡ R (s .d) .zero
+    pub entry3-z : p < tFrom s → entry3 s B C k p ≡ R (s .shape .d) .zero
     unfolding entry3
     entry3-z h = rw (lt-ltb p (tFrom s) h)
 
     pub entry3-t : tFrom s ≤ p → p < gFrom s
-        → entry3 s B C k p ≡ el (s .d) B (k * tSize (s .r) (s .kappa) (s .t1) + (p - tFrom s))
+        → entry3 s B C k p ≡ el (s .shape .d) B (k * tSize (s .shape .r) (s .kappa) (s .t1) + (p - tFrom s))
     unfolding entry3
     entry3-t l h = rw (le-ltb p (tFrom s) l, lt-ltb p (gFrom s) h)
 
     pub entry3-g : tFrom s ≤ p → gFrom s ≤ p → p < hFrom s
-        → entry3 s B C k p ≡ el (s .d) C (k * garbageSize (s .r) (s .t2) + (p - gFrom s))
+        → entry3 s B C k p ≡ el (s .shape .d) C (k * garbageSize (s .shape .r) (s .t2) + (p - gFrom s))
     unfolding entry3
     entry3-g l h b = rw (le-ltb p (tFrom s) l, le-ltb p (gFrom s) h, lt-ltb p (hFrom s) b)
 
-    pub entry3-h : tFrom s ≤ p → gFrom s ≤ p → hFrom s ≤ p → entry3 s B C k p ≡ R (s .d) .zero
+    pub entry3-h : tFrom s ≤ p → gFrom s ≤ p → hFrom s ≤ p → entry3 s B C k p ≡ R (s .shape .d) .zero
     unfolding entry3
     entry3-h l h b = rw (le-ltb p (tFrom s) l, le-ltb p (gFrom s) h, le-ltb p (hFrom s) b)
 
   module _ (D : List ℤ) (k : ℕ) where
-    pub entry4-before : p < hFrom s → entry4 s D k p ≡ R (s .d) .zero
+    pub entry4-before : p < hFrom s → entry4 s D k p ≡ R (s .shape .d) .zero
     unfolding entry4
     entry4-before h = rw (lt-ltb p (hFrom s) h)
 
-    pub entry4-h : hFrom s ≤ p → entry4 s D k p ≡ el (s .d) D (k * garbageSize (s .r) (s .t1) + (p - hFrom s))
+    pub entry4-h : hFrom s ≤ p → entry4 s D k p ≡ el (s .shape .d) D (k * garbageSize (s .shape .r) (s .t1) + (p - hFrom s))
     unfolding entry4
     entry4-h h = rw (le-ltb p (hFrom s) h)
 

@@ -79,10 +79,10 @@ module _ (s : Sizes) where
 
   -- the starts in order, and the sizes of the blocks
   pub record Starts : Type 0 where
-    pub t-after-z : tFrom s ≡ 2 * s .n
-    pub g-after-t : gFrom s ≡ tFrom s + tSize (s .r) (s .kappa) (s .t1)
-    pub h-after-g : hFrom s ≡ gFrom s + garbageSize (s .r) (s .t2)
-    pub all-after-h : openingSize 2 (s .n) (s .r) (s .kappa) (s .t1) (s .t2) ≡ hFrom s + garbageSize (s .r) (s .t1)
+    pub t-after-z : tFrom s ≡ 2 * s .shape .n
+    pub g-after-t : gFrom s ≡ tFrom s + tSize (s .shape .r) (s .kappa) (s .t1)
+    pub h-after-g : hFrom s ≡ gFrom s + garbageSize (s .shape .r) (s .t2)
+    pub all-after-h : openingSize 2 (s .shape .n) (s .shape .r) (s .kappa) (s .t1) (s .t2) ≡ hFrom s + garbageSize (s .shape .r) (s .t1)
 
   pub starts : Starts
   unfolding tPlace gPlace hPlace openingSize restSize
@@ -98,16 +98,16 @@ module _ (s : Sizes) (fits : VerifySized s) (A B C D c whole constantTerms proje
   𝓓 = drawsOf projections ψ ω α δ c
 
   abbrev Rd : Type 0
-  Rd = R (s .d) .Carrier
+  Rd = R (s .shape .d) .Carrier
 
   abbrev 𝟘 : Rd
-  𝟘 = R (s .d) .zero
+  𝟘 = R (s .shape .d) .zero
 
   -- a table of four blocks of the right lengths
   record Blocks (zs ts gs hs : List Rd) : Type 0 where
-    z-long : length zs ≡ 2 * s .n
-    t-long : length ts ≡ tSize (s .r) (s .kappa) (s .t1)
-    g-long : length gs ≡ garbageSize (s .r) (s .t2)
+    z-long : length zs ≡ 2 * s .shape .n
+    t-long : length ts ≡ tSize (s .shape .r) (s .kappa) (s .t1)
+    g-long : length gs ≡ garbageSize (s .shape .r) (s .t2)
 
   module _ {zs ts gs hs : List Rd} (long : Blocks zs ts gs hs) (p : ℕ) where
     abbrev table : List Rd
@@ -129,39 +129,39 @@ module _ (s : Sizes) (fits : VerifySized s) (A B C D c whole constantTerms proje
     unfolding tPlace gPlace hPlace
     at-h l = h-part zs ts gs hs _ _ _ 𝟘 (long .z-long) (long .t-long) (long .g-long) p l
 
-  z-length : (f : ℕ → Rd) → length (zTable (s .d) (s .n) 2 (s .b) f) ≡ 2 * s .n
-  z-length f = zTable-sums (s .d) (s .n) 2 (s .b) f (λ _. 𝟘) .long
+  z-length : (f : ℕ → Rd) → length (zTable (s .shape .d) (s .shape .n) 2 (s .b) f) ≡ 2 * s .shape .n
+  z-length f = zTable-sums (s .shape .d) (s .shape .n) 2 (s .b) f (λ _. 𝟘) .long
 
-  g-length : (base t : ℕ) (f : ℕ → ℕ → Rd) → length (garbageTable (s .d) (s .r) base t f) ≡ garbageSize (s .r) t
-  g-length base t f = garbageTable-sums (s .d) (s .r) base t f (λ _. 𝟘) .long
+  g-length : (base t : ℕ) (f : ℕ → ℕ → Rd) → length (garbageTable (s .shape .d) (s .shape .r) base t f) ≡ garbageSize (s .shape .r) t
+  g-length base t f = garbageTable-sums (s .shape .d) (s .shape .r) base t f (λ _. 𝟘) .long
 
   abbrev tCount : ℕ
-  tCount = tSize (s .r) (s .kappa) (s .t1)
+  tCount = tSize (s .shape .r) (s .kappa) (s .t1)
 
   abbrev gCount : ℕ
-  gCount = garbageSize (s .r) (s .t2)
+  gCount = garbageSize (s .shape .r) (s .t2)
 
   abbrev hCount : ℕ
-  hCount = garbageSize (s .r) (s .t1)
+  hCount = garbageSize (s .shape .r) (s .t1)
 
   abbrev noZ : List Rd
-  noZ = zeros (s .d) (2 * s .n)
+  noZ = zeros (s .shape .d) (2 * s .shape .n)
 
   abbrev noT : List Rd
-  noT = zeros (s .d) tCount
+  noT = zeros (s .shape .d) tCount
 
   abbrev noG : List Rd
-  noG = zeros (s .d) gCount
+  noG = zeros (s .shape .d) gCount
 
   abbrev noH : List Rd
-  noH = zeros (s .d) hCount
+  noH = zeros (s .shape .d) hCount
 
-  zeros-length : (n : ℕ) → length (zeros (s .d) n) ≡ n
+  zeros-length : (n : ℕ) → length (zeros (s .shape .d) n) ≡ n
   zeros-length n = length-replicate n 𝟘
 
-  module _ (p : ℕ) (inside : p < openingSize 2 (s .n) (s .r) (s .kappa) (s .t1) (s .t2)) where
+  module _ (p : ℕ) (inside : p < openingSize 2 (s .shape .n) (s .shape .r) (s .kappa) (s .t1) (s .t2)) where
     -- p within its block
-    in-z : p < tFrom s → p < 2 * s .n
+    in-z : p < tFrom s → p < 2 * s .shape .n
     in-z h = omega (arith, starts s .t-after-z)
 
     in-t : tFrom s ≤ p → p < gFrom s → p - tFrom s < tCount
@@ -188,42 +188,42 @@ module _ (s : Sizes) (fits : VerifySized s) (A B C D c whole constantTerms proje
     pub is-5 : (k : ℕ) → entry5 s A c k p ≡ getD (constraint₅ 𝓢 𝓓 𝓣 ν μ k .table) p 𝟘
     is-5 k = by-place s _ p
         (λ h. step.entry5-z s p A c k h
-        ∙ z-entry (s .d) (s .n) (s .b) A (k * s .n) _ (λ y _. refl) p (fits .shaped .rank-positive) (in-z h)
+        ∙ z-entry (s .shape .d) (s .shape .n) (s .b) A (k * s .shape .n) _ (λ y _. refl) p (fits .shaped .rank-positive) (in-z h)
         ∙ sym (at-z long p h))
         (λ l h. step.entry5-t s p A c k l h
-        ∙ t-entry (s .d) (s .r) (s .kappa) (s .b1) (s .t1) c k (p - tFrom s) (fits .κ-positive) (omega (arith, fits .t₁-least)) (in-t l h)
+        ∙ t-entry (s .shape .d) (s .shape .r) (s .kappa) (s .b1) (s .t1) c k (p - tFrom s) (fits .κ-positive) (omega (arith, fits .t₁-least)) (in-t l h)
         ∙ sym (at-t long p l h))
-        (λ l h. step.entry5-rest s p A c k (t-first l) l ∙ sym (at-g long p l h ∙ zeros-at (s .d) gCount (p - gFrom s)))
-        (λ l. step.entry5-rest s p A c k (t-first (g-first l)) (g-first l) ∙ sym (at-h long p l ∙ zeros-at (s .d) hCount (p - hFrom s)))
+        (λ l h. step.entry5-rest s p A c k (t-first l) l ∙ sym (at-g long p l h ∙ zeros-at (s .shape .d) gCount (p - gFrom s)))
+        (λ l. step.entry5-rest s p A c k (t-first (g-first l)) (g-first l) ∙ sym (at-h long p l ∙ zeros-at (s .shape .d) hCount (p - hFrom s)))
       where
-        long : Blocks (zTable (s .d) (s .n) 2 (s .b) (λ y. el (s .d) A (k * s .n + y)))
-            (tTable (s .d) (s .r) (s .kappa) (s .t1)
-            (λ i e k′. cond (eqb k′ k) (R (s .d) .neg (R (s .d) .mul (el (s .d) c i) (power (s .d) (s .b1) e))) 𝟘))
+        long : Blocks (zTable (s .shape .d) (s .shape .n) 2 (s .b) (λ y. el (s .shape .d) A (k * s .shape .n + y)))
+            (tTable (s .shape .d) (s .shape .r) (s .kappa) (s .t1)
+            (λ i e k′. cond (eqb k′ k) (R (s .shape .d) .neg (R (s .shape .d) .mul (el (s .shape .d) c i) (power (s .shape .d) (s .b1) e))) 𝟘))
             noG noH
-        long = record { z-long = z-length _; t-long = length-t (s .d) _ _ _ _; g-long = zeros-length gCount }
+        long = record { z-long = z-length _; t-long = length-t (s .shape .d) _ _ _ _; g-long = zeros-length gCount }
 
     pub is-3 : (k : ℕ) → entry3 s B C k p ≡ getD (constraint₃ 𝓢 𝓓 𝓣 ν μ k .table) p 𝟘
     is-3 k = by-place s _ p
-        (λ h. step.entry3-z s p B C k h ∙ sym (at-z long p h ∙ zeros-at (s .d) (2 * s .n) p))
+        (λ h. step.entry3-z s p B C k h ∙ sym (at-z long p h ∙ zeros-at (s .shape .d) (2 * s .shape .n) p))
         (λ l h. step.entry3-t s p B C k l h ∙ sym (at-t long p l h ∙ getD-tab tCount _ (p - tFrom s) 𝟘 (in-t l h)))
         (λ l h. step.entry3-g s p B C k (t-first l) l h ∙ sym (at-g long p l h ∙ getD-tab gCount _ (p - gFrom s) 𝟘 (in-g l h)))
-        (λ l. step.entry3-h s p B C k (t-first (g-first l)) (g-first l) l ∙ sym (at-h long p l ∙ zeros-at (s .d) hCount (p - hFrom s)))
+        (λ l. step.entry3-h s p B C k (t-first (g-first l)) (g-first l) l ∙ sym (at-h long p l ∙ zeros-at (s .shape .d) hCount (p - hFrom s)))
       where
-        long : Blocks noZ (tab tCount (λ y. el (s .d) B (k * tCount + y))) (tab gCount (λ y. el (s .d) C (k * gCount + y))) noH
-        long = record { z-long = zeros-length (2 * s .n); t-long = length-tab tCount _; g-long = length-tab gCount _ }
+        long : Blocks noZ (tab tCount (λ y. el (s .shape .d) B (k * tCount + y))) (tab gCount (λ y. el (s .shape .d) C (k * gCount + y))) noH
+        long = record { z-long = zeros-length (2 * s .shape .n); t-long = length-tab tCount _; g-long = length-tab gCount _ }
 
     pub is-4 : (k : ℕ) → entry4 s D k p ≡ getD (constraint₄ 𝓢 𝓓 𝓣 ν μ k .table) p 𝟘
     is-4 k = by-place s _ p
-        (λ h. step.entry4-before s p D k (g-next (t-next h)) ∙ sym (at-z long p h ∙ zeros-at (s .d) (2 * s .n) p))
-        (λ l h. step.entry4-before s p D k (g-next h) ∙ sym (at-t long p l h ∙ zeros-at (s .d) tCount (p - tFrom s)))
-        (λ l h. step.entry4-before s p D k h ∙ sym (at-g long p l h ∙ zeros-at (s .d) gCount (p - gFrom s)))
+        (λ h. step.entry4-before s p D k (g-next (t-next h)) ∙ sym (at-z long p h ∙ zeros-at (s .shape .d) (2 * s .shape .n) p))
+        (λ l h. step.entry4-before s p D k (g-next h) ∙ sym (at-t long p l h ∙ zeros-at (s .shape .d) tCount (p - tFrom s)))
+        (λ l h. step.entry4-before s p D k h ∙ sym (at-g long p l h ∙ zeros-at (s .shape .d) gCount (p - gFrom s)))
         (λ l. step.entry4-h s p D k l ∙ sym (at-h long p l ∙ getD-tab hCount _ (p - hFrom s) 𝟘 (in-h l)))
       where
-        long : Blocks noZ noT noG (tab hCount (λ y. el (s .d) D (k * hCount + y)))
-        long = record { z-long = zeros-length (2 * s .n); t-long = zeros-length tCount; g-long = zeros-length gCount }
+        long : Blocks noZ noT noG (tab hCount (λ y. el (s .shape .d) D (k * hCount + y)))
+        long = record { z-long = zeros-length (2 * s .shape .n); t-long = zeros-length tCount; g-long = zeros-length gCount }
 
     module _ {folded products aggregatedA diagonal : List ℤ}
-        (tables : Tables (s .d) (s .n) (s .r) (s .k) (s .l) (s .w) whole constantTerms projections ψ ω α δ c folded products aggregatedA diagonal) where
+        (tables : Tables (s .shape .d) (s .shape .n) (s .shape .r) (s .k) (s .l) (s .w) whole constantTerms projections ψ ω α δ c folded products aggregatedA diagonal) where
       t₁-some : 0 < s .t1
       t₁-some = omega (arith, fits .t₁-least)
 
@@ -232,47 +232,47 @@ module _ (s : Sizes) (fits : VerifySized s) (A B C D c whole constantTerms proje
 
       pub is-6 : entry6 s products p ≡ getD (constraint₆ 𝓢 𝓓 𝓣 ν μ .table) p 𝟘
       is-6 = by-place s _ p
-          (λ h. step.entry6-before s p products (t-next h) ∙ sym (at-z long p h ∙ zeros-at (s .d) (2 * s .n) p))
-          (λ l h. step.entry6-before s p products h ∙ sym (at-t long p l h ∙ zeros-at (s .d) tCount (p - tFrom s)))
+          (λ h. step.entry6-before s p products (t-next h) ∙ sym (at-z long p h ∙ zeros-at (s .shape .d) (2 * s .shape .n) p))
+          (λ l h. step.entry6-before s p products h ∙ sym (at-t long p l h ∙ zeros-at (s .shape .d) tCount (p - tFrom s)))
           (λ l h. step.entry6-g s p products l h
-          ∙ garbage-entry (s .d) (s .r) (s .b2) (s .t2) products _ (tables .products-is) (p - gFrom s) t₂-some (in-g l h)
+          ∙ garbage-entry (s .shape .d) (s .shape .r) (s .b2) (s .t2) products _ (tables .products-is) (p - gFrom s) t₂-some (in-g l h)
           ∙ sym (at-g long p l h))
-          (λ l. step.entry6-rest s p products (g-first l) l ∙ sym (at-h long p l ∙ zeros-at (s .d) hCount (p - hFrom s)))
+          (λ l. step.entry6-rest s p products (g-first l) l ∙ sym (at-h long p l ∙ zeros-at (s .shape .d) hCount (p - hFrom s)))
         where
           long : Blocks noZ noT
-              (garbageTable (s .d) (s .r) (s .b2) (s .t2) (λ i j. R (s .d) .neg (product (s .d) (el (s .d) c) i j))) noH
-          long = record { z-long = zeros-length (2 * s .n); t-long = zeros-length tCount; g-long = g-length _ _ _ }
+              (garbageTable (s .shape .d) (s .shape .r) (s .b2) (s .t2) (λ i j. R (s .shape .d) .neg (product (s .shape .d) (el (s .shape .d) c) i j))) noH
+          long = record { z-long = zeros-length (2 * s .shape .n); t-long = zeros-length tCount; g-long = g-length _ _ _ }
 
       pub is-7 : entry7 s folded products p ≡ getD (constraint₇ 𝓢 𝓓 𝓣 ν μ .table) p 𝟘
       is-7 = by-place s _ p
           (λ h. step.entry7-z s p folded products h
-          ∙ z-entry (s .d) (s .n) (s .b) folded 0 _
-          (λ y l. ap (el (s .d) folded) (zero-add y) ∙ tables .folded-is y l) p (fits .shaped .rank-positive) (in-z h)
+          ∙ z-entry (s .shape .d) (s .shape .n) (s .b) folded 0 _
+          (λ y l. ap (el (s .shape .d) folded) (zero-add y) ∙ tables .folded-is y l) p (fits .shaped .rank-positive) (in-z h)
           ∙ sym (at-z long p h))
-          (λ l h. step.entry7-between s p folded products l (g-next h) ∙ sym (at-t long p l h ∙ zeros-at (s .d) tCount (p - tFrom s)))
-          (λ l h. step.entry7-between s p folded products (t-first l) h ∙ sym (at-g long p l h ∙ zeros-at (s .d) gCount (p - gFrom s)))
+          (λ l h. step.entry7-between s p folded products l (g-next h) ∙ sym (at-t long p l h ∙ zeros-at (s .shape .d) tCount (p - tFrom s)))
+          (λ l h. step.entry7-between s p folded products (t-first l) h ∙ sym (at-g long p l h ∙ zeros-at (s .shape .d) gCount (p - gFrom s)))
           (λ l. step.entry7-h s p folded products (t-first (g-first l)) l
-          ∙ garbage-entry (s .d) (s .r) (s .b1) (s .t1) products _ (tables .products-is) (p - hFrom s) t₁-some (in-h l)
+          ∙ garbage-entry (s .shape .d) (s .shape .r) (s .b1) (s .t1) products _ (tables .products-is) (p - hFrom s) t₁-some (in-h l)
           ∙ sym (at-h long p l))
         where
           long : Blocks
-              (zTable (s .d) (s .n) 2 (s .b)
-              (λ k. sum (R (s .d)) (s .r) (λ i. R (s .d) .mul (aggregated 𝓢 𝓓 .φ i k) (el (s .d) c i))))
+              (zTable (s .shape .d) (s .shape .n) 2 (s .b)
+              (λ k. sum (R (s .shape .d)) (s .shape .r) (λ i. R (s .shape .d) .mul (aggregated 𝓢 𝓓 .φ i k) (el (s .shape .d) c i))))
               noT noG
-              (garbageTable (s .d) (s .r) (s .b1) (s .t1) (λ i j. R (s .d) .neg (product (s .d) (el (s .d) c) i j)))
+              (garbageTable (s .shape .d) (s .shape .r) (s .b1) (s .t1) (λ i j. R (s .shape .d) .neg (product (s .shape .d) (el (s .shape .d) c) i j)))
           long = record { z-long = z-length _; t-long = zeros-length tCount; g-long = zeros-length gCount }
 
       pub is-8 : entry8 s aggregatedA diagonal p ≡ getD (constraint₈ 𝓢 𝓓 𝓣 ν μ .table) p 𝟘
       is-8 = by-place s _ p
-          (λ h. step.entry8-before s p aggregatedA diagonal (t-next h) ∙ sym (at-z long p h ∙ zeros-at (s .d) (2 * s .n) p))
-          (λ l h. step.entry8-before s p aggregatedA diagonal h ∙ sym (at-t long p l h ∙ zeros-at (s .d) tCount (p - tFrom s)))
+          (λ h. step.entry8-before s p aggregatedA diagonal (t-next h) ∙ sym (at-z long p h ∙ zeros-at (s .shape .d) (2 * s .shape .n) p))
+          (λ l h. step.entry8-before s p aggregatedA diagonal h ∙ sym (at-t long p l h ∙ zeros-at (s .shape .d) tCount (p - tFrom s)))
           (λ l h. step.entry8-g s p aggregatedA diagonal l h
-          ∙ garbage-entry (s .d) (s .r) (s .b2) (s .t2) aggregatedA _ (tables .aggregate-a-is) (p - gFrom s) t₂-some (in-g l h)
+          ∙ garbage-entry (s .shape .d) (s .shape .r) (s .b2) (s .t2) aggregatedA _ (tables .aggregate-a-is) (p - gFrom s) t₂-some (in-g l h)
           ∙ sym (at-g long p l h))
           (λ l. step.entry8-h s p aggregatedA diagonal (g-first l) l
-          ∙ garbage-entry (s .d) (s .r) (s .b1) (s .t1) diagonal _ (tables .diagonal-is) (p - hFrom s) t₁-some (in-h l)
+          ∙ garbage-entry (s .shape .d) (s .shape .r) (s .b1) (s .t1) diagonal _ (tables .diagonal-is) (p - hFrom s) t₁-some (in-h l)
           ∙ sym (at-h long p l))
         where
-          long : Blocks noZ noT (garbageTable (s .d) (s .r) (s .b2) (s .t2) (aggregated 𝓢 𝓓 .a))
-              (garbageTable (s .d) (s .r) (s .b1) (s .t1) (λ i j. cond (eqb i j) (R (s .d) .one) 𝟘))
-          long = record { z-long = zeros-length (2 * s .n); t-long = zeros-length tCount; g-long = g-length _ _ _ }
+          long : Blocks noZ noT (garbageTable (s .shape .d) (s .shape .r) (s .b2) (s .t2) (aggregated 𝓢 𝓓 .a))
+              (garbageTable (s .shape .d) (s .shape .r) (s .b1) (s .t1) (λ i j. cond (eqb i j) (R (s .shape .d) .one) 𝟘))
+          long = record { z-long = zeros-length (2 * s .shape .n); t-long = zeros-length tCount; g-long = g-length _ _ _ }

@@ -10,8 +10,8 @@ pub record CutFacts (s : Sizes) (cut : Cut) : Type 0 where
   pub ν-positive : 0 < cut .nu
   pub μ-positive : 0 < cut .mu
   pub parts-small : 2 * cut .nu + cut .mu ≤ 16
-  pub rest-is : cut .m ≡ restSize (s .r) (s .kappa) (s .t1) (s .t2)
-  pub rank-is : cut .rank ≡ nextRank (s .n) (cut .nu) (cut .m) (cut .mu)
+  pub rest-is : cut .m ≡ restSize (s .shape .r) (s .kappa) (s .t1) (s .t2)
+  pub rank-is : cut .rank ≡ nextRank (s .shape .n) (cut .nu) (cut .m) (cut .mu)
   pub rank-small : cut .rank ≤ 256
   pub parts-is : cut .parts ≡ nextParts 2 (cut .nu) (cut .mu)
   pub pairs-is : cut .pairs ≡ pairs (cut .parts)

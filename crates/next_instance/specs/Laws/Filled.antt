@@ -46,7 +46,7 @@ module _ {n w : ℕ} {old : List ℤ} where
 
 -- the length of all constraints, as the writer counts it
 pub all-fit : (s : Sizes) (cut : Cut) {len : ℕ} → CutFacts s cut
-    → len ≡ wholeLength (s .d) (cut .rank) (cut .parts) (nextCount (s .kappa) (s .kappa1) (s .kappa2))
-    → len ≡ (s .kappa + s .kappa1 + s .kappa2 + 3) * ((cut .size + 1) * s .d)
+    → len ≡ wholeLength (s .shape .d) (cut .rank) (cut .parts) (nextCount (s .kappa) (s .kappa1) (s .kappa2))
+    → len ≡ (s .kappa + s .kappa1 + s .kappa2 + 3) * ((cut .size + 1) * s .shape .d)
 unfolding wholeLength nextCount
 all-fit s cut facts room = rw (facts .size-is) room

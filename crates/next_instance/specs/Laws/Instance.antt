@@ -29,11 +29,11 @@ use Rattle.next_instance.specs.Written.{constraintOf}
 
 -- the room that the writer gives the four lists
 pub table-room : (s : Sizes) {folded products aggregatedA diagonal : List ℤ} → VerifySized s → 16384 ≤ length folded → 8704 ≤ length products
-    → 8704 ≤ length aggregatedA → 8704 ≤ length diagonal → TableRoom (s .d) (s .n) (s .r) folded products aggregatedA diagonal
+    → 8704 ≤ length aggregatedA → 8704 ≤ length diagonal → TableRoom (s .shape .d) (s .shape .n) (s .shape .r) folded products aggregatedA diagonal
 table-room s limits e₁ e₂ e₃ e₄ =
     let shaped = limits .shaped in
     let elements = mul-le-mul (shaped .rank-small) (shaped .degree .small) in
-    let pair-elements = mul-le-mul (pairs-bound (s .r) (shaped .parts-small)) (shaped .degree .small) in
+    let pair-elements = mul-le-mul (pairs-bound (s .shape .r) (shaped .parts-small)) (shaped .degree .small) in
     record {
       folded-length = omega (arith, elements, e₁);
       products-length = omega (arith, pair-elements, e₂);
@@ -65,16 +65,16 @@ module _ (s : Sizes) (A B C D whole constantTerms projections ψ ω α δ c u₁
           u₂-length = facts .lists .u₂-length;
         }
 
-    pub aggregate-facts : AggregateFacts (s .d) (s .n) (s .r) (s .k) (s .l) (s .w) whole constantTerms projections ψ ω α δ
+    pub aggregate-facts : AggregateFacts (s .shape .d) (s .shape .n) (s .shape .r) (s .k) (s .l) (s .w) whole constantTerms projections ψ ω α δ
     aggregate-facts = aggregate-known s A B C D whole constantTerms projections ψ ω α δ c u₁ p b″ u₂ (facts .lists) (facts .limits) (facts .projections-entries)
 
     pub out-room : (cut : Cut) → CutFacts s cut → cut .nu ≡ ν → cut .mu ≡ μ
-        → length out ≡ wholeLength (s .d) (cut .rank) (cut .parts) (nextCount (s .kappa) (s .kappa1) (s .kappa2))
+        → length out ≡ wholeLength (s .shape .d) (cut .rank) (cut .parts) (nextCount (s .kappa) (s .kappa1) (s .kappa2))
     out-room cut known eν eμ = rw (known .rank-is, known .parts-is, known .rest-is, eν, eμ) (facts .out-length)
 
   pub written : (cut : Cut) {new : List ℤ} → CutFacts s cut → cut .nu ≡ ν → cut .mu ≡ μ
-      → new ≡ flat (nextCount (s .kappa) (s .kappa1) (s .kappa2)) (λ x. laidOut (s .d) (cut .rank) (cut .parts)
-      (width 2 (s .n) (cut .nu) (cut .m) (cut .mu))
+      → new ≡ flat (nextCount (s .kappa) (s .kappa1) (s .kappa2)) (λ x. laidOut (s .shape .d) (cut .rank) (cut .parts)
+      (width 2 (s .shape .n) (cut .nu) (cut .m) (cut .mu))
       (constraintOf s A B C D c whole constantTerms projections ψ ω α δ (transcriptOf u₁ p b″ u₂) (cut .nu) (cut .mu) x))
       → new ≡ nextWhole (statementOf s A B C D whole constantTerms) (drawsOf projections ψ ω α δ c) (transcriptOf u₁ p b″ u₂) ν μ
   unfolding nextWhole

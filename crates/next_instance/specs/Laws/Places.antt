@@ -16,17 +16,17 @@ use Rattle.fold.specs.Known.CutSizes.{CutSizes}
 use Rattle.next_instance.specs.Known.Facts.{CutFacts}
 
 module _ (s : Sizes) (fits : VerifySized s) where
-  pub rest-small : restSize (s .r) (s .kappa) (s .t1) (s .t2) ≤ 3200
+  pub rest-small : restSize (s .shape .r) (s .kappa) (s .t1) (s .t2) ≤ 3200
   unfolding restSize
   rest-small = omega (arith, t-size-bound s fits, g-size-bound s fits, h-size-bound s fits)
 
-  pub opening-small : openingSize 2 (s .n) (s .r) (s .kappa) (s .t1) (s .t2) ≤ 3712
+  pub opening-small : openingSize 2 (s .shape .n) (s .shape .r) (s .kappa) (s .t1) (s .t2) ≤ 3712
   unfolding openingSize
   opening-small = omega (arith, rest-small, fits .shaped .rank-small)
 
 -- the parts of φ lie within the opening
 module _ (s : Sizes) (cut : Cut) (facts : CutFacts s cut) where
-  pub cut-sizes : VerifySized s → CutSizes (s .n) (cut .nu) (cut .m) (cut .mu)
+  pub cut-sizes : VerifySized s → CutSizes (s .shape .n) (cut .nu) (cut .m) (cut .mu)
   cut-sizes fits =
       record {
         n-small = fits .shaped .rank-small;
@@ -40,19 +40,19 @@ module _ (s : Sizes) (cut : Cut) (facts : CutFacts s cut) where
   unfolding nextParts
   part-below h = omega (arith, facts .parts-is)
 
-  pub part-short : (i : ℕ) → width 2 (s .n) (cut .nu) (cut .m) (cut .mu) i ≤ cut .rank
-  part-short i = rw (facts .rank-is) (width-bound 2 (s .n) (cut .nu) (cut .m) (cut .mu) i)
+  pub part-short : (i : ℕ) → width 2 (s .shape .n) (cut .nu) (cut .m) (cut .mu) i ≤ cut .rank
+  part-short i = rw (facts .rank-is) (width-bound 2 (s .shape .n) (cut .nu) (cut .m) (cut .mu) i)
 
   pub part-within : (i : ℕ) → i < cut .parts
-      → start (width 2 (s .n) (cut .nu) (cut .m) (cut .mu)) i + width 2 (s .n) (cut .nu) (cut .m) (cut .mu) i
-      ≤ openingSize 2 (s .n) (s .r) (s .kappa) (s .t1) (s .t2)
+      → start (width 2 (s .shape .n) (cut .nu) (cut .m) (cut .mu)) i + width 2 (s .shape .n) (cut .nu) (cut .m) (cut .mu) i
+      ≤ openingSize 2 (s .shape .n) (s .shape .r) (s .kappa) (s .t1) (s .t2)
   unfolding openingSize
   part-within i h =
       let last : i < nextParts 2 (cut .nu) (cut .mu) = omega (arith, facts .parts-is) in
       omega (
         arith,
-        start-mono (width 2 (s .n) (cut .nu) (cut .m) (cut .mu)) i (nextParts 2 (cut .nu) (cut .mu)) last,
-        widths-cover 2 (s .n) (cut .nu) (cut .m) (cut .mu) (facts .ν-positive) (facts .μ-positive),
+        start-mono (width 2 (s .shape .n) (cut .nu) (cut .m) (cut .mu)) i (nextParts 2 (cut .nu) (cut .mu)) last,
+        widths-cover 2 (s .shape .n) (cut .nu) (cut .m) (cut .mu) (facts .ν-positive) (facts .μ-positive),
         facts .rest-is,
       )
 

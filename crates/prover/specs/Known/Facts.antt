@@ -21,7 +21,7 @@ use Rattle.fold.specs.Sizes.{tSize, garbageSize}
 use Rattle.fold.specs.Refusals.{projectionLength}
 
 pub record CommitFacts (sizes : CommitSizes) : Type 0 where
-  pub shape : Shaped (sizes .d) (sizes .n) (sizes .r)
+  pub shape : Shaped (sizes .shape .d) (sizes .shape .n) (sizes .shape .r)
   pub rank-small : sizes .kappa ≤ 8
   pub t-base : Base (sizes .b1)
   pub g-base : Base (sizes .b2)
@@ -37,22 +37,22 @@ pub record PartFacts (d n κ i : ℕ) (A s : List ℤ) : Type 0 where
 
 pub record TFacts (sizes : CommitSizes) (A s out : List ℤ) : Type 0 where
   pub sized : CommitFacts sizes
-  pub matrix : length A ≡ sizes .kappa * sizes .n * sizes .d
-  pub witness : length s ≡ sizes .r * sizes .n * sizes .d
-  pub output : length out ≡ tSize (sizes .r) (sizes .kappa) (sizes .t1) * sizes .d
+  pub matrix : length A ≡ sizes .kappa * sizes .shape .n * sizes .shape .d
+  pub witness : length s ≡ sizes .shape .r * sizes .shape .n * sizes .shape .d
+  pub output : length out ≡ tSize (sizes .shape .r) (sizes .kappa) (sizes .t1) * sizes .shape .d
 
 pub record GFacts (sizes : CommitSizes) (s out : List ℤ) : Type 0 where
   pub sized : CommitFacts sizes
-  pub witness : length s ≡ sizes .r * sizes .n * sizes .d
-  pub output : length out ≡ garbageSize (sizes .r) (sizes .t2) * sizes .d
+  pub witness : length s ≡ sizes .shape .r * sizes .shape .n * sizes .shape .d
+  pub output : length out ≡ garbageSize (sizes .shape .r) (sizes .t2) * sizes .shape .d
 
 pub record OuterFacts (sizes : CommitSizes) (B C ts gs out : List ℤ) : Type 0 where
   pub sized : CommitFacts sizes
-  pub t-matrix : length B ≡ sizes .kappa1 * tSize (sizes .r) (sizes .kappa) (sizes .t1) * sizes .d
-  pub g-matrix : length C ≡ sizes .kappa1 * garbageSize (sizes .r) (sizes .t2) * sizes .d
-  pub t-digits : length ts ≡ tSize (sizes .r) (sizes .kappa) (sizes .t1) * sizes .d
-  pub g-digits : length gs ≡ garbageSize (sizes .r) (sizes .t2) * sizes .d
-  pub output : length out ≡ sizes .kappa1 * sizes .d
+  pub t-matrix : length B ≡ sizes .kappa1 * tSize (sizes .shape .r) (sizes .kappa) (sizes .t1) * sizes .shape .d
+  pub g-matrix : length C ≡ sizes .kappa1 * garbageSize (sizes .shape .r) (sizes .t2) * sizes .shape .d
+  pub t-digits : length ts ≡ tSize (sizes .shape .r) (sizes .kappa) (sizes .t1) * sizes .shape .d
+  pub g-digits : length gs ≡ garbageSize (sizes .shape .r) (sizes .t2) * sizes .shape .d
+  pub output : length out ≡ sizes .kappa1 * sizes .shape .d
 
 pub record ProjectFacts (shape : Shape) (w : ℕ) (projections s out : List ℤ) : Type 0 where
   pub shaped : Shaped (shape .d) (shape .n) (shape .r)
@@ -71,7 +71,7 @@ pub record AmortizeFacts (shape : Shape) (b : ℕ) (c s out : List ℤ) : Type 0
 -- ---- what follows of the lengths
 
 pub t-length : {sizes : CommitSizes} {A s out : List ℤ} → TFacts sizes A s out
-    → length out ≡ sizes .r * (sizes .t1 * (sizes .kappa * sizes .d))
+    → length out ≡ sizes .shape .r * (sizes .t1 * (sizes .kappa * sizes .shape .d))
 unfolding tSize
 t-length facts = omega (arith, facts .output)
 

@@ -20,26 +20,26 @@ pub record Holds (d m : ℕ) (xs : List ℤ) : Type 0 where
 
 -- the verifier's opening
 abbrev pub Opening : Sizes → List ℤ → Type 0
-Opening s o = Holds (s .d) (openingSize 2 (s .n) (s .r) (s .kappa) (s .t1) (s .t2)) o
+Opening s o = Holds (s .shape .d) (openingSize 2 (s .shape .n) (s .shape .r) (s .kappa) (s .t1) (s .t2)) o
 
 module _ (s : Sizes) (o : List ℤ) where
-  abbrev pub tBlockOf : ℕ → R (s .d) .Carrier
-  tBlockOf = block (s .d) o (tPlace 2 (s .n))
+  abbrev pub tBlockOf : ℕ → R (s .shape .d) .Carrier
+  tBlockOf = block (s .shape .d) o (tPlace 2 (s .shape .n))
 
-  abbrev pub gBlockOf : ℕ → R (s .d) .Carrier
-  gBlockOf = block (s .d) o (gPlace 2 (s .n) (s .r) (s .kappa) (s .t1))
+  abbrev pub gBlockOf : ℕ → R (s .shape .d) .Carrier
+  gBlockOf = block (s .shape .d) o (gPlace 2 (s .shape .n) (s .shape .r) (s .kappa) (s .t1))
 
-  abbrev pub hBlockOf : ℕ → R (s .d) .Carrier
-  hBlockOf = block (s .d) o (hPlace 2 (s .n) (s .r) (s .kappa) (s .t1) (s .t2))
+  abbrev pub hBlockOf : ℕ → R (s .shape .d) .Carrier
+  hBlockOf = block (s .shape .d) o (hPlace 2 (s .shape .n) (s .shape .r) (s .kappa) (s .t1) (s .t2))
 
-  abbrev pub zValue : ℕ → R (s .d) .Carrier
-  zValue = zOf (s .d) (s .n) 2 (s .b) (el (s .d) o)
+  abbrev pub zValue : ℕ → R (s .shape .d) .Carrier
+  zValue = zOf (s .shape .d) (s .shape .n) 2 (s .b) (el (s .shape .d) o)
 
-  abbrev pub tValue : ℕ → ℕ → R (s .d) .Carrier
-  tValue = tOf (s .d) (s .kappa) (s .b1) (s .t1) tBlockOf
+  abbrev pub tValue : ℕ → ℕ → R (s .shape .d) .Carrier
+  tValue = tOf (s .shape .d) (s .kappa) (s .b1) (s .t1) tBlockOf
 
-  abbrev pub gValue : ℕ → ℕ → R (s .d) .Carrier
-  gValue = garbageOf (s .d) (s .r) (s .b2) (s .t2) gBlockOf
+  abbrev pub gValue : ℕ → ℕ → R (s .shape .d) .Carrier
+  gValue = garbageOf (s .shape .d) (s .shape .r) (s .b2) (s .t2) gBlockOf
 
-  abbrev pub hValue : ℕ → ℕ → R (s .d) .Carrier
-  hValue = garbageOf (s .d) (s .r) (s .b1) (s .t1) hBlockOf
+  abbrev pub hValue : ℕ → ℕ → R (s .shape .d) .Carrier
+  hValue = garbageOf (s .shape .d) (s .shape .r) (s .b1) (s .t1) hBlockOf

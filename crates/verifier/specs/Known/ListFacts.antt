@@ -23,7 +23,7 @@ module _ (s : Sizes) (A B C D whole constantTerms projections ψ ω α δ c u₁
   }
 
   module _ (fits : Fits s) where
-    pub wholes-known : WholeFacts (s .d) (s .n) (s .r) (s .k) whole α
+    pub wholes-known : WholeFacts (s .shape .d) (s .shape .n) (s .shape .r) (s .k) whole α
     wholes-known = record {
       shaped = fits .shaped;
       whole-count = fits .K-small;
@@ -31,7 +31,7 @@ module _ (s : Sizes) (A B C D whole constantTerms projections ψ ω α δ c u₁
       α-length = lists .α-length;
     }
 
-    pub aggregate-known : projectionEntries projections ≡ true → AggregateFacts (s .d) (s .n) (s .r) (s .k) (s .l) (s .w) whole constantTerms projections ψ ω α δ
+    pub aggregate-known : projectionEntries projections ≡ true → AggregateFacts (s .shape .d) (s .shape .n) (s .shape .r) (s .k) (s .l) (s .w) whole constantTerms projections ψ ω α δ
     aggregate-known entries = record {
       wholes = wholes-known;
       seconds = record {

@@ -22,11 +22,11 @@ use Rattle.verifier.specs.Known.ListFacts.{terms-known, aggregate-known}
 use Rattle.fold.specs.Laws.WriterLaws.{el-written}
 use Rattle.verifier.specs.Judgement.{Recomposed, messageChecksOf, outerChecksOf, openingChecksOf, OuterFacts, OpeningFacts}
 
-pub recomposed : (s : Sizes) → Fits s → (o old z : List ℤ) → length z ≡ 16384 → z ≡ over old 0 (elements (s .d) (s .n)
+pub recomposed : (s : Sizes) → Fits s → (o old z : List ℤ) → length z ≡ 16384 → z ≡ over old 0 (elements (s .shape .d) (s .shape .n)
     (zValue s o)) → Recomposed s o z
 recomposed s fits o old z room e = record {
   room = omega (arith, mul-le-mul (fits .shaped .rank-small) (fits .shaped .degree .small));
-  agree = λ i h. el-written (s .d) (s .n) (zValue s o) old e i h;
+  agree = λ i h. el-written (s .shape .d) (s .shape .n) (zValue s o) old e i h;
 }
 
 module _ (s : Sizes) (A B C D whole constantTerms projections ψ ω α δ c u₁ p b″ u₂ o : List ℤ) where

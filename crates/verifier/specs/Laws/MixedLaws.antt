@@ -115,7 +115,7 @@ pair-small r i q small h e = omega (arith, e, pair-bound r i i (omega arith) h, 
 
 -- g and h of an opening
 module _ (s : Sizes) (fits : Fits s) (o : List ℤ) (whole : Opening s o) where
-  pub g-garbage : (place : ℕ) → place ≡ gPlace 2 (s .n) (s .r) (s .kappa) (s .t1) → Garbage (s .d) (s .r) (s .b2) (s .t2) place o
+  pub g-garbage : (place : ℕ) → place ≡ gPlace 2 (s .shape .n) (s .shape .r) (s .kappa) (s .t1) → Garbage (s .shape .d) (s .shape .r) (s .b2) (s .t2) place o
   unfolding garbageSize
   g-garbage place e = record {
     degree = fits .shaped .degree;
@@ -125,7 +125,7 @@ module _ (s : Sizes) (fits : Fits s) (o : List ℤ) (whole : Opening s o) where
     inside = rw e (g-within s o whole);
   }
 
-  pub h-garbage : (place : ℕ) → place ≡ hPlace 2 (s .n) (s .r) (s .kappa) (s .t1) (s .t2) → Garbage (s .d) (s .r) (s .b1) (s .t1) place o
+  pub h-garbage : (place : ℕ) → place ≡ hPlace 2 (s .shape .n) (s .shape .r) (s .kappa) (s .t1) (s .t2) → Garbage (s .shape .d) (s .shape .r) (s .b1) (s .t1) place o
   unfolding garbageSize
   h-garbage place e = record {
     degree = fits .shaped .degree;

@@ -18,29 +18,29 @@ use Rattle.fold.specs.Verdict.{check₅, check₆, check₇}
 use Rattle.ring.specs.Laws.Loops.{held}
 use Rattle.verifier.specs.Known.Facts.{tBlockOf, gBlockOf, hBlockOf}
 
-module _ (s : Sizes) (small : s .d ≤ 64) (o U : List ℤ) (k : ℕ) where
+module _ (s : Sizes) (small : s .shape .d ≤ 64) (o U : List ℤ) (k : ℕ) where
   -- t digits and g digits, of the given numbers of elements, from the given places on
   pub first-row : (B C : List ℤ) (tcount tstart gcount gstart : ℕ) (tpart gpart row u : List ℤ) (r : Bool)
-      → tcount ≡ tSize (s .r) (s .kappa) (s .t1) → tstart ≡ tPlace 2 (s .n)
-      → tpart ≡ array (s .d) (times (s .d) tcount B k (block (s .d) o tstart))
-      → gcount ≡ garbageSize (s .r) (s .t2) → gstart ≡ gPlace 2 (s .n) (s .r) (s .kappa) (s .t1)
-      → gpart ≡ array (s .d) (times (s .d) gcount C k (block (s .d) o gstart))
-      → row ≡ array (s .d) (R (s .d) .add (lift (s .d) tpart) (lift (s .d) gpart))
-      → u ≡ array (s .d) (el (s .d) U k) → r ≡ same (s .d) (lift (s .d) u) (lift (s .d) row)
-      → r ≡ same (s .d) (el (s .d) U k) (outer₁ (s .d) (s .r) (s .kappa) (s .t1) (s .t2) B C k (tBlockOf s o) (gBlockOf s o))
+      → tcount ≡ tSize (s .shape .r) (s .kappa) (s .t1) → tstart ≡ tPlace 2 (s .shape .n)
+      → tpart ≡ array (s .shape .d) (times (s .shape .d) tcount B k (block (s .shape .d) o tstart))
+      → gcount ≡ garbageSize (s .shape .r) (s .t2) → gstart ≡ gPlace 2 (s .shape .n) (s .shape .r) (s .kappa) (s .t1)
+      → gpart ≡ array (s .shape .d) (times (s .shape .d) gcount C k (block (s .shape .d) o gstart))
+      → row ≡ array (s .shape .d) (R (s .shape .d) .add (lift (s .shape .d) tpart) (lift (s .shape .d) gpart))
+      → u ≡ array (s .shape .d) (el (s .shape .d) U k) → r ≡ same (s .shape .d) (lift (s .shape .d) u) (lift (s .shape .d) row)
+      → r ≡ same (s .shape .d) (el (s .shape .d) U k) (outer₁ (s .shape .d) (s .shape .r) (s .kappa) (s .t1) (s .t2) B C k (tBlockOf s o) (gBlockOf s o))
   unfolding outer₁
   first-row B C tcount tstart gcount gstart tpart gpart row u r tc tp tx gc gp gx sums ux result =
-      result ∙ ap₂ (same (s .d)) (held small ux) (held small sums
-      ∙ ap₂ (R (s .d) .add) (held small tx ∙ rw (tc, tp) refl) (held small gx ∙ rw (gc, gp) refl))
+      result ∙ ap₂ (same (s .shape .d)) (held small ux) (held small sums
+      ∙ ap₂ (R (s .shape .d) .add) (held small tx ∙ rw (tc, tp) refl) (held small gx ∙ rw (gc, gp) refl))
 
-  pub second-row : (D : List ℤ) (count start : ℕ) (row u : List ℤ) (r : Bool) → count ≡ garbageSize (s .r) (s .t1)
-      → start ≡ hPlace 2 (s .n) (s .r) (s .kappa) (s .t1) (s .t2)
-      → row ≡ array (s .d) (times (s .d) count D k (block (s .d) o start))
-      → u ≡ array (s .d) (el (s .d) U k) → r ≡ same (s .d) (lift (s .d) u) (lift (s .d) row)
-      → r ≡ same (s .d) (el (s .d) U k) (outer₂ (s .d) (s .r) (s .t1) D k (hBlockOf s o))
+  pub second-row : (D : List ℤ) (count start : ℕ) (row u : List ℤ) (r : Bool) → count ≡ garbageSize (s .shape .r) (s .t1)
+      → start ≡ hPlace 2 (s .shape .n) (s .shape .r) (s .kappa) (s .t1) (s .t2)
+      → row ≡ array (s .shape .d) (times (s .shape .d) count D k (block (s .shape .d) o start))
+      → u ≡ array (s .shape .d) (el (s .shape .d) U k) → r ≡ same (s .shape .d) (lift (s .shape .d) u) (lift (s .shape .d) row)
+      → r ≡ same (s .shape .d) (el (s .shape .d) U k) (outer₂ (s .shape .d) (s .shape .r) (s .t1) D k (hBlockOf s o))
   unfolding outer₂
   second-row D count start row u r hc hp hx ux result =
-      result ∙ ap₂ (same (s .d)) (held small ux) (held small hx ∙ rw (hc, hp) refl)
+      result ∙ ap₂ (same (s .shape .d)) (held small ux) (held small hx ∙ rw (hc, hp) refl)
 
 -- a matrix times vectors that agree
 pub times-cong : (d m : ℕ) (M : List ℤ) (k : ℕ) (x y : ℕ → R d .Carrier) → ((i : ℕ) → i < m → x i ≡ y i) → times d m M k x ≡ times d m M k y

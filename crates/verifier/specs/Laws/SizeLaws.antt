@@ -14,34 +14,34 @@ use Rattle.verifier.specs.Known.Facts.{Fits, Opening}
 
 -- the blocks lie within the opening
 module _ (s : Sizes) (o : List ℤ) (whole : Opening s o) where
-  pub z-within : 2 * s .n * s .d ≤ length o
+  pub z-within : 2 * s .shape .n * s .shape .d ≤ length o
   unfolding openingSize
   z-within = omega (arith, whole .sized)
 
-  pub t-within : (tPlace 2 (s .n) + tSize (s .r) (s .kappa) (s .t1)) * s .d ≤ length o
+  pub t-within : (tPlace 2 (s .shape .n) + tSize (s .shape .r) (s .kappa) (s .t1)) * s .shape .d ≤ length o
   unfolding openingSize restSize tPlace
   t-within = omega (arith, whole .sized)
 
-  pub g-within : (gPlace 2 (s .n) (s .r) (s .kappa) (s .t1) + garbageSize (s .r) (s .t2)) * s .d ≤ length o
+  pub g-within : (gPlace 2 (s .shape .n) (s .shape .r) (s .kappa) (s .t1) + garbageSize (s .shape .r) (s .t2)) * s .shape .d ≤ length o
   unfolding openingSize restSize gPlace tPlace
   g-within = omega (arith, whole .sized)
 
-  pub h-within : (hPlace 2 (s .n) (s .r) (s .kappa) (s .t1) (s .t2) + garbageSize (s .r) (s .t1)) * s .d ≤ length o
+  pub h-within : (hPlace 2 (s .shape .n) (s .shape .r) (s .kappa) (s .t1) (s .t2) + garbageSize (s .shape .r) (s .t1)) * s .shape .d ≤ length o
   unfolding openingSize restSize hPlace gPlace tPlace
   h-within = omega (arith, whole .sized)
 
-pub t-before-h : (s : Sizes) → tPlace 2 (s .n) ≤ hPlace 2 (s .n) (s .r) (s .kappa) (s .t1) (s .t2)
+pub t-before-h : (s : Sizes) → tPlace 2 (s .shape .n) ≤ hPlace 2 (s .shape .n) (s .shape .r) (s .kappa) (s .t1) (s .t2)
 unfolding hPlace gPlace
 t-before-h s = omega arith
 
 -- the digits of t_i lie within the t block
-pub t-part-within : (s : Sizes) (o : List ℤ) → Opening s o → (i place : ℕ) → i < s .r → place ≡ tPlace 2 (s .n)
-    → (place + (i * s .t1 + s .t1) * s .kappa) * s .d ≤ length o
+pub t-part-within : (s : Sizes) (o : List ℤ) → Opening s o → (i place : ℕ) → i < s .shape .r → place ≡ tPlace 2 (s .shape .n)
+    → (place + (i * s .t1 + s .t1) * s .kappa) * s .shape .d ≤ length o
 unfolding tSize
 t-part-within s o whole i place h e =
-    let below : place + (i * s .t1 + s .t1) * s .kappa ≤ tPlace 2 (s .n) + tSize (s .r) (s .kappa) (s .t1)
+    let below : place + (i * s .t1 + s .t1) * s .kappa ≤ tPlace 2 (s .shape .n) + tSize (s .shape .r) (s .kappa) (s .t1)
     = omega (arith, mul-le-mul-right (s .t1 * s .kappa) h) in
-    omega (arith, t-within s o whole, mul-le-mul-right (s .d) below)
+    omega (arith, t-within s o whole, mul-le-mul-right (s .shape .d) below)
 
-pub function-size-bound : (s : Sizes) → Fits s → functionSize (s .n) (s .r) ≤ 4232
+pub function-size-bound : (s : Sizes) → Fits s → functionSize (s .shape .n) (s .shape .r) ≤ 4232
 function-size-bound s fits = functionSize-bound _ _ (fits .shaped .rank-small) (fits .shaped .parts-small)

@@ -27,7 +27,7 @@ write-digits-requires c κs =
           s .pre .t₁-positive,
           s .pre .t₁-small,
           rw count (omega (arith, pairs-room shaped, kept)),
-          digits-length (z .d) (z .r) (z .t1) count (s .pre .hs-length),
+          digits-length (z .shape .d) (z .shape .r) (z .t1) count (s .pre .hs-length),
         ),
       ),
     )
@@ -36,7 +36,7 @@ returns : tie.Need-returns
 returns c =
     let s = c .before .before .before .before .before .before .before .before .before .before .before .before in
     let z = s .args .sizes in
-    h-written (z .d) (z .n) (z .r) (z .k) (z .l) (z .w) (z .b1) (z .t1) _ _ _ _ _ _ _ _ _ _
+    h-written (z .shape .d) (z .shape .n) (z .shape .r) (z .k) (z .l) (z .w) (z .b1) (z .t1) _ _ _ _ _ _ _ _ _ _
     (c .before .before .before .before .before .before .before .before .before .before .write-products .ensures) (pairs-room (s .pre .aggregated .wholes .shaped))
     (c .before .before .before .before .before .before .write-half-sums .ensures) (c .before .before .before .before .pair-count .ensures) (c .before .write-digits .ensures)
 

@@ -16,7 +16,7 @@ write-rows-requires c κs =
     let size = c .before .garbage-size .ensures in (
       s .pre .degree,
       (
-        rw size (omega (arith, garbageSize-bound (z .r) (z .t1) (s .pre .parts-small) (s .pre .t₁-small))),
+        rw size (omega (arith, garbageSize-bound (z .shape .r) (z .t1) (s .pre .parts-small) (s .pre .t₁-small))),
         rw size (omega (arith, s .pre .D-length)),
         rw size (omega (arith, s .pre .hs-length)),
         s .pre .u₂-length,
@@ -30,7 +30,7 @@ returns : tie.Need-returns
 returns c =
     let s = c .before .before .before .before in
     let z = s .args .sizes in
-    outer-end (z .d) (z .r) (z .kappa2) (z .t1) _ (s .args .d-matrix .now) (s .args .digits .now) (c .before .before .before .garbage-size .ensures)
+    outer-end (z .shape .d) (z .shape .r) (z .kappa2) (z .t1) _ (s .args .d-matrix .now) (s .args .digits .now) (c .before .before .before .garbage-size .ensures)
     (c .before .write-rows .ensures)
 
 pub write-u2-spec : {M : Type 1} → statement M

@@ -12,7 +12,6 @@ returns c =
     let list1 = list2 .before in
     let list0 = list1 .before in
     rw (
-      ← list0 .before .shape .ensures,
       ← list0 .nth-list .ensures,
       ← list1 .nth-list2 .ensures,
       ← list2 .nth-list3 .ensures,
@@ -25,7 +24,6 @@ pub aggregate-spec : {M : Type 1} → statement M
 aggregate-spec =
     tie.close
     (tie.spec
-    (λ c κs. tt)
     (λ c κs. tt)
     (λ c κs. tt)
     (λ c κs. tt)

@@ -8,13 +8,12 @@ returns c =
     let call = c .before .before .before .before in
     let second = call .before .before in
     let first = second .before in
-    rw (← first .before .shape .ensures, ← first .nth-list .ensures, ← second .nth-list2 .ensures) (call .lizkarg-project .ensures)
+    rw (← first .nth-list .ensures, ← second .nth-list2 .ensures) (call .lizkarg-project .ensures)
 
 pub project-spec : {M : Type 1} → statement M
 project-spec =
     tie.close
     (tie.spec
-    (λ c κs. tt)
     (λ c κs. tt)
     (λ c κs. tt)
     (λ c κs. tt)

@@ -10,7 +10,7 @@ returns : tie.Need-returns
 returns c =
     let a = c .before .before .before .args in
     let to = rw (c .before .before .t-place .ensures) at (c .before .if1 .taken) in
-    holds-as _ (entry3-z (a .sizes) (a .p) _ _ (a .k) to) (c .additive-identity .ensures (a .sizes .d))
+    holds-as _ (entry3-z (a .sizes) (a .p) _ _ (a .k) to) (c .additive-identity .ensures (a .sizes .shape .d))
 
 row-entry-requires : tie.Need-row-entry-requires
 row-entry-requires c κs =
@@ -19,7 +19,7 @@ row-entry-requires c κs =
     let s = t .before in
     let z = s .args .sizes in
     let inside = in-t z (s .args .p) (t .t-place .ensures) (g .g-place .ensures) refl (g .before .if1 .left) (c .before .if2 .taken) in
-    (s .pre .0 .shaped .degree, row-place (z .d) (z .kappa1) (s .args .k) (c .t-size .ensures) (s .pre .1 .1 .1) inside (s .pre .1 .0))
+    (s .pre .0 .shaped .degree, row-place (z .shape .d) (z .kappa1) (s .args .k) (c .t-size .ensures) (s .pre .1 .1 .1) inside (s .pre .1 .0))
 
 returns-2 : tie.Need-returns-2
 returns-2 c =
@@ -38,7 +38,7 @@ row-entry-requires-2 c κs =
     let s = g .before .before .before in
     let z = s .args .sizes in
     let inside = in-g z (s .args .p) refl (g .g-place .ensures) (h .h-place .ensures) (h .before .if2 .left) (c .before .if3 .taken) in
-    (s .pre .0 .shaped .degree, row-place (z .d) (z .kappa1) (s .args .k) (c .garbage-size .ensures) (s .pre .1 .1 .1) inside (s .pre .1 .1 .0))
+    (s .pre .0 .shaped .degree, row-place (z .shape .d) (z .kappa1) (s .args .k) (c .garbage-size .ensures) (s .pre .1 .1 .1) inside (s .pre .1 .1 .0))
 
 returns-3 : tie.Need-returns-3
 returns-3 c =
@@ -61,7 +61,7 @@ returns-4 c =
     let first = rw (t .t-place .ensures) at (g .before .if1 .left) in
     let from = rw (g .g-place .ensures) at (h .before .if2 .left) in
     let to = rw (h .h-place .ensures) at (c .before .if3 .left) in
-    holds-as _ (entry3-h (a .sizes) (a .p) _ _ (a .k) first from to) (c .additive-identity2 .ensures (a .sizes .d))
+    holds-as _ (entry3-h (a .sizes) (a .p) _ _ (a .k) first from to) (c .additive-identity2 .ensures (a .sizes .shape .d))
 
 pub check3-entry-spec : {M : Type 1} → statement M
 check3-entry-spec =

@@ -10,7 +10,7 @@ returns : tie.Need-returns
 returns c =
     let a = c .before .before .before .args in
     let to = rw (c .before .before .h-place .ensures) at (c .before .if1 .taken) in
-    holds-as _ (entry4-before (a .sizes) (a .p) _ (a .k) to) (c .additive-identity .ensures (a .sizes .d))
+    holds-as _ (entry4-before (a .sizes) (a .p) _ (a .k) to) (c .additive-identity .ensures (a .sizes .shape .d))
 
 row-entry-requires : tie.Need-row-entry-requires
 row-entry-requires c κs =
@@ -18,7 +18,7 @@ row-entry-requires c κs =
     let s = h .before in
     let z = s .args .sizes in
     let inside = in-h z (s .args .p) refl refl (h .h-place .ensures) (c .before .if1 .left) (s .pre .1 .1 .1) in
-    (s .pre .0 .shaped .degree, row-place (z .d) (z .kappa2) (s .args .k) (c .garbage-size .ensures) (s .pre .1 .1 .0) inside (s .pre .1 .0))
+    (s .pre .0 .shaped .degree, row-place (z .shape .d) (z .kappa2) (s .args .k) (c .garbage-size .ensures) (s .pre .1 .1 .0) inside (s .pre .1 .0))
 
 returns-2 : tie.Need-returns-2
 returns-2 c =

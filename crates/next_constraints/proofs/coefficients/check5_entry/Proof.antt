@@ -20,7 +20,7 @@ z-entry-requires c κs =
     let s = c .before .before .before in
     let z = s .args .sizes in
     let f = s .pre .0 in
-    let room = all-room (z .d) (z .kappa) (z .n) (s .args .k) _ (s .pre .1 .1 .1) (s .pre .1 .0) in
+    let room = all-room (z .shape .d) (z .kappa) (z .shape .n) (s .args .k) _ (s .pre .1 .1 .1) (s .pre .1 .0) in
     (f .shaped .degree, (f .base, (f .shaped .rank-positive, room)))
 
 returns : tie.Need-returns
@@ -37,7 +37,7 @@ t-entry-requires c κs =
     let f = s .pre .0 in
     let some = t₁-some z f in
     let inside = in-t z (s .args .p) (t .t-place .ensures) (c .before .g-place .ensures) refl (c .before .before .if1 .left) (c .if2 .taken) in
-    let room = part-room (z .d) (z .r) (z .kappa) (z .t1) (s .args .p - t .t-place .result) _ (f .κ-positive) some inside (s .pre .1 .1 .0) in
+    let room = part-room (z .shape .d) (z .shape .r) (z .kappa) (z .t1) (s .args .p - t .t-place .result) _ (f .κ-positive) some inside (s .pre .1 .1 .0) in
     (f .shaped .degree, (f .base₁, (f .κ-positive, some, room)))
 
 returns-2 : tie.Need-returns-2
@@ -56,7 +56,7 @@ returns-3 c =
     let a = t .before .args in
     let from = rw (t .t-place .ensures) at (e .if1 .left) in
     let to = rw (c .before .before .g-place .ensures) at (c .before .if2 .left) in
-    holds-as _ (entry5-rest (a .sizes) (a .p) _ _ (a .k) from to) (c .additive-identity .ensures (a .sizes .d))
+    holds-as _ (entry5-rest (a .sizes) (a .p) _ _ (a .k) from to) (c .additive-identity .ensures (a .sizes .shape .d))
 
 pub check5-entry-spec : {M : Type 1} → statement M
 check5-entry-spec =

@@ -12,7 +12,7 @@ returns c =
     let s = c .before .before .before in
     let a = s .args in
     let start = c .before .before .g-place .ensures in
-    holds-as _ (entry6-before (a .sizes) (a .p) _ (rw start at (c .before .if1 .taken))) (c .additive-identity .ensures (a .sizes .d))
+    holds-as _ (entry6-before (a .sizes) (a .p) _ (rw start at (c .before .if1 .taken))) (c .additive-identity .ensures (a .sizes .shape .d))
 
 garbage-entry-requires : tie.Need-garbage-entry-requires
 garbage-entry-requires c κs =
@@ -22,7 +22,7 @@ garbage-entry-requires c κs =
     let some = t₂-some z (s .pre .0) in
     let inside = in-g z (s .args .p) refl (g .g-place .ensures) (c .before .h-place .ensures) (c .before .before .if1 .left) (c .if2 .taken) in (
       s .pre .0 .shaped .degree,
-      (s .pre .0 .base₂, (some, garbage-room (z .d) (z .r) (z .t2) (s .args .p - g .g-place .result) _ some inside (s .pre .1))),
+      (s .pre .0 .base₂, (some, garbage-room (z .shape .d) (z .shape .r) (z .t2) (s .args .p - g .g-place .result) _ some inside (s .pre .1))),
     )
 
 returns-2 : tie.Need-returns-2
@@ -41,7 +41,7 @@ returns-3 c =
     let a = g .before .args in
     let from = rw (g .g-place .ensures) at (e .if1 .left) in
     let to = rw (c .before .before .h-place .ensures) at (c .before .if2 .left) in
-    holds-as _ (entry6-rest (a .sizes) (a .p) _ from to) (c .additive-identity2 .ensures (a .sizes .d))
+    holds-as _ (entry6-rest (a .sizes) (a .p) _ from to) (c .additive-identity2 .ensures (a .sizes .shape .d))
 
 pub check6-entry-spec : {M : Type 1} → statement M
 check6-entry-spec =

@@ -19,7 +19,7 @@ returns-2 c =
     let a = e .before .before .args in
     let from = rw (e .before .t-place .ensures) at (e .if1 .left) in
     let to = rw (c .before .before .h-place .ensures) at (c .before .if2 .taken) in
-    holds-as _ (entry7-between (a .sizes) (a .p) _ _ from to) (c .additive-identity .ensures (a .sizes .d))
+    holds-as _ (entry7-between (a .sizes) (a .p) _ _ from to) (c .additive-identity .ensures (a .sizes .shape .d))
 
 garbage-entry-requires : tie.Need-garbage-entry-requires
 garbage-entry-requires c κs =
@@ -29,7 +29,7 @@ garbage-entry-requires c κs =
     let some = t₁-some z (s .pre .0) in
     let inside = in-h z (s .args .p) refl refl (h .h-place .ensures) (c .if2 .left) (s .pre .1 .1 .1) in (
       s .pre .0 .shaped .degree,
-      (s .pre .0 .base₁, (some, garbage-room (z .d) (z .r) (z .t1) (s .args .p - h .h-place .result) _ some inside (s .pre .1 .1 .0))),
+      (s .pre .0 .base₁, (some, garbage-room (z .shape .d) (z .shape .r) (z .t1) (s .args .p - h .h-place .result) _ some inside (s .pre .1 .1 .0))),
     )
 
 returns-3 : tie.Need-returns-3

@@ -11,7 +11,7 @@ returns : tie.Need-returns
 returns c =
     let a = c .before .before .before .args in
     let start = c .before .before .g-place .ensures in
-    holds-as _ (entry8-before (a .sizes) (a .p) _ _ (rw start at (c .before .if1 .taken))) (c .additive-identity .ensures (a .sizes .d))
+    holds-as _ (entry8-before (a .sizes) (a .p) _ _ (rw start at (c .before .if1 .taken))) (c .additive-identity .ensures (a .sizes .shape .d))
 
 garbage-entry-requires : tie.Need-garbage-entry-requires
 garbage-entry-requires c κs =
@@ -21,7 +21,7 @@ garbage-entry-requires c κs =
     let some = t₂-some z (s .pre .0) in
     let inside = in-g z (s .args .p) refl (g .g-place .ensures) (c .before .h-place .ensures) (c .before .before .if1 .left) (c .if2 .taken) in (
       s .pre .0 .shaped .degree,
-      (s .pre .0 .base₂, (some, garbage-room (z .d) (z .r) (z .t2) (s .args .p - g .g-place .result) _ some inside (s .pre .1 .0))),
+      (s .pre .0 .base₂, (some, garbage-room (z .shape .d) (z .shape .r) (z .t2) (s .args .p - g .g-place .result) _ some inside (s .pre .1 .0))),
     )
 
 returns-2 : tie.Need-returns-2
@@ -41,7 +41,7 @@ garbage-entry-requires-2 c κs =
     let some = t₁-some z (s .pre .0) in
     let inside = in-h z (s .args .p) refl refl (h .h-place .ensures) (c .if2 .left) (s .pre .1 .1 .1) in (
       s .pre .0 .shaped .degree,
-      (s .pre .0 .base₁, (some, garbage-room (z .d) (z .r) (z .t1) (s .args .p - h .h-place .result) _ some inside (s .pre .1 .1 .0))),
+      (s .pre .0 .base₁, (some, garbage-room (z .shape .d) (z .shape .r) (z .t1) (s .args .p - h .h-place .result) _ some inside (s .pre .1 .1 .0))),
     )
 
 returns-3 : tie.Need-returns-3

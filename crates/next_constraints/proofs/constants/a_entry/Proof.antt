@@ -26,7 +26,7 @@ returns-2 c =
     let a = s .args in
     λ A B C D whole constantTerms projections ψ ω α δ c′ 𝓣 μ.
     holds-as _ (sym (a-is (a .sizes) (s .pre .0) A B C D c′ whole constantTerms projections ψ ω α δ 𝓣 (a .nu) μ (a .x) (s .pre .1 .0) (a .s) (a .s2))
-    ∙ a-other (a .sizes) (a .x) (a .nu) (a .s) (a .s2) (c .before .if1 .left)) (c .additive-identity .ensures (a .sizes .d))
+    ∙ a-other (a .sizes) (a .x) (a .nu) (a .s) (a .s2) (c .before .if1 .left)) (c .additive-identity .ensures (a .sizes .shape .d))
 
 pub a-entry-spec : {M : Type 1} → statement M
 a-entry-spec = tie.close (tie.spec square-requires returns additive-identity-requires returns-2)

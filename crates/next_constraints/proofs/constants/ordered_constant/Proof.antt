@@ -8,7 +8,7 @@ use Rattle.next_constraints.proofs.constants.ordered_constant.Tie as ti
 returns : tie.Need-returns
 returns c =
     let a = c .before .before .before .args in
-    holds-as _ (constant-before (a .sizes) (a .x) _ _ _ _ _ _ (c .before .if1 .taken)) (c .additive-identity .ensures (a .sizes .d))
+    holds-as _ (constant-before (a .sizes) (a .x) _ _ _ _ _ _ (c .before .if1 .taken)) (c .additive-identity .ensures (a .sizes .shape .d))
 
 returns-2 : tie.Need-returns-2
 returns-2 c =
@@ -23,7 +23,7 @@ from-slice-requires c κs =
     let z = s .args .sizes in
     let f = s .pre .0 in
     let row = third-row (z .kappa) (z .kappa1) (s .args .x) (e .before .if1 .left) (e .if2 .left) (c .if3 .taken) in
-    (f .limits .shaped .degree, element-room (z .d) (z .kappa1) _ row (f .u₁-length))
+    (f .limits .shaped .degree, element-room (z .shape .d) (z .kappa1) _ row (f .u₁-length))
 
 returns-3 : tie.Need-returns-3
 returns-3 c =
@@ -39,7 +39,7 @@ from-slice-requires-2 c κs =
     let z = s .args .sizes in
     let f = s .pre .0 in
     let row = last-row (z .kappa) (z .kappa1) (z .kappa2) (s .args .x) (s .pre .1) (c .if3 .left) in
-    (f .limits .shaped .degree, element-room (z .d) (z .kappa2) _ row (f .u₂-length))
+    (f .limits .shaped .degree, element-room (z .shape .d) (z .kappa2) _ row (f .u₂-length))
 
 returns-4 : tie.Need-returns-4
 returns-4 c =

@@ -9,7 +9,7 @@ use Rattle.next_constraints.proofs.folded.folded_element.Tie as tie
 
 abbrev Inv-loop : tie.InvT-loop
 Inv-loop sizes whole constant-terms projections psi omega omega-sums alpha delta c k d parts sum₀ i₀ sum i =
-    Summed d parts (foldedSummand d (sizes .n) (sizes .r) (sizes .k) (sizes .l) (sizes .w) whole constant-terms projections psi omega alpha delta c k) i (sum .coefficients)
+    Summed d parts (foldedSummand d (sizes .shape .n) (sizes .shape .r) (sizes .k) (sizes .l) (sizes .w) whole constant-terms projections psi omega alpha delta c k) i (sum .coefficients)
 
 abbrev μ-loop : tie.MeasureT-loop
 μ-loop sizes whole constant-terms projections psi omega omega-sums alpha delta c k d parts sum₀ i₀ sum i = parts - i

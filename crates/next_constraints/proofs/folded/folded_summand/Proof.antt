@@ -12,24 +12,24 @@ mul-start : tie.Need-mul-start
 mul-start c =
     let s = c .before in
     let z = s .args .sizes in
-    omega (arith, witness-small (s .pre .0 .wholes .shaped), block-fits (z .r) (z .n) (s .args .i) (s .args .k) (s .pre .1 .1 .2) (s .pre .1 .1 .1))
+    omega (arith, witness-small (s .pre .0 .wholes .shaped), block-fits (z .shape .r) (z .shape .n) (s .args .i) (s .args .k) (s .pre .1 .1 .2) (s .pre .1 .1 .1))
 
 add-place : tie.Need-add-place
 add-place c =
     let s = c .before in
     let z = s .args .sizes in
-    omega (arith, witness-small (s .pre .0 .wholes .shaped), block-fits (z .r) (z .n) (s .args .i) (s .args .k) (s .pre .1 .1 .2) (s .pre .1 .1 .1))
+    omega (arith, witness-small (s .pre .0 .wholes .shaped), block-fits (z .shape .r) (z .shape .n) (s .args .i) (s .args .k) (s .pre .1 .1 .2) (s .pre .1 .1 .1))
 
 aggregate-phi-requires : tie.Need-aggregate-phi-requires
 aggregate-phi-requires c κs =
     let s = c .before in
     let z = s .args .sizes in
-    (s .pre .0, (s .pre .1 .0, block-fits (z .r) (z .n) (s .args .i) (s .args .k) (s .pre .1 .1 .2) (s .pre .1 .1 .1)))
+    (s .pre .0, (s .pre .1 .0, block-fits (z .shape .r) (z .shape .n) (s .args .i) (s .args .k) (s .pre .1 .1 .2) (s .pre .1 .1 .1)))
 
 from-slice-requires : tie.Need-from-slice-requires
 from-slice-requires c κs =
     let s = c .before .before in
-    (s .pre .0 .wholes .shaped .degree, element-within (s .args .sizes .d) (s .pre .1 .1 .2) (s .pre .1 .1 .0))
+    (s .pre .0 .wholes .shaped .degree, element-within (s .args .sizes .shape .d) (s .pre .1 .1 .2) (s .pre .1 .1 .0))
 
 returns : tie.Need-returns
 returns c =

@@ -13,7 +13,7 @@ use Rattle.next_constraints.proofs.folded.write_folded.Tie as tie
 
 abbrev Inv-loop : tie.InvT-loop
 Inv-loop sizes whole constant-terms projections psi omega alpha delta c out₀ omega-sums d rank k₀ out k =
-    Elements d 0 rank (foldedSum d (sizes .n) (sizes .r) (sizes .k) (sizes .l) (sizes .w) whole constant-terms projections psi omega alpha delta c) out₀ k out
+    Elements d 0 rank (foldedSum d (sizes .shape .n) (sizes .shape .r) (sizes .k) (sizes .l) (sizes .w) whole constant-terms projections psi omega alpha delta c) out₀ k out
 
 abbrev μ-loop : tie.MeasureT-loop
 μ-loop sizes whole constant-terms projections psi omega alpha delta c out₀ omega-sums d rank k₀ out k = rank - k

@@ -28,7 +28,7 @@ returns c =
     let s = folded .before .before in
     let a = s .args in
     let z = a .sizes in
-    tables-of (z .d) (z .n) (z .r) (z .k) (z .l) (z .w) _ _ _ _ _ _ _ _ (a .folded .now) (a .products .now) (a .aggregate-a .now)
+    tables-of (z .shape .d) (z .shape .n) (z .shape .r) (z .k) (z .l) (z .w) _ _ _ _ _ _ _ _ (a .folded .now) (a .products .now) (a .aggregate-a .now)
     (a .diagonal .now) (s .pre .1 .1) (folded .write-folded .ensures) (products .write-products .ensures)
     (aggregate-a .write-aggregate-a .ensures) (diagonal .write-diagonal .ensures)
 

@@ -12,7 +12,7 @@ use Rattle.next_constraints.proofs.tables.write_aggregate_a.Tie as tie
 
 abbrev Inv-loop : tie.InvT-loop
 Inv-loop sizes whole constant-terms psi alpha delta out₀ d count e₀ out e =
-    Elements d 0 count (aggregateA d (sizes .n) (sizes .r) (sizes .k) (sizes .l) whole constant-terms psi alpha delta) out₀ e out
+    Elements d 0 count (aggregateA d (sizes .shape .n) (sizes .shape .r) (sizes .k) (sizes .l) whole constant-terms psi alpha delta) out₀ e out
 
 abbrev μ-loop : tie.MeasureT-loop
 μ-loop sizes whole constant-terms psi alpha delta out₀ d count e₀ out e = count - e

@@ -13,7 +13,7 @@ use Rattle.next_instance.proofs.a_part.write_a.Tie as tie
 abbrev Inv-loop : tie.InvT-loop
 Inv-loop sizes nu parts x out₀ at₀ s₀ out at s =
     (A B C D whole constantTerms projections ψ ω α δ c : List ℤ) (transcript : Transcript) (μ : ℕ)
-    → Rows (sizes .d) parts (constraint (statementOf sizes A B C D whole constantTerms) (drawsOf projections ψ ω α δ c) transcript nu μ x .a) out₀ s at out
+    → Rows (sizes .shape .d) parts (constraint (statementOf sizes A B C D whole constantTerms) (drawsOf projections ψ ω α δ c) transcript nu μ x .a) out₀ s at out
 
 abbrev μ-loop : tie.MeasureT-loop
 μ-loop sizes nu parts x out₀ at₀ s₀ out at s = parts - s

@@ -18,7 +18,7 @@ abbrev Inv-loop : tie.InvT-loop
 Inv-loop sizes nu parts x s out₀ at d count k₀ out k =
     (k ≤ parts - s) × (length out ≡ length out₀)
     × ((A B C D whole constantTerms projections ψ ω α δ c : List ℤ) (transcript : Transcript) (μ : ℕ)
-    → Elements (sizes .d) at (parts - s) (λ k. constraint (statementOf sizes A B C D whole constantTerms) (drawsOf projections ψ ω α δ c) transcript nu μ x .a s (s + k)) out₀ k out)
+    → Elements (sizes .shape .d) at (parts - s) (λ k. constraint (statementOf sizes A B C D whole constantTerms) (drawsOf projections ψ ω α δ c) transcript nu μ x .a s (s + k)) out₀ k out)
 
 abbrev μ-loop : tie.MeasureT-loop
 μ-loop sizes nu parts x s out₀ at d count k₀ out k = parts - s - k
@@ -32,7 +32,7 @@ add-store : tie.Need-add-store Inv-loop μ-loop
 add-store c =
     let s = c .before .before .before .before in
     let a = s .args in
-    omega (arith, place-below (a .sizes .d) (a .at + (a .parts - a .s)) (s .pre .0 .shaped .degree .positive) (s .pre .1 .1))
+    omega (arith, place-below (a .sizes .shape .d) (a .at + (a .parts - a .s)) (s .pre .0 .shaped .degree .positive) (s .pre .1 .1))
 
 store-requires : tie.Need-store-requires Inv-loop μ-loop
 store-requires c κs =
@@ -40,7 +40,7 @@ store-requires c κs =
     let s = l .before in
     let a = s .args in (
       s .pre .0 .shaped .degree,
-      rw (l .loop .inv .1) (element-fits (a .sizes .d) (a .at) {k = l .loop .k} (omega arith) (s .pre .1 .1)),
+      rw (l .loop .inv .1) (element-fits (a .sizes .shape .d) (a .at) {k = l .loop .k} (omega arith) (s .pre .1 .1)),
     )
 
 loop-again : tie.Need-loop-again Inv-loop μ-loop

@@ -10,14 +10,14 @@ returns : tie.Need-returns
 returns c =
     λ whole constantTerms projections ψ ω α δ transcript ν μ tables.
     let a = c .before .before .args in
-    entry-inside (a .sizes .d) _ (a .start) (a .size) (a .k) (c .before .if1 .taken)
+    entry-inside (a .sizes .shape .d) _ (a .start) (a .size) (a .k) (c .before .if1 .taken)
     (c .coefficient .ensures whole constantTerms projections ψ ω α δ transcript ν μ tables)
 
 returns-2 : tie.Need-returns-2
 returns-2 c =
     λ whole constantTerms projections ψ ω α δ transcript ν μ tables.
     let a = c .before .before .args in
-    entry-padding (a .sizes .d) _ (a .start) (a .size) (a .k) (c .before .if1 .left) (c .additive-identity .ensures (a .sizes .d))
+    entry-padding (a .sizes .shape .d) _ (a .start) (a .size) (a .k) (c .before .if1 .left) (c .additive-identity .ensures (a .sizes .shape .d))
 
 pub chunk-entry-spec : {M : Type 1} → statement M
 chunk-entry-spec =

@@ -18,9 +18,9 @@ abbrev Inv-loop : tie.InvT-loop
 Inv-loop sizes rank a-matrix b-matrix c-matrix d-matrix c folded products aggregate-a diagonal x start size out₀ at d k₀ out k =
     (k ≤ rank) × (length out ≡ length out₀)
     × ((whole constantTerms projections ψ ω α δ : List ℤ) (transcript : Transcript) (ν μ : ℕ)
-    → Tables (sizes .d) (sizes .n) (sizes .r) (sizes .k) (sizes .l) (sizes .w) whole constantTerms projections ψ ω α δ c folded products aggregate-a diagonal
-    → Elements (sizes .d) at rank
-    (chunkEntry (sizes .d) (tableOf sizes a-matrix b-matrix c-matrix d-matrix c whole constantTerms projections ψ ω α δ transcript ν μ x) start size) out₀ k out)
+    → Tables (sizes .shape .d) (sizes .shape .n) (sizes .shape .r) (sizes .k) (sizes .l) (sizes .w) whole constantTerms projections ψ ω α δ c folded products aggregate-a diagonal
+    → Elements (sizes .shape .d) at rank
+    (chunkEntry (sizes .shape .d) (tableOf sizes a-matrix b-matrix c-matrix d-matrix c whole constantTerms projections ψ ω α δ transcript ν μ x) start size) out₀ k out)
 
 abbrev μ-loop : tie.MeasureT-loop
 μ-loop sizes rank a-matrix b-matrix c-matrix d-matrix c folded products aggregate-a diagonal x start size out₀ at d k₀ out k = rank - k
@@ -29,7 +29,7 @@ add-store : tie.Need-add-store Inv-loop μ-loop
 add-store c =
     let s = c .before .before .before .before in
     let a = s .args in
-    let all = place-below (a .sizes .d) (a .at + a .rank) (s .pre .0 .limits .shaped .degree .positive) (s .pre .1 .1 .1) in
+    let all = place-below (a .sizes .shape .d) (a .at + a .rank) (s .pre .0 .limits .shaped .degree .positive) (s .pre .1 .1 .1) in
     omega (arith, all, c .before .before .loop-test .taken, s .good .1 .1 .1 .1 .1 .1 .1 .1 .1 .1 .1 .1 .1 .1 .0)
 
 store-requires : tie.Need-store-requires Inv-loop μ-loop
@@ -38,7 +38,7 @@ store-requires c κs =
     let s = l .before in
     let a = s .args in (
       s .pre .0 .limits .shaped .degree,
-      rw (l .loop .inv .1) (element-fits (a .sizes .d) (a .at) {k = l .loop .k} (c .before .before .loop-test .taken) (s .pre .1 .1 .1)),
+      rw (l .loop .inv .1) (element-fits (a .sizes .shape .d) (a .at) {k = l .loop .k} (c .before .before .loop-test .taken) (s .pre .1 .1 .1)),
     )
 
 add-k : tie.Need-add-k Inv-loop μ-loop

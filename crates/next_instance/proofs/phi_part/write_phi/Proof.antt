@@ -17,10 +17,10 @@ use Rattle.next_instance.proofs.phi_part.write_phi.Tie as tie
 
 abbrev Inv-loop : tie.InvT-loop
 Inv-loop sizes cut a-matrix b-matrix c-matrix d-matrix c folded products aggregate-a diagonal x out₀ at n rank parts start₀ place₀ s₀ out start place s =
-    Running (cut .parts) (cut .rank) at (width 2 (sizes .n) (cut .nu) (cut .m) (cut .mu)) out₀ s start place out
+    Running (cut .parts) (cut .rank) at (width 2 (sizes .shape .n) (cut .nu) (cut .m) (cut .mu)) out₀ s start place out
     × ((whole constantTerms projections ψ ω α δ : List ℤ) (transcript : Transcript) (ν μ : ℕ)
-    → Tables (sizes .d) (sizes .n) (sizes .r) (sizes .k) (sizes .l) (sizes .w) whole constantTerms projections ψ ω α δ c folded products aggregate-a diagonal
-    → PartsWritten (sizes .d) (cut .rank) at (width 2 (sizes .n) (cut .nu) (cut .m) (cut .mu))
+    → Tables (sizes .shape .d) (sizes .shape .n) (sizes .shape .r) (sizes .k) (sizes .l) (sizes .w) whole constantTerms projections ψ ω α δ c folded products aggregate-a diagonal
+    → PartsWritten (sizes .shape .d) (cut .rank) at (width 2 (sizes .shape .n) (cut .nu) (cut .m) (cut .mu))
     (tableOf sizes a-matrix b-matrix c-matrix d-matrix c whole constantTerms projections ψ ω α δ transcript ν μ x) out₀ s out)
 
 abbrev μ-loop : tie.MeasureT-loop
@@ -46,7 +46,7 @@ write-chunk-requires c κs =
         s .pre .1 .0,
         (
           (s .pre .1 .1 .1 .0, omega (arith, within, l .loop .inv .0 .first-is, c .before .chunk-width .ensures)),
-          running-fits _ _ _ _ _ (a .sizes .d) (s .pre .1 .1 .1 .1) inside (l .loop .inv .0),
+          running-fits _ _ _ _ _ (a .sizes .shape .d) (s .pre .1 .1 .1 .1) inside (l .loop .inv .0),
         ),
       ),
     )
@@ -67,8 +67,8 @@ add-place c =
     let s = l .before in
     let a = s .args in
     let inside = c .before .before .before .before .loop-test .taken in
-    let fits = running-fits _ _ _ _ _ (a .sizes .d) (s .pre .1 .1 .1 .1) inside (l .loop .inv .0) in
-    let below = place-below (a .sizes .d) (l .loop .place + a .cut .rank) (s .pre .0 .limits .shaped .degree .positive) fits in
+    let fits = running-fits _ _ _ _ _ (a .sizes .shape .d) (s .pre .1 .1 .1 .1) inside (l .loop .inv .0) in
+    let below = place-below (a .sizes .shape .d) (l .loop .place + a .cut .rank) (s .pre .0 .limits .shaped .degree .positive) fits in
     let short = part-short (a .sizes) (a .cut) (s .pre .1 .1 .0) (l .loop .s) in
     omega (arith, below, l .loop .inv .0 .same, s .good .1 .1 .1 .1 .1 .1 .1 .1 .1 .1 .1 .1 .0, short, c .before .before .before .chunk-width .ensures)
 
@@ -88,7 +88,7 @@ loop-again c =
     let inside = c .before .before .before .before .loop-test .taken in
     let size = c .before .before .before .chunk-width .ensures in
     let sofar = l .loop .inv .0 in
-    let room : a .at * a .sizes .d ≤ length (a .out .now) = omega (arith, s .pre .1 .1 .1 .1) in (
+    let room : a .at * a .sizes .shape .d ≤ length (a .out .now) = omega (arith, s .pre .1 .1 .1 .1) in (
       running-turn _ _ _ _ _ inside size (c .before .write-chunk .kept .1 .1 .1 .1 .1 .1 .1 .1 .1 .1 .1 .1 .1 .1 .0) sofar,
       λ whole constantTerms projections ψ ω α δ transcript ν μ tables.
           parts-turn _ _ _ _ _ _ room (sofar .first-is) size (sofar .place)

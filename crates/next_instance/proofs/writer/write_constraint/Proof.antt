@@ -18,7 +18,7 @@ write-a-requires c κs =
       s .pre .0 .limits,
       (
         (cut .ν-positive, omega (arith, cut .parts-small), parts-few (a .sizes) (a .cut) cut, s .pre .1 .1 .1 .1 .0),
-        a-fits (a .sizes) (a .cut) cut (a .sizes .d) (s .pre .1 .1 .1 .1 .1),
+        a-fits (a .sizes) (a .cut) cut (a .sizes .shape .d) (s .pre .1 .1 .1 .1 .1),
       ),
     )
 
@@ -28,7 +28,7 @@ write-phi-requires c κs =
     let a = s .args in
     let cut = s .pre .1 .1 .1 .0 in
     let room = c .before .before .write-a .kept .1 .1 .1 .1 .0 ∙ s .pre .1 .1 .1 .1 .1 in
-    (s .pre .0, (s .pre .1 .0, (cut, (s .pre .1 .1 .1 .1 .0, φ-fits (a .sizes) (a .cut) cut (a .sizes .d) room))))
+    (s .pre .0, (s .pre .1 .0, (cut, (s .pre .1 .1 .1 .1 .0, φ-fits (a .sizes) (a .cut) cut (a .sizes .shape .d) room))))
 
 store-requires : tie.Need-store-requires
 store-requires c κs =
@@ -36,7 +36,7 @@ store-requires c κs =
     let a = φ .before .before .before in
     let s = a .before .before in
     let room = φ .write-phi .kept .1 .1 .1 .1 .1 .1 .1 .1 .1 .1 .1 .1 .0 ∙ a .write-a .kept .1 .1 .1 .1 .0 ∙ s .pre .1 .1 .1 .1 .1 in
-    (s .pre .0 .limits .shaped .degree, b-fits (s .args .sizes) (s .args .cut) (s .pre .1 .1 .1 .0) (s .args .sizes .d) room)
+    (s .pre .0 .limits .shaped .degree, b-fits (s .args .sizes) (s .args .cut) (s .pre .1 .1 .1 .0) (s .args .sizes .shape .d) room)
 
 returns : tie.Need-returns
 returns c =
@@ -57,7 +57,7 @@ returns c =
     let δ = g .delta .now in
     let ν = g .cut .nu in
     let μ = g .cut .mu in
-    laid-out (g .sizes .d) (g .cut .rank) (g .cut .parts) (width 2 (g .sizes .n) (g .cut .nu) (g .cut .m) (g .cut .mu))
+    laid-out (g .sizes .shape .d) (g .cut .rank) (g .cut .parts) (width 2 (g .sizes .shape .n) (g .cut .nu) (g .cut .m) (g .cut .mu))
     (constraintOf (g .sizes) A B C D (g .c .now) whole constantTerms projections ψ ω α δ transcript ν μ (g .x)) (g .out .now)
     (s .pre .0 .limits .shaped .degree .small) (s .pre .1 .1 .1 .1 .1) (cut .pairs-is) (cut .size-is)
     (a .write-a .ensures A B C D whole constantTerms projections ψ ω α δ (g .c .now) transcript μ)

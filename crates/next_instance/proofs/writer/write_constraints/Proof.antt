@@ -20,11 +20,11 @@ use Rattle.next_instance.proofs.writer.write_constraints.Tie as tie
 
 abbrev Inv-loop : tie.InvT-loop
 Inv-loop sizes cut a-matrix b-matrix c-matrix d-matrix whole u1 second-b alpha delta u2 c folded products aggregate-a diagonal out₀ count size at₀ x₀ out at x =
-    Filled (sizes .kappa + sizes .kappa1 + sizes .kappa2 + 3) ((cut .size + 1) * sizes .d) out₀ x at out
+    Filled (sizes .kappa + sizes .kappa1 + sizes .kappa2 + 3) ((cut .size + 1) * sizes .shape .d) out₀ x at out
     × ((constantTerms projections ψ ω p : List ℤ)
-    → Tables (sizes .d) (sizes .n) (sizes .r) (sizes .k) (sizes .l) (sizes .w) whole constantTerms projections ψ ω alpha delta c folded products aggregate-a diagonal
-    → Blocks 0 (sizes .kappa + sizes .kappa1 + sizes .kappa2 + 3) ((cut .size + 1) * sizes .d)
-    (λ x. laidOut (sizes .d) (cut .rank) (cut .parts) (width 2 (sizes .n) (cut .nu) (cut .m) (cut .mu))
+    → Tables (sizes .shape .d) (sizes .shape .n) (sizes .shape .r) (sizes .k) (sizes .l) (sizes .w) whole constantTerms projections ψ ω alpha delta c folded products aggregate-a diagonal
+    → Blocks 0 (sizes .kappa + sizes .kappa1 + sizes .kappa2 + 3) ((cut .size + 1) * sizes .shape .d)
+    (λ x. laidOut (sizes .shape .d) (cut .rank) (cut .parts) (width 2 (sizes .shape .n) (cut .nu) (cut .m) (cut .mu))
     (constraintOf sizes a-matrix b-matrix c-matrix d-matrix c whole constantTerms projections ψ ω alpha delta (transcriptOf u1 p second-b u2) (cut .nu) (cut .mu) x))
     out₀ x at out)
 
@@ -60,7 +60,7 @@ write-constraint-requires c κs =
     let s = l .before .before .before .before .before in
     let cut = s .pre .1 .1 .1 .0 in
     let block = filled-part (l .loop .inv .0) (c .before .loop-test .taken) in
-    let size = ap (λ (e : ℕ). (e + 1) * s .args .sizes .d) (cut .size-is) in
+    let size = ap (λ (e : ℕ). (e + 1) * s .args .sizes .shape .d) (cut .size-is) in
     (s .pre .0, (s .pre .1 .0, (s .pre .1 .1 .0, (cut, (c .before .loop-test .taken, block ∙ size)))))
 
 add-x : tie.Need-add-x Inv-loop μ-loop
@@ -78,7 +78,7 @@ loop-again c =
     let block = c .before .write-constraint in (
       filled-turn (l .loop .inv .0) (block .last .1 .1 .1 .1 .1 .1 .1 .1 .1 .1 .1 .1 .1 .1 .1 .1 .1 .1 .0) inside (block .kept .1 .1 .1 .1 .1 .1 .1 .1 .1 .1 .1 .1 .1 .1 .1 .1 .1 .1 .0) refl,
       λ constantTerms projections ψ ω p tables.
-          blocks-turn (l .loop .inv .1 constantTerms projections ψ ω p tables) (λ i. length-block (a .sizes .d) (a .cut .rank) (a .cut .parts) (a .cut .size) _ _ (cut .size-is))
+          blocks-turn (l .loop .inv .1 constantTerms projections ψ ω p tables) (λ i. length-block (a .sizes .shape .d) (a .cut .rank) (a .cut .parts) (a .cut .size) _ _ (cut .size-is))
           inside (block .ensures constantTerms projections ψ ω p tables) refl,
     )
 
@@ -91,7 +91,7 @@ returns c =
     let a = s .args in
     let cut = s .pre .1 .1 .1 .0 in
     let room = all-fit (a .sizes) (a .cut) cut (s .pre .1 .1 .1 .1) in
-    blocks-all (l .loop .inv .1 constantTerms projections ψ ω p tables) (λ i. length-block (a .sizes .d) (a .cut .rank) (a .cut .parts) (a .cut .size) _ _ (cut .size-is))
+    blocks-all (l .loop .inv .1 constantTerms projections ψ ω p tables) (λ i. length-block (a .sizes .shape .d) (a .cut .rank) (a .cut .parts) (a .cut .size) _ _ (cut .size-is))
     room (c .loop-test .left)
 
 pub write-constraints-spec : {M : Type 1} → statement M

@@ -11,7 +11,7 @@ use Rattle.next_instance.proofs.writer.write_instance.Tie as tie
 write-tables-requires : tie.Need-write-tables-requires
 write-tables-requires c κs =
     let s = c .before .before .before .before .before in
-    let challenges : s .args .sizes .r * s .args .sizes .d ≤ length (s .args .c .now) = omega (arith, s .pre .lists .c-length) in (
+    let challenges : s .args .sizes .shape .r * s .args .sizes .shape .d ≤ length (s .args .c .now) = omega (arith, s .pre .lists .c-length) in (
       aggregate-facts _ _ _ _ _ _ _ _ _ _ _ _ _ _ _ _ _ _ _ _ (s .pre),
       (
         challenges,

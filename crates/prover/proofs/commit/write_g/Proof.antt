@@ -16,7 +16,7 @@ write-pair-products-requires c κs =
       (
         shape .rank-small,
         omega (arith, s .pre .witness),
-        mul-le-mul (pairs-bound (s .args .sizes .r) (shape .parts-small)) (shape .degree .small),
+        mul-le-mul (pairs-bound (s .args .sizes .shape .r) (shape .parts-small)) (shape .degree .small),
       ),
     )
 
@@ -24,7 +24,7 @@ write-garbage-digits-requires : tie.Need-write-garbage-digits-requires
 write-garbage-digits-requires c κs =
     let s = c .before .before .before .before .before in
     let facts = s .pre .sized in
-    let fits = mul-le-mul (pairs-bound (s .args .sizes .r) (facts .shape .parts-small)) (facts .shape .degree .small) in (
+    let fits = mul-le-mul (pairs-bound (s .args .sizes .shape .r) (facts .shape .parts-small)) (facts .shape .degree .small) in (
       facts .shape .degree,
       (
         facts .g-base,
@@ -44,8 +44,8 @@ returns c =
     let s = c .before .before .before .before .before .before .before in
     let z = s .args .sizes in
     let shape = s .pre .sized .shape in
-    let fits = mul-le-mul (pairs-bound (z .r) (shape .parts-small)) (shape .degree .small) in
-    garbage-written (z .d) (z .r) (z .b2) (z .t2) (g (z .d) (z .n) (s .args .witness .now)) _ fits
+    let fits = mul-le-mul (pairs-bound (z .shape .r) (shape .parts-small)) (shape .degree .small) in
+    garbage-written (z .shape .d) (z .shape .r) (z .b2) (z .t2) (g (z .shape .d) (z .shape .n) (s .args .witness .now)) _ fits
     (c .before .before .before .before .before .write-pair-products .ensures) (c .before .write-garbage-digits .ensures)
 
 pub write-g-spec : {M : Type 1} → statement M

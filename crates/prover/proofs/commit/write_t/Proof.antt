@@ -29,10 +29,10 @@ write-t-part-requires c κs =
     let l = c .before .before in
     let s = l .before in
     let z = s .args .sizes in
-    let facts : PartFacts (z .d) (z .n) (z .kappa) (l .loop .i) (s .args .a-matrix .now) (s .args .witness .now) = record {
+    let facts : PartFacts (z .shape .d) (z .shape .n) (z .kappa) (l .loop .i) (s .args .a-matrix .now) (s .args .witness .now) = record {
       rank-small = s .pre .sized .shape .rank-small;
       matrix = omega (arith, s .pre .matrix);
-      part = row-fits (z .d) (z .n) {r = z .r} (c .before .loop-test .taken) (omega (arith, s .pre .witness));
+      part = row-fits (z .shape .d) (z .shape .n) {r = z .shape .r} (c .before .loop-test .taken) (omega (arith, s .pre .witness));
     } in
     let block = blocks-part (l .loop .inv) (c .before .loop-test .taken) in
     (s .pre .sized .shape .degree, (s .pre .sized .t-base, (facts, (s .pre .sized .t-digits, block))))
@@ -41,14 +41,14 @@ loop-again : tie.Need-loop-again Inv-loop μ-loop
 loop-again c =
     let l = c .before .before .before .before in
     let z = l .before .args .sizes in
-    blocks-turn (l .loop .inv) (λ i. length-element-digits (z .d) (z .b1) (z .t1) (z .kappa) _)
+    blocks-turn (l .loop .inv) (λ i. length-element-digits (z .shape .d) (z .b1) (z .t1) (z .kappa) _)
     (c .before .before .before .loop-test .taken) (c .before .write-t-part .ensures) refl
 
 returns : tie.Need-returns Inv-loop μ-loop
 unfolding tDigits
 returns c =
     let z = c .before .before .args .sizes in
-    blocks-all (c .before .loop .inv) (λ i. length-element-digits (z .d) (z .b1) (z .t1) (z .kappa) _) (t-length (c .before .before .pre)) (c .loop-test .left)
+    blocks-all (c .before .loop .inv) (λ i. length-element-digits (z .shape .d) (z .b1) (z .t1) (z .kappa) _) (t-length (c .before .before .pre)) (c .loop-test .left)
 
 pub write-t-spec : {M : Type 1} → statement M
 write-t-spec =

@@ -20,8 +20,8 @@ write-outer-requires c κs =
     let facts = s .pre .sized in
     let m = c .before .before .t-size .ensures in
     let l = c .before .garbage-size .ensures in
-    let ts = tSize-bound (z .r) (z .kappa) (z .t1) (facts .shape .parts-small) (facts .rank-small) (facts .t-digits-few) in
-    let gs = garbageSize-bound (z .r) (z .t2) (facts .shape .parts-small) (facts .g-digits-few) in (
+    let ts = tSize-bound (z .shape .r) (z .kappa) (z .t1) (facts .shape .parts-small) (facts .rank-small) (facts .t-digits-few) in
+    let gs = garbageSize-bound (z .shape .r) (z .t2) (facts .shape .parts-small) (facts .g-digits-few) in (
       facts .shape .degree,
       (
         (rw m (omega (arith, ts)), rw m (omega (arith, s .pre .t-matrix)), rw m (omega (arith, s .pre .t-digits))),

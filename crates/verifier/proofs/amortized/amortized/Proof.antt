@@ -11,8 +11,8 @@ use Rattle.verifier.proofs.amortized.amortized.Statement.{statement}
 use Rattle.verifier.proofs.amortized.amortized.Tie as tie
 
 abbrev Inv-loop : tie.InvT-loop
-Inv-loop sizes a-matrix c z opening rows all₀ k₀ all k = Tested rows (λ k. same (sizes .d) (times (sizes .d) (sizes .n) a-matrix k (el (sizes .d) z))
-    (sum (R (sizes .d)) (sizes .r) (λ i. R (sizes .d) .mul (el (sizes .d) c i) (tValue sizes opening i k)))) k all
+Inv-loop sizes a-matrix c z opening rows all₀ k₀ all k = Tested rows (λ k. same (sizes .shape .d) (times (sizes .shape .d) (sizes .shape .n) a-matrix k (el (sizes .shape .d) z))
+    (sum (R (sizes .shape .d)) (sizes .shape .r) (λ i. R (sizes .shape .d) .mul (el (sizes .shape .d) c i) (tValue sizes opening i k)))) k all
 
 abbrev μ-loop : tie.MeasureT-loop
 μ-loop sizes a-matrix c z opening rows all₀ k₀ all k = rows - k

@@ -8,7 +8,7 @@ use Rattle.verifier.proofs.amortized.folded_row.Statement.{statement}
 use Rattle.verifier.proofs.amortized.folded_row.Tie as tie
 
 abbrev Inv-loop : tie.InvT-loop
-Inv-loop sizes c opening k d count acc₀ i₀ acc i = Summed (sizes .d) (sizes .r) (λ i. R (sizes .d) .mul (el (sizes .d) c i)
+Inv-loop sizes c opening k d count acc₀ i₀ acc i = Summed (sizes .shape .d) (sizes .shape .r) (λ i. R (sizes .shape .d) .mul (el (sizes .shape .d) c i)
     (tValue sizes opening i k)) i (acc .coefficients)
 
 abbrev μ-loop : tie.MeasureT-loop

@@ -36,9 +36,9 @@ returns : tie.Need-returns
 returns c =
     let s = c .before .before .before .before in
     let z = s .args .sizes in
-    let t = c .before .before .t-of .ensures ∙ ap (λ (p : ℕ). array (z .d) (tOf (z .d) (z .kappa) (z .b1) (z .t1) (block (z .d)
+    let t = c .before .before .t-of .ensures ∙ ap (λ (p : ℕ). array (z .shape .d) (tOf (z .shape .d) (z .kappa) (z .b1) (z .t1) (block (z .shape .d)
     (s .args .opening .now) p) (s .args .i) (s .args .k))) (c .before .before .before .t-place .ensures) in
-    folded-summand (z .d) _ _ _ _ _ (s .pre .0 .shaped .degree .small) (c .before .from-slice .ensures) t (c .product .ensures)
+    folded-summand (z .shape .d) _ _ _ _ _ (s .pre .0 .shaped .degree .small) (c .before .from-slice .ensures) t (c .product .ensures)
 
 pub folded-summand-spec : {M : Type 1} → statement M
 folded-summand-spec =

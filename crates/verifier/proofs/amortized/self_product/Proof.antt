@@ -28,9 +28,9 @@ returns : tie.Need-returns
 returns c =
     let s = c .before .before .before .before in
     let z = s .args .sizes in
-    let right = c .before .mixed-sum .ensures ∙ ap (λ (p : ℕ). array (z .d) (mixed (R (z .d)) (z .r) (garbageOf (z .d) (z .r) (z .b2)
-    (z .t2) (block (z .d) (s .args .opening .now) p)) (el (z .d) (s .args .c .now)))) (c .before .before .g-place .ensures) in
-    self-product (z .d) (z .n) (z .r) _ _ _ _ _ _ (s .pre .0 .shaped .degree .small) (c .before .before .before .inner .ensures) right
+    let right = c .before .mixed-sum .ensures ∙ ap (λ (p : ℕ). array (z .shape .d) (mixed (R (z .shape .d)) (z .shape .r) (garbageOf (z .shape .d) (z .shape .r) (z .b2)
+    (z .t2) (block (z .shape .d) (s .args .opening .now) p)) (el (z .shape .d) (s .args .c .now)))) (c .before .before .g-place .ensures) in
+    self-product (z .shape .d) (z .shape .n) (z .shape .r) _ _ _ _ _ _ (s .pre .0 .shaped .degree .small) (c .before .before .before .inner .ensures) right
     (c .equals .ensures)
 
 pub self-product-spec : {M : Type 1} → statement M

@@ -9,7 +9,7 @@ use Rattle.verifier.proofs.linear.linear_sum.Statement.{statement}
 use Rattle.verifier.proofs.linear.linear_sum.Tie as tie
 
 abbrev Inv-loop : tie.InvT-loop
-Inv-loop sizes whole constant-terms projections psi omega omega-sums alpha delta c z d count acc₀ i₀ acc i = Summed (sizes .d) count
+Inv-loop sizes whole constant-terms projections psi omega omega-sums alpha delta c z d count acc₀ i₀ acc i = Summed (sizes .shape .d) count
     (linearSummand sizes whole constant-terms projections psi omega alpha delta c z) i (acc .coefficients)
 
 abbrev μ-loop : tie.MeasureT-loop

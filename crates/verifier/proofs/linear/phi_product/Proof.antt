@@ -13,23 +13,23 @@ use Rattle.verifier.proofs.linear.phi_product.Statement.{statement}
 use Rattle.verifier.proofs.linear.phi_product.Tie as tie
 
 abbrev Inv-loop : tie.InvT-loop
-Inv-loop sizes whole constant-terms projections psi omega omega-sums alpha delta z i d rank first acc₀ y₀ acc y = Summed (sizes .d) rank
-    (λ y. phiSummand sizes whole constant-terms projections psi omega alpha delta z (i * sizes .n + y) y) y (acc .coefficients)
+Inv-loop sizes whole constant-terms projections psi omega omega-sums alpha delta z i d rank first acc₀ y₀ acc y = Summed (sizes .shape .d) rank
+    (λ y. phiSummand sizes whole constant-terms projections psi omega alpha delta z (i * sizes .shape .n + y) y) y (acc .coefficients)
 
 abbrev μ-loop : tie.MeasureT-loop
 μ-loop sizes whole constant-terms projections psi omega omega-sums alpha delta z i d rank first acc₀ y₀ acc y = rank - y
 
 -- the next element's place
 place : (c : tie.In-loop Inv-loop μ-loop) → let a = c .before .before .before .args in
-    a .i * a .sizes .n + c .before .loop .y < a .sizes .r * a .sizes .n
+    a .i * a .sizes .shape .n + c .before .loop .y < a .sizes .shape .r * a .sizes .shape .n
 place c =
     let s = c .before .before .before in
-    block-fits (s .args .sizes .r) (s .args .sizes .n) (s .args .i) (c .before .loop .y) (s .pre .1 .1 .1) (c .loop-test .taken)
+    block-fits (s .args .sizes .shape .r) (s .args .sizes .shape .n) (s .args .i) (c .before .loop .y) (s .pre .1 .1 .1) (c .loop-test .taken)
 
 mul-first : tie.Need-mul-first Inv-loop μ-loop
 mul-first c =
     let z = c .args .sizes in
-    omega (arith, block-before (z .n) (c .args .i) (z .r) (c .pre .1 .1 .1), witness-small (c .pre .0 .wholes .shaped))
+    omega (arith, block-before (z .shape .n) (c .args .i) (z .shape .r) (c .pre .1 .1 .1), witness-small (c .pre .0 .wholes .shaped))
 
 phi-summand-requires : tie.Need-phi-summand-requires Inv-loop μ-loop
 phi-summand-requires c κs =
@@ -46,7 +46,7 @@ loop-again c =
 returns : tie.Need-returns Inv-loop μ-loop
 returns c =
     let s = c .before .before .before in
-    summed-end (c .before .loop .inv) (c .loop-test .left) ∙ ap (array (s .args .sizes .d)) (phi-product
+    summed-end (c .before .loop .inv) (c .loop-test .left) ∙ ap (array (s .args .sizes .shape .d)) (phi-product
     (s .args .sizes) _ _ _ _ _ _ _ _ (s .args .i))
 
 pub phi-product-spec : {M : Type 1} → statement M

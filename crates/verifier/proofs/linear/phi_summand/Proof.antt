@@ -10,7 +10,7 @@ from-slice-requires : tie.Need-from-slice-requires
 from-slice-requires c κs =
     let s = c .before in
     let z = s .args .sizes in
-    (s .pre .0 .wholes .shaped .degree, omega (arith, block-before (z .d) (s .args .y) (z .n) (s .pre .1 .1 .1 .1), s .pre .1 .1 .0))
+    (s .pre .0 .wholes .shaped .degree, omega (arith, block-before (z .shape .d) (s .args .y) (z .shape .n) (s .pre .1 .1 .1 .1), s .pre .1 .1 .0))
 
 returns : tie.Need-returns
 returns c =

@@ -25,7 +25,7 @@ mul-h-start c =
 short-parts-requires : tie.Need-short-parts-requires
 short-parts-requires c κs =
     let s = c .before .before in (
-      rw (c .before .t-place .ensures, c .h-place .ensures) (mul-le-mul-right (s .args .sizes .d) (t-before-h (s .args .sizes))),
+      rw (c .before .t-place .ensures, c .h-place .ensures) (mul-le-mul-right (s .args .sizes .shape .d) (t-before-h (s .args .sizes))),
       rw (c .h-place .ensures) (omega (arith, h-within (s .args .sizes) _ (s .pre .1))),
     )
 
@@ -33,8 +33,8 @@ returns : tie.Need-returns
 returns c =
     let s = c .before .before .before in
     c .short-parts .ensures
-    ∙ check-nine _ _ _ _ _ _ _ _ _ _ _ (s .pre .1 .sized) (ap (λ (a : ℕ). a * s .args .sizes .d) (c .before .before .t-place .ensures))
-    (ap (λ (a : ℕ). a * s .args .sizes .d) (c .before .h-place .ensures))
+    ∙ check-nine _ _ _ _ _ _ _ _ _ _ _ (s .pre .1 .sized) (ap (λ (a : ℕ). a * s .args .sizes .shape .d) (c .before .before .t-place .ensures))
+    (ap (λ (a : ℕ). a * s .args .sizes .shape .d) (c .before .h-place .ensures))
 
 pub short-opening-spec : {M : Type 1} → statement M
 short-opening-spec =

@@ -10,7 +10,7 @@ use Rattle.verifier.proofs.outer.first_outer.Statement.{statement}
 use Rattle.verifier.proofs.outer.first_outer.Tie as tie
 
 abbrev Inv-loop : tie.InvT-loop
-Inv-loop sizes b-matrix c-matrix u1 opening rows all₀ k₀ all k = Tested rows (λ k. same (sizes .d) (el (sizes .d) u1 k) (outer₁ (sizes .d) (sizes .r)
+Inv-loop sizes b-matrix c-matrix u1 opening rows all₀ k₀ all k = Tested rows (λ k. same (sizes .shape .d) (el (sizes .shape .d) u1 k) (outer₁ (sizes .shape .d) (sizes .shape .r)
     (sizes .kappa) (sizes .t1) (sizes .t2) b-matrix c-matrix k (tBlockOf sizes opening) (gBlockOf sizes opening))) k all
 
 abbrev μ-loop : tie.MeasureT-loop

@@ -14,8 +14,8 @@ row-times-requires c κs =
     let s = c .before .before in
     let z = s .args .sizes in
     let small : c .before .t-size .result ≤ 4096 = rw (c .before .t-size .ensures) (omega (arith, t-size-bound z (s .pre .0))) in
-    let row = row-fits (z .d) _ (z .kappa1) (s .args .k) _ _ (c .before .t-size .ensures) (s .pre .1 .0) (s .pre .1 .1 .1 .1 .1) in
-    let part = part-fits (z .d) (c .t-place .ensures) (c .before .t-size .ensures) (t-within z _ (s .pre .1 .1 .1 .1 .0)) in
+    let row = row-fits (z .shape .d) _ (z .kappa1) (s .args .k) _ _ (c .before .t-size .ensures) (s .pre .1 .0) (s .pre .1 .1 .1 .1 .1) in
+    let part = part-fits (z .shape .d) (c .t-place .ensures) (c .before .t-size .ensures) (t-within z _ (s .pre .1 .1 .1 .1 .0)) in
     (s .pre .0 .shaped .degree, (small, (row, part)))
 
 row-times-requires-2 : tie.Need-row-times-requires-2
@@ -23,8 +23,8 @@ row-times-requires-2 c κs =
     let s = c .before .before .before .before .before in
     let z = s .args .sizes in
     let small : c .before .garbage-size .result ≤ 4096 = rw (c .before .garbage-size .ensures) (omega (arith, g-size-bound z (s .pre .0))) in
-    let row = row-fits (z .d) _ (z .kappa1) (s .args .k) _ _ (c .before .garbage-size .ensures) (s .pre .1 .1 .0) (s .pre .1 .1 .1 .1 .1) in
-    let part = part-fits (z .d) (c .g-place .ensures) (c .before .garbage-size .ensures) (g-within z _ (s .pre .1 .1 .1 .1 .0)) in
+    let row = row-fits (z .shape .d) _ (z .kappa1) (s .args .k) _ _ (c .before .garbage-size .ensures) (s .pre .1 .1 .0) (s .pre .1 .1 .1 .1 .1) in
+    let part = part-fits (z .shape .d) (c .g-place .ensures) (c .before .garbage-size .ensures) (g-within z _ (s .pre .1 .1 .1 .1 .0)) in
     (s .pre .0 .shaped .degree, (small, (row, part)))
 
 from-slice-requires : tie.Need-from-slice-requires

@@ -10,8 +10,8 @@ use Rattle.verifier.proofs.outer.second_outer.Statement.{statement}
 use Rattle.verifier.proofs.outer.second_outer.Tie as tie
 
 abbrev Inv-loop : tie.InvT-loop
-Inv-loop sizes d-matrix u2 opening rows all₀ k₀ all k = Tested rows (λ k. same (sizes .d) (el (sizes .d) u2 k) (outer₂ (sizes .d)
-    (sizes .r) (sizes .t1) d-matrix k (hBlockOf sizes opening))) k all
+Inv-loop sizes d-matrix u2 opening rows all₀ k₀ all k = Tested rows (λ k. same (sizes .shape .d) (el (sizes .shape .d) u2 k) (outer₂ (sizes .shape .d)
+    (sizes .shape .r) (sizes .t1) d-matrix k (hBlockOf sizes opening))) k all
 
 abbrev μ-loop : tie.MeasureT-loop
 μ-loop sizes d-matrix u2 opening rows all₀ k₀ all k = rows - k

@@ -14,8 +14,8 @@ row-times-requires c κs =
     let s = c .before .before in
     let z = s .args .sizes in
     let small : c .before .garbage-size .result ≤ 4096 = rw (c .before .garbage-size .ensures) (omega (arith, h-size-bound z (s .pre .0))) in
-    let row = row-fits (z .d) _ (z .kappa2) (s .args .k) _ _ (c .before .garbage-size .ensures) (s .pre .1 .0) (s .pre .1 .1 .1 .1) in
-    let part = part-fits (z .d) (c .h-place .ensures) (c .before .garbage-size .ensures) (h-within z _ (s .pre .1 .1 .1 .0)) in
+    let row = row-fits (z .shape .d) _ (z .kappa2) (s .args .k) _ _ (c .before .garbage-size .ensures) (s .pre .1 .0) (s .pre .1 .1 .1 .1) in
+    let part = part-fits (z .shape .d) (c .h-place .ensures) (c .before .garbage-size .ensures) (h-within z _ (s .pre .1 .1 .1 .0)) in
     (s .pre .0 .shaped .degree, (small, (row, part)))
 
 from-slice-requires : tie.Need-from-slice-requires

@@ -10,7 +10,7 @@ use Rattle.verifier.proofs.relation.relation_sum.Statement.{statement}
 use Rattle.verifier.proofs.relation.relation_sum.Tie as tie
 
 abbrev Inv-loop : tie.InvT-loop
-Inv-loop sizes whole constant-terms psi alpha delta opening place d count acc₀ q₀ acc q = Summed (sizes .d) count
+Inv-loop sizes whole constant-terms psi alpha delta opening place d count acc₀ q₀ acc q = Summed (sizes .shape .d) count
     (relationSummand sizes whole constant-terms psi alpha delta opening place) q (acc .coefficients)
 
 abbrev μ-loop : tie.MeasureT-loop
@@ -34,7 +34,7 @@ returns c =
     let s = c .before .before .before .before in
     let z = s .args .sizes in
     summed-end (c .before .loop .inv) (c .loop-test .left)
-    ∙ ap (λ (m : ℕ). array (z .d) (sum (R (z .d)) m (relationSummand z (s .args .whole .now) (s .args .constant-terms .now) (s .args .psi .now)
+    ∙ ap (λ (m : ℕ). array (z .shape .d) (sum (R (z .shape .d)) m (relationSummand z (s .args .whole .now) (s .args .constant-terms .now) (s .args .psi .now)
     (s .args .alpha .now) (s .args .delta .now) (s .args .opening .now) (s .args .place))))
     (c .before .before .before .pair-count .ensures)
 

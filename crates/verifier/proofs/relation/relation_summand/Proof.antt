@@ -13,7 +13,7 @@ garbage-of-requires c κs =
     let s = c .before in
     let z = s .args .sizes in
     let g = s .pre .1 .1 .1 .0 in
-    (g .degree, (g .base, (g .digits, garbage-below (z .d) (z .r) (z .t2) (s .args .place) (s .args .q) _ (s .pre .1 .1 .1 .1) (g .inside))))
+    (g .degree, (g .base, (g .digits, garbage-below (z .shape .d) (z .shape .r) (z .t2) (s .args .place) (s .args .q) _ (s .pre .1 .1 .1 .1) (g .inside))))
 
 product-requires : tie.Need-product-requires
 product-requires c κs = search needs

@@ -31,9 +31,9 @@ add-weighted-sum c =
 weighted-sum-requires : tie.Need-weighted-sum-requires
 weighted-sum-requires c κs =
     let s = c .before .before in
-    let last = ap (λ (m : ℕ). m * s .args .sizes .d) (c .before .function-size .ensures) in (
+    let last = ap (λ (m : ℕ). m * s .args .sizes .shape .d) (c .before .function-size .ensures) in (
       weights-fit (s .args .k) (s .args .sizes .l) _ (s .pre .1 .1) (s .pre .1 .0 .psi),
-      constants-fit (s .args .sizes .d) (s .args .sizes .n) (s .args .sizes .r) (s .args .sizes .l) _ _ last (s .pre .1 .0 .terms),
+      constants-fit (s .args .sizes .shape .d) (s .args .sizes .shape .n) (s .args .sizes .shape .r) (s .args .sizes .l) _ _ last (s .pre .1 .0 .terms),
     )
 
 mul-weighted-sum-2 : tie.Need-mul-weighted-sum-2
@@ -61,8 +61,8 @@ returns c =
     let size = terms .before .before in
     let s = size .before in
     let z = s .args .sizes in
-    let last = ap (λ (m : ℕ). m * z .d) (size .function-size .ensures) in
-    term-holds (z .d) (z .n) (z .r) (z .l) (z .w) (s .args .k) _ _ _ _ _ _ _ _ _ _ _ _ _ _ _ (s .pre .0 .shaped .degree .small)
+    let last = ap (λ (m : ℕ). m * z .shape .d) (size .function-size .ensures) in
+    term-holds (z .shape .d) (z .shape .n) (z .shape .r) (z .l) (z .w) (s .args .k) _ _ _ _ _ _ _ _ _ _ _ _ _ _ _ (s .pre .0 .shaped .degree .small)
     (s .pre .0 .shaped .degree .positive)
     last refl refl (terms .weighted-sum .ensures) (projected .weighted-sum2 .ensures) (expected .add .ensures) (element .from-slice .ensures)
     (given .constant-term .ensures) (c .before .residue .ensures) (c .residue2 .ensures)

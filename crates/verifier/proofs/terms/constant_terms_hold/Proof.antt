@@ -9,7 +9,7 @@ use Rattle.verifier.proofs.terms.constant_terms_hold.Statement.{stateme
 use Rattle.verifier.proofs.terms.constant_terms_hold.Tie as tie
 
 abbrev Inv-loop : tie.InvT-loop
-Inv-loop sizes constant-terms psi omega p second-b all₀ k₀ all k = Tested 5 (termHolds (sizes .d) (sizes .n) (sizes .r) (sizes .l)
+Inv-loop sizes constant-terms psi omega p second-b all₀ k₀ all k = Tested 5 (termHolds (sizes .shape .d) (sizes .shape .n) (sizes .shape .r) (sizes .l)
     (sizes .w) constant-terms psi omega p second-b) k all
 
 abbrev μ-loop : tie.MeasureT-loop
