@@ -5,7 +5,7 @@ ghost use lib.ListN.{length};
 ghost use Rattle.integers.specs.Over.{over};
 ghost use Rattle.ring.specs.Element.{Degree};
 ghost use Rattle.fold.specs.Messages.{elements};
-ghost use Rattle.constraints.specs.Known.Facts.{AggregateFacts};
+ghost use Rattle.fold.specs.Known.WorkFacts.{AggregateFacts};
 ghost use Rattle.constraints.specs.RowGroups.{OmegaSums};
 ghost use Rattle.aggregation.specs.Garbage.{aggregatePart, partProduct, cross, squareElements};
 use constraints::aggregated::aggregate_phi;

@@ -5,7 +5,7 @@ ghost use lib.ListN.{length};
 ghost use Rattle.integers.specs.Over.{over};
 ghost use Rattle.ring.specs.Element.{Degree, array};
 ghost use Rattle.fold.specs.Messages.{elements, z, zDigits};
-ghost use Rattle.prover.specs.Known.Facts.{AmortizeFacts};
+ghost use Rattle.fold.specs.Known.CallFacts.{AmortizeFacts};
 use fold::Shape;
 use residues::digits::split_digits;
 use ring::element::Element;
@@ -57,7 +57,7 @@ fn write_folded(
 
 // z in two digits to base b: the low digits, then the high ones.
 pub fn write_z(shape: Shape, b: usize, c: &[i32], witness: &[i32], out: &mut [i32])
-    requires { ⌜ AmortizeFacts shape b (now c) (now witness) (now out) ⌝ }
+    requires { ⌜ AmortizeFacts shape 2 b (now c) (now witness) (now out) ⌝ }
     ensures { λ _. ⌜ now (out .exit) ≡ zDigits (shape .d) (shape .n) (shape .r) 2 b (now (c .entry)) (now (witness .entry)) ⌝ }
 {
     let d = shape.d;

@@ -21,7 +21,7 @@ returns c =
     let s = c .before .before .before .before .before .before in
     let a = s .args in
     let z = a .shape in
-    folded-digits (z .d) (z .n) (z .r) (a .b) (a .c .now) (a .witness .now) (a .out .now) (s .pre .output)
+    folded-digits (z .d) (z .n) (z .r) (a .b) (a .c .now) (a .witness .now) (a .out .now) (s .pre .zs-length)
     (c .before .before .before .before .write-folded .ensures) (c .before .split-digits .ensures)
 
 pub write-z-spec : {M : Type 1} → statement M
