@@ -14,6 +14,7 @@ use Rattle.fold.specs.declared.CommitSizes.{CommitSizes}
 use Rattle.fold.specs.declared.GarbageSizes.{GarbageSizes}
 use Rattle.fold.specs.declared.Sizes.{Sizes}
 use Rattle.fold.specs.Sizes.{five}
+use Rattle.fold.specs.Statement.{Statement, Draws, Transcript}
 use Rattle.fold.specs.Answers.{firstFailing}
 use Rattle.fold.specs.Refusals.{projectionLength, sizeTests}
 use Rattle.fold.specs.Refusals.{commitBounds, projectBounds, aggregateBounds, garbageBounds, amortizeBounds}
@@ -45,7 +46,8 @@ module _ (sizes : CommitSizes) where
       search (tested, limits, allOf-all _ (row 7))
 
   -- t′ and g′ are what was written to ts and gs
-  pub written-digits : {B C ts gs u₁ t′ g′ : List ℤ} → length t′ ≡ length ts → length g′ ≡ length gs → U₁Facts sizes B C ts gs u₁ → U₁Facts sizes B C t′ g′ u₁
+  pub written-digits : {B C ts gs u₁ t′ g′ : List ℤ} → length t′ ≡ length ts → length g′ ≡ length gs
+      → U₁Facts sizes B C ts gs u₁ → U₁Facts sizes B C t′ g′ u₁
   written-digits t-long g-long facts =
       record {
         limits = facts .limits;
@@ -132,15 +134,24 @@ module _ (sizes : Sizes) (A B C D whole constantTerms projections ψ ω α δ c 
   open Sizes sizes using (shape, k, l, w, kappa, kappa1, kappa2, b, b1, b2, t1, t2, bound, target)
   open Shape shape using (d, n, r)
 
+  abbrev 𝓢 : Statement
+  𝓢 = statementOf sizes A B C D whole constantTerms
+
+  abbrev 𝓓 : Draws
+  𝓓 = drawsOf projections ψ ω α δ c
+
+  abbrev 𝓣 : Transcript
+  𝓣 = transcriptOf u₁ p b″ u₂
+
   pub record VerifyFacts : Type 0 where
     pub message : MessageFacts sizes constantTerms ψ ω p b″
     pub outer : OuterFacts 2 sizes B C D u₁ u₂ o
     pub opening : OpeningFacts 2 sizes A whole constantTerms projections ψ ω b″ α δ c o
 
-  pub verify-facts : verifyRefusal (statementOf sizes A B C D whole constantTerms) (drawsOf projections ψ ω α δ c) (transcriptOf u₁ p b″ u₂) o ≡ 0
-      → VerifyFacts
+  pub verify-facts : verifyRefusal 𝓢 𝓓 𝓣 o ≡ 0 → VerifyFacts
   unfolding verifyTests
   verify-facts e =
-      let row = holds (verifyTests (statementOf sizes A B C D whole constantTerms) (drawsOf projections ψ ω α δ c) (transcriptOf u₁ p b″ u₂) o) refl e in
-      let limits = verify-limits d n r k l w kappa kappa1 kappa2 b b1 b2 t1 t2 bound target (early-holds (sizeTests (statementOf sizes A B C D whole constantTerms) (drawsOf projections ψ ω α δ c)) _ refl e) (row 6) in
+      let row = holds (verifyTests 𝓢 𝓓 𝓣 o) refl e in
+      let limits =
+      verify-limits d n r k l w kappa kappa1 kappa2 b b1 b2 t1 t2 bound target (early-holds (sizeTests 𝓢 𝓓) _ refl e) (row 6) in
       search (tested, limits, allOf-all _ (row 7), row 9)

@@ -5,10 +5,10 @@
 --     messages-test-all
 --     part-taken, next-taken     the question for a part, the next instance
 use mathlib.Core.Path.{_≡_, refl}
-use mathlib.Core.Bool.{Bool, true}
-use mathlib.Core.List.{List, [], _∷_}
-use Prim.Native.Nat.{ℕ, zero, suc, _*_, _≤_}
-use lib.ListN.{length, take}
+use mathlib.Core.Bool.{true}
+use mathlib.Core.List.{List, [], _∷_, _++_}
+use Prim.Native.Nat.{ℕ, _*_, _≤_}
+use lib.ListN.{length}
 use lib.IntN.{ℤ, pos}
 use borrow.Author.Tests.{le-leb}
 use Rattle.residues.specs.Range.{coefficients}
@@ -16,7 +16,7 @@ use Rattle.fold.specs.Answers.{firstFailing}
 use Rattle.fold.specs.Sizes.{five, tSize, garbageSize, openingSize, nextParts, nextCount}
 use Rattle.fold.specs.Statement.{Relation}
 use Rattle.fold.specs.Statement.{Statement, Draws, Transcript}
-use Rattle.fold.specs.Refusals.{degree, rank, parts, constraintCount, projectionCount, commitmentRank, base, digitCount, chunks}
+use Rattle.fold.specs.Refusals.{degree, commitmentRank, base, chunks, shape, counts, ranks, digits}
 use Rattle.fold.specs.Refusals.{sized, wholeLength, sizeTests, boundTests, drawTests, constraintLengths, garbageLengths, givenLengths, givenRanges}
 use Rattle.fold.specs.Refusals.{commitTests, projectTests, aggregateTests, garbageTests, amortizeTests}
 use Rattle.fold.specs.Refusals.{proverTests, verifyTests, nextTests, partTests}
@@ -35,29 +35,29 @@ module _ (𝓢 : Statement) (𝓓 : Draws) (s : List ℤ) (taken : firstFailing 
   unfolding proverTests
   row = holds (proverTests 𝓢 𝓓 s) refl taken
 
-  degrees : degree (pos d) ≡ true
+  row₁ : degree (pos d) ≡ true
   unfolding proverTests
-  degrees = row 1
+  row₁ = row 1
 
-  counts : All (rank (pos n) ∷ parts (pos r) ∷ constraintCount (pos K) ∷ constraintCount (pos L) ∷ projectionCount (pos w) ∷ [])
+  row₂ : All (shape (pos n) (pos r) ++ counts (pos K) (pos L) (pos w))
   unfolding proverTests
-  counts = allOf-all _ (row 2)
+  row₂ = allOf-all _ (row 2)
 
-  ranks : All (commitmentRank (pos κ) ∷ commitmentRank (pos κ₁) ∷ commitmentRank (pos κ₂) ∷ [])
+  row₃ : All (ranks (pos κ) (pos κ₁) ++ (commitmentRank (pos κ₂) ∷ []))
   unfolding proverTests
-  ranks = allOf-all _ (row 3)
+  row₃ = allOf-all _ (row 3)
 
-  bases : All (base (pos b) ∷ base (pos b₁) ∷ base (pos b₂) ∷ digitCount (pos t₁) ∷ digitCount (pos t₂) ∷ [])
+  row₄ : All (base (pos b) ∷ digits (pos b₁) (pos b₂) (pos t₁) (pos t₂))
   unfolding proverTests
-  bases = allOf-all _ (row 4)
+  row₄ = allOf-all _ (row 4)
 
-  lengths : All (sized s (r * n * d) ∷ givenLengths 𝓢 𝓓)
+  row₇ : All (sized s (r * n * d) ∷ givenLengths 𝓢 𝓓)
   unfolding proverTests
-  lengths = allOf-all _ (row 7)
+  row₇ = allOf-all _ (row 7)
 
-  ranges : All (coefficients s ∷ givenRanges 𝓢 𝓓)
+  row₈ : All (coefficients s ∷ givenRanges 𝓢 𝓓)
   unfolding proverTests
-  ranges = allOf-all _ (row 8)
+  row₈ = allOf-all _ (row 8)
 
   draws : Passes (drawTests 𝓢 𝓓)
   unfolding proverTests
@@ -69,12 +69,12 @@ module _ (𝓢 : Statement) (𝓓 : Draws) (s : List ℤ) (taken : firstFailing 
   unfolding commitTests
   commit-taken ts gs u₁ t-size g-size u₁-size =
       passes-refusal (commitTests d n r κ κ₁ b₁ b₂ t₁ t₂ A B C s ts gs u₁)
-      (degrees
-      & all-allOf _ (search counts)
-      & all-allOf _ (search ranks)
-      & all-allOf _ (search bases)
-      & all-allOf _ (search (length-sized, lengths) depth 20)
-      & all-allOf _ (search ranges)
+      (row₁
+      & all-allOf _ (search row₂)
+      & all-allOf _ (search row₃)
+      & all-allOf _ (search row₄)
+      & all-allOf _ (search (length-sized, row₇) depth 20)
+      & all-allOf _ (search row₈)
       & tt)
 
   -- message 2
@@ -82,10 +82,10 @@ module _ (𝓢 : Statement) (𝓓 : Draws) (s : List ℤ) (taken : firstFailing 
   unfolding projectTests
   project-taken p p-size =
       passes-refusal (projectTests d n r w projections s p)
-      (degrees
-      & all-allOf _ (search counts)
-      & all-allOf _ (search (length-sized, lengths) depth 20)
-      & all-allOf _ (search ranges)
+      (row₁
+      & all-allOf _ (search row₂)
+      & all-allOf _ (search (length-sized, row₇) depth 20)
+      & all-allOf _ (search row₈)
       & search draws)
 
   -- message 3
@@ -93,10 +93,10 @@ module _ (𝓢 : Statement) (𝓓 : Draws) (s : List ℤ) (taken : firstFailing 
   unfolding aggregateTests
   aggregate-taken b″ b″-size =
       passes-refusal (aggregateTests d n r L w constantTerms projections ψ ω s b″)
-      (degrees
-      & all-allOf _ (search counts)
-      & all-allOf _ (search (length-sized, lengths) depth 20)
-      & all-allOf _ (search ranges depth 20)
+      (row₁
+      & all-allOf _ (search row₂)
+      & all-allOf _ (search (length-sized, row₇) depth 20)
+      & all-allOf _ (search row₈ depth 20)
       & search draws)
 
   -- message 4
@@ -105,14 +105,14 @@ module _ (𝓢 : Statement) (𝓓 : Draws) (s : List ℤ) (taken : firstFailing 
   unfolding garbageTests
   garbage-taken hs u₂ h-size u₂-size =
       passes-refusal (garbageTests d n r K L w κ₂ b₁ t₁ whole constantTerms projections ψ ω α δ D s hs u₂)
-      (degrees
-      & all-allOf _ counts
-      & search ranks
-      & all-allOf _ (search bases)
+      (row₁
+      & all-allOf _ row₂
+      & search row₃
+      & all-allOf _ (search row₄)
       & all-allOf _
       (all-join (constraintLengths d n r K L w whole constantTerms projections ψ ω α δ) (garbageLengths d n r κ₂ t₁ D s hs u₂)
-      (search lengths depth 20) (search (length-sized, lengths)))
-      & all-allOf _ (search ranges depth 20)
+      (search row₇ depth 20) (search (length-sized, row₇)))
+      & all-allOf _ (search row₈ depth 20)
       & search draws)
 
   -- message 5
@@ -120,11 +120,11 @@ module _ (𝓢 : Statement) (𝓓 : Draws) (s : List ℤ) (taken : firstFailing 
   unfolding amortizeTests
   amortize-taken zs z-size =
       passes-refusal (amortizeTests d n r tz b c s zs)
-      (degrees
-      & all-allOf _ (search counts)
-      & search bases
-      & all-allOf _ (search (length-sized, lengths) depth 20)
-      & all-allOf _ (search ranges)
+      (row₁
+      & all-allOf _ (search row₂)
+      & search row₄
+      & all-allOf _ (search (length-sized, row₇) depth 20)
+      & all-allOf _ (search row₈)
       & search draws)
 
 -- whatever they write to, where messages 1, 4 and 5 refuse nothing and row 6 holds, the statement, the draws and the witness are taken
