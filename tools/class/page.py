@@ -1,9 +1,11 @@
 #!/usr/bin/env python3
 """The class's page and sheets: python3 tools/class/page.py ROOT writes ROOT/docs/CLASS.md, ROOT/docs/pictures/class.svg and
-ROOT/examples/class*.
+ROOT/examples/class*. python3 tools/class/page.py --library compares the class's case with the proved library (bindings/python/build builds it).
 
 Every number of the page is computed here, by the second implementation, so that the page cannot go stale: tools/all writes it anew and compares.
 """
+
+import sys
 
 import case
 from case import pair
@@ -97,7 +99,7 @@ def page():
     return f"""# A class with one control unit
 
 For people who know cars. You need to add, to multiply small numbers, and half an hour. Every number on this page was computed by a program
-(tools/class/page.py), and every step can be checked with a pencil.
+(tools/class/page.py), every message and verdict by the proved library too, and every step can be checked with a pencil.
 
 ![One control unit, three slots, two stored codes](pictures/class.svg)
 
@@ -275,4 +277,9 @@ def files():
 
 
 if __name__ == "__main__":
-    stored.write(files)
+    if sys.argv[1:] == ["--library"]:
+        import library
+
+        library.compare(sheets())
+    else:
+        stored.write(files)

@@ -63,8 +63,9 @@ pub fn read_sizes(wides: &[i64]) -> Sizes
 pub fn commit_sizes(sizes: Sizes) -> CommitSizes
     ensures { λ r. ⌜ r ≡ commitSizesOf sizes ⌝ }
 {
+    let shape = sizes.shape;
     CommitSizes {
-        shape: sizes.shape,
+        shape,
         kappa: sizes.kappa,
         kappa1: sizes.kappa1,
         b1: sizes.b1,
@@ -77,8 +78,9 @@ pub fn commit_sizes(sizes: Sizes) -> CommitSizes
 pub fn garbage_sizes(sizes: Sizes) -> GarbageSizes
     ensures { λ r. ⌜ r ≡ garbageSizesOf sizes ⌝ }
 {
+    let shape = sizes.shape;
     GarbageSizes {
-        shape: sizes.shape,
+        shape,
         k: sizes.k,
         l: sizes.l,
         w: sizes.w,

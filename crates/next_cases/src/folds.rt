@@ -44,8 +44,9 @@ fn commit(
     let t = &mut t_room[..t_count];
     let g = &mut g_room[..g_count];
     let u1 = &mut u1_room[..u1_count];
+    let shape = sizes.shape;
     let its = CommitSizes {
-        shape: sizes.shape,
+        shape,
         kappa: sizes.kappa,
         kappa1: sizes.kappa1,
         b1: sizes.b1,
@@ -146,8 +147,9 @@ fn commit_garbage(
     let mut u2_room = [FILL; ROOM];
     let h = &mut h_room[..h_count];
     let u2 = &mut u2_room[..u2_count];
+    let shape = sizes.shape;
     let its = GarbageSizes {
-        shape: sizes.shape,
+        shape,
         k: sizes.k,
         l: sizes.l,
         w: sizes.w,

@@ -21,8 +21,9 @@ const OPENING: usize = 20;
 pub fn part_sizes(sizes: Sizes, nu: usize, mu: usize) -> PartSizes
     ensures { λ x. ⌜ x ≡ partSizesOf sizes nu mu ⌝ }
 {
+    let shape = sizes.shape;
     PartSizes {
-        shape: sizes.shape,
+        shape,
         kappa: sizes.kappa,
         t1: sizes.t1,
         t2: sizes.t2,
