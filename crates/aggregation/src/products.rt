@@ -5,7 +5,7 @@ ghost use lib.ListN.{length};
 ghost use Rattle.integers.specs.Over.{over};
 ghost use Rattle.ring.specs.Element.{Degree};
 ghost use Rattle.fold.specs.Messages.{elements, aggregate};
-ghost use Rattle.constraints.specs.Known.Facts.{AggregateFacts};
+ghost use Rattle.fold.specs.Known.WorkFacts.{AggregateFacts};
 ghost use Rattle.aggregation.specs.Garbage.{partProduct, cross, squareElements};
 use constraints::ConstraintSizes;
 use constraints::phi::write_phi_part;

@@ -7,7 +7,8 @@ ghost use Rattle.algebra.specs.Triangle.{pair};
 ghost use Rattle.fold.specs.Sizes.{pairs};
 ghost use Rattle.fold.specs.Messages.{b″};
 ghost use Rattle.constraints.specs.RowGroups.{OmegaSums};
-ghost use Rattle.aggregation.specs.Known.Facts.{PairFacts, ValueFacts};
+ghost use Rattle.fold.specs.Known.WorkFacts.{PairFacts, ValueFacts};
+ghost use Rattle.fold.specs.Known.CallFacts.{AggregateCallFacts};
 ghost use Rattle.aggregation.specs.Rows.{Sums};
 ghost use Rattle.aggregation.specs.Values.{pairSummand, witnessSummand};
 use crate::rows;
@@ -124,8 +125,7 @@ pub fn write_second_b(
     witness: &[i32],
     second_b: &mut [i32],
 )
-    requires { ⌜ ValueFacts (shape .d) (shape .n) (shape .r) l w (now «constant_terms») (now projections) (now psi) (now omega) (now witness) ⌝ }
-    requires { ⌜ length (now «second_b») ≡ 5 * shape .d ⌝ }
+    requires { ⌜ AggregateCallFacts shape l w (now «constant_terms») (now projections) (now psi) (now omega) (now witness) (now «second_b») ⌝ }
     ensures { λ _. ⌜ now («second_b» .exit) ≡ b″ (shape .d) (shape .n) (shape .r) l w (now («constant_terms» .entry)) (now (projections .entry)) (now (psi .entry)) (now (omega .entry)) (now (witness .entry)) ⌝ }
 {
     let mut omega_sums = [0i64; 25920];

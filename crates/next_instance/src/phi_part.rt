@@ -14,7 +14,7 @@ ghost use Rattle.fold.specs.Statement.{Transcript};
 ghost use Rattle.fold.specs.Constraint.{φ′};
 ghost use Rattle.next_constraints.specs.Known.Facts.{EntryFacts};
 ghost use Rattle.next_constraints.specs.Tables.{TableRoom, Tables};
-ghost use Rattle.next_instance.specs.Known.Facts.{CutFacts};
+ghost use Rattle.next_instance.specs.Known.Facts.{PhiFacts};
 ghost use Rattle.next_instance.specs.Written.{tableOf, chunkEntry};
 use crate::cut::Cut;
 use fold::Sizes;
@@ -143,9 +143,8 @@ pub fn write_phi(
     out: &mut [i32],
     at: usize,
 )
-    requires { ⌜ EntryFacts sizes (now «a_matrix») (now «b_matrix») (now «c_matrix») (now «d_matrix») (now c) ⌝ }
-    requires { ⌜ TableRoom (sizes .shape .d) (sizes .shape .n) (sizes .shape .r) (now folded) (now products) (now «aggregate_a») (now diagonal) ⌝ }
-    requires { ⌜ CutFacts sizes cut ⌝ }
+    requires { ⌜ PhiFacts sizes cut (now «a_matrix») (now «b_matrix») (now «c_matrix») (now «d_matrix») (now c) (now folded) (now products)
+        (now «aggregate_a») (now diagonal) ⌝ }
     requires { ⌜ (x < nextCount (sizes .kappa) (sizes .kappa1) (sizes .kappa2)) × ((at + cut .parts * cut .rank) * sizes .shape .d ≤ length (now out)) ⌝ }
     ensures { λ _.
         ⌜ ((whole constantTerms projections psi omega alpha delta : List ℤ) (transcript : Transcript) (ν μ : ℕ) →

@@ -12,10 +12,8 @@ ghost use Rattle.fold.specs.Refusals.{wholeLength};
 ghost use Rattle.fold.specs.Constraint.{laidOut};
 ghost use Rattle.fold.specs.NextInstance.{nextWhole};
 ghost use Rattle.fold.specs.Known.NextFacts.{NextFacts};
-ghost use Rattle.next_constraints.specs.Known.Facts.{EntryFacts};
-ghost use Rattle.next_constraints.specs.Tables.{TableRoom, Tables};
-ghost use Rattle.next_constraints.specs.Coefficients.{ConstantFacts};
-ghost use Rattle.next_instance.specs.Known.Facts.{CutFacts};
+ghost use Rattle.next_constraints.specs.Tables.{Tables};
+ghost use Rattle.next_instance.specs.Known.Facts.{WriteFacts};
 ghost use Rattle.next_instance.specs.Written.{constraintOf};
 use crate::a_part::write_a;
 use crate::cut::Cut;
@@ -47,10 +45,8 @@ fn write_constraint(
     x: usize,
     out: &mut [i32],
 )
-    requires { ⌜ EntryFacts sizes (now «a_matrix») (now «b_matrix») (now «c_matrix») (now «d_matrix») (now c) ⌝ }
-    requires { ⌜ TableRoom (sizes .shape .d) (sizes .shape .n) (sizes .shape .r) (now folded) (now products) (now «aggregate_a») (now diagonal) ⌝ }
-    requires { ⌜ ConstantFacts sizes (now whole) (now alpha) (now delta) (now «second_b») (now u1) (now u2) ⌝ }
-    requires { ⌜ CutFacts sizes cut ⌝ }
+    requires { ⌜ WriteFacts sizes cut (now «a_matrix») (now «b_matrix») (now «c_matrix») (now «d_matrix») (now c) (now folded) (now products)
+        (now «aggregate_a») (now diagonal) (now whole) (now alpha) (now delta) (now «second_b») (now u1) (now u2) ⌝ }
     requires { ⌜ (x < nextCount (sizes .kappa) (sizes .kappa1) (sizes .kappa2)) × (length (now out) ≡ (functionSize (cut .rank) (cut .parts) + 1) * sizes .shape .d) ⌝ }
     ensures { λ _.
         ⌜ ((constantTerms projections psi omega p : List ℤ) →
@@ -105,10 +101,8 @@ fn write_constraints(
     diagonal: &[i32],
     out: &mut [i32],
 )
-    requires { ⌜ EntryFacts sizes (now «a_matrix») (now «b_matrix») (now «c_matrix») (now «d_matrix») (now c) ⌝ }
-    requires { ⌜ TableRoom (sizes .shape .d) (sizes .shape .n) (sizes .shape .r) (now folded) (now products) (now «aggregate_a») (now diagonal) ⌝ }
-    requires { ⌜ ConstantFacts sizes (now whole) (now alpha) (now delta) (now «second_b») (now u1) (now u2) ⌝ }
-    requires { ⌜ CutFacts sizes cut ⌝ }
+    requires { ⌜ WriteFacts sizes cut (now «a_matrix») (now «b_matrix») (now «c_matrix») (now «d_matrix») (now c) (now folded) (now products)
+        (now «aggregate_a») (now diagonal) (now whole) (now alpha) (now delta) (now «second_b») (now u1) (now u2) ⌝ }
     requires { ⌜ length (now out) ≡ wholeLength (sizes .shape .d) (cut .rank) (cut .parts) (nextCount (sizes .kappa) (sizes .kappa1) (sizes .kappa2)) ⌝ }
     ensures { λ _.
         ⌜ ((constantTerms projections psi omega p : List ℤ) →
@@ -176,9 +170,8 @@ pub fn write_instance(
     c: &[i32],
     out: &mut [i32],
 )
-    requires { ⌜ NextFacts (statementOf sizes (now «a_matrix») (now «b_matrix») (now «c_matrix») (now «d_matrix») (now whole) (now «constant_terms»))
-        (drawsOf (now projections) (now psi) (now omega) (now alpha) (now delta) (now c))
-        (transcriptOf (now u1) (now p) (now «second_b») (now u2)) nu mu (now out) ⌝ }
+    requires { ⌜ NextFacts sizes (now «a_matrix») (now «b_matrix») (now «c_matrix») (now «d_matrix») (now whole) (now «constant_terms») (now projections)
+        (now psi) (now omega) (now alpha) (now delta) (now c) (now u1) (now p) (now «second_b») (now u2) nu mu (now out) ⌝ }
     ensures { λ _. ⌜ now (out .exit) ≡ nextWhole
         (statementOf sizes (now («a_matrix» .entry)) (now («b_matrix» .entry)) (now («c_matrix» .entry)) (now («d_matrix» .entry)) (now (whole .entry)) (now («constant_terms» .entry)))
         (drawsOf (now (projections .entry)) (now (psi .entry)) (now (omega .entry)) (now (alpha .entry)) (now (delta .entry)) (now (c .entry)))

@@ -9,8 +9,8 @@ ghost use Rattle.fold.specs.Sizes.{pairs};
 ghost use Rattle.fold.specs.Messages.{aggregate, aggregateConstant};
 ghost use Rattle.fold.specs.Opening.{block, garbageOf};
 ghost use Rattle.fold.specs.Verdict.{check₈};
-ghost use Rattle.constraints.specs.Known.Facts.{TermFacts, WholeFacts};
-ghost use Rattle.verifier.specs.Known.Facts.{Fits, Holds, Opening, gValue, hValue};
+ghost use Rattle.fold.specs.Known.WorkFacts.{TermFacts, WholeFacts, RelationFacts};
+ghost use Rattle.verifier.specs.Known.Facts.{Holds, gValue, hValue};
 ghost use Rattle.verifier.specs.Mixed.{Garbage};
 ghost use Rattle.verifier.specs.Relation.{relationSummand};
 use crate::recomposed;
@@ -134,11 +134,7 @@ pub fn relation_holds(
     second_b: &[i32],
     opening: &[i32],
 ) -> bool
-    requires { ⌜ Fits sizes ⌝ }
-    requires { ⌜ WholeFacts (sizes .shape .d) (sizes .shape .n) (sizes .shape .r) (sizes .k) (now whole) (now alpha) ⌝ }
-    requires { ⌜ TermFacts (sizes .shape .d) (sizes .shape .n) (sizes .shape .r) (sizes .l) (now «constant_terms») (now psi) ⌝ }
-    requires { ⌜ (Holds (sizes .shape .d) 5 (now delta)) × (Holds (sizes .shape .d) 5 (now «second_b»)) ⌝ }
-    requires { ⌜ Opening sizes (now opening) ⌝ }
+    requires { ⌜ RelationFacts 2 sizes (now whole) (now «constant_terms») (now psi) (now alpha) (now delta) (now «second_b») (now opening) ⌝ }
     ensures { λ r.
         ⌜ ((w : ℕ) (projections omega : List ℤ) → r ≡ check₈ (sizes .shape .d) (sizes .shape .r)
         (aggregate (sizes .shape .d) (sizes .shape .n) (sizes .shape .r) (sizes .k) (sizes .l) w (now (whole .entry)) (now («constant_terms» .entry)) projections

@@ -22,10 +22,10 @@ write-digits-requires c κs =
     let kept = c .before .before .before .before .write-half-sums .kept .1 .1 .1 .0 in (
       shaped .degree,
       (
-        s .pre .base,
+        s .pre .limits .base₁,
         (
-          s .pre .t₁-positive,
-          s .pre .t₁-small,
+          omega (arith, s .pre .limits .t₁-least),
+          s .pre .limits .t₁-most,
           rw count (omega (arith, pairs-room shaped, kept)),
           digits-length (z .shape .d) (z .shape .r) (z .t1) count (s .pre .hs-length),
         ),

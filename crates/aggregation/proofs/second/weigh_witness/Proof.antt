@@ -22,7 +22,7 @@ abbrev μ-loop : tie.MeasureT-loop
 from-slice-requires : tie.Need-from-slice-requires Inv-loop μ-loop
 from-slice-requires c κs =
     let s = c .before .before .before .before in
-    (s .pre .0 .seconds .terms .shaped .degree, element-within (s .args .shape .d) (c .before .before .loop-test .taken) (omega (arith, s .pre .0 .s-length)))
+    (s .pre .0 .seconds .terms .shaped .degree, element-within (s .args .shape .d) (c .before .before .loop-test .taken) (omega (arith, s .pre .0 .pairs .s-length)))
 
 add-e : tie.Need-add-e Inv-loop μ-loop
 add-e c =

@@ -29,10 +29,10 @@ abbrev μ-loop : tie.MeasureT-loop
 chunk-width-requires : tie.Need-chunk-width-requires Inv-loop μ-loop
 chunk-width-requires c κs =
     let s = c .before .before in
-    let cut = s .pre .1 .1 .0 in
+    let cut = s .pre .0 .cut-is in
     let sizes = s .args .sizes in
     let below = part-below sizes (s .args .cut) cut (c .loop-test .taken) in
-    (omega arith, (cut-sizes sizes (s .args .cut) cut (s .pre .0 .limits), omega (arith, below, cut .parts-small)))
+    (omega arith, (cut-sizes sizes (s .args .cut) cut (s .pre .0 .entries .limits), omega (arith, below, cut .parts-small)))
 
 write-chunk-requires : tie.Need-write-chunk-requires Inv-loop μ-loop
 write-chunk-requires c κs =
@@ -40,13 +40,13 @@ write-chunk-requires c κs =
     let s = l .before in
     let a = s .args in
     let inside = c .before .before .loop-test .taken in
-    let within = part-within (a .sizes) (a .cut) (s .pre .1 .1 .0) (l .loop .s) inside in (
-      s .pre .0,
+    let within = part-within (a .sizes) (a .cut) (s .pre .0 .cut-is) (l .loop .s) inside in (
+      s .pre .0 .entries,
       (
-        s .pre .1 .0,
+        s .pre .0 .tables,
         (
-          (s .pre .1 .1 .1 .0, omega (arith, within, l .loop .inv .0 .first-is, c .before .chunk-width .ensures)),
-          running-fits _ _ _ _ _ (a .sizes .shape .d) (s .pre .1 .1 .1 .1) inside (l .loop .inv .0),
+          (s .pre .1 .0, omega (arith, within, l .loop .inv .0 .first-is, c .before .chunk-width .ensures)),
+          running-fits _ _ _ _ _ (a .sizes .shape .d) (s .pre .1 .1) inside (l .loop .inv .0),
         ),
       ),
     )
@@ -56,10 +56,10 @@ add-start c =
     let l = c .before .before .before .before .before in
     let s = l .before in
     let a = s .args in
-    let within = part-within (a .sizes) (a .cut) (s .pre .1 .1 .0) (l .loop .s) (c .before .before .before .before .loop-test .taken) in
+    let within = part-within (a .sizes) (a .cut) (s .pre .0 .cut-is) (l .loop .s) (c .before .before .before .before .loop-test .taken) in
     let size = c .before .before .before .chunk-width .ensures in
-    let small = opening-small (a .sizes) (s .pre .0 .limits) in
-    omega (arith, within, small, l .loop .inv .0 .first-is, size, s .pre .1 .1 .0 .rank-small)
+    let small = opening-small (a .sizes) (s .pre .0 .entries .limits) in
+    omega (arith, within, small, l .loop .inv .0 .first-is, size, s .pre .0 .cut-is .rank-small)
 
 add-place : tie.Need-add-place Inv-loop μ-loop
 add-place c =
@@ -67,16 +67,16 @@ add-place c =
     let s = l .before in
     let a = s .args in
     let inside = c .before .before .before .before .loop-test .taken in
-    let fits = running-fits _ _ _ _ _ (a .sizes .shape .d) (s .pre .1 .1 .1 .1) inside (l .loop .inv .0) in
-    let below = place-below (a .sizes .shape .d) (l .loop .place + a .cut .rank) (s .pre .0 .limits .shaped .degree .positive) fits in
-    let short = part-short (a .sizes) (a .cut) (s .pre .1 .1 .0) (l .loop .s) in
+    let fits = running-fits _ _ _ _ _ (a .sizes .shape .d) (s .pre .1 .1) inside (l .loop .inv .0) in
+    let below = place-below (a .sizes .shape .d) (l .loop .place + a .cut .rank) (s .pre .0 .entries .limits .shaped .degree .positive) fits in
+    let short = part-short (a .sizes) (a .cut) (s .pre .0 .cut-is) (l .loop .s) in
     omega (arith, below, l .loop .inv .0 .same, s .good .1 .1 .1 .1 .1 .1 .1 .1 .1 .1 .1 .1 .0, short, c .before .before .before .chunk-width .ensures)
 
 add-s : tie.Need-add-s Inv-loop μ-loop
 add-s c =
     let l = c .before .before .before .before .before in
     let s = l .before in
-    let cut = s .pre .1 .1 .0 in
+    let cut = s .pre .0 .cut-is in
     let below = part-below (s .args .sizes) (s .args .cut) cut (c .before .before .before .before .loop-test .taken) in
     omega (arith, below, cut .parts-small)
 
@@ -88,7 +88,7 @@ loop-again c =
     let inside = c .before .before .before .before .loop-test .taken in
     let size = c .before .before .before .chunk-width .ensures in
     let sofar = l .loop .inv .0 in
-    let room : a .at * a .sizes .shape .d ≤ length (a .out .now) = omega (arith, s .pre .1 .1 .1 .1) in (
+    let room : a .at * a .sizes .shape .d ≤ length (a .out .now) = omega (arith, s .pre .1 .1) in (
       running-turn _ _ _ _ _ inside size (c .before .write-chunk .kept .1 .1 .1 .1 .1 .1 .1 .1 .1 .1 .1 .1 .1 .1 .0) sofar,
       λ whole constantTerms projections ψ ω α δ transcript ν μ tables.
           parts-turn _ _ _ _ _ _ room (sofar .first-is) size (sofar .place)

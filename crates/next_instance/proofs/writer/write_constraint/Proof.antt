@@ -14,11 +14,11 @@ write-a-requires : tie.Need-write-a-requires
 write-a-requires c κs =
     let s = c .before in
     let a = s .args in
-    let cut = s .pre .1 .1 .1 .0 in (
-      s .pre .0 .limits,
+    let cut = s .pre .0 .phi .cut-is in (
+      s .pre .0 .constants .limits,
       (
-        (cut .ν-positive, omega (arith, cut .parts-small), parts-few (a .sizes) (a .cut) cut, s .pre .1 .1 .1 .1 .0),
-        a-fits (a .sizes) (a .cut) cut (a .sizes .shape .d) (s .pre .1 .1 .1 .1 .1),
+        (cut .ν-positive, omega (arith, cut .parts-small), parts-few (a .sizes) (a .cut) cut, s .pre .1 .0),
+        a-fits (a .sizes) (a .cut) cut (a .sizes .shape .d) (s .pre .1 .1),
       ),
     )
 
@@ -26,17 +26,17 @@ write-phi-requires : tie.Need-write-phi-requires
 write-phi-requires c κs =
     let s = c .before .before .before .before in
     let a = s .args in
-    let cut = s .pre .1 .1 .1 .0 in
-    let room = c .before .before .write-a .kept .1 .1 .1 .1 .0 ∙ s .pre .1 .1 .1 .1 .1 in
-    (s .pre .0, (s .pre .1 .0, (cut, (s .pre .1 .1 .1 .1 .0, φ-fits (a .sizes) (a .cut) cut (a .sizes .shape .d) room))))
+    let cut = s .pre .0 .phi .cut-is in
+    let room = c .before .before .write-a .kept .1 .1 .1 .1 .0 ∙ s .pre .1 .1 in
+    (s .pre .0 .phi, (s .pre .1 .0, φ-fits (a .sizes) (a .cut) cut (a .sizes .shape .d) room))
 
 store-requires : tie.Need-store-requires
 store-requires c κs =
     let φ = c .before .before .before in
     let a = φ .before .before .before in
     let s = a .before .before in
-    let room = φ .write-phi .kept .1 .1 .1 .1 .1 .1 .1 .1 .1 .1 .1 .1 .0 ∙ a .write-a .kept .1 .1 .1 .1 .0 ∙ s .pre .1 .1 .1 .1 .1 in
-    (s .pre .0 .limits .shaped .degree, b-fits (s .args .sizes) (s .args .cut) (s .pre .1 .1 .1 .0) (s .args .sizes .shape .d) room)
+    let room = φ .write-phi .kept .1 .1 .1 .1 .1 .1 .1 .1 .1 .1 .1 .1 .0 ∙ a .write-a .kept .1 .1 .1 .1 .0 ∙ s .pre .1 .1 in
+    (s .pre .0 .constants .limits .shaped .degree, b-fits (s .args .sizes) (s .args .cut) (s .pre .0 .phi .cut-is) (s .args .sizes .shape .d) room)
 
 returns : tie.Need-returns
 returns c =
@@ -46,7 +46,7 @@ returns c =
     let a = φ .before .before .before in
     let s = a .before .before in
     let g = s .args in
-    let cut = s .pre .1 .1 .1 .0 in
+    let cut = s .pre .0 .phi .cut-is in
     let transcript = transcriptOf (g .u1 .now) p (g .second-b .now) (g .u2 .now) in
     let A = g .a-matrix .now in
     let B = g .b-matrix .now in
@@ -59,7 +59,7 @@ returns c =
     let μ = g .cut .mu in
     laid-out (g .sizes .shape .d) (g .cut .rank) (g .cut .parts) (width 2 (g .sizes .shape .n) (g .cut .nu) (g .cut .m) (g .cut .mu))
     (constraintOf (g .sizes) A B C D (g .c .now) whole constantTerms projections ψ ω α δ transcript ν μ (g .x)) (g .out .now)
-    (s .pre .0 .limits .shaped .degree .small) (s .pre .1 .1 .1 .1 .1) (cut .pairs-is) (cut .size-is)
+    (s .pre .0 .constants .limits .shaped .degree .small) (s .pre .1 .1) (cut .pairs-is) (cut .size-is)
     (a .write-a .ensures A B C D whole constantTerms projections ψ ω α δ (g .c .now) transcript μ)
     (φ .write-phi .ensures whole constantTerms projections ψ ω α δ transcript ν μ tables)
     (b .constant-entry .ensures A B C D constantTerms projections ψ ω (g .c .now) p ν μ)
@@ -69,5 +69,5 @@ pub write-constraint-spec : {M : Type 1} → statement M
 write-constraint-spec =
     tie.close
     (tie.spec write-a-requires write-phi-requires
-    (λ c κs. let s = c .before .before .before .before .before .before in (s .pre .1 .1 .0, s .pre .1 .1 .1 .1 .0)) store-requires
+    (λ c κs. let s = c .before .before .before .before .before .before in (s .pre .0 .constants, s .pre .1 .0)) store-requires
     (λ c. search needs) returns)

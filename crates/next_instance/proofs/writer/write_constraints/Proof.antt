@@ -34,13 +34,13 @@ abbrev μ-loop : tie.MeasureT-loop
 mul-size : tie.Need-mul-size Inv-loop μ-loop
 mul-size c =
     let s = c .before .before .before .before in
-    let size : s .args .cut .size + 1 ≤ 4233 = omega (arith, size-small (s .args .sizes) (s .args .cut) (s .pre .1 .1 .1 .0)) in
-    omega (arith, mul-le-mul size (s .pre .0 .limits .shaped .degree .small))
+    let size : s .args .cut .size + 1 ≤ 4233 = omega (arith, size-small (s .args .sizes) (s .args .cut) (s .pre .0 .phi .cut-is)) in
+    omega (arith, mul-le-mul size (s .pre .0 .constants .limits .shaped .degree .small))
 
 loop-holds : tie.Need-loop-holds Inv-loop μ-loop
 loop-holds c =
     let s = c .before .before .before .before in
-    let room = all-fit (s .args .sizes) (s .args .cut) (s .pre .1 .1 .1 .0) (s .pre .1 .1 .1 .1) in
+    let room = all-fit (s .args .sizes) (s .args .cut) (s .pre .0 .phi .cut-is) (s .pre .1) in
     (filled-start room, λ constantTerms projections ψ ω p tables. blocks-start (omega (arith, room)))
 
 add-next : tie.Need-add-next Inv-loop μ-loop
@@ -58,14 +58,14 @@ unfolding nextCount
 write-constraint-requires c κs =
     let l = c .before .before in
     let s = l .before .before .before .before .before in
-    let cut = s .pre .1 .1 .1 .0 in
+    let cut = s .pre .0 .phi .cut-is in
     let block = filled-part (l .loop .inv .0) (c .before .loop-test .taken) in
     let size = ap (λ (e : ℕ). (e + 1) * s .args .sizes .shape .d) (cut .size-is) in
-    (s .pre .0, (s .pre .1 .0, (s .pre .1 .1 .0, (cut, (c .before .loop-test .taken, block ∙ size)))))
+    (s .pre .0, (c .before .loop-test .taken, block ∙ size))
 
 add-x : tie.Need-add-x Inv-loop μ-loop
 add-x c =
-    let limits = c .before .before .before .before .before .before .before .before .before .pre .0 .limits in
+    let limits = c .before .before .before .before .before .before .before .before .before .pre .0 .constants .limits in
     omega (arith, c .before .before .before .loop-test .taken, limits .κ-small, limits .κ₁-small, limits .κ₂-small)
 
 loop-again : tie.Need-loop-again Inv-loop μ-loop
@@ -73,7 +73,7 @@ loop-again c =
     let l = c .before .before .before .before in
     let s = l .before .before .before .before .before in
     let a = s .args in
-    let cut = s .pre .1 .1 .1 .0 in
+    let cut = s .pre .0 .phi .cut-is in
     let inside = c .before .before .before .loop-test .taken in
     let block = c .before .write-constraint in (
       filled-turn (l .loop .inv .0) (block .last .1 .1 .1 .1 .1 .1 .1 .1 .1 .1 .1 .1 .1 .1 .1 .1 .1 .1 .0) inside (block .kept .1 .1 .1 .1 .1 .1 .1 .1 .1 .1 .1 .1 .1 .1 .1 .1 .1 .1 .0) refl,
@@ -89,18 +89,18 @@ returns c =
     let l = c .before in
     let s = l .before .before .before .before .before in
     let a = s .args in
-    let cut = s .pre .1 .1 .1 .0 in
-    let room = all-fit (a .sizes) (a .cut) cut (s .pre .1 .1 .1 .1) in
+    let cut = s .pre .0 .phi .cut-is in
+    let room = all-fit (a .sizes) (a .cut) cut (s .pre .1) in
     blocks-all (l .loop .inv .1 constantTerms projections ψ ω p tables) (λ i. length-block (a .sizes .shape .d) (a .cut .rank) (a .cut .parts) (a .cut .size) _ _ (cut .size-is))
     room (c .loop-test .left)
 
 pub write-constraints-spec : {M : Type 1} → statement M
 write-constraints-spec =
     tie.close
-    (tie.spec Inv-loop μ-loop (λ c. let l = c .before .pre .0 .limits in omega (arith, l .κ-small, l .κ₁-small))
-    (λ c. let l = c .before .before .pre .0 .limits in omega (arith, l .κ-small, l .κ₁-small, l .κ₂-small))
-    (λ c. let l = c .before .before .pre .0 .limits in omega (arith, l .κ-small, l .κ₁-small, l .κ₂-small))
-    (λ c. let s = c .before .before .before in omega (arith, size-small (s .args .sizes) (s .args .cut) (s .pre .1 .1 .1 .0)))
+    (tie.spec Inv-loop μ-loop (λ c. let l = c .before .pre .0 .constants .limits in omega (arith, l .κ-small, l .κ₁-small))
+    (λ c. let l = c .before .before .pre .0 .constants .limits in omega (arith, l .κ-small, l .κ₁-small, l .κ₂-small))
+    (λ c. let l = c .before .before .pre .0 .constants .limits in omega (arith, l .κ-small, l .κ₁-small, l .κ₂-small))
+    (λ c. let s = c .before .before .before in omega (arith, size-small (s .args .sizes) (s .args .cut) (s .pre .0 .phi .cut-is)))
     mul-size loop-holds add-next mul-write-constraint (λ c. omega arith) (λ c. omega arith)
     (λ c. omega (arith, filled-fit (c .before .loop .inv .0) (c .loop-test .taken), c .before .loop .inv .0 .same))
     write-constraint-requires add-x (λ c. omega (arith, c .before .before .before .loop-test .taken)) loop-again

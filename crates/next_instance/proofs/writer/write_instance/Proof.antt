@@ -3,7 +3,7 @@ use Prim.Native.Nat.{_*_, _≤_}
 use native.Mathlib.Nat.{le-refl}
 use native.Mathlib.Omega.{arith}
 use lib.ListN.{length}
-use Rattle.next_instance.specs.Laws.Instance.{table-room, entry-facts, constant-facts, aggregate-facts, out-room, written}
+use Rattle.next_instance.specs.Laws.Instance.{table-room, out-room, written}
 use borrow.Author.Needs.{needs}
 use Rattle.next_instance.proofs.writer.write_instance.Statement.{statement}
 use Rattle.next_instance.proofs.writer.write_instance.Tie as tie
@@ -11,11 +11,11 @@ use Rattle.next_instance.proofs.writer.write_instance.Tie as tie
 write-tables-requires : tie.Need-write-tables-requires
 write-tables-requires c κs =
     let s = c .before .before .before .before .before in
-    let challenges : s .args .sizes .shape .r * s .args .sizes .shape .d ≤ length (s .args .c .now) = omega (arith, s .pre .lists .c-length) in (
-      aggregate-facts _ _ _ _ _ _ _ _ _ _ _ _ _ _ _ _ _ _ _ _ (s .pre),
+    let challenges : s .args .sizes .shape .r * s .args .sizes .shape .d ≤ length (s .args .c .now) = omega (arith, s .pre .entries .c-length) in (
+      s .pre .aggregated,
       (
         challenges,
-        table-room (s .args .sizes) (s .pre .limits) (le-refl 16384) (le-refl 8704) (le-refl 8704) (le-refl 8704),
+        table-room (s .args .sizes) (s .pre .entries .limits) (le-refl 16384) (le-refl 8704) (le-refl 8704) (le-refl 8704),
       ),
     )
 
@@ -26,15 +26,18 @@ write-constraints-requires c κs =
     let s = k .before in
     let kept = f .write-tables .kept .1 .1 .1 .1 .1 .1 .1 .1 .1 in
     let cut = k .cut-of .ensures in (
-      entry-facts _ _ _ _ _ _ _ _ _ _ _ _ _ _ _ _ _ _ _ _ (s .pre),
-      (
-        table-room (s .args .sizes) (s .pre .limits) (omega (arith, kept .0)) (omega (arith, kept .1 .0)) (omega (arith, kept .1 .1 .0))
-            (omega (arith, kept .1 .1 .1 .0)),
-        (
-          constant-facts _ _ _ _ _ _ _ _ _ _ _ _ _ _ _ _ _ _ _ _ (s .pre),
-          (cut .0, out-room _ _ _ _ _ _ _ _ _ _ _ _ _ _ _ _ _ _ _ _ (s .pre) _ (cut .0) (cut .1) (cut .2)),
-        ),
-      ),
+      record {
+        phi =
+            record {
+              entries = s .pre .entries;
+              tables =
+                  table-room (s .args .sizes) (s .pre .entries .limits) (omega (arith, kept .0)) (omega (arith, kept .1 .0)) (omega (arith, kept .1 .1 .0))
+                  (omega (arith, kept .1 .1 .1 .0));
+              cut-is = cut .0;
+            };
+        constants = s .pre .constants;
+      },
+      out-room _ _ _ _ _ _ _ _ _ _ _ _ _ _ _ _ _ _ _ _ (s .pre) _ (cut .0) (cut .1) (cut .2),
     )
 
 returns : tie.Need-returns
