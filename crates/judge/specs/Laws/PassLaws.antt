@@ -17,6 +17,7 @@ use Rattle.fold.specs.Answers.{firstFailing, testOf}
 use Rattle.fold.specs.Refusals.{allOf, sized, ranges, verifyTests}
 use Rattle.fold.specs.Laws.RefusalLaws.{Passes, _&_, passes-refusal, allOf-all, all-allOf, sized-iff}
 use Rattle.fold.specs.Laws.TestLaws.{passes-rows, after-passes}
+use Rattle.fold.specs.Sizes.{zCount}
 use Rattle.limits.specs.Stages.{nextBoundsOf}
 use Rattle.sheet.specs.declared.sizes.SheetSizes.{SheetSizes}
 use Rattle.sheet.specs.Lists.{listLengths, listAt}
@@ -49,7 +50,7 @@ module _ (h xs : List ℤ) (header : Passes (headerTests h)) (count : length xs 
   early : Passes (take 6 tests)
   unfolding verifyTests foldSizes listLengths
   early =
-      let row = passes-rows (nextBoundsOf (foldSizes (sizesOf h)) (sizesOf h .nu) (sizesOf h .mu)) (header-passes h header) in
+      let row = passes-rows (nextBoundsOf zCount (foldSizes (sizesOf h)) (sizesOf h .nu) (sizesOf h .mu)) (header-passes h header) in
       let size : (k : ℕ) → k < 17 → sized (listAt (listLengths (sizesOf h)) xs k) (getD (listLengths (sizesOf h)) k 0) ≡ true =
       sized-list (sizesOf h) xs count in
       row 1
