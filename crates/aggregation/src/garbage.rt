@@ -14,6 +14,8 @@ use constraints::ConstraintSizes;
 use fold::GarbageSizes;
 use fold::counts::garbage_size;
 use fold::counts::pair_count;
+use fold::limits::PAIR_ROOM;
+use fold::limits::SQUARE_ROOM;
 use prover::garbage::write_digits;
 use ring::element::Element;
 use ring::product::inner;
@@ -87,7 +89,7 @@ pub fn write_h(
         l: sizes.l,
         w: sizes.w,
     };
-    let mut products = [0i32; 16384];
+    let mut products = [0i32; SQUARE_ROOM];
     write_products(
         constraint_sizes,
         whole,
@@ -100,7 +102,7 @@ pub fn write_h(
         witness,
         &mut products,
     );
-    let mut values = [0i32; 8704];
+    let mut values = [0i32; PAIR_ROOM];
     write_half_sums(d, r, &products, &mut values);
     let count = pair_count(r);
     write_digits(d, sizes.b1, sizes.t1, count, &values, out);

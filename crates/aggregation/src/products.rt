@@ -7,9 +7,12 @@ ghost use Rattle.ring.specs.Element.{Degree};
 ghost use Rattle.fold.specs.Messages.{elements, aggregate};
 ghost use Rattle.fold.specs.Known.WorkFacts.{AggregateFacts};
 ghost use Rattle.aggregation.specs.Garbage.{partProduct, cross, squareElements};
+ghost use Rattle.fold.specs.Limits.{mostRank};
 use constraints::ConstraintSizes;
 use constraints::phi::write_phi_part;
 use constraints::row_groups;
+use constraints::row_groups::OMEGA_SUMS;
+use fold::limits::PART_ROOM;
 use ring::element::Element;
 use ring::product::inner;
 
@@ -24,7 +27,7 @@ fn write_part_products(
     at: usize,
 )
     requires { ⌜ Degree d ⌝ }
-    requires { ⌜ (n ≤ 256) × (n * d ≤ length (now phi)) × (r * n * d ≤ length (now witness)) × ((at + r) * d ≤ length (now out)) ⌝ }
+    requires { ⌜ (n ≤ mostRank) × (n * d ≤ length (now phi)) × (r * n * d ≤ length (now witness)) × ((at + r) * d ≤ length (now out)) ⌝ }
     ensures { λ _. ⌜ now (out .exit) ≡ over (now (out .entry)) (at * d) (elements d r (partProduct d n (now (phi .entry)) (now (witness .entry)))) ⌝ }
 {
     let mut j = 0;
@@ -60,12 +63,12 @@ pub fn write_products(
         (sizes .w) (now (whole .entry)) (now («constant_terms» .entry)) (now (projections .entry)) (now (psi .entry)) (now (omega .entry))
         (now (alpha .entry)) (now (delta .entry)) .φ) (now (witness .entry)))) ⌝ }
 {
-    let mut omega_sums = [0i64; 25920];
+    let mut omega_sums = [0i64; OMEGA_SUMS];
     row_groups::write_omega_sums(sizes.w, omega, &mut omega_sums);
     let d = sizes.shape.d;
     let rank = sizes.shape.n;
     let parts = sizes.shape.r;
-    let mut phi = [0i32; 16384];
+    let mut phi = [0i32; PART_ROOM];
     let mut i = 0;
     while i < parts {
         write_phi_part(

@@ -7,6 +7,7 @@ ghost use Rattle.integers.specs.Lists.{tab};
 ghost use Rattle.ring.specs.Element.{Degree, R, lift, array, every, same};
 ghost use Rattle.fold.specs.Messages.{g, elements};
 ghost use Rattle.aggregation.specs.Rows.{Canonical, added, plusProduct};
+ghost use Rattle.fold.specs.Limits.{mostRank};
 use constraints::second::COUNT;
 use ring::coefficients;
 use ring::element::Element;
@@ -81,7 +82,7 @@ pub fn add_pair(
     row: [[i32; 64]; 5],
 ) -> [[i32; 64]; 5]
     requires { ⌜ Degree d ⌝ }
-    requires { ⌜ (n ≤ 256) × ((i * n + n) * d ≤ length (now witness)) × ((j * n + n) * d ≤ length (now witness)) ⌝ }
+    requires { ⌜ (n ≤ mostRank) × ((i * n + n) * d ≤ length (now witness)) × ((j * n + n) * d ≤ length (now witness)) ⌝ }
     requires { ⌜ Canonical d sums ⌝ }
     ensures { λ x. ⌜ x ≡ tab 5 (λ k. array d (plusProduct d sums row (g d n (now (witness .entry)) i j) k)) ⌝ }
 {

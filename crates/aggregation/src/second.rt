@@ -14,6 +14,7 @@ ghost use Rattle.aggregation.specs.Values.{pairSummand, witnessSummand};
 use crate::rows;
 use constraints::projected_rows::projection_row;
 use constraints::row_groups;
+use constraints::row_groups::OMEGA_SUMS;
 use constraints::second::second_row_a;
 use constraints::second::second_row_phi;
 use fold::Shape;
@@ -87,7 +88,7 @@ fn weigh_witness(
     projections: &[i32],
     psi: &[i32],
     omega: &[i32],
-    omega_sums: &[i64; 25920],
+    omega_sums: &[i64; OMEGA_SUMS],
     witness: &[i32],
 ) -> [[i32; 64]; 5]
     requires { ⌜ ValueFacts (shape .d) (shape .n) (shape .r) l w (now «constant_terms») (now projections) (now psi) (now omega) (now witness) ⌝ }
@@ -128,7 +129,7 @@ pub fn write_second_b(
     requires { ⌜ AggregateCallFacts shape l w (now «constant_terms») (now projections) (now psi) (now omega) (now witness) (now «second_b») ⌝ }
     ensures { λ _. ⌜ now («second_b» .exit) ≡ b″ (shape .d) (shape .n) (shape .r) l w (now («constant_terms» .entry)) (now (projections .entry)) (now (psi .entry)) (now (omega .entry)) (now (witness .entry)) ⌝ }
 {
-    let mut omega_sums = [0i64; 25920];
+    let mut omega_sums = [0i64; OMEGA_SUMS];
     row_groups::write_omega_sums(w, omega, &mut omega_sums);
     let d = shape.d;
     let quadratic = weigh_pairs(shape, l, constant_terms, psi, witness);

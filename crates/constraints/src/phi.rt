@@ -9,6 +9,7 @@ ghost use Rattle.constraints.specs.RowGroups.{OmegaSums};
 use crate::ConstraintSizes;
 use crate::aggregated::aggregate_phi;
 use crate::projected_rows::projection_row;
+use crate::row_groups::OMEGA_SUMS;
 
 // The φ_i of the aggregate for part i, as the first elements of `out`. `omega_sums` are the sums of ω.
 pub fn write_phi_part(
@@ -18,7 +19,7 @@ pub fn write_phi_part(
     projections: &[i32],
     psi: &[i32],
     omega: &[i32],
-    omega_sums: &[i64; 25920],
+    omega_sums: &[i64; OMEGA_SUMS],
     alpha: &[i32],
     delta: &[i32],
     i: usize,

@@ -12,6 +12,9 @@ ghost use Rattle.constraints.specs.Known.Facts.{ProjectionFacts};
 ghost use Rattle.constraints.specs.RowGroups.{CodesOf, OmegaSums};
 ghost use Rattle.constraints.specs.Accumulator.{FiveRoom, SmallFive, AddedFive};
 ghost use Rattle.constraints.specs.ProjectedRows.{Summed};
+ghost use Rattle.fold.specs.Limits.{mostProjections};
+use crate::row_groups::CODES;
+use crate::row_groups::OMEGA_SUMS;
 use crate::row_groups::group_codes;
 use fold::Shape;
 use residues::modulus;
@@ -39,7 +42,7 @@ fn signed(c: i32, x: i32) -> i64
 }
 
 // Adds five neighbouring numbers of the table.
-fn add_five(acc: &mut [i64; 320], at: usize, omega_sums: &[i64; 25920], from: usize)
+fn add_five(acc: &mut [i64; 320], at: usize, omega_sums: &[i64; OMEGA_SUMS], from: usize)
     requires { ⌜ FiveRoom (now acc) at ⌝ }
     requires { ⌜ (from + 5 ≤ 25920) × SmallFive 8589934592 (now «omega_sums») from ⌝ }
     ensures { λ _. ⌜ AddedFive 8589934592 (λ k. getD (now («omega_sums» .entry)) (from + k) (pos 0)) at (now (acc .entry)) 5 (now (acc .exit)) ⌝ }
@@ -58,7 +61,7 @@ fn add_five(acc: &mut [i64; 320], at: usize, omega_sums: &[i64; 25920], from: us
 fn add_entry(acc: &mut [i64; 320], at: usize, w: usize, omega: &[i32], j: usize, x: i32)
     requires { ⌜ natAbs x ≤ 1 ⌝ }
     requires { ⌜ FiveRoom (now acc) at ⌝ }
-    requires { ⌜ (w ≤ 256) × (j < w) × (length (now omega) ≡ 5 * w) ⌝ }
+    requires { ⌜ (w ≤ mostProjections) × (j < w) × (length (now omega) ≡ 5 * w) ⌝ }
     ensures { λ _. ⌜ AddedFive 2147483648 (λ k. getD (now (omega .entry)) (k * w + j) (pos 0) *ℤ x) at (now (acc .entry)) 5
         (now (acc .exit)) ⌝ }
 {
@@ -79,13 +82,13 @@ fn add_group(
     w: usize,
     projections: &[i32],
     omega: &[i32],
-    omega_sums: &[i64; 25920],
+    omega_sums: &[i64; OMEGA_SUMS],
     e: usize,
-    codes: &[u32; 4096],
+    codes: &[u32; CODES],
     group: usize,
     acc: &mut [i64; 320],
 )
-    requires { ⌜ (Degree (shape .d)) × (w ≤ 256) × (group < w / 4) ⌝ }
+    requires { ⌜ (Degree (shape .d)) × (w ≤ mostProjections) × (group < w / 4) ⌝ }
     requires { ⌜ OmegaSums w (now omega) (now «omega_sums») ⌝ }
     requires { ⌜ CodesOf (shape .d) (shape .r * shape .n) (now projections) e (w / 4) (now codes) ⌝ }
     requires { ⌜ Summed (shape .d) (shape .r * shape .n) w (now projections) (now omega) e (group * 4) (now acc) ⌝ }
@@ -137,12 +140,12 @@ fn add_groups(
     w: usize,
     projections: &[i32],
     omega: &[i32],
-    omega_sums: &[i64; 25920],
+    omega_sums: &[i64; OMEGA_SUMS],
     e: usize,
-    codes: &[u32; 4096],
+    codes: &[u32; CODES],
     acc: &mut [i64; 320],
 )
-    requires { ⌜ (Degree (shape .d)) × (w ≤ 256) ⌝ }
+    requires { ⌜ (Degree (shape .d)) × (w ≤ mostProjections) ⌝ }
     requires { ⌜ OmegaSums w (now omega) (now «omega_sums») ⌝ }
     requires { ⌜ CodesOf (shape .d) (shape .r * shape .n) (now projections) e (w / 4) (now codes) ⌝ }
     requires { ⌜ Summed (shape .d) (shape .r * shape .n) w (now projections) (now omega) e 0 (now acc) ⌝ }
@@ -226,7 +229,7 @@ pub fn projection_row(
     w: usize,
     projections: &[i32],
     omega: &[i32],
-    omega_sums: &[i64; 25920],
+    omega_sums: &[i64; OMEGA_SUMS],
     e: usize,
 ) -> [[i32; 64]; 5]
     requires { ⌜ ProjectionFacts (shape .d) (shape .n) (shape .r) w (now projections) (now omega) ⌝ }
@@ -236,7 +239,7 @@ pub fn projection_row(
         (now (omega .entry)) k e)) ⌝ }
 {
     let d = shape.d;
-    let mut codes = [0u32; 4096];
+    let mut codes = [0u32; CODES];
     group_codes(shape, w, projections, omega, e, &mut codes);
     let mut acc = [0i64; 320];
     add_groups(

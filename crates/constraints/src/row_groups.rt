@@ -8,7 +8,14 @@ ghost use lib.IntN.{pos, natAbs, _+ℤ_, _-ℤ_, _*ℤ_};
 ghost use Rattle.residues.specs.Range.{projectionEntries};
 ghost use Rattle.constraints.specs.Known.Facts.{ProjectionFacts};
 ghost use Rattle.constraints.specs.RowGroups.{decode, Coded, Codes, CodesOf, Summand, WeightedSum, OmegaSums};
+ghost use Rattle.fold.specs.Limits.{mostProjections};
 use fold::Shape;
+
+// Numbers of the table: a group of four rows, a code of four entries and a second function have one.
+pub const OMEGA_SUMS: usize = 25920;
+
+// Codes of an element: a group of four rows and a coefficient have one.
+pub const CODES: usize = 4096;
 
 // The digit x + 1 of an entry x.
 fn entry_digit(x: i32) -> u32
@@ -55,7 +62,7 @@ fn write_codes(
     projections: &[i32],
     at: usize,
     step: usize,
-    codes: &mut [u32; 4096],
+    codes: &mut [u32; CODES],
     from: usize,
 )
     requires { ⌜ projectionEntries (now projections) ≡ true ⌝ }
@@ -79,7 +86,7 @@ pub fn group_codes(
     projections: &[i32],
     omega: &[i32],
     e: usize,
-    codes: &mut [u32; 4096],
+    codes: &mut [u32; CODES],
 )
     requires { ⌜ ProjectionFacts (shape .d) (shape .n) (shape .r) w (now projections) (now omega) ⌝ }
     requires { ⌜ (e < shape .r * shape .n) × (length (now codes) ≡ 4096) ⌝ }
@@ -142,8 +149,8 @@ fn weighted_sum(omega: &[i32], at: usize, c: usize) -> i64
 }
 
 // The table: number (g * 81 + c) * 5 + k is the sum of the entries of code c, weighted by the numbers ω_k of group g.
-pub fn write_omega_sums(w: usize, omega: &[i32], omega_sums: &mut [i64; 25920])
-    requires { ⌜ (w ≤ 256) × (length (now omega) ≡ 5 * w) × (length (now «omega_sums») ≡ 25920) ⌝ }
+pub fn write_omega_sums(w: usize, omega: &[i32], omega_sums: &mut [i64; OMEGA_SUMS])
+    requires { ⌜ (w ≤ mostProjections) × (length (now omega) ≡ 5 * w) × (length (now «omega_sums») ≡ 25920) ⌝ }
     ensures { λ _. ⌜ OmegaSums w (now (omega .entry)) (now («omega_sums» .exit)) ⌝ }
 {
     let groups = w / 4;

@@ -1,4 +1,5 @@
--- Sizes, statement, opening
+-- Limits, sizes, statement, opening
+pub mod Limits
 pub mod Sizes
 pub mod Statement
 pub mod Opening

@@ -8,6 +8,8 @@ use lib.ListN.{length, take, drop}
 use lib.IntN.{ℤ, pos, negsuc}
 use Rattle.ring.specs.Element.{every}
 use Rattle.residues.specs.Range.{allWithin, coefficients, projectionEntries, challenge}
+use Rattle.residues.specs.Digits.{leastBase, mostBase}
+use Rattle.fold.specs.Limits.{mostRank, mostParts, mostConstraints, mostProjections, mostCommitmentRank, mostDigits, mostChunks, mostBound}
 use Rattle.fold.specs.Sizes.{five, functionSize, tSize, garbageSize, restSize, openingSize, nextRank, nextParts, nextCount}
 use Rattle.fold.specs.Statement.{Relation}
 use Rattle.fold.specs.Statement.{Statement, Draws, Transcript}
@@ -34,37 +36,37 @@ degree (negsuc d) = false
 
 -- row 2: "n not 1..256, r not 1..16, K or L not 0..32, w not 0..256, a part number outside its range"
 unfoldable pub rank : ℤ → Bool
-rank n = between 1 256 n
+rank n = between 1 mostRank n
 
 unfoldable pub parts : ℤ → Bool
-parts r = between 1 16 r
+parts r = between 1 mostParts r
 
 unfoldable pub constraintCount : ℤ → Bool
-constraintCount k = between 0 32 k
+constraintCount k = between 0 mostConstraints k
 
 unfoldable pub projectionCount : ℤ → Bool
-projectionCount w = between 0 256 w
+projectionCount w = between 0 mostProjections w
 
 -- row 3: "κ, κ1 or κ2 not 1..8"
 unfoldable pub commitmentRank : ℤ → Bool
-commitmentRank κ = between 1 8 κ
+commitmentRank κ = between 1 mostCommitmentRank κ
 
 -- row 4: "b, b1, b2 not 2..65536; t1, t2 not 2..8"
 unfoldable pub base : ℤ → Bool
-base b = between 2 65536 b
+base b = between leastBase mostBase b
 
 unfoldable pub digitCount : ℤ → Bool
-digitCount t = between 2 8 t
+digitCount t = between 2 mostDigits t
 
 -- row 5: "ν or μ below 1, 2ν+μ above 16"; tz digits of z are cut into ν chunks each
 unfoldable pub chunks : ℕ → ℤ → ℤ → Bool
-chunks tz (pos ν) (pos μ) = allOf (leb 1 ν ∷ leb 1 μ ∷ leb (tz * ν + μ) 16 ∷ [])
+chunks tz (pos ν) (pos μ) = allOf (leb 1 ν ∷ leb 1 μ ∷ leb (tz * ν + μ) mostChunks ∷ [])
 chunks tz (pos ν) (negsuc μ) = false
 chunks tz (negsuc ν) μ = false
 
 -- row 6: "β² or β'² negative or above 999999999999999"
 unfoldable pub lengthBound : ℤ → Bool
-lengthBound β² = between 0 999999999999999 β²
+lengthBound β² = between 0 mostBound β²
 
 -- row 7: "a slice's length is not what the sizes give"
 unfoldable pub sized : {A : Type 0} (xs : List A) → ℕ → Bool
@@ -326,7 +328,7 @@ module _ (𝓢 : Statement) (𝓓 : Draws) (𝓣 : Transcript) where
       ∷ (boundTests 𝓢 𝓓
       ++ ((7, allOf (sized out (wholeLength d n′ (nextParts tz ν μ) (nextCount κ κ₁ κ₂)) ∷ lengths))
       ∷ (8, allOf ranges)
-      ∷ (drawTests 𝓢 𝓓 ++ ((11, leb n′ 256) ∷ [])))))
+      ∷ (drawTests 𝓢 𝓓 ++ ((11, leb n′ mostRank) ∷ [])))))
     where
       n′ : ℕ
       n′ = nextRank n ν (restSize r κ t₁ t₂) μ

@@ -6,12 +6,13 @@ ghost use Rattle.algebra.specs.Triangle.{start};
 ghost use Rattle.fold.specs.Sizes as spec;
 ghost use Rattle.fold.specs.Chunks as cuts;
 ghost use Rattle.fold.specs.Known.CutSizes.{CutSizes};
+ghost use Rattle.fold.specs.Limits.{mostCommitmentRank, mostDigits, mostParts};
 use crate::counts::garbage_size;
 use crate::counts::t_size;
 
 // Elements of t, g and h together: m.
 pub fn rest_size(r: usize, kappa: usize, t1: usize, t2: usize) -> usize
-    requires { ⌜ (r ≤ 16) × (kappa ≤ 8) × (t1 ≤ 8) × (t2 ≤ 8) ⌝ }
+    requires { ⌜ (r ≤ mostParts) × (kappa ≤ mostCommitmentRank) × (t1 ≤ mostDigits) × (t2 ≤ mostDigits) ⌝ }
     ensures { λ x. ⌜ x ≡ spec.restSize r kappa t1 t2 ⌝ }
 {
     let t = t_size(r, kappa, t1);

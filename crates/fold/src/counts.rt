@@ -2,13 +2,14 @@
 ghost use mathlib.Core.Path.{_≡_};
 ghost use Prim.Native.Nat.{_≤_};
 ghost use Rattle.fold.specs.Sizes.{pairs, functionSize, tSize, garbageSize, openingSize};
+ghost use Rattle.fold.specs.Limits.{mostCommitmentRank, mostDigits, mostParts, mostRank};
 
 // The number of digits of z at today's entries: "z = Σ c_i s_i in two digits to base b". Functions take it as tz.
 pub const Z_DIGITS: usize = 2;
 
 // The number of pairs i ≤ j of r parts.
 pub fn pair_count(r: usize) -> usize
-    requires { ⌜ r ≤ 16 ⌝ }
+    requires { ⌜ r ≤ mostParts ⌝ }
     ensures { λ x. ⌜ x ≡ pairs r ⌝ }
 {
     r * (r + 1) / 2
@@ -16,7 +17,7 @@ pub fn pair_count(r: usize) -> usize
 
 // Elements of the a and φ of a constraint.
 pub fn function_size(n: usize, r: usize) -> usize
-    requires { ⌜ (n ≤ 256) × (r ≤ 16) ⌝ }
+    requires { ⌜ (n ≤ mostRank) × (r ≤ mostParts) ⌝ }
     ensures { λ x. ⌜ x ≡ functionSize n r ⌝ }
 {
     pair_count(r) + r * n
@@ -24,7 +25,7 @@ pub fn function_size(n: usize, r: usize) -> usize
 
 // Elements of the t digits.
 pub fn t_size(r: usize, kappa: usize, t1: usize) -> usize
-    requires { ⌜ (r ≤ 16) × (kappa ≤ 8) × (t1 ≤ 8) ⌝ }
+    requires { ⌜ (r ≤ mostParts) × (kappa ≤ mostCommitmentRank) × (t1 ≤ mostDigits) ⌝ }
     ensures { λ x. ⌜ x ≡ tSize r kappa t1 ⌝ }
 {
     r * (t1 * kappa)
@@ -32,7 +33,7 @@ pub fn t_size(r: usize, kappa: usize, t1: usize) -> usize
 
 // Elements of the g or h digits.
 pub fn garbage_size(r: usize, t: usize) -> usize
-    requires { ⌜ (r ≤ 16) × (t ≤ 8) ⌝ }
+    requires { ⌜ (r ≤ mostParts) × (t ≤ 8) ⌝ }
     ensures { λ x. ⌜ x ≡ garbageSize r t ⌝ }
 {
     pair_count(r) * t
@@ -40,7 +41,7 @@ pub fn garbage_size(r: usize, t: usize) -> usize
 
 // Elements of an opening whose z has tz digits.
 pub fn opening_size(tz: usize, n: usize, r: usize, kappa: usize, t1: usize, t2: usize) -> usize
-    requires { ⌜ (tz ≤ 2) × (n ≤ 256) × (r ≤ 16) × (kappa ≤ 8) × (t1 ≤ 8) × (t2 ≤ 8) ⌝ }
+    requires { ⌜ (tz ≤ 2) × (n ≤ mostRank) × (r ≤ mostParts) × (kappa ≤ mostCommitmentRank) × (t1 ≤ mostDigits) × (t2 ≤ mostDigits) ⌝ }
     ensures { λ x. ⌜ x ≡ openingSize tz n r kappa t1 t2 ⌝ }
 {
     let t = t_size(r, kappa, t1);

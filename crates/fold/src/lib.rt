@@ -2,6 +2,7 @@
 // Structs of sizes are laid out as C lays them out: crates/capi takes them as they are.
 pub mod chunks;
 pub mod counts;
+pub mod limits;
 pub mod places;
 
 ghost use mathlib.Core.Path.{_≡_};

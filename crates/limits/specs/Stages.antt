@@ -11,6 +11,7 @@ use Rattle.fold.specs.Sizes.{restSize, nextRank, nextParts, nextCount}
 use Rattle.fold.specs.Known.Facts.{Shaped}
 use Rattle.fold.specs.Refusals.{commitBounds, garbageBounds, sizeRows, boundRows, partBounds, chunks}
 use Rattle.fold.specs.Refusals.{sized, wholeLength, commitLengths, constraintLengths, garbageLengths, matrixLengths, messageLengths}
+use Rattle.fold.specs.Limits.{mostConstraints, mostProjections}
 
 -- ---- rows 1 to 6
 
@@ -66,6 +67,6 @@ outLengthOf tz m ν μ = wholeLength (m .shape .d) (rankOf m ν μ) (nextParts t
 -- the limits of the sizes of both kinds of constraints
 pub record ConstraintLimits (d n r K L w : ℕ) : Type 0 where
   pub shaped : Shaped d n r
-  pub K-small : K ≤ 32
-  pub L-small : L ≤ 32
-  pub w-small : w ≤ 256
+  pub K-small : K ≤ mostConstraints
+  pub L-small : L ≤ mostConstraints
+  pub w-small : w ≤ mostProjections

@@ -8,6 +8,7 @@ ghost use Rattle.fold.specs.Known.CallLimits.{ProjectLimits, AggregateLimits, A
 ghost use Rattle.fold.specs.Arguments.{CommitSized, GarbageSized, VerifySized};
 ghost use Rattle.limits.specs.Stages.{ConstraintLimits};
 ghost use Rattle.limits.specs.Stages as spec;
+ghost use Rattle.fold.specs.Limits.{mostCommitmentRank, mostConstraints, mostDigits, mostParts, mostProjections, mostRank};
 use crate::rows::sized;
 use crate::sizes::constant_terms_length;
 use crate::sizes::flat_length;
@@ -50,7 +51,7 @@ pub fn five_fit(xs: &[i32], count: usize) -> bool
 }
 
 pub fn whole_fits(d: usize, n: usize, r: usize, k: usize, whole: &[i32]) -> bool
-    requires { ⌜ (d ≤ 64) × (n ≤ 256) × (r ≤ 16) × (k ≤ 32) ⌝ }
+    requires { ⌜ (d ≤ 64) × (n ≤ mostRank) × (r ≤ mostParts) × (k ≤ mostConstraints) ⌝ }
     ensures { λ x. ⌜ x ≡ table.sized (now (whole .entry)) (table.wholeLength d n r k) ⌝ }
 {
     let length = whole_length(d, n, r, k);
@@ -58,7 +59,7 @@ pub fn whole_fits(d: usize, n: usize, r: usize, k: usize, whole: &[i32]) -> bool
 }
 
 pub fn constant_terms_fit(d: usize, n: usize, r: usize, l: usize, constant_terms: &[i32]) -> bool
-    requires { ⌜ (d ≤ 64) × (n ≤ 256) × (r ≤ 16) × (l ≤ 32) ⌝ }
+    requires { ⌜ (d ≤ 64) × (n ≤ mostRank) × (r ≤ mostParts) × (l ≤ mostConstraints) ⌝ }
     ensures { λ x. ⌜ x ≡ table.sized (now («constant_terms» .entry)) (table.constantTermsLength d n r l) ⌝ }
 {
     let length = constant_terms_length(d, n, r, l);
@@ -66,7 +67,7 @@ pub fn constant_terms_fit(d: usize, n: usize, r: usize, l: usize, constant_terms
 }
 
 pub fn projections_fit(d: usize, n: usize, r: usize, w: usize, projections: &[i32]) -> bool
-    requires { ⌜ (d ≤ 64) × (n ≤ 256) × (r ≤ 16) × (w ≤ 256) ⌝ }
+    requires { ⌜ (d ≤ 64) × (n ≤ mostRank) × (r ≤ mostParts) × (w ≤ mostProjections) ⌝ }
     ensures { λ x. ⌜ x ≡ table.sized (now (projections .entry)) (table.projectionLength d n r w) ⌝ }
 {
     let length = projection_length(d, n, r, w);
@@ -84,7 +85,7 @@ pub fn opening_fits(
     t2: usize,
     opening: &[i32],
 ) -> bool
-    requires { ⌜ (tz ≤ 2) × (d ≤ 64) × (n ≤ 256) × (r ≤ 16) × (kappa ≤ 8) × (t1 ≤ 8) × (t2 ≤ 8) ⌝ }
+    requires { ⌜ (tz ≤ 2) × (d ≤ 64) × (n ≤ mostRank) × (r ≤ mostParts) × (kappa ≤ mostCommitmentRank) × (t1 ≤ mostDigits) × (t2 ≤ mostDigits) ⌝ }
     ensures { λ x. ⌜ x ≡ table.sized (now (opening .entry)) (openingSize tz n r kappa t1 t2 * d) ⌝ }
 {
     let elements = opening_size(tz, n, r, kappa, t1, t2);

@@ -5,6 +5,16 @@ ghost use Prim.Native.Nat.{_*_, _<_, _≤_};
 ghost use lib.ListN.{length};
 ghost use lib.IntN.{pos};
 ghost use Rattle.fold.specs.Refusals as spec;
+use fold::limits::LEAST_BASE;
+use fold::limits::MOST_BASE;
+use fold::limits::MOST_BOUND;
+use fold::limits::MOST_CHUNKS;
+use fold::limits::MOST_COMMITMENT_RANK;
+use fold::limits::MOST_CONSTRAINTS;
+use fold::limits::MOST_DIGITS;
+use fold::limits::MOST_PARTS;
+use fold::limits::MOST_PROJECTIONS;
+use fold::limits::MOST_RANK;
 use residues::range;
 
 // Row 1.
@@ -18,45 +28,45 @@ pub fn degree(d: usize) -> bool
 pub fn rank(n: usize) -> bool
     ensures { λ r. ⌜ r ≡ spec.rank (pos n) ⌝ }
 {
-    (1 <= n) & (n <= 256)
+    (1 <= n) & (n <= MOST_RANK)
 }
 
 pub fn parts(r: usize) -> bool
     ensures { λ x. ⌜ x ≡ spec.parts (pos r) ⌝ }
 {
-    (1 <= r) & (r <= 16)
+    (1 <= r) & (r <= MOST_PARTS)
 }
 
 pub fn constraint_count(k: usize) -> bool
     ensures { λ r. ⌜ r ≡ spec.constraintCount (pos k) ⌝ }
 {
-    k <= 32
+    k <= MOST_CONSTRAINTS
 }
 
 pub fn projection_count(w: usize) -> bool
     ensures { λ r. ⌜ r ≡ spec.projectionCount (pos w) ⌝ }
 {
-    w <= 256
+    w <= MOST_PROJECTIONS
 }
 
 // Row 3: κ, κ1, κ2.
 pub fn commitment_rank(kappa: usize) -> bool
     ensures { λ r. ⌜ r ≡ spec.commitmentRank (pos kappa) ⌝ }
 {
-    (1 <= kappa) & (kappa <= 8)
+    (1 <= kappa) & (kappa <= MOST_COMMITMENT_RANK)
 }
 
 // Row 4: a base, a number of digits.
 pub fn base(b: usize) -> bool
     ensures { λ r. ⌜ r ≡ spec.base (pos b) ⌝ }
 {
-    (2 <= b) & (b <= 65536)
+    (LEAST_BASE <= b) & (b <= MOST_BASE)
 }
 
 pub fn digit_count(t: usize) -> bool
     ensures { λ r. ⌜ r ≡ spec.digitCount (pos t) ⌝ }
 {
-    (2 <= t) & (t <= 8)
+    (2 <= t) & (t <= MOST_DIGITS)
 }
 
 // Row 5. Each count is tested alone first, so that tz·ν+μ never wraps.
@@ -64,21 +74,21 @@ pub fn chunk_counts(tz: usize, nu: usize, mu: usize) -> bool
     requires { ⌜ (0 < tz) × (tz ≤ 2) ⌝ }
     ensures { λ x. ⌜ x ≡ spec.chunks tz (pos nu) (pos mu) ⌝ }
 {
-    if 16 < nu {
+    if MOST_CHUNKS < nu {
         return false;
     }
-    if 16 < mu {
+    if MOST_CHUNKS < mu {
         return false;
     }
     let together = tz * nu + mu;
-    (1 <= nu) & (1 <= mu) & (together <= 16)
+    (1 <= nu) & (1 <= mu) & (together <= MOST_CHUNKS)
 }
 
 // Row 6: β² or β'².
 pub fn length_bound(x: u64) -> bool
     ensures { λ r. ⌜ r ≡ spec.lengthBound (pos x) ⌝ }
 {
-    x <= 999999999999999
+    x <= MOST_BOUND
 }
 
 // Row 7: the length of a slice.

@@ -2,6 +2,7 @@
 ghost use mathlib.Core.Path.{_≡_};
 ghost use Prim.Native.Nat.{_*_, _≤_};
 ghost use Rattle.fold.specs.Refusals as table;
+ghost use Rattle.fold.specs.Limits.{mostConstraints, mostParts, mostProjections, mostRank};
 use fold::counts::function_size;
 
 // Numbers of `rows` rows of `columns` elements.
@@ -22,7 +23,7 @@ pub fn list_length(elements: usize, d: usize) -> usize
 
 // Numbers of k whole constraints.
 pub fn whole_length(d: usize, n: usize, r: usize, k: usize) -> usize
-    requires { ⌜ (d ≤ 64) × (n ≤ 256) × (r ≤ 16) × (k ≤ 32) ⌝ }
+    requires { ⌜ (d ≤ 64) × (n ≤ mostRank) × (r ≤ mostParts) × (k ≤ mostConstraints) ⌝ }
     ensures { λ x. ⌜ x ≡ table.wholeLength d n r k ⌝ }
 {
     let function = function_size(n, r);
@@ -31,7 +32,7 @@ pub fn whole_length(d: usize, n: usize, r: usize, k: usize) -> usize
 
 // Numbers of l constant-term constraints.
 pub fn constant_terms_length(d: usize, n: usize, r: usize, l: usize) -> usize
-    requires { ⌜ (d ≤ 64) × (n ≤ 256) × (r ≤ 16) × (l ≤ 32) ⌝ }
+    requires { ⌜ (d ≤ 64) × (n ≤ mostRank) × (r ≤ mostParts) × (l ≤ mostConstraints) ⌝ }
     ensures { λ x. ⌜ x ≡ table.constantTermsLength d n r l ⌝ }
 {
     let function = function_size(n, r);
@@ -40,7 +41,7 @@ pub fn constant_terms_length(d: usize, n: usize, r: usize, l: usize) -> usize
 
 // Numbers of w projection rows.
 pub fn projection_length(d: usize, n: usize, r: usize, w: usize) -> usize
-    requires { ⌜ (d ≤ 64) × (n ≤ 256) × (r ≤ 16) × (w ≤ 256) ⌝ }
+    requires { ⌜ (d ≤ 64) × (n ≤ mostRank) × (r ≤ mostParts) × (w ≤ mostProjections) ⌝ }
     ensures { λ x. ⌜ x ≡ table.projectionLength d n r w ⌝ }
 {
     let row = flat_length(r, n, d);

@@ -15,6 +15,7 @@ use crate::garbage::write_pair_products;
 use fold::CommitSizes;
 use fold::counts::garbage_size;
 use fold::counts::t_size;
+use fold::limits::PAIR_ROOM;
 use residues::digits::split_digits;
 use ring::element::Element;
 use ring::product::inner;
@@ -113,7 +114,7 @@ pub fn write_g(sizes: CommitSizes, witness: &[i32], out: &mut [i32])
     let r = sizes.shape.r;
     let b2 = sizes.b2;
     let t2 = sizes.t2;
-    let mut products = [0i32; 8704];
+    let mut products = [0i32; PAIR_ROOM];
     write_pair_products(d, n, r, witness, &mut products);
     write_garbage_digits(d, r, b2, t2, &products, out);
 }

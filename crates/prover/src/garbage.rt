@@ -11,6 +11,7 @@ ghost use Rattle.residues.specs.Digits.{Base, split};
 ghost use Rattle.fold.specs.Sizes.{pairs, garbageSize};
 ghost use Rattle.fold.specs.Messages.{elements, g, garbageDigits};
 ghost use Rattle.fold.specs.PairElements.{pairElements};
+ghost use Rattle.fold.specs.Limits.{mostParts, mostRank};
 use fold::counts::pair_count;
 use residues::digits::split_digits;
 use ring::element::Element;
@@ -27,7 +28,7 @@ fn write_pair_row(
     at: usize,
 )
     requires { ⌜ Degree d ⌝ }
-    requires { ⌜ (n ≤ 256) × (i ≤ r) × (r * n * d ≤ length (now witness)) × ((at + (r - i)) * d ≤ length (now out)) ⌝ }
+    requires { ⌜ (n ≤ mostRank) × (i ≤ r) × (r * n * d ≤ length (now witness)) × ((at + (r - i)) * d ≤ length (now out)) ⌝ }
     ensures { λ _. ⌜ now (out .exit) ≡ over (now (out .entry)) (at * d) (elements d (r - i) (λ k. g d n (now (witness .entry)) i (i + k))) ⌝ }
 {
     let count = r - i;
@@ -46,7 +47,7 @@ fn write_pair_row(
 // The products g_ij = <s_i, s_j> for i ≤ j, as the first elements of `out`.
 pub fn write_pair_products(d: usize, n: usize, r: usize, witness: &[i32], out: &mut [i32])
     requires { ⌜ Degree d ⌝ }
-    requires { ⌜ (n ≤ 256) × (r * n * d ≤ length (now witness)) × (pairs r * d ≤ length (now out)) ⌝ }
+    requires { ⌜ (n ≤ mostRank) × (r * n * d ≤ length (now witness)) × (pairs r * d ≤ length (now out)) ⌝ }
     ensures { λ _. ⌜ now (out .exit) ≡ over (now (out .entry)) 0 (pairElements d r (g d n (now (witness .entry)))) ⌝ }
 {
     let mut at = 0;
@@ -106,7 +107,7 @@ pub fn write_garbage_digits(
 )
     requires { ⌜ Degree d ⌝ }
     requires { ⌜ Base base ⌝ }
-    requires { ⌜ (r ≤ 16) × (0 < t) × (t ≤ 8) × (pairs r * d ≤ length (now values)) × (length (now out) ≡ garbageSize r t * d) ⌝ }
+    requires { ⌜ (r ≤ mostParts) × (0 < t) × (t ≤ 8) × (pairs r * d ≤ length (now values)) × (length (now out) ≡ garbageSize r t * d) ⌝ }
     ensures { λ _. ⌜ now (out .exit) ≡ garbageDigits d r base t (λ i j. el d (now (values .entry)) (pair r i j)) ⌝ }
 {
     let count = pair_count(r);

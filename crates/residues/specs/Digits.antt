@@ -15,9 +15,15 @@ use Rattle.integers.specs.Flat.{flat}
 use Rattle.integers.specs.Remainder.{centre}
 
 -- "b, b1, b2 not 2..65536" is refused
+abbrev pub leastBase : ℕ
+leastBase = 2
+
+abbrev pub mostBase : ℕ
+mostBase = 65536
+
 pub record Base (b : ℕ) : Type 0 where
-  pub least : 2 ≤ b
-  pub most : b ≤ 65536
+  pub least : leastBase ≤ b
+  pub most : b ≤ mostBase
 
 unfoldable pub low : ℕ → ℤ → ℤ
 low b z = centre b z

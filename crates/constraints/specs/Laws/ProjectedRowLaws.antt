@@ -31,6 +31,7 @@ use Rattle.constraints.specs.Accumulator.{SmallFive, AddedFive}
 use Rattle.constraints.specs.Laws.AccumulatorLaws.{Turning, turning-step}
 use Rattle.constraints.specs.RowGroups.{Coded, fourSum, WeightedSum, OmegaSums}
 use Rattle.constraints.specs.ProjectedRows.{partial, Summed}
+use Rattle.fold.specs.Limits.{mostProjections}
 
 pub summed-start : (d m w : ℕ) (projections ω : List ℤ) (e : ℕ) → d ≤ 64 → Summed d m w projections ω e 0 (replicate 320 (pos 0))
 unfolding partial
@@ -177,10 +178,10 @@ module _ {d n r w : ℕ} {projections ω : List ℤ} (facts : ProjectionFacts d 
       let row : g * 4 + 3 < w = omega (arith, h) in
       omega (arith, element-fits {j = g * 4 + 3} row l)
 
-pub weight-place : (w k j : ℕ) → k < 5 → j < w → w ≤ 256 → (k * w ≤ 1024) × (k * w + j < 5 * w)
+pub weight-place : (w k j : ℕ) → k < 5 → j < w → w ≤ mostProjections → (k * w ≤ 1024) × (k * w + j < 5 * w)
 weight-place w k j h l small = (omega (arith, mul-le-mul-right w h, small), omega (arith, mul-le-mul-right w h, l))
 
-pub table-place : {w : ℕ} {ω omegaSums : List ℤ} → OmegaSums w ω omegaSums → w ≤ 256 → {g c : ℕ} → g < w / 4 → c < 81
+pub table-place : {w : ℕ} {ω omegaSums : List ℤ} → OmegaSums w ω omegaSums → w ≤ mostProjections → {g c : ℕ} → g < w / 4 → c < 81
     → ((g * 81 + c) * 5 + 5 ≤ 25920) × SmallFive 8589934592 omegaSums ((g * 81 + c) * 5)
 table-place table small {g} {c} h l =
     (omega (arith, small, h, l), record { small = λ k b. table .entry g c k h l b .small })

@@ -21,6 +21,7 @@ use Rattle.residues.specs.Range.{projectionEntries}
 use Rattle.residues.specs.Laws.RangeLaws.{allWithin-at}
 use Rattle.residues.specs.Laws.Words.{word}
 use Rattle.constraints.specs.RowGroups.{decode, Coded, Codes, CodesOf, fourSum, Summand, WeightedSum, OmegaSums}
+use Rattle.fold.specs.Limits.{mostProjections}
 
 pub decode-small : (c : ℕ) → natAbs (decode c) ≤ 1
 unfolding decode
@@ -171,7 +172,7 @@ pub tabled-start : (w : ℕ) (ω omegaSums : List ℤ) → length omegaSums ≡ 
 tabled-start w ω omegaSums e = record { within = omega arith; size = e; entry = λ j h. let no : ⊥ = omega arith in absurd no }
 
 module _ {w : ℕ} {ω omegaSums : List ℤ} {i : ℕ} (tabled : Tabled w ω i omegaSums) where
-  pub tabled-step : {s : ℤ} → w ≤ 256 → i < w / 4 * 405 → mag s < 2 ^ 63 → WeightedSum ω (i % 5 * w + i / 5 / 81 * 4) (i / 5 % 81) s
+  pub tabled-step : {s : ℤ} → w ≤ mostProjections → i < w / 4 * 405 → mag s < 2 ^ 63 → WeightedSum ω (i % 5 * w + i / 5 / 81 * 4) (i / 5 % 81) s
       → Tabled w ω (i + 1) (set omegaSums i (toZ w64 (ofZ w64 s)))
   tabled-step {s} h l fits is =
       record { within = omega arith; size = length-set omegaSums i _ ∙ tabled .size; entry = λ j b. at-place j b (ltb j i) refl }
@@ -199,7 +200,7 @@ module _ {w : ℕ} {ω omegaSums : List ℤ} {i : ℕ} (tabled : Tabled w ω i o
 -- ---- the places that the loop reads
 
 -- the weights of the group and the function of number i of the table
-pub weights-place : (w i : ℕ) → w ≤ 256 → i < w / 4 * 405
+pub weights-place : (w i : ℕ) → w ≤ mostProjections → i < w / 4 * 405
     → (i % 5 * w ≤ 1024) × (i / 5 / 81 * 4 ≤ 252) × (i % 5 * w + i / 5 / 81 * 4 + 4 ≤ 5 * w)
 weights-place w i h l =
     let k : i % 5 ≤ 4 = omega arith in

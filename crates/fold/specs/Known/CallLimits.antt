@@ -17,39 +17,40 @@ use Rattle.fold.specs.declared.CommitSizes.{CommitSizes}
 use Rattle.fold.specs.declared.GarbageSizes.{GarbageSizes}
 use Rattle.fold.specs.declared.Sizes.{Sizes}
 use Rattle.fold.specs.declared.PartSizes.{PartSizes}
+use Rattle.fold.specs.Limits.{mostBound, mostCommitmentRank, mostConstraints, mostDigits, mostProjections}
 
 pub record CommitLimits (d n r κ κ₁ b₁ b₂ t₁ t₂ : ℕ) : Type 0 where
   pub shaped : Shaped d n r
   pub κ-positive : 1 ≤ κ
-  pub κ-small : κ ≤ 8
+  pub κ-small : κ ≤ mostCommitmentRank
   pub κ₁-positive : 1 ≤ κ₁
-  pub κ₁-small : κ₁ ≤ 8
+  pub κ₁-small : κ₁ ≤ mostCommitmentRank
   pub base₁ : Base b₁
   pub base₂ : Base b₂
   pub t₁-least : 2 ≤ t₁
-  pub t₁-most : t₁ ≤ 8
+  pub t₁-most : t₁ ≤ mostDigits
   pub t₂-least : 2 ≤ t₂
-  pub t₂-most : t₂ ≤ 8
+  pub t₂-most : t₂ ≤ mostDigits
 
 pub record ProjectLimits (d n r w : ℕ) : Type 0 where
   pub shaped : Shaped d n r
-  pub w-small : w ≤ 256
+  pub w-small : w ≤ mostProjections
 
 pub record AggregateLimits (d n r L w : ℕ) : Type 0 where
   pub shaped : Shaped d n r
-  pub L-small : L ≤ 32
-  pub w-small : w ≤ 256
+  pub L-small : L ≤ mostConstraints
+  pub w-small : w ≤ mostProjections
 
 pub record GarbageLimits (d n r K L w κ₂ b₁ t₁ : ℕ) : Type 0 where
   pub shaped : Shaped d n r
-  pub K-small : K ≤ 32
-  pub L-small : L ≤ 32
-  pub w-small : w ≤ 256
+  pub K-small : K ≤ mostConstraints
+  pub L-small : L ≤ mostConstraints
+  pub w-small : w ≤ mostProjections
   pub κ₂-positive : 1 ≤ κ₂
-  pub κ₂-small : κ₂ ≤ 8
+  pub κ₂-small : κ₂ ≤ mostCommitmentRank
   pub base₁ : Base b₁
   pub t₁-least : 2 ≤ t₁
-  pub t₁-most : t₁ ≤ 8
+  pub t₁-most : t₁ ≤ mostDigits
 
 pub record AmortizeLimits (d n r b : ℕ) : Type 0 where
   pub shaped : Shaped d n r
@@ -57,24 +58,24 @@ pub record AmortizeLimits (d n r b : ℕ) : Type 0 where
 
 pub record VerifyLimits (d n r K L w κ κ₁ κ₂ b b₁ b₂ t₁ t₂ bound target : ℕ) : Type 0 where
   pub shaped : Shaped d n r
-  pub K-small : K ≤ 32
-  pub L-small : L ≤ 32
-  pub w-small : w ≤ 256
+  pub K-small : K ≤ mostConstraints
+  pub L-small : L ≤ mostConstraints
+  pub w-small : w ≤ mostProjections
   pub κ-positive : 1 ≤ κ
-  pub κ-small : κ ≤ 8
+  pub κ-small : κ ≤ mostCommitmentRank
   pub κ₁-positive : 1 ≤ κ₁
-  pub κ₁-small : κ₁ ≤ 8
+  pub κ₁-small : κ₁ ≤ mostCommitmentRank
   pub κ₂-positive : 1 ≤ κ₂
-  pub κ₂-small : κ₂ ≤ 8
+  pub κ₂-small : κ₂ ≤ mostCommitmentRank
   pub base : Base b
   pub base₁ : Base b₁
   pub base₂ : Base b₂
   pub t₁-least : 2 ≤ t₁
-  pub t₁-most : t₁ ≤ 8
+  pub t₁-most : t₁ ≤ mostDigits
   pub t₂-least : 2 ≤ t₂
-  pub t₂-most : t₂ ≤ 8
-  pub bound-small : bound ≤ 999999999999999
-  pub target-small : target ≤ 999999999999999
+  pub t₂-most : t₂ ≤ mostDigits
+  pub bound-small : bound ≤ mostBound
+  pub target-small : target ≤ mostBound
 
 -- row 5
 pub record ChunkLimits (tz ν μ : ℕ) : Type 0 where
@@ -85,9 +86,9 @@ pub record ChunkLimits (tz ν μ : ℕ) : Type 0 where
 -- the question for part i of the next witness
 pub record PartLimits (d n r κ t₁ t₂ tz ν μ i : ℕ) : Type 0 where
   pub shaped : Shaped d n r
-  pub κ-small : κ ≤ 8
-  pub t₁-most : t₁ ≤ 8
-  pub t₂-most : t₂ ≤ 8
+  pub κ-small : κ ≤ mostCommitmentRank
+  pub t₁-most : t₁ ≤ mostDigits
+  pub t₂-most : t₂ ≤ mostDigits
   pub cut : ChunkLimits tz ν μ
   pub from-one : 1 ≤ i
   pub up-to-parts : i ≤ nextParts tz ν μ

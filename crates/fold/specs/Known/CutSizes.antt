@@ -11,9 +11,10 @@ use Rattle.fold.specs.Chunks.{chunk, width}
 use Rattle.fold.specs.Laws.ChunkLaws.{width-bound}
 use Rattle.fold.specs.Laws.SizeBounds.{product-bound, tSize-bound, garbageSize-bound}
 use Rattle.fold.specs.Known.CallLimits.{ChunkLimits}
+use Rattle.fold.specs.Limits.{mostCommitmentRank, mostDigits, mostParts, mostRank}
 
 pub record CutSizes (n ν m μ : ℕ) : Type 0 where
-  pub n-small : n ≤ 256
+  pub n-small : n ≤ mostRank
   pub m-small : m ≤ 4096
   pub ν-positive : 0 < ν
   pub μ-positive : 0 < μ
@@ -21,12 +22,12 @@ pub record CutSizes (n ν m μ : ℕ) : Type 0 where
   pub μ-small : μ ≤ 16
 
 -- a number of elements that code has computed
-pub restSize-bound : (r κ t₁ t₂ : ℕ) → r ≤ 16 → κ ≤ 8 → t₁ ≤ 8 → t₂ ≤ 8 → restSize r κ t₁ t₂ ≤ 3200
+pub restSize-bound : (r κ t₁ t₂ : ℕ) → r ≤ mostParts → κ ≤ mostCommitmentRank → t₁ ≤ mostDigits → t₂ ≤ mostDigits → restSize r κ t₁ t₂ ≤ 3200
 unfolding restSize
 restSize-bound r κ t₁ t₂ h k l u = omega (arith, tSize-bound r κ t₁ h k l, garbageSize-bound r t₂ h u, garbageSize-bound r t₁ h l)
 
 -- the sizes of the cut, within the limits of rows 1 to 5; a z of no digits would leave ν free
-pub cut-sizes : (tz r κ t₁ t₂ : ℕ) {n ν m μ : ℕ} → 0 < tz → n ≤ 256 → r ≤ 16 → κ ≤ 8 → t₁ ≤ 8 → t₂ ≤ 8 → ChunkLimits tz ν μ
+pub cut-sizes : (tz r κ t₁ t₂ : ℕ) {n ν m μ : ℕ} → 0 < tz → n ≤ mostRank → r ≤ mostParts → κ ≤ mostCommitmentRank → t₁ ≤ mostDigits → t₂ ≤ mostDigits → ChunkLimits tz ν μ
     → m ≡ restSize r κ t₁ t₂ → CutSizes n ν m μ
 cut-sizes tz r κ t₁ t₂ {n} {ν} {m} {μ} some a b c d f l e =
     record {

@@ -22,20 +22,21 @@ use Rattle.fold.specs.Sizes.{five, tSize, garbageSize, openingSize}
 use Rattle.fold.specs.Refusals.{wholeLength, constantTermsLength, projectionLength}
 use Rattle.fold.specs.Known.Facts.{Shaped}
 use Rattle.fold.specs.Known.CallLimits.{CommitSized, GarbageSized, VerifySized}
+use Rattle.fold.specs.Limits.{mostConstraints, mostProjections}
 
 -- ---- the second functions and the aggregate
 
 -- the constant-term constraints and ψ
 pub record TermFacts (d n r L : ℕ) (constantTerms ψ : List ℤ) : Type 0 where
   pub shaped : Shaped d n r
-  pub term-count : L ≤ 32
+  pub term-count : L ≤ mostConstraints
   pub constant-terms-length : length constantTerms ≡ constantTermsLength d n r L
   pub ψ-length : length ψ ≡ five * L
 
 -- the projection rows and ω
 pub record ProjectionFacts (d n r w : ℕ) (projections ω : List ℤ) : Type 0 where
   pub shaped : Shaped d n r
-  pub row-count : w ≤ 256
+  pub row-count : w ≤ mostProjections
   pub projections-length : length projections ≡ projectionLength d n r w
   pub ω-length : length ω ≡ five * w
   pub tested : projectionEntries projections ≡ true
@@ -48,7 +49,7 @@ pub record SecondFacts (d n r L w : ℕ) (constantTerms projections ψ ω : List
 -- the whole constraints and α
 pub record WholeFacts (d n r K : ℕ) (whole α : List ℤ) : Type 0 where
   pub shaped : Shaped d n r
-  pub whole-count : K ≤ 32
+  pub whole-count : K ≤ mostConstraints
   pub whole-length : length whole ≡ wholeLength d n r K
   pub α-length : length α ≡ K * d
 

@@ -22,6 +22,7 @@ use Rattle.fold.specs.Refusals.{allOf, anyOf, between, degree, rank, par
 use Rattle.fold.specs.Refusals.{digitCount, chunks, lengthBound, sized}
 use Rattle.ring.specs.Laws.ElementEquality.{every-true, true-every}
 use Rattle.residues.specs.Range.{challenge}
+use Rattle.fold.specs.Limits.{mostBound, mostCommitmentRank, mostConstraints, mostParts, mostProjections, mostRank}
 
 false-true : {A : Type 0} → false ≡ true → A
 false-true e = absurd (subst T (sym e) tt)
@@ -168,23 +169,23 @@ degree-fits d e = cases (degree-iff d .0 e)
     cases (inr (inr (inr (inr (inl e))))) = at 32 (omega arith) (omega arith) e
     cases (inr (inr (inr (inr (inr (inl e)))))) = at 64 (omega arith) (omega arith) e
 
-pub rank-iff : (n : ℕ) → (rank (pos n) ≡ true) ↔ ((1 ≤ n) × (n ≤ 256))
+pub rank-iff : (n : ℕ) → (rank (pos n) ≡ true) ↔ ((1 ≤ n) × (n ≤ mostRank))
 unfolding rank
 rank-iff n = between-iff 1 256 n
 
-pub parts-iff : (r : ℕ) → (parts (pos r) ≡ true) ↔ ((1 ≤ r) × (r ≤ 16))
+pub parts-iff : (r : ℕ) → (parts (pos r) ≡ true) ↔ ((1 ≤ r) × (r ≤ mostParts))
 unfolding parts
 parts-iff r = between-iff 1 16 r
 
-pub constraintCount-iff : (k : ℕ) → (constraintCount (pos k) ≡ true) ↔ ((0 ≤ k) × (k ≤ 32))
+pub constraintCount-iff : (k : ℕ) → (constraintCount (pos k) ≡ true) ↔ ((0 ≤ k) × (k ≤ mostConstraints))
 unfolding constraintCount
 constraintCount-iff k = between-iff 0 32 k
 
-pub projectionCount-iff : (w : ℕ) → (projectionCount (pos w) ≡ true) ↔ ((0 ≤ w) × (w ≤ 256))
+pub projectionCount-iff : (w : ℕ) → (projectionCount (pos w) ≡ true) ↔ ((0 ≤ w) × (w ≤ mostProjections))
 unfolding projectionCount
 projectionCount-iff w = between-iff 0 256 w
 
-pub commitmentRank-iff : (κ : ℕ) → (commitmentRank (pos κ) ≡ true) ↔ ((1 ≤ κ) × (κ ≤ 8))
+pub commitmentRank-iff : (κ : ℕ) → (commitmentRank (pos κ) ≡ true) ↔ ((1 ≤ κ) × (κ ≤ mostCommitmentRank))
 unfolding commitmentRank
 commitmentRank-iff κ = between-iff 1 8 κ
 
@@ -199,7 +200,7 @@ pub digitCount-iff : (t : ℕ) → (digitCount (pos t) ≡ true) ↔ ((2 ≤ t) 
 unfolding digitCount
 digitCount-iff t = between-iff 2 8 t
 
-pub lengthBound-iff : (β² : ℕ) → (lengthBound (pos β²) ≡ true) ↔ ((0 ≤ β²) × (β² ≤ 999999999999999))
+pub lengthBound-iff : (β² : ℕ) → (lengthBound (pos β²) ≡ true) ↔ ((0 ≤ β²) × (β² ≤ mostBound))
 unfolding lengthBound
 lengthBound-iff β² = between-iff 0 999999999999999 β²
 
@@ -224,25 +225,25 @@ challenges-iff d r c = (every-true r _, true-every r _)
 pub rank-least : (n : ℕ) → rank (pos n) ≡ true → 0 < n
 rank-least n e = rank-iff n .0 e .0
 
-pub rank-most : (n : ℕ) → rank (pos n) ≡ true → n ≤ 256
+pub rank-most : (n : ℕ) → rank (pos n) ≡ true → n ≤ mostRank
 rank-most n e = rank-iff n .0 e .1
 
 pub parts-least : (r : ℕ) → parts (pos r) ≡ true → 0 < r
 parts-least r e = parts-iff r .0 e .0
 
-pub parts-most : (r : ℕ) → parts (pos r) ≡ true → r ≤ 16
+pub parts-most : (r : ℕ) → parts (pos r) ≡ true → r ≤ mostParts
 parts-most r e = parts-iff r .0 e .1
 
-pub constraintCount-most : (k : ℕ) → constraintCount (pos k) ≡ true → k ≤ 32
+pub constraintCount-most : (k : ℕ) → constraintCount (pos k) ≡ true → k ≤ mostConstraints
 constraintCount-most k e = constraintCount-iff k .0 e .1
 
-pub projectionCount-most : (w : ℕ) → projectionCount (pos w) ≡ true → w ≤ 256
+pub projectionCount-most : (w : ℕ) → projectionCount (pos w) ≡ true → w ≤ mostProjections
 projectionCount-most w e = projectionCount-iff w .0 e .1
 
 pub commitmentRank-least : (κ : ℕ) → commitmentRank (pos κ) ≡ true → 1 ≤ κ
 commitmentRank-least κ e = commitmentRank-iff κ .0 e .0
 
-pub commitmentRank-most : (κ : ℕ) → commitmentRank (pos κ) ≡ true → κ ≤ 8
+pub commitmentRank-most : (κ : ℕ) → commitmentRank (pos κ) ≡ true → κ ≤ mostCommitmentRank
 commitmentRank-most κ e = commitmentRank-iff κ .0 e .1
 
 pub base-least : (b : ℕ) → base (pos b) ≡ true → 2 ≤ b
@@ -254,7 +255,7 @@ digitCount-least t e = digitCount-iff t .0 e .0
 pub digitCount-most : (t : ℕ) → digitCount (pos t) ≡ true → t ≤ 8
 digitCount-most t e = digitCount-iff t .0 e .1
 
-pub lengthBound-most : (β² : ℕ) → lengthBound (pos β²) ≡ true → β² ≤ 999999999999999
+pub lengthBound-most : (β² : ℕ) → lengthBound (pos β²) ≡ true → β² ≤ mostBound
 lengthBound-most β² e = lengthBound-iff β² .0 e .1
 
 pub between-least : (low high n : ℕ) → between low high (pos n) ≡ true → low ≤ n

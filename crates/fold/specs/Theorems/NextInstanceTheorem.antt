@@ -34,6 +34,7 @@ use Rattle.fold.specs.Chunks.{unpadded, ZeroPadding}
 use Rattle.fold.specs.Laws.PaddingLaws.{zero-padding, normSq-padded, length-unpadded, padded-unpadded, coefficients-unpadded}
 use Rattle.fold.specs.NextInstance.{m, n′, r′, nextWitness, nextRelation}
 use Rattle.fold.specs.Laws.NextSolves.{FirstChecks, solved, accepts-of}
+use Rattle.fold.specs.Limits.{mostBound}
 
 -- a list of at most that squared length is in range
 short-coefficients : (xs : List ℤ) → normSq xs ≤ 999999999999999 → coefficients xs ≡ true
@@ -67,7 +68,7 @@ module _ (𝓢 : Statement) (𝓓 : Draws) (𝓣 : Transcript) (ν μ : ℕ) (ou
   unfolding nextTests
   some-μ = chunk-limits tz ν μ (row 5) .μ-positive
 
-  small-target : target ≤ 999999999999999
+  small-target : target ≤ mostBound
   unfolding nextTests
   small-target = lengthBound-most target (search (allOf-all _ (row 6)))
 

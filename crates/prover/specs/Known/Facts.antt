@@ -14,9 +14,10 @@ use Rattle.fold.specs.Known.WorkFacts.{TFacts}
 use Rattle.fold.specs.Known.CallFacts.{ProjectFacts}
 use Rattle.fold.specs.Sizes.{tSize}
 use Rattle.fold.specs.Refusals.{projectionLength}
+use Rattle.fold.specs.Limits.{mostRank}
 
 pub record PartFacts (d n κ i : ℕ) (A s : List ℤ) : Type 0 where
-  pub rank-small : n ≤ 256
+  pub rank-small : n ≤ mostRank
   pub matrix : κ * n * d ≤ length A
   pub part : (i * n + n) * d ≤ length s
 
