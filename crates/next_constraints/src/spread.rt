@@ -50,15 +50,16 @@ fn spread(sizes: Sizes, cut: Cut, out: &mut [i32], at: usize)
     ensures { λ _. ⌜ now (out .exit) ≡ over (now (out .entry)) ((at + cut .pairs) * sizes .shape .d)
         (flat (cut .parts) (λ s. elements (sizes .shape .d) (cut .rank) (spreadEntry sizes cut (now (out .entry)) at s))) ⌝ }
 {
+    let rank = cut.rank;
     let parts = cut.parts;
     let mut start = at + cut.z;
     let mut place = at + cut.pairs;
     let mut s = 0;
     while s < parts {
         let size = chunk_width(cut.tz, sizes.shape.n, cut.nu, cut.m, cut.mu, s);
-        move_chunk(sizes.shape.d, cut.rank, start, size, out, place);
+        move_chunk(sizes.shape.d, rank, start, size, out, place);
         start += size;
-        place += cut.rank;
+        place += rank;
         s += 1;
     }
 }

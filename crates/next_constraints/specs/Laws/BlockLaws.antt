@@ -3,7 +3,7 @@
 --     numbers-append .. el-numbers        the same for the elements of a table
 --     ElementBlocks                       the invariant of a loop that writes blocks of w elements each: its start, its turn and its end
 --     row-once, length-row                a row of elements
---     z-as-long .. row-as-long            each block is as long as the zeros that it replaces
+--     length-z, length-t, length-garbage  how long the blocks are
 --     garbage-parts                       garbage elements are parts of one row
 use mathlib.Core.Path.{_≡_, refl, sym, ap, ap₂, _∙_}
 use mathlib.Core.Bool.{Bool, true, false, cond}
@@ -12,7 +12,7 @@ use Prim.Native.Nat.{ℕ, zero, suc, _+_, _-_, _*_, _≤_, _<_}
 use native.Mathlib.Nat.{mul-le-mul-right, add-sub-cancel-left}
 use native.Mathlib.Omega.{arith}
 use lib.Dec.{eqb}
-use lib.ListN.{length, getD, length-replicate}
+use lib.ListN.{length, getD}
 use lib.IntN.{ℤ, pos}
 use Rattle.integers.specs.Lists.{tab}
 use Rattle.integers.specs.Laws.ListLaws.{length-tab, tab-suc, tab-getD, tab-const}
@@ -157,26 +157,20 @@ module _ (d : ℕ) where
   pub length-row : (m : ℕ) (x : ℕ → R d .Carrier) → length (numbers d (tab m x)) ≡ m * d
   length-row m x = length-numbers d (tab m x) ∙ ap (λ (k : ℕ). k * d) (length-tab m x)
 
--- ---- each block is as long as the zeros that it replaces
+-- ---- how long the blocks are
 
 module _ (d : ℕ) where
-  length-zeros : (n : ℕ) → length (zeros d n) ≡ n
-  length-zeros n = length-replicate n (R d .zero)
-
-  pub z-as-long : (n tz b : ℕ) (f : ℕ → R d .Carrier) → length (zTable d n tz b f) ≡ length (zeros d (tz * n))
+  pub length-z : (n tz b : ℕ) (f : ℕ → R d .Carrier) → length (zTable d n tz b f) ≡ tz * n
   unfolding zTable
-  z-as-long n tz b f = length-digits tz n (λ e k. R d .mul (power d b e) (f k)) ∙ sym (length-zeros (tz * n))
+  length-z n tz b f = length-digits tz n (λ e k. R d .mul (power d b e) (f k))
 
-  pub t-as-long : (r κ t₁ : ℕ) (f : ℕ → ℕ → ℕ → R d .Carrier) → length (tTable d r κ t₁ f) ≡ length (zeros d (tSize r κ t₁))
+  pub length-t : (r κ t₁ : ℕ) (f : ℕ → ℕ → ℕ → R d .Carrier) → length (tTable d r κ t₁ f) ≡ tSize r κ t₁
   unfolding tTable tSize
-  t-as-long r κ t₁ f = length-parts r t₁ κ f ∙ sym (length-zeros (r * (t₁ * κ)))
+  length-t r κ t₁ f = length-parts r t₁ κ f
 
-  pub garbage-as-long : (r b t : ℕ) (f : ℕ → ℕ → R d .Carrier) → length (garbageTable d r b t f) ≡ length (zeros d (garbageSize r t))
+  pub length-garbage : (r b t : ℕ) (f : ℕ → ℕ → R d .Carrier) → length (garbageTable d r b t f) ≡ garbageSize r t
   unfolding garbageTable garbageSize pairs
-  garbage-as-long r b t f = length-triangle r t (λ i j e. R d .mul (f i j) (power d b e)) ∙ sym (length-zeros (pairs-count r * t))
-
-  pub row-as-long : (m : ℕ) (x : ℕ → R d .Carrier) → length (tab m x) ≡ length (zeros d m)
-  row-as-long m x = length-tab m x ∙ sym (length-zeros m)
+  length-garbage r b t f = length-triangle r t (λ i j e. R d .mul (f i j) (power d b e))
 
 -- ---- garbage elements are parts of one row
 

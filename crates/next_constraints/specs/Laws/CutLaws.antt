@@ -5,13 +5,16 @@ use native.Mathlib.Nat.{add-zero, add-suc, mul-le-mul-right, le-refl}
 use native.Mathlib.Omega.{arith}
 use Rattle.algebra.specs.Triangle.{start}
 use Rattle.algebra.specs.Laws.TriangleLaws.{start-mono, start-suc}
+use Rattle.residues.specs.Digits.{Base}
+use Rattle.ring.specs.Element.{Degree}
 use Rattle.ring.specs.Laws.ElementPlaces.{place-below}
 use Rattle.fold.specs.declared.Sizes.{Sizes}
 use Rattle.fold.specs.Arguments.{VerifySized}
-use Rattle.fold.specs.Sizes.{functionSize, tSize, garbageSize, restSize, nextRank, nextParts}
+use Rattle.fold.specs.Sizes.{pairs, functionSize, tSize, garbageSize, restSize, nextRank, nextParts}
 use Rattle.fold.specs.Chunks.{width}
 use Rattle.fold.specs.Laws.SizeBounds.{functionSize-bound, product-bound}
 use Rattle.fold.specs.Laws.ChunkLaws.{width-bound, widths-cover}
+use Rattle.fold.specs.Known.CallLimits.{ChunkLimits}
 use Rattle.fold.specs.Known.CutSizes.{CutSizes, restSize-bound}
 use Rattle.next_constraints.specs.declared.cut.Cut.{Cut}
 use Rattle.next_constraints.specs.Known.Facts.{CutFacts}
@@ -39,11 +42,14 @@ opening-within tz n ν m μ some-ν some-μ =
     omega (arith, rw all at room, none, widths-cover tz n ν m μ some-ν some-μ)
 
 -- the same for the numbers that code has computed
-pub room-of : (tz n ν m μ : ℕ) {rank size : ℕ} → 0 < ν → 0 < μ → tz * ν + μ ≤ 16 → rank ≡ nextRank n ν m μ → rank ≤ 256
+pub room-of : (n : ℕ) {tz ν μ m m′ rank size : ℕ} → ChunkLimits tz ν μ → nextRank n ν m′ μ ≤ 256 → m ≡ m′ → rank ≡ nextRank n ν m μ
     → size ≡ functionSize rank (tz * ν + μ) → (tz * n + m ≤ size) × (size ≤ 4232)
 unfolding nextParts
-room-of tz n ν m μ some-ν some-μ few rank-is small size-is =
-    (rw (size-is, rank-is) (opening-within tz n ν m μ some-ν some-μ), rw size-is (functionSize-bound _ _ small few))
+room-of n {tz} {ν} {μ} {m} limits small m-is rank-is size-is =
+    let rank-small = rw (← m-is, ← rank-is) at small in (
+      rw (size-is, rank-is) (opening-within tz n ν m μ (limits .ν-positive) (limits .μ-positive)),
+      rw size-is (functionSize-bound _ _ rank-small (limits .parts-small)),
+    )
 
 module _ (s : Sizes) (cut : Cut) (facts : CutFacts s cut) where
   pub parts-few : cut .parts ≤ 16
@@ -134,12 +140,41 @@ module _ (s : Sizes) (cut : Cut) (facts : CutFacts s cut) where
   pub h-columns : cut .size - cut .h ≡ garbageSize (s .shape .r) (s .t1)
   h-columns = omega (arith, h-end)
 
--- `count` elements from element p of the constraint at element `at` on, and their place
-module _ (d at size p : ℕ) {len : ℕ} (fits : (at + size + 1) * d ≤ len) where
-  pub block-fits : (count : ℕ) → p + count ≤ size → (at + p + count) * d ≤ len
-  block-fits count h =
-      let inside : at + p + count ≤ at + size + 1 = omega (arith, h) in
-      omega (arith, mul-le-mul-right d inside, fits)
+-- `count` elements from element p of the constraint at element `at` on
+pub block-fits : (d at size p : ℕ) {len : ℕ} → (at + size + 1) * d ≤ len → (count : ℕ) → p + count ≤ size → (at + p + count) * d ≤ len
+block-fits d at size p fits count h =
+    let inside : at + p + count ≤ at + size + 1 = omega (arith, h) in
+    omega (arith, mul-le-mul-right d inside, fits)
 
-  pub place-fits : 0 < d → p ≤ size → at + p ≤ len
-  place-fits some h = omega (arith, place-below d (at + size + 1) some fits, h)
+-- where the blocks stand, and what their writers ask
+module _ (s : Sizes) (cut : Cut) (limits : VerifySized s) (facts : CutFacts s cut) (at : ℕ) {len : ℕ} (fits : (at + cut .size + 1) * s .shape .d ≤ len) where
+  pub end-below : at + cut .size ≤ len
+  end-below = omega (arith, place-below (s .shape .d) (at + cut .size + 1) (limits .shaped .degree .positive) fits)
+
+  pub z-below : at + cut .z ≤ len
+  z-below = omega (arith, end-below, z-block s cut facts)
+
+  pub t-below : at + cut .t ≤ len
+  t-below = omega (arith, end-below, t-block s cut facts)
+
+  pub g-below : at + cut .g ≤ len
+  g-below = omega (arith, end-below, g-block s cut facts)
+
+  pub h-below : at + cut .h ≤ len
+  h-below = omega (arith, end-below, h-block s cut facts)
+
+  pub z-asked : (first : ℕ) {read : ℕ} → (first + s .shape .n) * s .shape .d ≤ read
+      → Degree (s .shape .d) × (Base (s .b) × (((first + s .shape .n) * s .shape .d ≤ read) × ((at + cut .z + cut .tz * s .shape .n) * s .shape .d ≤ len)))
+  z-asked first room = (limits .shaped .degree, (limits .base, (room, block-fits (s .shape .d) at (cut .size) (cut .z) fits _ (z-block s cut facts))))
+
+  pub g-asked : {read : ℕ} → pairs (s .shape .r) * s .shape .d ≤ read
+      → Degree (s .shape .d) × (Base (s .b2) × (((s .shape .r ≤ 16) × (s .t2 ≤ 8))
+      × ((pairs (s .shape .r) * s .shape .d ≤ read) × ((at + cut .g + garbageSize (s .shape .r) (s .t2)) * s .shape .d ≤ len))))
+  g-asked room =
+      (limits .shaped .degree, (limits .base₂, ((limits .shaped .parts-small, limits .t₂-most), (room, block-fits (s .shape .d) at (cut .size) (cut .g) fits _ (g-block s cut facts)))))
+
+  pub h-asked : {read : ℕ} → pairs (s .shape .r) * s .shape .d ≤ read
+      → Degree (s .shape .d) × (Base (s .b1) × (((s .shape .r ≤ 16) × (s .t1 ≤ 8))
+      × ((pairs (s .shape .r) * s .shape .d ≤ read) × ((at + cut .h + garbageSize (s .shape .r) (s .t1)) * s .shape .d ≤ len))))
+  h-asked room =
+      (limits .shaped .degree, (limits .base₁, ((limits .shaped .parts-small, limits .t₁-most), (room, block-fits (s .shape .d) at (cut .size) (cut .h) fits _ (h-block s cut facts)))))

@@ -1,31 +1,34 @@
--- A constraint while its writer forms it at element `at` of a list: its a, and the coefficients at the end of its φ, block by block.
---     Forming                 what stands there, over zeros
---     cleared, put-a .. put-h     the zeros, and one block written over those that stood there
---     formed                  with φ spread and b written, it is the constraint laid out
+-- A constraint while its writer forms it at element `at` of a list: its a, zeros, and the coefficients of z, t, g and h, one piece after the other.
+--     over-within, over-end        lists written over a part of what was written before
+--     Pieces, put                  a list in pieces, and one of them written anew
+--     Forming, cleared, put-a .. put-h     the pieces of a constraint
+--     formed, formed-no-a          with φ spread and b written, it is the constraint laid out
 use mathlib.Core.Path.{_≡_, refl, sym, ap, ap₂, _∙_}
 use mathlib.Core.Bool.{Bool, true, false, cond}
-use mathlib.Core.List.{List, [], _++_, append-assoc, append-nil}
-use Prim.Native.Nat.{ℕ, _+_, _-_, _*_, _<_, _≤_}
-use native.Mathlib.Nat.{mul-le-mul-right, add-sub-of-le, add-sub-cancel-left}
+use mathlib.Core.List.{List, [], _∷_, _++_, append-assoc}
+use Prim.Native.Nat.{ℕ, suc, _+_, _-_, _*_, _<_, _≤_}
+use native.Mathlib.Nat.{add-sub-cancel-left, eq-of-mul-eq-mul-right}
 use native.Mathlib.Omega.{arith}
-use borrow.Author.Tests.{ltb-true}
-use lib.Dec.{ltb}
-use lib.ListN.{length, getD, take, drop, length-append, length-take, length-drop, length-replicate}
+use borrow.Author.Tests.{ltb-true, eq-eqb, ne-eqb, eqb-true}
+use lib.Dec.{ltb, eqb}
+use lib.ListN.{length, getD, take, drop, length-append, length-take, length-drop}
 use lib.Seq.{length-take-le, take-at, drop-at}
 use lib.IntN.{ℤ}
 use Rattle.integers.specs.Over.{over}
 use Rattle.integers.specs.Laws.OverLaws.{over-is, over-all, over-over, over-slice, drop-over-add, length-over}
 use Rattle.integers.specs.Flat.{flat}
-use Rattle.integers.specs.Laws.FlatLaws.{flat-cong, flat-append}
+use Rattle.integers.specs.Laws.FlatLaws.{flat-cong, flat-at, flat-append}
 use Rattle.algebra.specs.Triangle.{start, pairs-count}
+use Rattle.algebra.specs.Laws.Tables.{length-flat-start}
 use Rattle.algebra.specs.Laws.TriangleLaws.{start-mono}
-use Rattle.ring.specs.Element.{R, el, coeffs, array}
+use Rattle.ring.specs.Element.{R, Degree, el, coeffs, array}
 use Rattle.ring.specs.Laws.ElementLaws.{take-array, length-coeffs}
 use Rattle.ring.specs.Laws.ElementPlaces.{el-overs}
 use Rattle.fold.specs.declared.Sizes.{Sizes}
 use Rattle.fold.specs.Sizes.{pairs, tSize, garbageSize}
 use Rattle.fold.specs.Messages.{elements}
 use Rattle.fold.specs.PairElements.{pairElements}
+use Rattle.fold.specs.Laws.ChunkLaws.{start-scale}
 use Rattle.fold.specs.Laws.Layout.{length-triangle}
 use Rattle.fold.specs.Laws.WriterLaws.{length-elements, flat-start}
 use Rattle.fold.specs.Constraint.{Constraint, φ′, laidOut}
@@ -34,7 +37,7 @@ use Rattle.next_constraints.specs.declared.cut.Cut.{Cut}
 use Rattle.next_constraints.specs.Known.Facts.{CutFacts}
 use Rattle.next_constraints.specs.Blocks.{numbers}
 use Rattle.next_constraints.specs.Spread.{chunkEntry, widths, spreadEntry}
-use Rattle.next_constraints.specs.Checks.{laid, noZ, noT, noG, noH}
+use Rattle.next_constraints.specs.Checks.{laid}
 use Rattle.next_constraints.specs.Laws.BlockLaws.{numbers-append, numbers-zeros, length-numbers, el-numbers}
 use Rattle.next_constraints.specs.Laws.SpreadLaws.{length-spread}
 use Rattle.next_constraints.specs.Laws.CutLaws.{pairs-first, pairs-room, h-end, all-parts}
@@ -91,315 +94,142 @@ module _ {ℓ} {A : Type ℓ} where
       ∙ over-again (over out a xs) (a + length xs) ys zs kept l
       ∙ over-over out a xs zs fits
 
--- ---- the record
+-- ---- a list in pieces
 
--- the four blocks of the coefficients, and all that stands
-module _ (d gap : ℕ) (ds : List ℤ) (zs ts gs hs : List (R d .Carrier)) where
-  unfoldable pub standing : List ℤ
-  standing = ds ++ (numbers d (zeros d gap) ++ (numbers d zs ++ (numbers d ts ++ (numbers d gs ++ numbers d hs))))
+-- n pieces, of w 0, w 1, .. elements, stand one after the other from element `at` on
+pub record Pieces (d n : ℕ) (w : ℕ → ℕ) (F : ℕ → List ℤ) (old : List ℤ) (at : ℕ) (new : List ℤ) : Type 0 where
+  pub room : (at + start w n) * d ≤ length old
+  pub wide : (j : ℕ) → j < n → length (F j) ≡ w j * d
+  pub is : new ≡ over old (at * d) (flat n F)
 
-pub record Forming (s : Sizes) (cut : Cut) (old : List ℤ) (at : ℕ) (ds : List ℤ) (zs ts gs hs : List (R (s .shape .d) .Carrier)) (new : List ℤ) : Type 0 where
-  pub room : (at + cut .size + 1) * s .shape .d ≤ length old
-  pub a-long : length ds ≡ cut .pairs * s .shape .d
-  pub z-long : cut .z + length zs ≡ cut .t
-  pub t-long : cut .t + length ts ≡ cut .g
-  pub g-long : cut .g + length gs ≡ cut .h
-  pub h-long : cut .h + length hs ≡ cut .size
-  pub gap-long : cut .pairs + (cut .z - cut .pairs) ≡ cut .z
-  pub is : new ≡ over old (at * s .shape .d) (standing (s .shape .d) (cut .z - cut .pairs) ds zs ts gs hs)
+-- piece i replaced
+unfoldable pub replaced : (ℕ → List ℤ) → ℕ → List ℤ → ℕ → List ℤ
+replaced F i block j = cond (eqb j i) block (F j)
 
-length-zeros : (d n : ℕ) → length (zeros d n) ≡ n
-length-zeros d n = length-replicate n (R d .zero)
+module _ {d n : ℕ} {w : ℕ → ℕ} {F : ℕ → List ℤ} {old : List ℤ} {at : ℕ} {new : List ℤ} (sofar : Pieces d n w F old at new) where
+  length-before : (i : ℕ) → i ≤ n → length (flat i F) ≡ start w i * d
+  length-before i h = length-flat-start i (λ k. w k * d) F (λ k l. sofar .wide k (omega arith)) ∙ start-scale w d i
 
--- elements of one value, in two parts
-elements-append : (d m n : ℕ) (u : R d .Carrier) → elements d (m + n) (λ _. u) ≡ elements d m (λ _. u) ++ elements d n (λ _. u)
-unfolding elements
-elements-append d m n u = flat-append m n (λ _. coeffs d u)
-
--- the zeros, as one list
-zeros-standing : (d a gap z t g h : ℕ)
-    → elements d (a + (gap + (z + (t + (g + h))))) (λ _. R d .zero)
-    ≡ standing d gap (elements d a (λ _. R d .zero)) (zeros d z) (zeros d t) (zeros d g) (zeros d h)
-unfolding standing
-zeros-standing d a gap z t g h =
-    let u = R d .zero in
-    rw (numbers-zeros d gap, numbers-zeros d z, numbers-zeros d t, numbers-zeros d g, numbers-zeros d h)
-    (elements-append d a (gap + (z + (t + (g + h)))) u
-    ∙ ap (λ (xs : List ℤ). elements d a (λ _. u) ++ xs) (elements-append d gap (z + (t + (g + h))) u
-    ∙ ap (λ (xs : List ℤ). elements d gap (λ _. u) ++ xs) (elements-append d z (t + (g + h)) u
-    ∙ ap (λ (xs : List ℤ). elements d z (λ _. u) ++ xs) (elements-append d t (g + h) u
-    ∙ ap (λ (xs : List ℤ). elements d t (λ _. u) ++ xs) (elements-append d g h u)))))
-
-module _ (s : Sizes) (cut : Cut) (facts : CutFacts s cut) where
-  abbrev d : ℕ
-  d = s .shape .d
-
-  abbrev tz : ℕ
-  tz = cut .tz
-
-  abbrev gap : ℕ
-  gap = cut .z - cut .pairs
-
-  pub cleared : {old : List ℤ} {at : ℕ} {new : List ℤ} → (at + cut .size + 1) * d ≤ length old
-      → new ≡ over old (at * d) (elements d (cut .size) (λ _. R d .zero))
-      → Forming s cut old at (elements d (cut .pairs) (λ _. R d .zero)) (noZ s tz) (noT s tz) (noG s tz) (noH s tz) new
-  cleared {old} {at} fits written =
-      let z = tz * s .shape .n in
-      let t = tSize (s .shape .r) (s .kappa) (s .t1) in
-      let g = garbageSize (s .shape .r) (s .t2) in
-      let h = garbageSize (s .shape .r) (s .t1) in
-      let gap-long : cut .pairs + gap ≡ cut .z = add-sub-of-le (pairs-first s cut facts) in
-      let all : cut .size ≡ cut .pairs + (gap + (z + (t + (g + h)))) =
-      omega (arith, gap-long, facts .t-is, facts .g-is, facts .h-is, h-end s cut facts) in
-      record {
-        room = fits;
-        a-long = length-elements d (cut .pairs) (λ _. R d .zero);
-        z-long = omega (arith, length-zeros d z, facts .t-is);
-        t-long = omega (arith, length-zeros d t, facts .g-is);
-        g-long = omega (arith, length-zeros d g, facts .h-is);
-        h-long = omega (arith, length-zeros d h, h-end s cut facts);
-        gap-long = gap-long;
-        is = written ∙ ap (over old (at * d)) (ap (λ (k : ℕ). elements d k (λ _. R d .zero)) all ∙ zeros-standing d (cut .pairs) gap z t g h);
-      }
-
--- ---- one block written over those that stood there
-
-module _ {ℓ} {A : Type ℓ} (a b z t g h : List A) where
-  abbrev all-six : List A
-  all-six = a ++ (b ++ (z ++ (t ++ (g ++ h))))
-
-  from-z : all-six ≡ (a ++ b) ++ (z ++ (t ++ (g ++ h)))
-  from-z = sym (append-assoc a b (z ++ (t ++ (g ++ h))))
-
-  from-t : all-six ≡ (a ++ (b ++ z)) ++ (t ++ (g ++ h))
-  from-t = sym (append-assoc a (b ++ z) (t ++ (g ++ h)) ∙ ap (λ (xs : List A). a ++ xs) (append-assoc b z (t ++ (g ++ h))))
-
-  from-g : all-six ≡ (a ++ (b ++ (z ++ t))) ++ (g ++ h)
-  from-g =
-      sym (append-assoc a (b ++ (z ++ t)) (g ++ h)
-      ∙ ap (λ (xs : List A). a ++ xs) (append-assoc b (z ++ t) (g ++ h) ∙ ap (λ (xs : List A). b ++ xs) (append-assoc z t (g ++ h))))
-
-  from-h : all-six ≡ (a ++ (b ++ (z ++ (t ++ g)))) ++ h
-  from-h =
-      sym (append-assoc a (b ++ (z ++ (t ++ g))) h
-      ∙ ap (λ (xs : List A). a ++ xs) (append-assoc b (z ++ (t ++ g)) h
-      ∙ ap (λ (xs : List A). b ++ xs) (append-assoc z (t ++ g) h ∙ ap (λ (xs : List A). z ++ xs) (append-assoc t g h))))
-
-  -- how long the lists before each block are
-  before-t : length (a ++ (b ++ z)) ≡ length a + (length b + length z)
-  before-t = omega (arith, length-append a (b ++ z), length-append b z)
-
-  before-g : length (a ++ (b ++ (z ++ t))) ≡ length a + (length b + (length z + length t))
-  before-g = omega (arith, length-append a (b ++ (z ++ t)), length-append b (z ++ t), length-append z t)
-
-  before-h : length (a ++ (b ++ (z ++ (t ++ g)))) ≡ length a + (length b + (length z + (length t + length g)))
-  before-h =
-      omega (arith, length-append a (b ++ (z ++ (t ++ g))), length-append b (z ++ (t ++ g)), length-append z (t ++ g), length-append t g)
-
-module _ {s : Sizes} {cut : Cut} {old : List ℤ} {at : ℕ} {ds : List ℤ} {zs ts gs hs : List (R (s .shape .d) .Carrier)} {new : List ℤ}
-    (sofar : Forming s cut old at ds zs ts gs hs new) where
-  abbrev D : ℕ
-  D = s .shape .d
-
-  abbrev skip : ℕ
-  skip = cut .z - cut .pairs
-
-  abbrev skipped : List ℤ
-  skipped = numbers D (zeros D skip)
-
-  length-skipped : length skipped ≡ skip * D
-  length-skipped = length-numbers D (zeros D skip) ∙ ap (λ (k : ℕ). k * D) (length-zeros D skip)
-
-  begins : at * D ≤ length old
+  begins : at * d ≤ length old
   begins = omega (arith, sofar .room)
 
-  -- the places of the blocks, in numbers
-  z-place : (cut .pairs + skip) * D ≡ cut .z * D
-  z-place = ap (λ (k : ℕ). k * D) (sofar .gap-long)
-
-  t-place : (cut .z + length zs) * D ≡ cut .t * D
-  t-place = ap (λ (k : ℕ). k * D) (sofar .z-long)
-
-  g-place : (cut .t + length ts) * D ≡ cut .g * D
-  g-place = ap (λ (k : ℕ). k * D) (sofar .t-long)
-
-  h-place : (cut .g + length gs) * D ≡ cut .h * D
-  h-place = ap (λ (k : ℕ). k * D) (sofar .g-long)
-
-  end-place : (cut .h + length hs) * D ≡ cut .size * D
-  end-place = ap (λ (k : ℕ). k * D) (sofar .h-long)
-
-  -- `block` is written over `was`, which stands after `front` and before `rest`
-  written-over : (front was rest block : List ℤ) {next : List ℤ} (p : ℕ)
-      → standing D skip ds zs ts gs hs ≡ front ++ (was ++ rest) → p ≡ at * D + length front → length block ≡ length was
-      → next ≡ over new p block → next ≡ over old (at * D) (front ++ (block ++ rest))
-  written-over front was rest block p split place same written =
-      written
-      ∙ ap (λ (xs : List ℤ). over xs p block) (sofar .is ∙ ap (over old (at * D)) split)
-      ∙ ap (λ (k : ℕ). over (over old (at * D) (front ++ (was ++ rest))) k block) place
-      ∙ over-within old (at * D) front was rest block begins same
-
-  same-length : (xs ys : List (R D .Carrier)) → length ys ≡ length xs → length (numbers D ys) ≡ length (numbers D xs)
-  same-length xs ys e = length-numbers D ys ∙ ap (λ (k : ℕ). k * D) e ∙ sym (length-numbers D xs)
-
-  abbrev Z : List ℤ
-  Z = numbers D zs
-
-  abbrev T : List ℤ
-  T = numbers D ts
-
-  abbrev G : List ℤ
-  G = numbers D gs
-
-  abbrev H : List ℤ
-  H = numbers D hs
-
-  pub put-a : {next es : List ℤ} → length es ≡ cut .pairs * D → next ≡ over new (at * D) es → Forming s cut old at es zs ts gs hs next
-  unfolding standing
-  put-a {next} {es} long written =
-      record {
-        room = sofar .room;
-        a-long = long;
-        z-long = sofar .z-long;
-        t-long = sofar .t-long;
-        g-long = sofar .g-long;
-        h-long = sofar .h-long;
-        gap-long = sofar .gap-long;
-        is = written-over [] ds (skipped ++ (Z ++ (T ++ (G ++ H)))) es (at * D) refl (omega arith) (long ∙ sym (sofar .a-long)) written;
-      }
-
-  pub put-z : {next : List ℤ} (zs′ : List (R D .Carrier)) → length zs′ ≡ length zs → next ≡ over new ((at + cut .z) * D) (numbers D zs′)
-      → Forming s cut old at ds zs′ ts gs hs next
-  unfolding standing
-  put-z zs′ same written =
-      record {
-        room = sofar .room;
-        a-long = sofar .a-long;
-        z-long = omega (arith, same, sofar .z-long);
-        t-long = sofar .t-long;
-        g-long = sofar .g-long;
-        h-long = sofar .h-long;
-        gap-long = sofar .gap-long;
-        is =
-            written-over (ds ++ skipped) Z (T ++ (G ++ H)) (numbers D zs′) ((at + cut .z) * D) (from-z ds skipped Z T G H)
-            (omega (arith, length-append ds skipped, sofar .a-long, length-skipped, z-place)) (same-length zs zs′ same) written
-            ∙ ap (over old (at * D)) (sym (from-z ds skipped (numbers D zs′) T G H));
-      }
-
-  pub put-t : {next : List ℤ} (ts′ : List (R D .Carrier)) → length ts′ ≡ length ts → next ≡ over new ((at + cut .t) * D) (numbers D ts′)
-      → Forming s cut old at ds zs ts′ gs hs next
-  unfolding standing
-  put-t ts′ same written =
-      record {
-        room = sofar .room;
-        a-long = sofar .a-long;
-        z-long = sofar .z-long;
-        t-long = omega (arith, same, sofar .t-long);
-        g-long = sofar .g-long;
-        h-long = sofar .h-long;
-        gap-long = sofar .gap-long;
-        is =
-            written-over (ds ++ (skipped ++ Z)) T (G ++ H) (numbers D ts′) ((at + cut .t) * D) (from-t ds skipped Z T G H)
-            (omega (arith, before-t ds skipped Z T G H, sofar .a-long, length-skipped, z-place, length-numbers D zs, t-place)) (same-length ts ts′ same) written
-            ∙ ap (over old (at * D)) (sym (from-t ds skipped Z (numbers D ts′) G H));
-      }
-
-  pub put-g : {next : List ℤ} (gs′ : List (R D .Carrier)) → length gs′ ≡ length gs → next ≡ over new ((at + cut .g) * D) (numbers D gs′)
-      → Forming s cut old at ds zs ts gs′ hs next
-  unfolding standing
-  put-g gs′ same written =
-      record {
-        room = sofar .room;
-        a-long = sofar .a-long;
-        z-long = sofar .z-long;
-        t-long = sofar .t-long;
-        g-long = omega (arith, same, sofar .g-long);
-        h-long = sofar .h-long;
-        gap-long = sofar .gap-long;
-        is =
-            written-over (ds ++ (skipped ++ (Z ++ T))) G H (numbers D gs′) ((at + cut .g) * D) (from-g ds skipped Z T G H)
-            (omega (arith, before-g ds skipped Z T G H, sofar .a-long, length-skipped, z-place, length-numbers D zs, t-place, length-numbers D ts, g-place))
-            (same-length gs gs′ same) written
-            ∙ ap (over old (at * D)) (sym (from-g ds skipped Z T (numbers D gs′) H));
-      }
-
-  pub put-h : {next : List ℤ} (hs′ : List (R D .Carrier)) → length hs′ ≡ length hs → next ≡ over new ((at + cut .h) * D) (numbers D hs′)
-      → Forming s cut old at ds zs ts gs hs′ next
-  unfolding standing
-  put-h hs′ same written =
-      record {
-        room = sofar .room;
-        a-long = sofar .a-long;
-        z-long = sofar .z-long;
-        t-long = sofar .t-long;
-        g-long = sofar .g-long;
-        h-long = omega (arith, same, sofar .h-long);
-        gap-long = sofar .gap-long;
-        is =
-            written-over (ds ++ (skipped ++ (Z ++ (T ++ G)))) H [] (numbers D hs′) ((at + cut .h) * D)
-            (from-h ds skipped Z T G H ∙ ap (λ (xs : List ℤ). (ds ++ (skipped ++ (Z ++ (T ++ G)))) ++ xs) (sym (append-nil H)))
-            (omega (
-              arith,
-              before-h ds skipped Z T G H,
-              sofar .a-long,
-              length-skipped,
-              z-place,
-              length-numbers D zs,
-              t-place,
-              length-numbers D ts,
-              g-place,
-              length-numbers D gs,
-              h-place,
-            )) (same-length hs hs′ same) written
-            ∙ ap (λ (xs : List ℤ). over old (at * D) ((ds ++ (skipped ++ (Z ++ (T ++ G)))) ++ xs)) (append-nil (numbers D hs′))
-            ∙ ap (over old (at * D)) (sym (from-h ds skipped Z T G (numbers D hs′)));
-      }
-
-  -- ---- the coefficients read back
-
-  abbrev table : List (R D .Carrier)
-  table = zs ++ (ts ++ (gs ++ hs))
-
-  numbers-table : numbers D table ≡ Z ++ (T ++ (G ++ H))
-  numbers-table =
-      numbers-append D zs (ts ++ (gs ++ hs))
-      ∙ ap (λ (xs : List ℤ). Z ++ xs) (numbers-append D ts (gs ++ hs) ∙ ap (λ (xs : List ℤ). T ++ xs) (numbers-append D gs hs))
-
-  length-table : cut .z + length table ≡ cut .size
-  length-table =
-      omega (arith, length-append zs (ts ++ (gs ++ hs)), length-append ts (gs ++ hs), length-append gs hs, sofar .z-long, sofar .t-long, sofar .g-long, sofar .h-long)
-
-  table-stands : new ≡ over (over old (at * D) (ds ++ skipped)) ((at + cut .z) * D) (numbers D table)
-  unfolding standing
-  table-stands =
-      let place : at * D + length (ds ++ skipped) ≡ (at + cut .z) * D = omega (arith, length-append ds skipped, sofar .a-long, length-skipped, z-place) in
-      sofar .is
-      ∙ ap (over old (at * D)) (from-z ds skipped Z T G H ∙ ap (λ (xs : List ℤ). (ds ++ skipped) ++ xs) (sym numbers-table))
-      ∙ sym (over-over old (at * D) (ds ++ skipped) (numbers D table) begins)
-      ∙ ap (λ (p : ℕ). over (over old (at * D) (ds ++ skipped)) p (numbers D table)) place
-
-  front-fits : at * D + length (ds ++ skipped) ≤ length old
-  front-fits =
-      let within : (at + cut .z) * D ≤ (at + cut .size + 1) * D = mul-le-mul-right D (omega (arith, length-table)) in
-      omega (arith, length-append ds skipped, sofar .a-long, length-skipped, z-place, within, sofar .room)
-
-  pub coefficient : (p : ℕ) → p < length table → el D new (at + cut .z + p) ≡ getD table p (R D .zero)
-  coefficient p h =
-      let kept = length-over old (at * D) (ds ++ skipped) front-fits in
-      let within : (at + cut .z) * D ≤ length (over old (at * D) (ds ++ skipped)) =
-      omega (arith, kept, front-fits, length-append ds skipped, sofar .a-long, length-skipped, z-place) in
-      ap (λ (xs : List ℤ). el D xs (at + cut .z + p)) table-stands
-      ∙ el-overs D (over old (at * D) (ds ++ skipped)) (numbers D table) (at + cut .z) (length table) p within (length-numbers D table) h
-      ∙ el-numbers D table p h
-
   pub same-size : length new ≡ length old
-  same-size =
-      let kept = length-over old (at * D) (ds ++ skipped) front-fits in
-      let within : (at + cut .z) * D + length (numbers D table) ≤ length old =
-      omega (arith, length-numbers D table, ap (λ (k : ℕ). k * D) length-table, sofar .room) in
-      ap length table-stands
-      ∙ length-over (over old (at * D) (ds ++ skipped)) ((at + cut .z) * D) (numbers D table) (omega (arith, kept, within))
-      ∙ kept
+  same-size = ap length (sofar .is) ∙ length-over old (at * d) (flat n F) (omega (arith, length-before n (omega arith), sofar .room))
+
+  module _ (i : ℕ) (block : List ℤ) (h : i < n) (long : length block ≡ w i * d) where
+    still-wide : (j : ℕ) → j < n → length (replaced F i block j) ≡ w j * d
+    unfolding replaced
+    still-wide j l = side (eqb j i) refl
+      where
+        side : (t : Bool) → eqb j i ≡ t → length (cond t block (F j)) ≡ w j * d
+        side true e = long ∙ ap (λ (k : ℕ). w k * d) (sym (eqb-true j i e))
+        side false e = sofar .wide j l
+
+    others : (j : ℕ) → (j ≡ i → ⊥) → F j ≡ replaced F i block j
+    unfolding replaced
+    others j e = ap (λ (t : Bool). cond t block (F j)) (sym (ne-eqb j i e))
+
+    itself : block ≡ replaced F i block i
+    unfolding replaced
+    itself = ap (λ (t : Bool). cond t block (F i)) (sym (eq-eqb i i refl))
+
+    pub put : {p : ℕ} {next : List ℤ} → p ≡ at + start w i → next ≡ over new (p * d) block → Pieces d n w (replaced F i block) old at next
+    put {p} place written =
+        let rest = flat (n - suc i) (λ j. F (suc i + j)) in
+        let here : p * d ≡ at * d + length (flat i F) = rw place (omega (arith, length-before i (omega arith))) in
+        record {
+          room = sofar .room;
+          wide = still-wide;
+          is =
+              written
+              ∙ ap₂ (λ (xs : List ℤ) (k : ℕ). over xs k block) (sofar .is ∙ ap (over old (at * d)) (flat-at n i F h)) here
+              ∙ over-within old (at * d) (flat i F) (F i) rest block begins (long ∙ sym (sofar .wide i h))
+              ∙ ap (over old (at * d))
+              (ap₂ _++_ (flat-cong i _ _ (λ j l. others j (λ e. omega (arith, l, e))))
+              (ap₂ _++_ itself (flat-cong (n - suc i) _ _ (λ j _. others (suc i + j) (λ e. omega (arith, e)))))
+              ∙ sym (flat-at n i (replaced F i block) h));
+        }
+
+-- ---- the pieces of a constraint
+
+unfoldable pub pieceSizes : Sizes → Cut → ℕ → ℕ
+pieceSizes s cut j =
+    getD (cut .pairs ∷ (cut .z - cut .pairs) ∷ (cut .tz * s .shape .n) ∷ tSize (s .shape .r) (s .kappa) (s .t1)
+    ∷ garbageSize (s .shape .r) (s .t2) ∷ garbageSize (s .shape .r) (s .t1) ∷ []) j 0
+
+abbrev pub Forming : (s : Sizes) (cut : Cut) (F : ℕ → List ℤ) (old : List ℤ) (at : ℕ) (new : List ℤ) → Type 0
+Forming s cut F old at new = Pieces (s .shape .d) 6 (pieceSizes s cut) F old at new
+
+-- all of them zero
+unfoldable pub cleared-pieces : (s : Sizes) (cut : Cut) → ℕ → List ℤ
+cleared-pieces s cut j = elements (s .shape .d) (pieceSizes s cut j) (λ _. R (s .shape .d) .zero)
+
+module _ (s : Sizes) (cut : Cut) (facts : CutFacts s cut) where
+  z-starts : cut .z ≡ start (pieceSizes s cut) 2
+  unfolding start pieceSizes
+  z-starts = omega (arith, pairs-first s cut facts)
+
+  t-starts : cut .t ≡ start (pieceSizes s cut) 3
+  unfolding start pieceSizes
+  t-starts = omega (arith, pairs-first s cut facts, facts .t-is)
+
+  g-starts : cut .g ≡ start (pieceSizes s cut) 4
+  unfolding start pieceSizes
+  g-starts = omega (arith, pairs-first s cut facts, facts .t-is, facts .g-is)
+
+  h-starts : cut .h ≡ start (pieceSizes s cut) 5
+  unfolding start pieceSizes
+  h-starts = omega (arith, pairs-first s cut facts, facts .t-is, facts .g-is, facts .h-is)
+
+  all-end : cut .size ≡ start (pieceSizes s cut) 6
+  unfolding start pieceSizes
+  all-end = omega (arith, pairs-first s cut facts, facts .t-is, facts .g-is, facts .h-is, h-end s cut facts)
+
+  pub cleared : (old : List ℤ) (at : ℕ) {new : List ℤ} → (at + cut .size + 1) * s .shape .d ≤ length old
+      → new ≡ over old (at * s .shape .d) (elements (s .shape .d) (cut .size) (λ _. R (s .shape .d) .zero))
+      → Forming s cut (cleared-pieces s cut) old at new
+  unfolding cleared-pieces elements
+  cleared old at fits written =
+      let d = s .shape .d in
+      record {
+        room = rw (← all-end) (omega (arith, fits));
+        wide = λ j _. length-elements d (pieceSizes s cut j) (λ _. R d .zero);
+        is =
+            written
+            ∙ ap (over old (at * d))
+            (ap (λ (k : ℕ). flat k (λ _. coeffs d (R d .zero))) all-end ∙ flat-start (pieceSizes s cut) 6 (λ _. coeffs d (R d .zero)));
+      }
+
+  module _ {F : ℕ → List ℤ} {old : List ℤ} {at : ℕ} {new : List ℤ} (sofar : Forming s cut F old at new) where
+    abbrev d : ℕ
+    d = s .shape .d
+
+    table-long : (t : List (R d .Carrier)) {k : ℕ} → length t ≡ k → length (numbers d t) ≡ k * d
+    table-long t e = length-numbers d t ∙ ap (λ (k : ℕ). k * d) e
+
+    pub put-a : {next : List ℤ} (es : List ℤ) → length es ≡ cut .pairs * d → next ≡ over new (at * d) es → Forming s cut (replaced F 0 es) old at next
+    unfolding start pieceSizes
+    put-a es long written = put sofar 0 es (omega arith) long (omega arith) written
+
+    pub put-z : {next : List ℤ} (zs : List (R d .Carrier)) → length zs ≡ cut .tz * s .shape .n → next ≡ over new ((at + cut .z) * d) (numbers d zs)
+        → Forming s cut (replaced F 2 (numbers d zs)) old at next
+    unfolding pieceSizes
+    put-z zs long written = put sofar 2 (numbers d zs) (omega arith) (table-long zs long) (ap (λ (k : ℕ). at + k) z-starts) written
+
+    pub put-t : {next : List ℤ} (ts : List (R d .Carrier)) → length ts ≡ tSize (s .shape .r) (s .kappa) (s .t1) → next ≡ over new ((at + cut .t) * d) (numbers d ts)
+        → Forming s cut (replaced F 3 (numbers d ts)) old at next
+    unfolding pieceSizes
+    put-t ts long written = put sofar 3 (numbers d ts) (omega arith) (table-long ts long) (ap (λ (k : ℕ). at + k) t-starts) written
+
+    pub put-g : {next : List ℤ} (gs : List (R d .Carrier)) → length gs ≡ garbageSize (s .shape .r) (s .t2) → next ≡ over new ((at + cut .g) * d) (numbers d gs)
+        → Forming s cut (replaced F 4 (numbers d gs)) old at next
+    unfolding pieceSizes
+    put-g gs long written = put sofar 4 (numbers d gs) (omega arith) (table-long gs long) (ap (λ (k : ℕ). at + k) g-starts) written
+
+    pub put-h : {next : List ℤ} (hs : List (R d .Carrier)) → length hs ≡ garbageSize (s .shape .r) (s .t1) → next ≡ over new ((at + cut .h) * d) (numbers d hs)
+        → Forming s cut (replaced F 5 (numbers d hs)) old at next
+    unfolding pieceSizes
+    put-h hs long written = put sofar 5 (numbers d hs) (omega arith) (table-long hs long) (ap (λ (k : ℕ). at + k) h-starts) written
 
 -- the room of a, and its length
 pub a-room : (s : Sizes) (cut : Cut) → CutFacts s cut → (at : ℕ) {len : ℕ} → (at + cut .size + 1) * s .shape .d ≤ len
@@ -436,67 +266,106 @@ no-a-standing : (d r : ℕ) → elements d (pairs r) (λ _. R d .zero) ≡ pairE
 unfolding elements pairs pairs-count pairElements
 no-a-standing d r = flat-start (λ k. r - k) r (λ _. coeffs d (R d .zero))
 
-module _ {s : Sizes} {cut : Cut} (facts : CutFacts s cut) {old : List ℤ} {at : ℕ} {ds : List ℤ} {zs ts gs hs : List (R (s .shape .d) .Carrier)} {new : List ℤ}
-    (sofar : Forming s cut old at ds zs ts gs hs new) where
+-- the first of six pieces
+first-apart : (F : ℕ → List ℤ) → flat 6 F ≡ F 0 ++ flat 5 (λ j. F (1 + j))
+unfolding flat
+first-apart F = flat-append 1 5 F
+
+-- the last four of six pieces, as a table
+four-tables : (d : ℕ) (F : ℕ → List ℤ) (zs ts gs hs : List (R d .Carrier))
+    → F 2 ≡ numbers d zs → F 3 ≡ numbers d ts → F 4 ≡ numbers d gs → F 5 ≡ numbers d hs
+    → flat 4 (λ j. F (2 + j)) ≡ numbers d (zs ++ (ts ++ (gs ++ hs)))
+unfolding flat
+four-tables d F zs ts gs hs z t g h =
+    ap₂ _++_ (ap₂ _++_ (ap₂ _++_ z t) g) h
+    ∙ append-assoc (numbers d zs ++ numbers d ts) (numbers d gs) (numbers d hs)
+    ∙ append-assoc (numbers d zs) (numbers d ts) (numbers d gs ++ numbers d hs)
+    ∙ sym (numbers-append d zs (ts ++ (gs ++ hs))
+    ∙ ap (λ (xs : List ℤ). numbers d zs ++ xs) (numbers-append d ts (gs ++ hs) ∙ ap (λ (xs : List ℤ). numbers d ts ++ xs) (numbers-append d gs hs)))
+
+module _ {s : Sizes} {cut : Cut} (facts : CutFacts s cut) {F : ℕ → List ℤ} {old : List ℤ} {at : ℕ} {new : List ℤ} (sofar : Forming s cut F old at new)
+    (zs ts gs hs : List (R (s .shape .d) .Carrier)) (z-is : F 2 ≡ numbers (s .shape .d) zs) (t-is : F 3 ≡ numbers (s .shape .d) ts)
+    (g-is : F 4 ≡ numbers (s .shape .d) gs) (h-is : F 5 ≡ numbers (s .shape .d) hs) where
   abbrev E : ℕ
   E = s .shape .d
 
-  abbrev coefficients : List (R E .Carrier)
-  coefficients = zs ++ (ts ++ (gs ++ hs))
+  abbrev table : List (R E .Carrier)
+  table = zs ++ (ts ++ (gs ++ hs))
 
-  part-entry : (p k : ℕ) → p < cut .parts → spreadEntry s cut new at p k ≡ φ′ E (widths s cut) coefficients p k
+  split : flat 6 F ≡ flat 2 F ++ numbers E table
+  split = flat-append 2 4 F ∙ ap (λ (xs : List ℤ). flat 2 F ++ xs) (four-tables E F zs ts gs hs z-is t-is g-is h-is)
+
+  length-front : length (flat 2 F) ≡ cut .z * E
+  length-front = length-before sofar 2 (omega arith) ∙ ap (λ (k : ℕ). k * E) (sym (z-starts s cut facts))
+
+  length-six : length (flat 6 F) ≡ cut .size * E
+  length-six = length-before sofar 6 (omega arith) ∙ ap (λ (k : ℕ). k * E) (sym (all-end s cut facts))
+
+  coefficient : (p : ℕ) → p < length table → el E new (at + cut .z + p) ≡ getD table p (R E .zero)
+  coefficient p h =
+      let room : (at + cut .size) * E ≤ length old = rw (all-end s cut facts) (sofar .room) in
+      let all : cut .size * E ≡ cut .z * E + length table * E =
+      sym length-six ∙ ap length split ∙ length-append (flat 2 F) (numbers E table) ∙ ap₂ _+_ length-front (length-numbers E table) in
+      let place : at * E + length (flat 2 F) ≡ (at + cut .z) * E = omega (arith, length-front) in
+      let front = over old (at * E) (flat 2 F) in
+      let kept : length front ≡ length old = length-over old (at * E) (flat 2 F) (omega (arith, room, all, length-front)) in
+      let stands : new ≡ over front ((at + cut .z) * E) (numbers E table) =
+      sofar .is
+      ∙ ap (over old (at * E)) split
+      ∙ sym (over-over old (at * E) (flat 2 F) (numbers E table) (begins sofar))
+      ∙ ap (λ (k : ℕ). over front k (numbers E table)) place in
+      ap (λ (xs : List ℤ). el E xs (at + cut .z + p)) stands
+      ∙ el-overs E front (numbers E table) (at + cut .z) (length table) p (omega (arith, kept, room, all)) (length-numbers E table) h
+      ∙ el-numbers E table p h
+
+  length-table : 0 < E → length table ≡ cut .tz * s .shape .n + cut .m
+  length-table some =
+      let all : length (flat 2 F) + length (numbers E table) ≡ cut .size * E = sym (length-append (flat 2 F) (numbers E table)) ∙ ap length (sym split) ∙ length-six in
+      eq-of-mul-eq-mul-right E some (length table) (cut .tz * s .shape .n + cut .m)
+      (omega (arith, all, length-front, length-numbers E table, ap (λ (k : ℕ). k * E) (facts .z-is)))
+
+  part-entry : 0 < E → (p k : ℕ) → p < cut .parts → spreadEntry s cut new at p k ≡ φ′ E (widths s cut) table p k
   unfolding spreadEntry chunkEntry φ′
-  part-entry p k h = tested (ltb k (widths s cut p)) _ _ _ (λ e. inside (ltb-true k (widths s cut p) e))
+  part-entry some p k h = tested (ltb k (widths s cut p)) _ _ _ (λ e. inside (ltb-true k (widths s cut p) e))
     where
-      inside : k < widths s cut p → el E new (at + cut .z + start (widths s cut) p + k) ≡ getD coefficients (start (widths s cut) p + k) (R E .zero)
+      inside : k < widths s cut p → el E new (at + cut .z + start (widths s cut) p + k) ≡ getD table (start (widths s cut) p + k) (R E .zero)
       inside l =
           let place : at + cut .z + start (widths s cut) p + k ≡ at + cut .z + (start (widths s cut) p + k) = omega arith in
-          let below : start (widths s cut) p + k < length coefficients =
-          omega (arith, start-mono (widths s cut) p (cut .parts) h, all-parts s cut facts, facts .z-is, length-table sofar) in
-          ap (el E new) place ∙ coefficient sofar (start (widths s cut) p + k) below
-
-  spread-parts : List ℤ
-  spread-parts = flat (cut .parts) (λ p. elements E (cut .rank) (spreadEntry s cut new at p))
-
-  spread-is : spread-parts ≡ flat (cut .parts) (λ p. elements E (cut .rank) (φ′ E (widths s cut) coefficients p))
-  unfolding spread-parts elements
-  spread-is = flat-cong (cut .parts) _ _ (λ p h. flat-cong (cut .rank) _ _ (λ k _. ap (coeffs E) (part-entry p k h)))
+          let below : start (widths s cut) p + k < length table =
+          omega (arith, start-mono (widths s cut) p (cut .parts) h, all-parts s cut facts, length-table some) in
+          ap (el E new) place ∙ coefficient (start (widths s cut) p + k) below
 
   -- x is the constraint that stands there
-  pub formed : (x : Constraint E) {u next : List ℤ} → E ≤ 64 → ds ≡ pairElements E (cut .parts) (x .a) → x .table ≡ coefficients
-      → u ≡ array E (x .constant)
+  pub formed : (x : Constraint E) {u next : List ℤ} → Degree E → F 0 ≡ pairElements E (cut .parts) (x .a) → x .table ≡ table → u ≡ array E (x .constant)
       → next ≡ over new ((at + cut .pairs) * E) (flat (cut .parts) (λ p. elements E (cut .rank) (spreadEntry s cut new at p)) ++ take E u)
       → next ≡ over old (at * E) (laid s cut x)
-  unfolding spread-parts standing laidOut pairElements
-  formed x {u} {next} small a-is table-is value written =
-      let rest = numbers E (zeros E (cut .z - cut .pairs)) ++ (numbers E zs ++ (numbers E ts ++ (numbers E gs ++ numbers E hs))) in
-      let numbers-of-b : take E u ≡ coeffs E (x .constant) = rw value (take-array E (x .constant) small) in
-      let place : (at + cut .pairs) * E ≡ at * E + length ds = omega (arith, sofar .a-long) in
-      let room : at * E + length ds ≤ length old = omega (arith, length-append ds (numbers E (zeros E (cut .z - cut .pairs))), front-fits sofar) in
-      let shorter : length rest ≤ length (spread-parts ++ take E u) =
-      omega (
-        arith,
-        length-append (numbers E (zeros E (cut .z - cut .pairs))) (numbers E zs ++ (numbers E ts ++ (numbers E gs ++ numbers E hs))),
-        length-skipped sofar,
-        ap length (numbers-table sofar),
-        length-numbers E coefficients,
-        ap (λ (k : ℕ). k * E) (length-table sofar),
-        z-place sofar,
-        ap (λ (k : ℕ). k * E) (pairs-room s cut facts),
-        length-spread s cut new at,
-        length-append spread-parts (take E u),
-      ) in
+  unfolding laidOut pairElements elements
+  formed x {u} {next} degree a-is table-is value written =
+      let φ = flat (cut .parts) (λ p. elements E (cut .rank) (spreadEntry s cut new at p)) in
+      let rest = flat 5 (λ j. F (1 + j)) in
+      let b-is : take E u ≡ coeffs E (x .constant) = rw value (take-array E (x .constant) (degree .small)) in
+      let apart : flat 6 F ≡ F 0 ++ rest = first-apart F in
+      let long-a : length (F 0) ≡ cut .pairs * E = ap length a-is ∙ length-a s cut facts (x .a) in
+      let long-rest : length (F 0) + length rest ≡ cut .size * E = sym (length-append (F 0) rest) ∙ ap length (sym apart) ∙ length-six in
+      let parts = ap (λ (k : ℕ). k * E) (pairs-room s cut facts) in
+      let place : (at + cut .pairs) * E ≡ at * E + length (F 0) = omega (arith, long-a) in
+      let room : at * E + length (F 0) ≤ length old =
+      omega (arith, long-rest, rw (← (all-end s cut facts)) at (sofar .room)) in
+      let shorter : length rest ≤ length (φ ++ take E u) =
+      omega (arith, long-rest, long-a, parts, length-spread s cut new at, length-append φ (take E u)) in
+      let φ-is : φ ≡ flat (cut .parts) (λ p. elements E (cut .rank) (φ′ E (widths s cut) (x .table) p)) =
+      flat-cong (cut .parts) _ _ (λ p h. flat-cong (cut .rank) _ _ (λ k _. ap (coeffs E) (part-entry (degree .positive) p k h)))
+      ∙ ap (λ (xs : List (R E .Carrier)). flat (cut .parts) (λ p. elements E (cut .rank) (φ′ E (widths s cut) xs p))) (sym table-is) in
       written
-      ∙ ap (λ (xs : List ℤ). over xs ((at + cut .pairs) * E) (spread-parts ++ take E u)) (sofar .is)
-      ∙ ap (λ (p : ℕ). over (over old (at * E) (ds ++ rest)) p (spread-parts ++ take E u)) place
-      ∙ over-end old (at * E) ds rest (spread-parts ++ take E u) room shorter
-      ∙ ap₂ (λ (xs ys : List ℤ). over old (at * E) (xs ++ ys)) a-is (ap₂ _++_ (spread-is ∙ ap (λ (xs : List (R E .Carrier)). flat (cut .parts) (λ p. elements E (cut .rank) (φ′ E (widths s cut) xs p))) (sym table-is)) numbers-of-b)
+      ∙ ap₂ (λ (xs : List ℤ) (k : ℕ). over xs k (φ ++ take E u)) (sofar .is ∙ ap (over old (at * E)) apart) place
+      ∙ over-end old (at * E) (F 0) rest (φ ++ take E u) room shorter
+      ∙ ap₂ (λ (xs ys : List ℤ). over old (at * E) (xs ++ ys)) a-is (ap₂ _++_ φ-is b-is)
 
-  pub formed-no-a : (x : Constraint E) {u next : List ℤ} → E ≤ 64 → ds ≡ elements E (cut .pairs) (λ _. R E .zero) → x .a ≡ no-a E → x .table ≡ coefficients
+  pub formed-no-a : (x : Constraint E) {u next : List ℤ} → Degree E → F 0 ≡ elements E (cut .pairs) (λ _. R E .zero) → x .a ≡ no-a E → x .table ≡ table
       → u ≡ array E (x .constant)
       → next ≡ over new ((at + cut .pairs) * E) (flat (cut .parts) (λ p. elements E (cut .rank) (spreadEntry s cut new at p)) ++ take E u)
       → next ≡ over old (at * E) (laid s cut x)
-  formed-no-a x small zero none table-is value written =
-      formed x small
+  formed-no-a x degree zero none table-is value written =
+      formed x degree
       (zero ∙ ap (λ (k : ℕ). elements E k (λ _. R E .zero)) (facts .pairs-is) ∙ no-a-standing E (cut .parts) ∙ ap (pairElements E (cut .parts)) (sym none))
       table-is value written

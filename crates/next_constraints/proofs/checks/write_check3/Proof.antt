@@ -1,27 +1,22 @@
 -- `next_constraints::checks::write_check3` meets its contract.
-use mathlib.Core.Path.{refl, ap, _∙_}
+use mathlib.Core.Path.{refl, sym, ap, _∙_}
 use mathlib.Core.List.{List}
 use Prim.Native.Nat.{ℕ, _*_, _≤_}
 use native.Mathlib.Omega.{arith}
 use lib.ListN.{length}
 use Rattle.integers.specs.Over.{over}
 use Rattle.ring.specs.Element.{R}
+use Rattle.integers.specs.Laws.ListLaws.{length-tab}
 use Rattle.ring.specs.Laws.ElementPlaces.{row-fits, element-within}
 use Rattle.fold.specs.Sizes.{tSize, garbageSize}
 use Rattle.next_constraints.specs.Blocks.{numbers}
 use Rattle.next_constraints.specs.Checks as spec
-use Rattle.next_constraints.specs.Laws.CutLaws.{t-block, g-block, h-block, t-columns, g-columns, h-columns, h-end, block-fits, place-fits}
-use Rattle.next_constraints.specs.Laws.BlockLaws.{row-as-long}
-use Rattle.next_constraints.specs.Laws.Forming.{cleared, put-t, put-g, put-h, formed-no-a}
+use Rattle.next_constraints.specs.Laws.CutLaws.{t-block, g-block, t-columns, g-columns, block-fits, t-below, g-below}
+use Rattle.next_constraints.specs.Laws.BlockLaws.{numbers-zeros}
+use Rattle.next_constraints.specs.Laws.Forming.{cleared-pieces, replaced, pieceSizes, cleared, put-t, put-g, put-h, formed-no-a}
 use borrow.Author.Needs.{needs}
 use Rattle.next_constraints.proofs.checks.write_check3.Statement.{statement}
 use Rattle.next_constraints.proofs.checks.write_check3.Tie as tie
-
-add-write-matrix-row : tie.Need-add-write-matrix-row
-add-write-matrix-row c =
-    let s = c .before .before .before .before .before .before in
-    let a = s .args in
-    omega (arith, place-fits (a .sizes .shape .d) (a .at) (a .cut .size) (a .cut .t) (s .pre .1 .1 .1 .1 .1) (s .pre .0 .shaped .degree .positive) (omega (arith, t-block (a .sizes) (a .cut) (s .pre .1 .0))), s .good .1 .1 .1 .1 .1 .1 .0)
 
 write-matrix-row-requires : tie.Need-write-matrix-row-requires
 write-matrix-row-requires c κs =
@@ -36,12 +31,6 @@ write-matrix-row-requires c κs =
         block-fits (a .sizes .shape .d) (a .at) (a .cut .size) (a .cut .t) (rw (o .write-zeros .kept .1 .1 .0) (s .pre .1 .1 .1 .1 .1)) m (t-block (a .sizes) (a .cut) (s .pre .1 .0)),
       ),
     )
-
-add-write-matrix-row-2 : tie.Need-add-write-matrix-row-2
-add-write-matrix-row-2 c =
-    let s = c .before .before .before .before .before .before .before .before .before .before .before in
-    let a = s .args in
-    omega (arith, place-fits (a .sizes .shape .d) (a .at) (a .cut .size) (a .cut .g) (s .pre .1 .1 .1 .1 .1) (s .pre .0 .shaped .degree .positive) (omega (arith, g-block (a .sizes) (a .cut) (s .pre .1 .0))), s .good .1 .1 .1 .1 .1 .1 .0)
 
 write-matrix-row-requires-2 : tie.Need-write-matrix-row-requires-2
 write-matrix-row-requires-2 c κs =
@@ -76,6 +65,7 @@ finish-requires c κs =
     (s .pre .0, (s .pre .1 .0, rw kept (s .pre .1 .1 .1 .1 .1)))
 
 returns : tie.Need-returns
+unfolding cleared-pieces replaced pieceSizes
 returns c =
     let i = c .before .before .before in
     let q = i .before .before in
@@ -88,15 +78,16 @@ returns c =
     let x = spec.check3 (a .sizes) (a .cut .tz) (a .b-matrix .now) (a .c-matrix .now) (a .u1 .now) (a .k) in
     let rowB : ℕ → List (R d .Carrier) = λ m. spec.row (a .sizes) (a .cut .tz) m (a .b-matrix .now) (a .k) in
     let rowC : ℕ → List (R d .Carrier) = λ m. spec.row (a .sizes) (a .cut .tz) m (a .c-matrix .now) (a .k) in
-    let zeros = cleared (a .sizes) (a .cut) cut (s .pre .1 .1 .1 .1 .1) (o .write-zeros .ensures) in
-    let with-t = put-t zeros (rowB (tSize (a .sizes .shape .r) (a .sizes .kappa) (a .sizes .t1))) (row-as-long d _ _)
+    let zeros = cleared (a .sizes) (a .cut) cut (a .out .now) (a .at) (s .pre .1 .1 .1 .1 .1) (o .write-zeros .ensures) in
+    let with-t = put-t (a .sizes) (a .cut) cut zeros (rowB (tSize (a .sizes .shape .r) (a .sizes .kappa) (a .sizes .t1))) (length-tab _ _)
     (r .write-matrix-row .ensures ∙ ap (over _ _) (ap (λ m. numbers d (rowB m)) (t-columns (a .sizes) (a .cut) cut))) in
-    let with-g = put-g with-t (rowC (garbageSize (a .sizes .shape .r) (a .sizes .t2))) (row-as-long d _ _)
+    let with-g = put-g (a .sizes) (a .cut) cut with-t (rowC (garbageSize (a .sizes .shape .r) (a .sizes .t2))) (length-tab _ _)
     (q .write-matrix-row2 .ensures ∙ ap (over _ _) (ap (λ m. numbers d (rowC m)) (g-columns (a .sizes) (a .cut) cut))) in
-    formed-no-a cut with-g x (s .pre .0 .shaped .degree .small) refl refl refl (i .from-slice .ensures) (c .before .finish .ensures)
+    formed-no-a cut with-g (spec.noZ (a .sizes) (a .cut .tz)) (rowB (tSize (a .sizes .shape .r) (a .sizes .kappa) (a .sizes .t1))) (rowC (garbageSize (a .sizes .shape .r) (a .sizes .t2))) (spec.noH (a .sizes) (a .cut .tz))
+    (sym (numbers-zeros d _)) refl refl (sym (numbers-zeros d _)) x (s .pre .0 .shaped .degree) refl refl refl (i .from-slice .ensures) (c .before .finish .ensures)
 
 pub write-check3-spec : {M : Type 1} → statement M
 write-check3-spec =
     tie.close
-    (tie.spec (λ c κs. search needs) (λ c. search needs) add-write-matrix-row write-matrix-row-requires (λ c. search needs) add-write-matrix-row-2
+    (tie.spec (λ c κs. search needs) (λ c. search needs) (λ c. let s = c .before .before .before .before .before .before in omega (arith, t-below (s .args .sizes) (s .args .cut) (s .pre .0) (s .pre .1 .0) (s .args .at) (s .pre .1 .1 .1 .1 .1), s .good .1 .1 .1 .1 .1 .1 .0)) write-matrix-row-requires (λ c. search needs) (λ c. let s = c .before .before .before .before .before .before .before .before .before .before .before in omega (arith, g-below (s .args .sizes) (s .args .cut) (s .pre .0) (s .pre .1 .0) (s .args .at) (s .pre .1 .1 .1 .1 .1), s .good .1 .1 .1 .1 .1 .1 .0))
     write-matrix-row-requires-2 from-slice-requires finish-requires (λ c. search needs) returns)

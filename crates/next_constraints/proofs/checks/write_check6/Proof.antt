@@ -1,13 +1,13 @@
 -- `next_constraints::checks::write_check6` meets its contract.
-use mathlib.Core.Path.{refl, ap}
+use mathlib.Core.Path.{refl, sym, ap}
 use Prim.Native.Nat.{_+_, _*_, _≤_}
 use native.Mathlib.Omega.{arith}
 use lib.ListN.{length}
 use Rattle.fold.specs.NextInstance.{squares}
 use Rattle.next_constraints.specs.Checks as spec
-use Rattle.next_constraints.specs.Laws.CutLaws.{z-parts, parts-few, g-block, block-fits, place-fits}
-use Rattle.next_constraints.specs.Laws.BlockLaws.{garbage-as-long}
-use Rattle.next_constraints.specs.Laws.Forming.{cleared, put-a, put-g, same-size, lent-over, lent-length, a-room, length-a, formed}
+use Rattle.next_constraints.specs.Laws.CutLaws.{z-parts, parts-few, g-below, g-asked}
+use Rattle.next_constraints.specs.Laws.BlockLaws.{numbers-zeros, length-garbage}
+use Rattle.next_constraints.specs.Laws.Forming.{cleared-pieces, replaced, pieceSizes, cleared, put-a, put-g, same-size, lent-over, lent-length, a-room, length-a, formed}
 use borrow.Author.Needs.{needs}
 use Rattle.next_constraints.proofs.checks.write_check6.Statement.{statement}
 use Rattle.next_constraints.proofs.checks.write_check6.Tie as tie
@@ -46,12 +46,6 @@ write-squares-requires c κs =
       ),
     )
 
-add-write-garbage : tie.Need-add-write-garbage
-add-write-garbage c =
-    let s = c .before .before .before .before .before .before .before .before .before in
-    let a = s .args in
-    omega (arith, place-fits (a .sizes .shape .d) (a .at) (a .cut .size) (a .cut .g) (s .pre .1 .1 .1) (s .pre .0 .shaped .degree .positive) (omega (arith, g-block (a .sizes) (a .cut) (s .pre .1 .0))))
-
 write-garbage-requires : tie.Need-write-garbage-requires
 write-garbage-requires c κs =
     let q = c .before .before .before in
@@ -60,26 +54,15 @@ write-garbage-requires c κs =
     let a = s .args in
     let d = a .sizes .shape .d in
     let cut = s .pre .1 .0 in
-    let limits = s .pre .0 in
     let out = o .write-zeros .last .1 .1 .0 in
     let room : a .at * d + a .cut .pairs * d ≤ length out = omega (arith, a-room (a .sizes) (a .cut) cut (a .at) (s .pre .1 .1 .1), o .write-zeros .kept .1 .1 .0) in
     let long = length-a (a .sizes) (a .cut) cut (squares d (a .cut .tz) (a .cut .nu) (a .sizes .b)) in
-    let zeros = cleared (a .sizes) (a .cut) cut (s .pre .1 .1 .1) (o .write-zeros .ensures) in
-    let with-a = put-a zeros long (lent-over out (a .at * d) (a .cut .pairs * d) _ room long (q .write-squares .ensures)) in (
-      limits .shaped .degree,
-      (
-        limits .base₂,
-        (
-          (limits .shaped .parts-small, limits .t₂-most),
-          (
-            s .pre .1 .1 .0,
-            block-fits d (a .at) (a .cut .size) (a .cut .g) (rw (same-size with-a) (s .pre .1 .1 .1)) _ (g-block (a .sizes) (a .cut) cut),
-          ),
-        ),
-      ),
-    )
+    let zeros = cleared (a .sizes) (a .cut) cut (a .out .now) (a .at) (s .pre .1 .1 .1) (o .write-zeros .ensures) in
+    let with-a = put-a (a .sizes) (a .cut) cut zeros _ long (lent-over out (a .at * d) (a .cut .pairs * d) _ room long (q .write-squares .ensures)) in
+    g-asked (a .sizes) (a .cut) (s .pre .0) (s .pre .1 .0) (a .at) (rw (same-size with-a) (s .pre .1 .1 .1)) (s .pre .1 .1 .0)
 
 returns : tie.Need-returns
+unfolding cleared-pieces replaced pieceSizes
 returns c =
     let i = c .before .before .before in
     let g = i .before .before in
@@ -93,14 +76,16 @@ returns c =
     let out = o .write-zeros .last .1 .1 .0 in
     let room : a .at * d + a .cut .pairs * d ≤ length out = omega (arith, a-room (a .sizes) (a .cut) cut (a .at) (s .pre .1 .1 .1), o .write-zeros .kept .1 .1 .0) in
     let long = length-a (a .sizes) (a .cut) cut (squares d (a .cut .tz) (a .cut .nu) (a .sizes .b)) in
-    let zeros = cleared (a .sizes) (a .cut) cut (s .pre .1 .1 .1) (o .write-zeros .ensures) in
-    let with-a = put-a zeros long (lent-over out (a .at * d) (a .cut .pairs * d) _ room long (q .write-squares .ensures)) in
-    let with-g = put-g with-a (spec.onG (a .sizes) (a .cut .tz) (a .products .now)) (garbage-as-long d _ _ _ _) (g .write-garbage .ensures) in
-    formed cut with-g x (s .pre .0 .shaped .degree .small) refl refl (i .additive-identity .ensures d) (c .before .finish .ensures)
+    let zeros = cleared (a .sizes) (a .cut) cut (a .out .now) (a .at) (s .pre .1 .1 .1) (o .write-zeros .ensures) in
+    let with-a = put-a (a .sizes) (a .cut) cut zeros _ long (lent-over out (a .at * d) (a .cut .pairs * d) _ room long (q .write-squares .ensures)) in
+    let g-table = spec.onG (a .sizes) (a .cut .tz) (a .products .now) in
+    let with-g = put-g (a .sizes) (a .cut) cut with-a g-table (length-garbage d _ _ _ _) (g .write-garbage .ensures) in
+    formed cut with-g (spec.noZ (a .sizes) (a .cut .tz)) (spec.noT (a .sizes) (a .cut .tz)) g-table (spec.noH (a .sizes) (a .cut .tz))
+    (sym (numbers-zeros d _)) (sym (numbers-zeros d _)) refl (sym (numbers-zeros d _)) x (s .pre .0 .shaped .degree) refl refl (i .additive-identity .ensures d) (c .before .finish .ensures)
 
 pub write-check6-spec : {M : Type 1} → statement M
 write-check6-spec =
     tie.close
     (tie.spec (λ c. search needs) mul-end add-end (λ c κs. search needs) (λ c. search needs) (λ c. search needs) (λ c. search needs)
-    part-write-squares-end write-squares-requires add-write-garbage write-garbage-requires (λ c κs. search needs) (λ c κs. search needs)
+    part-write-squares-end write-squares-requires (λ c. let s = c .before .before .before .before .before .before .before .before .before in omega (arith, g-below (s .args .sizes) (s .args .cut) (s .pre .0) (s .pre .1 .0) (s .args .at) (s .pre .1 .1 .1))) write-garbage-requires (λ c κs. search needs) (λ c κs. search needs)
     (λ c. search needs) returns)

@@ -1,5 +1,5 @@
 -- `next_constraints::checks::write_check7` meets its contract.
-use mathlib.Core.Path.{_≡_, refl, ap, _∙_}
+use mathlib.Core.Path.{_≡_, refl, sym, ap, _∙_}
 use Prim.Native.Nat.{_+_, _*_, _≤_}
 use native.Mathlib.Omega.{arith}
 use lib.ListN.{length}
@@ -7,40 +7,19 @@ use Rattle.ring.specs.Laws.ElementPlaces.{row-fits, row-below, element-within}
 use Rattle.fold.specs.Sizes.{tSize}
 use Rattle.fold.specs.Laws.SizeBounds.{product-bound}
 use Rattle.next_constraints.specs.Checks as spec
-use Rattle.next_constraints.specs.Laws.CutLaws.{z-block, t-block, g-block, h-block, block-fits, place-fits}
-use Rattle.next_constraints.specs.Laws.BlockLaws.{z-as-long, t-as-long, garbage-as-long, row-as-long}
-use Rattle.next_constraints.specs.Laws.Forming.{cleared, put-z, put-t, put-g, put-h, formed-no-a}
+use Rattle.next_constraints.specs.Laws.CutLaws.{z-below, h-below, z-asked, h-asked}
+use Rattle.next_constraints.specs.Laws.BlockLaws.{numbers-zeros, length-z, length-t, length-garbage}
+use Rattle.next_constraints.specs.Laws.Forming.{cleared-pieces, replaced, pieceSizes, cleared, put-z, put-t, put-g, put-h, formed-no-a}
 use borrow.Author.Needs.{needs}
 use Rattle.next_constraints.proofs.checks.write_check7.Statement.{statement}
 use Rattle.next_constraints.proofs.checks.write_check7.Tie as tie
-
-add-write-z : tie.Need-add-write-z
-add-write-z c =
-    let s = c .before .before .before .before .before in
-    let a = s .args in
-    omega (arith, place-fits (a .sizes .shape .d) (a .at) (a .cut .size) (a .cut .z) (s .pre .1 .1 .1) (s .pre .0 .shaped .degree .positive) (omega (arith, s .pre .1 .0 .z-is)))
 
 write-z-requires : tie.Need-write-z-requires
 write-z-requires c κs =
     let o = c .before .before .before in
     let s = o .before .before in
     let a = s .args in
-    let all : (0 + a .sizes .shape .n) * a .sizes .shape .d ≤ length (a .folded .now) = omega (arith, s .pre .1 .1 .0 .0) in (
-      s .pre .0 .shaped .degree,
-      (
-        s .pre .0 .base,
-        (
-          all,
-          block-fits (a .sizes .shape .d) (a .at) (a .cut .size) (a .cut .z) (rw (o .write-zeros .kept .1 .1 .0) (s .pre .1 .1 .1)) _ (z-block (a .sizes) (a .cut) (s .pre .1 .0)),
-        ),
-      ),
-    )
-
-add-write-garbage : tie.Need-add-write-garbage
-add-write-garbage c =
-    let s = c .before .before .before .before .before .before .before .before .before in
-    let a = s .args in
-    omega (arith, place-fits (a .sizes .shape .d) (a .at) (a .cut .size) (a .cut .h) (s .pre .1 .1 .1) (s .pre .0 .shaped .degree .positive) (omega (arith, h-block (a .sizes) (a .cut) (s .pre .1 .0))))
+    z-asked (a .sizes) (a .cut) (s .pre .0) (s .pre .1 .0) (a .at) (rw (o .write-zeros .kept .1 .1 .0) (s .pre .1 .1 .1)) 0 (omega (arith, s .pre .1 .1 .0 .0))
 
 write-garbage-requires : tie.Need-write-garbage-requires
 write-garbage-requires c κs =
@@ -48,20 +27,7 @@ write-garbage-requires c κs =
     let o = z .before .before .before .before in
     let s = o .before .before in
     let a = s .args in
-    let limits = s .pre .0 in
-    let kept = z .write-z .kept .1 .1 .1 .1 .1 .1 .0 ∙ o .write-zeros .kept .1 .1 .0 in (
-      limits .shaped .degree,
-      (
-        limits .base₁,
-        (
-          (limits .shaped .parts-small, limits .t₁-most),
-          (
-            s .pre .1 .1 .0 .1,
-            block-fits (a .sizes .shape .d) (a .at) (a .cut .size) (a .cut .h) (rw kept (s .pre .1 .1 .1)) _ (h-block (a .sizes) (a .cut) (s .pre .1 .0)),
-          ),
-        ),
-      ),
-    )
+    h-asked (a .sizes) (a .cut) (s .pre .0) (s .pre .1 .0) (a .at) (rw (z .write-z .kept .1 .1 .1 .1 .1 .1 .0 ∙ o .write-zeros .kept .1 .1 .0) (s .pre .1 .1 .1)) (s .pre .1 .1 .0 .1)
 
 finish-requires : tie.Need-finish-requires
 finish-requires c κs =
@@ -73,6 +39,7 @@ finish-requires c κs =
     (s .pre .0, (s .pre .1 .0, rw kept (s .pre .1 .1 .1)))
 
 returns : tie.Need-returns
+unfolding cleared-pieces replaced pieceSizes
 returns c =
     let i = c .before .before .before in
     let g = i .before .before in
@@ -83,13 +50,16 @@ returns c =
     let d = a .sizes .shape .d in
     let cut = s .pre .1 .0 in
     let x = spec.check7 (a .sizes) (a .cut .tz) (a .folded .now) (a .products .now) in
-    let zeros = cleared (a .sizes) (a .cut) cut (s .pre .1 .1 .1) (o .write-zeros .ensures) in
-    let with-z = put-z zeros (spec.onZ (a .sizes) (a .cut .tz) (a .folded .now) 0) (z-as-long d _ _ _ _) (z .write-z .ensures) in
-    let with-h = put-h with-z (spec.onH (a .sizes) (a .cut .tz) (a .products .now)) (garbage-as-long d _ _ _ _) (g .write-garbage .ensures) in
-    formed-no-a cut with-h x (s .pre .0 .shaped .degree .small) refl refl refl (i .additive-identity .ensures d) (c .before .finish .ensures)
+    let zeros = cleared (a .sizes) (a .cut) cut (a .out .now) (a .at) (s .pre .1 .1 .1) (o .write-zeros .ensures) in
+    let z-table = spec.onZ (a .sizes) (a .cut .tz) (a .folded .now) 0 in
+    let h-table = spec.onH (a .sizes) (a .cut .tz) (a .products .now) in
+    let with-z = put-z (a .sizes) (a .cut) cut zeros z-table (length-z d _ _ _ _) (z .write-z .ensures) in
+    let with-h = put-h (a .sizes) (a .cut) cut with-z h-table (length-garbage d _ _ _ _) (g .write-garbage .ensures) in
+    formed-no-a cut with-h z-table (spec.noT (a .sizes) (a .cut .tz)) (spec.noG (a .sizes) (a .cut .tz)) h-table
+    refl (sym (numbers-zeros d _)) (sym (numbers-zeros d _)) refl x (s .pre .0 .shaped .degree) refl refl refl (i .additive-identity .ensures d) (c .before .finish .ensures)
 
 pub write-check7-spec : {M : Type 1} → statement M
 write-check7-spec =
     tie.close
-    (tie.spec (λ c κs. search needs) add-write-z write-z-requires add-write-garbage write-garbage-requires (λ c κs. search needs)
-    finish-requires (λ c. search needs) returns)
+    (tie.spec (λ c κs. search needs) (λ c. let s = c .before .before .before .before .before in omega (arith, z-below (s .args .sizes) (s .args .cut) (s .pre .0) (s .pre .1 .0) (s .args .at) (s .pre .1 .1 .1))) write-z-requires
+    (λ c. let s = c .before .before .before .before .before .before .before .before .before in omega (arith, h-below (s .args .sizes) (s .args .cut) (s .pre .0) (s .pre .1 .0) (s .args .at) (s .pre .1 .1 .1))) write-garbage-requires (λ c κs. search needs) finish-requires (λ c. search needs) returns)

@@ -42,43 +42,27 @@ sub-z : tie.Need-sub-z
 sub-z c =
     let f = c .before .before .before in
     let s = f .before .before .before .before in
-    let limits = s .pre .1 .1 .0 in
-    let m = f .before .before .before .rest-size .ensures in
-    let rank = f .before .before .next-rank .ensures in
-    room-of (s .args .tz) (s .args .sizes .shape .n) (s .args .nu) _ (s .args .mu) (limits .ν-positive) (limits .μ-positive) (limits .parts-small) rank
-    (rw (rank, m) (s .pre .1 .1 .1)) (f .function-size .ensures) .0
+    room-of (s .args .sizes .shape .n) (s .pre .1 .1 .0) (s .pre .1 .1 .1) (f .before .before .before .rest-size .ensures) (f .before .before .next-rank .ensures) (f .function-size .ensures) .0
 
 add-t : tie.Need-add-t
 add-t c =
     let f = c .before .before .before in
     let s = f .before .before .before .before in
-    let limits = s .pre .1 .1 .0 in
-    let m = f .before .before .before .rest-size .ensures in
-    let rank = f .before .before .next-rank .ensures in
-    let room = room-of (s .args .tz) (s .args .sizes .shape .n) (s .args .nu) _ (s .args .mu) (limits .ν-positive) (limits .μ-positive) (limits .parts-small) rank
-    (rw (rank, m) (s .pre .1 .1 .1)) (f .function-size .ensures) in
+    let room = room-of (s .args .sizes .shape .n) (s .pre .1 .1 .0) (s .pre .1 .1 .1) (f .before .before .before .rest-size .ensures) (f .before .before .next-rank .ensures) (f .function-size .ensures) in
     omega (arith, room .0, room .1)
 
 add-g : tie.Need-add-g
 add-g c =
     let f = c .before .before .before in
     let s = f .before .before .before .before in
-    let limits = s .pre .1 .1 .0 in
-    let m = f .before .before .before .rest-size .ensures in
-    let rank = f .before .before .next-rank .ensures in
-    let room = room-of (s .args .tz) (s .args .sizes .shape .n) (s .args .nu) _ (s .args .mu) (limits .ν-positive) (limits .μ-positive) (limits .parts-small) rank
-    (rw (rank, m) (s .pre .1 .1 .1)) (f .function-size .ensures) in
+    let room = room-of (s .args .sizes .shape .n) (s .pre .1 .1 .0) (s .pre .1 .1 .1) (f .before .before .before .rest-size .ensures) (f .before .before .next-rank .ensures) (f .function-size .ensures) in
     omega (arith, room .0, room .1, c .before .t-size .ensures, t-size-bound (s .args .sizes) (s .pre .0))
 
 add-h : tie.Need-add-h
 add-h c =
     let f = c .before .before .before in
     let s = f .before .before .before .before in
-    let limits = s .pre .1 .1 .0 in
-    let m = f .before .before .before .rest-size .ensures in
-    let rank = f .before .before .next-rank .ensures in
-    let room = room-of (s .args .tz) (s .args .sizes .shape .n) (s .args .nu) _ (s .args .mu) (limits .ν-positive) (limits .μ-positive) (limits .parts-small) rank
-    (rw (rank, m) (s .pre .1 .1 .1)) (f .function-size .ensures) in
+    let room = room-of (s .args .sizes .shape .n) (s .pre .1 .1 .0) (s .pre .1 .1 .1) (f .before .before .before .rest-size .ensures) (f .before .before .next-rank .ensures) (f .function-size .ensures) in
     omega (arith, room .0, room .1, c .before .t-size .ensures, t-size-bound (s .args .sizes) (s .pre .0), c .garbage-size .ensures, g-size-bound (s .args .sizes) (s .pre .0))
 
 returns : tie.Need-returns
@@ -89,8 +73,7 @@ returns c =
     let limits = s .pre .1 .1 .0 in
     let m = f .before .before .before .rest-size .ensures in
     let rank = f .before .before .next-rank .ensures in
-    let room = room-of (s .args .tz) (s .args .sizes .shape .n) (s .args .nu) _ (s .args .mu) (limits .ν-positive) (limits .μ-positive) (limits .parts-small) rank
-    (rw (rank, m) (s .pre .1 .1 .1)) (f .function-size .ensures) in (
+    let room = room-of (s .args .sizes .shape .n) limits (s .pre .1 .1 .1) m rank (f .function-size .ensures) in (
       record {
         tz-positive = s .pre .1 .0 .0;
         tz-small = s .pre .1 .0 .1;

@@ -8,7 +8,7 @@ use Rattle.integers.specs.Flat.{flat}
 use Rattle.integers.specs.Laws.OverLaws.{over-over}
 use Rattle.fold.specs.Messages.{elements}
 use Rattle.next_constraints.specs.Spread.{spreadEntry}
-use Rattle.next_constraints.specs.Laws.CutLaws.{place-fits, pairs-room}
+use Rattle.next_constraints.specs.Laws.CutLaws.{end-below, pairs-room}
 use Rattle.next_constraints.specs.Laws.SpreadLaws.{length-spread}
 use borrow.Author.Needs.{needs}
 use Rattle.next_constraints.proofs.spread.finish.Statement.{statement}
@@ -17,8 +17,7 @@ use Rattle.next_constraints.proofs.spread.finish.Tie as tie
 add-store : tie.Need-add-store
 add-store c =
     let s = c .before .before .before .before .before in
-    let a = s .args in
-    omega (arith, place-fits (a .sizes .shape .d) (a .at) (a .cut .size) (a .cut .size) (s .pre .1 .1) (s .pre .0 .shaped .degree .positive) (omega arith))
+    omega (arith, end-below (s .args .sizes) (s .args .cut) (s .pre .0) (s .pre .1 .0) (s .args .at) (s .pre .1 .1))
 
 returns : tie.Need-returns
 returns c =

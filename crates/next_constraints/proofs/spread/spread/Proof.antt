@@ -8,10 +8,10 @@ use Rattle.next_constraints.proofs.spread.spread.Statement.{statement}
 use Rattle.next_constraints.proofs.spread.spread.Tie as tie
 
 abbrev Inv-loop : tie.InvT-loop
-Inv-loop sizes cut out₀ at parts start₀ place₀ s₀ out start place s = Spreading sizes cut out₀ at s start place out
+Inv-loop sizes cut out₀ at rank parts start₀ place₀ s₀ out start place s = Spreading sizes cut out₀ at s start place out
 
 abbrev μ-loop : tie.MeasureT-loop
-μ-loop sizes cut out₀ at parts start₀ place₀ s₀ out start place s = cut .parts - s
+μ-loop sizes cut out₀ at rank parts start₀ place₀ s₀ out start place s = cut .parts - s
 
 add-start : tie.Need-add-start Inv-loop μ-loop
 add-start c =
@@ -63,20 +63,20 @@ add-start-2 c =
 
 add-place-2 : tie.Need-add-place-2 Inv-loop μ-loop
 add-place-2 c =
-    let l = c .before .before .before .before .before .before in
+    let l = c .before .before .before .before .before in
     let s = l .before .before .before in
     let a = s .args in
     let cut = s .pre .1 .0 in
     omega (
       arith,
       spreading-below (a .sizes) (a .cut) cut (l .loop .inv) (s .pre .0 .shaped .degree),
-      part-within (a .sizes) (a .cut) cut (l .loop .s) (c .before .before .before .before .before .loop-test .taken),
+      part-within (a .sizes) (a .cut) cut (l .loop .s) (c .before .before .before .before .loop-test .taken),
       l .loop .inv .place-is,
     )
 
 loop-again : tie.Need-loop-again Inv-loop μ-loop
 loop-again c =
-    let f = c .before .before in
+    let f = c .before in
     let l = f .before .before .before .before in
     let s = l .before .before .before in
     spreading-turn (s .args .sizes) (s .args .cut) (s .pre .1 .0) (l .loop .inv) (f .before .before .chunk-width .ensures) (f .before .before .before .loop-test .taken)
