@@ -5,7 +5,7 @@ ghost use Prim.Native.Nat.{_+_, _*_, _≤_};
 ghost use lib.ListN.{length, take};
 ghost use Rattle.integers.specs.Over.{over};
 ghost use Rattle.integers.specs.Flat.{flat};
-ghost use Rattle.ring.specs.Element.{Degree, el, array};
+ghost use Rattle.ring.specs.Element.{Degree, array};
 ghost use Rattle.fold.specs.Arguments.{VerifySized};
 ghost use Rattle.fold.specs.Messages.{elements};
 ghost use Rattle.next_constraints.specs.Known.Facts.{CutFacts};

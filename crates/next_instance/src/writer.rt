@@ -7,7 +7,7 @@ ghost use Rattle.integers.specs.Over.{over};
 ghost use Rattle.integers.specs.Flat.{flat};
 ghost use Rattle.ring.specs.Element.{lift, array};
 ghost use Rattle.fold.specs.Arguments.{VerifySized, statementOf, drawsOf, transcriptOf};
-ghost use Rattle.fold.specs.Sizes.{pairs, tSize, garbageSize};
+ghost use Rattle.fold.specs.Sizes.{tSize, garbageSize};
 ghost use Rattle.fold.specs.NextInstance.{nextWhole};
 ghost use Rattle.fold.specs.Known.NextFacts.{NextFacts};
 ghost use Rattle.next_constraints.specs.Known.Facts.{CutFacts};

@@ -1,21 +1,18 @@
 -- The constraints that the writers lay out are those of the next instance, where the lists that they are lent hold what they should.
 --     minus-held           minus the challenges, as they are written
 --     check-5 .. check-4   each check
-use mathlib.Core.Path.{_≡_, refl, sym, ap, ap₂, _∙_}
+use mathlib.Core.Path.{_≡_, refl, ap, ap₂, _∙_}
 use mathlib.Core.Bool.{cond}
 use mathlib.Core.List.{List, _++_}
 use Prim.Native.Nat.{ℕ, _+_, _-_, _*_, _≤_, _<_}
 use native.Mathlib.Nat.{zero-add}
 use native.Mathlib.Omega.{arith}
 use lib.Dec.{eqb}
-use lib.ListN.{length}
 use lib.IntN.{ℤ, negsuc}
 use Rattle.integers.specs.Lists.{tab}
 use Rattle.integers.specs.Laws.ListLaws.{tab-cong}
 use Rattle.integers.specs.Over.{over}
-use Rattle.integers.specs.Flat.{flat}
 use Rattle.integers.specs.Laws.FlatLaws.{flat-cong}
-use Rattle.algebra.specs.Triangle.{pair}
 use Rattle.algebra.specs.Laws.RingLaws.{neg-mul}
 use Rattle.ring.specs.Element.{R, el, number}
 use Rattle.ring.specs.Laws.Numbers.{minus-one}

@@ -32,13 +32,13 @@ use Rattle.fold.specs.Laws.ChunkLaws.{start-scale}
 use Rattle.fold.specs.Laws.Layout.{length-triangle}
 use Rattle.fold.specs.Laws.WriterLaws.{length-elements, flat-start}
 use Rattle.fold.specs.Constraint.{Constraint, φ′, laidOut}
-use Rattle.fold.specs.NextInstance.{zeros, no-a}
+use Rattle.fold.specs.NextInstance.{no-a}
 use Rattle.next_constraints.specs.declared.cut.Cut.{Cut}
 use Rattle.next_constraints.specs.Known.Facts.{CutFacts}
 use Rattle.next_constraints.specs.Blocks.{numbers}
 use Rattle.next_constraints.specs.Spread.{chunkEntry, widths, spreadEntry}
 use Rattle.next_constraints.specs.Checks.{laid}
-use Rattle.next_constraints.specs.Laws.BlockLaws.{numbers-append, numbers-zeros, length-numbers, el-numbers}
+use Rattle.next_constraints.specs.Laws.BlockLaws.{numbers-append, length-numbers, el-numbers}
 use Rattle.next_constraints.specs.Laws.SpreadLaws.{length-spread}
 use Rattle.next_constraints.specs.Laws.CutLaws.{pairs-first, pairs-room, h-end, all-parts}
 

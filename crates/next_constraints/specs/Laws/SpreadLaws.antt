@@ -14,7 +14,7 @@ use lib.Dec.{ltb}
 use lib.ListN.{length, drop}
 use lib.IntN.{ℤ}
 use Rattle.integers.specs.Over.{over}
-use Rattle.integers.specs.Laws.OverLaws.{over-nil, drop-over-add, length-over}
+use Rattle.integers.specs.Laws.OverLaws.{over-nil, drop-over-add}
 use Rattle.integers.specs.Flat.{flat}
 use Rattle.integers.specs.Laws.FlatLaws.{flat-cong, length-flat, over-flat}
 use Rattle.algebra.specs.Triangle.{start}

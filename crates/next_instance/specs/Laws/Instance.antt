@@ -20,7 +20,7 @@ use Rattle.ring.specs.Laws.Loops.{held}
 use Rattle.fold.specs.declared.Sizes.{Sizes}
 use Rattle.fold.specs.Statement.{Statement, Draws, Transcript}
 use Rattle.fold.specs.Arguments.{statementWith, statementOf, drawsOf, transcriptOf, VerifySized}
-use Rattle.fold.specs.Sizes.{functionSize, nextCount}
+use Rattle.fold.specs.Sizes.{nextCount}
 use Rattle.fold.specs.Chunks.{width}
 use Rattle.fold.specs.Refusals.{wholeLength}
 use Rattle.fold.specs.Messages.{aggregateConstant}

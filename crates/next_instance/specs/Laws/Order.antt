@@ -1,7 +1,7 @@
 -- The constraints of the next instance, laid out check by check: "checks 5 (κ), 6, 7, 8, 3 (κ1), 4 (κ2)".
 use mathlib.Core.Path.{_≡_, sym, ap, ap₂, _∙_}
 use mathlib.Core.List.{List, _∷_, _++_, flatMap}
-use Prim.Native.Nat.{ℕ, _+_}
+use Prim.Native.Nat.{ℕ}
 use native.Mathlib.Omega.{arith}
 use lib.ListN.{length, getD, length-append}
 use lib.IntN.{ℤ}

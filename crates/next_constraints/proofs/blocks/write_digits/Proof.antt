@@ -1,6 +1,6 @@
 -- `next_constraints::blocks::write_digits` meets its contract. The loop's invariant: the first e digits are written.
-use mathlib.Core.Path.{_≡_, sym, ap, _∙_}
-use Prim.Native.Nat.{_-_, _*_}
+use mathlib.Core.Path.{sym, ap, _∙_}
+use Prim.Native.Nat.{_-_}
 use native.Mathlib.Omega.{arith}
 use Rattle.integers.specs.Lists.{tab}
 use Rattle.integers.specs.Over.{over}

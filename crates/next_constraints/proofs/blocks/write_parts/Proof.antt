@@ -1,5 +1,5 @@
 -- `next_constraints::blocks::write_parts` meets its contract. The loop's invariant: the digits of the first i elements are written.
-use mathlib.Core.Path.{_≡_, sym, ap, _∙_}
+use mathlib.Core.Path.{sym, ap, _∙_}
 use Prim.Native.Nat.{_-_, _*_}
 use native.Mathlib.Omega.{arith}
 use Rattle.integers.specs.Lists.{tab}

@@ -1,5 +1,5 @@
 -- `next_constraints::blocks::write_row` meets its contract. The loop's invariant: the first k elements are written.
-use mathlib.Core.Path.{_≡_, refl, ap, _∙_}
+use mathlib.Core.Path.{refl, ap, _∙_}
 use Prim.Native.Nat.{_+_, _-_, _*_}
 use native.Mathlib.Omega.{arith}
 use mir.Syntax.{w32}

@@ -13,7 +13,7 @@ use Rattle.next_constraints.specs.Blocks.{numbers}
 use Rattle.next_constraints.specs.Checks as spec
 use Rattle.next_constraints.specs.Laws.CutLaws.{t-block, g-block, t-columns, g-columns, block-fits, t-below, g-below}
 use Rattle.next_constraints.specs.Laws.BlockLaws.{numbers-zeros}
-use Rattle.next_constraints.specs.Laws.Forming.{cleared-pieces, replaced, pieceSizes, cleared, put-t, put-g, put-h, formed-no-a}
+use Rattle.next_constraints.specs.Laws.Forming.{cleared-pieces, replaced, pieceSizes, cleared, put-t, put-g, formed-no-a}
 use borrow.Author.Needs.{needs}
 use Rattle.next_constraints.proofs.checks.write_check3.Statement.{statement}
 use Rattle.next_constraints.proofs.checks.write_check3.Tie as tie

@@ -8,12 +8,12 @@ use Rattle.integers.specs.Over.{over}
 use Rattle.ring.specs.Element.{R}
 use Rattle.integers.specs.Laws.ListLaws.{length-tab}
 use Rattle.ring.specs.Laws.ElementPlaces.{row-fits, element-within}
-use Rattle.fold.specs.Sizes.{tSize, garbageSize}
+use Rattle.fold.specs.Sizes.{garbageSize}
 use Rattle.next_constraints.specs.Blocks.{numbers}
 use Rattle.next_constraints.specs.Checks as spec
 use Rattle.next_constraints.specs.Laws.CutLaws.{h-block, h-columns, h-end, block-fits, h-below}
 use Rattle.next_constraints.specs.Laws.BlockLaws.{numbers-zeros}
-use Rattle.next_constraints.specs.Laws.Forming.{cleared-pieces, replaced, pieceSizes, cleared, put-t, put-g, put-h, formed-no-a}
+use Rattle.next_constraints.specs.Laws.Forming.{cleared-pieces, replaced, pieceSizes, cleared, put-h, formed-no-a}
 use borrow.Author.Needs.{needs}
 use Rattle.next_constraints.proofs.checks.write_check4.Statement.{statement}
 use Rattle.next_constraints.proofs.checks.write_check4.Tie as tie

@@ -1,15 +1,10 @@
 -- `next_constraints::checks::write_check7` meets its contract.
-use mathlib.Core.Path.{_≡_, refl, sym, ap, _∙_}
-use Prim.Native.Nat.{_+_, _*_, _≤_}
+use mathlib.Core.Path.{refl, sym, _∙_}
 use native.Mathlib.Omega.{arith}
-use lib.ListN.{length}
-use Rattle.ring.specs.Laws.ElementPlaces.{row-fits, row-below, element-within}
-use Rattle.fold.specs.Sizes.{tSize}
-use Rattle.fold.specs.Laws.SizeBounds.{product-bound}
 use Rattle.next_constraints.specs.Checks as spec
 use Rattle.next_constraints.specs.Laws.CutLaws.{z-below, h-below, z-asked, h-asked}
-use Rattle.next_constraints.specs.Laws.BlockLaws.{numbers-zeros, length-z, length-t, length-garbage}
-use Rattle.next_constraints.specs.Laws.Forming.{cleared-pieces, replaced, pieceSizes, cleared, put-z, put-t, put-g, put-h, formed-no-a}
+use Rattle.next_constraints.specs.Laws.BlockLaws.{numbers-zeros, length-z, length-garbage}
+use Rattle.next_constraints.specs.Laws.Forming.{cleared-pieces, replaced, pieceSizes, cleared, put-z, put-h, formed-no-a}
 use borrow.Author.Needs.{needs}
 use Rattle.next_constraints.proofs.checks.write_check7.Statement.{statement}
 use Rattle.next_constraints.proofs.checks.write_check7.Tie as tie

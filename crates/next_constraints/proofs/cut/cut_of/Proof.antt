@@ -22,11 +22,6 @@ function-size-requires c κs =
     let s = c .before .before .before in
     (rw (c .before .next-rank .ensures, c .before .before .rest-size .ensures) (s .pre .1 .1 .1), s .pre .1 .1 .0 .parts-small)
 
-mul-of-z : tie.Need-mul-of-z
-mul-of-z c =
-    let s = c .before .before .before .before .before in
-    omega (arith, product-bound (s .args .tz) (s .args .sizes .shape .n) 2 256 (s .pre .1 .0 .1) (s .pre .0 .shaped .rank-small))
-
 add-all : tie.Need-add-all
 add-all c =
     let f = c .before .before .before in
@@ -43,27 +38,6 @@ sub-z c =
     let f = c .before .before .before in
     let s = f .before .before .before .before in
     room-of (s .args .sizes .shape .n) (s .pre .1 .1 .0) (s .pre .1 .1 .1) (f .before .before .before .rest-size .ensures) (f .before .before .next-rank .ensures) (f .function-size .ensures) .0
-
-add-t : tie.Need-add-t
-add-t c =
-    let f = c .before .before .before in
-    let s = f .before .before .before .before in
-    let room = room-of (s .args .sizes .shape .n) (s .pre .1 .1 .0) (s .pre .1 .1 .1) (f .before .before .before .rest-size .ensures) (f .before .before .next-rank .ensures) (f .function-size .ensures) in
-    omega (arith, room .0, room .1)
-
-add-g : tie.Need-add-g
-add-g c =
-    let f = c .before .before .before in
-    let s = f .before .before .before .before in
-    let room = room-of (s .args .sizes .shape .n) (s .pre .1 .1 .0) (s .pre .1 .1 .1) (f .before .before .before .rest-size .ensures) (f .before .before .next-rank .ensures) (f .function-size .ensures) in
-    omega (arith, room .0, room .1, c .before .t-size .ensures, t-size-bound (s .args .sizes) (s .pre .0))
-
-add-h : tie.Need-add-h
-add-h c =
-    let f = c .before .before .before in
-    let s = f .before .before .before .before in
-    let room = room-of (s .args .sizes .shape .n) (s .pre .1 .1 .0) (s .pre .1 .1 .1) (f .before .before .before .rest-size .ensures) (f .before .before .next-rank .ensures) (f .function-size .ensures) in
-    omega (arith, room .0, room .1, c .before .t-size .ensures, t-size-bound (s .args .sizes) (s .pre .0), c .garbage-size .ensures, g-size-bound (s .args .sizes) (s .pre .0))
 
 returns : tie.Need-returns
 unfolding nextParts
@@ -100,4 +74,8 @@ pub cut-of-spec : {M : Type 1} → statement M
 cut-of-spec =
     tie.close
     (tie.spec (λ c κs. search needs) next-rank-requires (λ c. search needs) (λ c. search needs) (λ c κs. search needs)
-    function-size-requires mul-of-z (λ c κs. search needs) (λ c κs. search needs) add-all sub-z add-t add-g add-h returns)
+    function-size-requires (λ c. let s = c .before .before .before .before .before in omega (arith, product-bound (s .args .tz) (s .args .sizes .shape .n) 2 256 (s .pre .1 .0 .1) (s .pre .0 .shaped .rank-small))) (λ c κs. search needs) (λ c κs. search needs) add-all sub-z
+    (λ c. let f = c .before .before .before in let s = f .before .before .before .before in let room = room-of (s .args .sizes .shape .n) (s .pre .1 .1 .0) (s .pre .1 .1 .1) (f .before .before .before .rest-size .ensures) (f .before .before .next-rank .ensures) (f .function-size .ensures) in omega (arith, room .0, room .1))
+    (λ c. let f = c .before .before .before in let s = f .before .before .before .before in let room = room-of (s .args .sizes .shape .n) (s .pre .1 .1 .0) (s .pre .1 .1 .1) (f .before .before .before .rest-size .ensures) (f .before .before .next-rank .ensures) (f .function-size .ensures) in omega (arith, room .0, room .1, c .before .t-size .ensures, t-size-bound (s .args .sizes) (s .pre .0)))
+    (λ c. let f = c .before .before .before in let s = f .before .before .before .before in let room = room-of (s .args .sizes .shape .n) (s .pre .1 .1 .0) (s .pre .1 .1 .1) (f .before .before .before .rest-size .ensures) (f .before .before .next-rank .ensures) (f .function-size .ensures) in omega (arith, room .0, room .1, c .before .t-size .ensures, t-size-bound (s .args .sizes) (s .pre .0), c .garbage-size .ensures, g-size-bound (s .args .sizes) (s .pre .0)))
+    returns)

@@ -13,18 +13,6 @@ Inv-loop sizes cut out₀ at rank parts start₀ place₀ s₀ out start place s
 abbrev μ-loop : tie.MeasureT-loop
 μ-loop sizes cut out₀ at rank parts start₀ place₀ s₀ out start place s = cut .parts - s
 
-add-start : tie.Need-add-start Inv-loop μ-loop
-add-start c =
-    let s = c .before in
-    let a = s .args in
-    omega (arith, place-below (a .sizes .shape .d) _ (s .pre .0 .shaped .degree .positive) (s .pre .1 .1), s .pre .1 .0 .z-is)
-
-add-place : tie.Need-add-place Inv-loop μ-loop
-add-place c =
-    let s = c .before .before in
-    let a = s .args in
-    omega (arith, place-below (a .sizes .shape .d) _ (s .pre .0 .shaped .degree .positive) (s .pre .1 .1), pairs-room (a .sizes) (a .cut) (s .pre .1 .0))
-
 chunk-width-requires : tie.Need-chunk-width-requires Inv-loop μ-loop
 chunk-width-requires c κs =
     let s = c .before .before .before .before in
@@ -85,6 +73,9 @@ loop-again c =
 pub spread-spec : {M : Type 1} → statement M
 spread-spec =
     tie.close
-    (tie.spec Inv-loop μ-loop add-start add-place (λ c. spreading-start _ _ (c .before .before .pre .1 .1)) chunk-width-requires
+    (tie.spec Inv-loop μ-loop
+    (λ c. let s = c .before in omega (arith, place-below (s .args .sizes .shape .d) _ (s .pre .0 .shaped .degree .positive) (s .pre .1 .1), s .pre .1 .0 .z-is))
+    (λ c. let s = c .before .before in omega (arith, place-below (s .args .sizes .shape .d) _ (s .pre .0 .shaped .degree .positive) (s .pre .1 .1), pairs-room (s .args .sizes) (s .args .cut) (s .pre .1 .0)))
+    (λ c. spreading-start _ _ (c .before .before .pre .1 .1)) chunk-width-requires
     move-chunk-requires add-start-2 add-place-2 (λ c. omega arith) (λ c. omega arith) loop-again (λ c. c .before .loop .inv .same)
     (λ c. let s = c .before .before .before .before in spreading-end (s .args .sizes) (s .args .cut) (s .pre .1 .0) (c .before .loop .inv) (c .loop-test .left)))

@@ -31,41 +31,6 @@ write-tables-requires c κs =
       ),
     )
 
-mul-sixth : tie.Need-mul-sixth
-mul-sixth c =
-    let k = c .before .before .before .before .before .before .before .before .before .before .before .before .before .before .before in
-    let s = k .before in
-    let small = groups-small (s .args .sizes) (k .cut-of .result) (s .pre .limits) (k .cut-of .ensures .0) in
-    omega (arith, small .1)
-
-mul-third : tie.Need-mul-third
-mul-third c =
-    let k = c .before .before .before .before .before .before .before .before .before .before .before .before .before .before .before in
-    let s = k .before in
-    let small = groups-small (s .args .sizes) (k .cut-of .result) (s .pre .limits) (k .cut-of .ensures .0) in
-    omega (arith, small .0)
-
-add-third : tie.Need-add-third
-add-third c =
-    let k = c .before .before .before .before .before .before .before .before .before .before .before .before .before .before .before in
-    let s = k .before in
-    let small = groups-small (s .args .sizes) (k .cut-of .result) (s .pre .limits) (k .cut-of .ensures .0) in
-    omega (arith, small .0, small .1)
-
-mul-fourth : tie.Need-mul-fourth
-mul-fourth c =
-    let k = c .before .before .before .before .before .before .before .before .before .before .before .before .before .before .before .before in
-    let s = k .before in
-    let small = groups-small (s .args .sizes) (k .cut-of .result) (s .pre .limits) (k .cut-of .ensures .0) in
-    omega (arith, small .2)
-
-add-fourth : tie.Need-add-fourth
-add-fourth c =
-    let k = c .before .before .before .before .before .before .before .before .before .before .before .before .before .before .before .before in
-    let s = k .before in
-    let small = groups-small (s .args .sizes) (k .cut-of .result) (s .pre .limits) (k .cut-of .ensures .0) in
-    omega (arith, small .0, small .1, small .2)
-
 write-rows5-requires : tie.Need-write-rows5-requires
 write-rows5-requires c κs =
     let w = c .before .before .before .before .before .before .before .before .before .before .before .before .before .before .before in
@@ -147,6 +112,12 @@ write-instance-spec =
     tie.close
     (tie.spec (λ c κs. search needs) (λ c. let k = c .before in omega (arith, size-small (k .before .args .sizes) (k .cut-of .result) (k .cut-of .ensures .0)))
     (λ c. search needs) write-row-requires (λ c. search needs) (λ c. search needs) (λ c. search needs) (λ c. search needs) write-tables-requires
-    (λ c κs. search needs) mul-sixth mul-third add-third mul-fourth add-fourth (λ c. search needs) write-rows5-requires (λ c. search needs)
+    (λ c κs. search needs)
+    (λ c. let k = c .before .before .before .before .before .before .before .before .before .before .before .before .before .before .before in let g = groups-small (k .before .args .sizes) (k .cut-of .result) (k .before .pre .limits) (k .cut-of .ensures .0) in omega (arith, g .0, g .1, g .2))
+    (λ c. let k = c .before .before .before .before .before .before .before .before .before .before .before .before .before .before .before in let g = groups-small (k .before .args .sizes) (k .cut-of .result) (k .before .pre .limits) (k .cut-of .ensures .0) in omega (arith, g .0, g .1, g .2))
+    (λ c. let k = c .before .before .before .before .before .before .before .before .before .before .before .before .before .before .before in let g = groups-small (k .before .args .sizes) (k .cut-of .result) (k .before .pre .limits) (k .cut-of .ensures .0) in omega (arith, g .0, g .1, g .2))
+    (λ c. let k = c .before .before .before .before .before .before .before .before .before .before .before .before .before .before .before .before in let g = groups-small (k .before .args .sizes) (k .cut-of .result) (k .before .pre .limits) (k .cut-of .ensures .0) in omega (arith, g .0, g .1, g .2))
+    (λ c. let k = c .before .before .before .before .before .before .before .before .before .before .before .before .before .before .before .before in let g = groups-small (k .before .args .sizes) (k .cut-of .result) (k .before .pre .limits) (k .cut-of .ensures .0) in omega (arith, g .0, g .1, g .2))
+    (λ c. search needs) write-rows5-requires (λ c. search needs)
     (λ c. search needs) (λ c. search needs) (λ c. search needs) write-middle-requires write-rows3-requires write-rows4-requires
     (λ c. search needs) returns)
