@@ -1,72 +1,175 @@
 """Lizkarg for Python: the calls of the proved library, on lists of numbers and on bytes. Python 3.8 or later, no package needed.
 
-    import lizkarg
-    lizkarg.judge_sheet(open("examples/class.sheet", "rb").read())       Accepted()
+    >>> import lizkarg
+    >>> text = open("examples/class.sheet", "rb").read()
+    >>> lizkarg.judge_sheet(text)
+    Accepted()
+    >>> sheet = lizkarg.read_sheet(text)
+    >>> lizkarg.verify(sheet.sizes, sheet.proof)
+    Accepted()
+    >>> print(lizkarg.judge_sheet(open("examples/class-changed-digit.sheet", "rb").read()))
+    failed: check 5, A z is not the sum of the c_i t_i
 
-A call that refuses raises Refused, with the number of the row; nothing is written then. `verify` and `judge_sheet` answer Accepted() or
-Failed(check). The library is target/staticlib/liblizkarg.so, which bindings/python/build writes; LIZKARG_SO names another.
+`prove` makes a proof; `commit`, `project`, `aggregate`, `commit_garbage` and `amortize` are its five messages. A list holds ring elements one after
+another, d numbers each, lowest power first, from -2147483598 to 2147483598; `lengths` says how long each list is. A call that refuses raises
+Refused, with the number of the row. The library is target/staticlib/liblizkarg.so, which bindings/python/build writes; LIZKARG_SO names another.
 """
 
 import ctypes
 import os
 from collections import namedtuple
+from dataclasses import dataclass
 from pathlib import Path
+from typing import List, NamedTuple
 
 FIVE = 5  # second functions
 _LEAST = -2147483648  # out of range for every list: what stands for a number that no list can hold
 
 
+# ---- answers
+
 class Refused(Exception):
-    """The number of the row by which a call is refused."""
+    """A call was refused. `number` is the row of SPECIFICATION 7."""
 
     ROWS = {
         1: "the degree d is not 2, 4, 8, 16, 32 or 64",
-        2: "n, r, k, l, w or a part number is outside its limits",
+        2: "n, r, K, L, w or a part number is outside its limits",
         3: "a commitment rank is not 1 to 8",
         4: "a base is not 2 to 65536 or a digit count is not 2 to 8",
         5: "nu or mu is below 1, or 2 nu + mu is above 16",
-        6: "a bound is above 999999999999999",
+        6: "a bound is negative or above 999999999999999",
         7: "a list's length is not what the sizes give",
         8: "a number is out of range",
         9: "a projection entry is not -1, 0 or 1",
         10: "a challenge is outside the rule",
         11: "the next instance has more than 256 elements to a part",
-        12: "the text is no sheet",
+        12: "the text is no sheet, or longer than 65536 bytes",
     }
 
     def __init__(self, number):
-        super().__init__(f"refused by row {number}: {self.ROWS[number]}")
+        super().__init__(f"refused: {number}, {self.ROWS.get(number, 'a row that this binding does not know')}")
         self.number = number
 
 
-Accepted = namedtuple("Accepted", [])
-Failed = namedtuple("Failed", ["check"])
+@dataclass(frozen=True)
+class Accepted:
+    """All nine checks hold. True in a condition."""
 
-# The sizes of a statement; `bound` is β² and `target` is β'².
-Sizes = namedtuple("Sizes", "d n r k l w kappa kappa1 kappa2 b b1 b2 t1 t2 bound target")
+    def __bool__(self):
+        return True
 
-# All lists of the verifier, in its order.
-Proof = namedtuple("Proof", "a_matrix b_matrix c_matrix d_matrix whole constant_terms u1 projections p psi omega second_b alpha delta u2 c opening")
+    def __str__(self):
+        return "accepted: all nine checks hold"
 
 
-# ---- lengths, in numbers
+@dataclass(frozen=True)
+class Failed:
+    """The first check that fails. False in a condition."""
 
-def lengths(sizes, nu=None, mu=None):
-    """How many numbers each list of these sizes has, by name; `next_whole` where ν and μ are given."""
+    check: int
+
+    CHECKS = (
+        "the projection p is too long",
+        "a constant term of b'' is not what p and the constraints give",
+        "u1 does not belong to the t and g digits",
+        "u2 does not belong to the h digits",
+        "A z is not the sum of the c_i t_i",
+        "<z,z> is not what the g digits give",
+        "the sum of <phi_i,z> c_i is not what the h digits give",
+        "the aggregated constraint does not hold",
+        "the digits are longer than the target bound",
+    )
+
+    def __bool__(self):
+        return False
+
+    def __str__(self):
+        return f"failed: check {self.check}, {self.CHECKS[self.check - 1]}"
+
+
+# ---- sizes and lists
+
+class Sizes(NamedTuple):
+    """The sizes, bases and bounds of a statement, in the sheet's order."""
+
+    d: int  # the degree: 2, 4, 8, 16, 32 or 64
+    n: int  # elements to a part of the witness: 1 to 256
+    r: int  # parts of the witness: 1 to 16
+    k: int  # whole constraints: 0 to 32
+    l: int  # constant-term constraints: 0 to 32
+    w: int  # projection rows: 0 to 256
+    kappa: int  # rows of A: 1 to 8
+    kappa1: int  # rows of B and C: 1 to 8
+    kappa2: int  # rows of D: 1 to 8
+    b: int  # base of the two digits of z: 2 to 65536
+    b1: int  # base of the digits of t and h: 2 to 65536
+    b2: int  # base of the digits of g: 2 to 65536
+    t1: int  # digits of t and h: 2 to 8
+    t2: int  # digits of g: 2 to 8
+    bound: int  # β²: 0 to 999999999999999
+    target: int  # β'²: 0 to 999999999999999
+
+
+class Proof(NamedTuple):
+    """All lists of the verifier, in its order. Those marked with a message are what the prover sends."""
+
+    a_matrix: List[int]  # A, by rows
+    b_matrix: List[int]  # B, by rows
+    c_matrix: List[int]  # C, by rows
+    d_matrix: List[int]  # D, by rows
+    whole: List[int]  # constraints that vanish wholly, each as a (by i, then j), φ (by part), b
+    constant_terms: List[int]  # constraints that vanish in the constant term, likewise, but b is one number
+    u1: List[int]  # message 1
+    projections: List[int]  # projection rows, by row, then part; entries -1, 0, 1
+    p: List[int]  # message 2
+    psi: List[int]  # ψ, 5 by L numbers
+    omega: List[int]  # ω, 5 by w numbers
+    second_b: List[int]  # message 3: b'', five elements
+    alpha: List[int]  # α, an element to each whole constraint
+    delta: List[int]  # δ, five elements
+    u2: List[int]  # message 4
+    c: List[int]  # challenges, an element to each part
+    opening: List[int]  # message 5: z low, z high, the digits of t, g and h
+
+
+class Sheet(NamedTuple):
+    """A sheet that was read."""
+
+    sizes: Sizes
+    nu: int  # chunks of z low and of z high in the next instance
+    mu: int  # chunks of the other digits
+    proof: Proof
+
+
+class NextSizes(NamedTuple):
+    """The sizes of the next instance; its degree is the same, it has no constant-term constraints, and its bound is β'²."""
+
+    n: int  # n', the elements to a part
+    r: int  # r' = 2ν+μ, the parts
+    k: int  # K' = κ+κ1+κ2+3, the constraints, all of the whole kind
+    whole: int  # how many numbers the constraints have
+
+
+def lengths(sizes):
+    """How many numbers each list of these sizes has, by name: the lists of Proof, the witness, and the digits z, t, g and h."""
     s = sizes
     pairs = s.r * (s.r + 1) // 2
     t, g, h = s.r * s.t1 * s.kappa, pairs * s.t2, pairs * s.t1
     function = (pairs + s.r * s.n) * s.d
-    known = {
+    return {
         "a_matrix": s.kappa * s.n * s.d, "b_matrix": s.kappa1 * t * s.d, "c_matrix": s.kappa1 * g * s.d, "d_matrix": s.kappa2 * h * s.d,
         "whole": s.k * (function + s.d), "constant_terms": s.l * (function + 1), "u1": s.kappa1 * s.d, "projections": s.w * s.r * s.n * s.d,
         "p": s.w, "psi": FIVE * s.l, "omega": FIVE * s.w, "second_b": FIVE * s.d, "alpha": s.k * s.d, "delta": FIVE * s.d, "u2": s.kappa2 * s.d,
         "c": s.r * s.d, "opening": (2 * s.n + t + g + h) * s.d, "witness": s.r * s.n * s.d, "z": 2 * s.n * s.d, "t": t * s.d, "g": g * s.d, "h": h * s.d,
     }
-    if nu is not None and nu > 0 and mu > 0:
-        rank, parts = max(-(-s.n // nu), -(-(t + g + h) // mu)), 2 * nu + mu
-        known["next_whole"] = (s.kappa + s.kappa1 + s.kappa2 + 3) * (parts * (parts + 1) // 2 + parts * rank + 1) * s.d
-    return known
+
+
+def next_sizes(sizes, nu, mu):
+    """The sizes of the next instance, whose opening is cut into ν, ν and μ chunks."""
+    s = sizes
+    rest = s.r * s.kappa * s.t1 + s.r * (s.r + 1) // 2 * (s.t1 + s.t2)
+    n, r, k = max(-(-s.n // nu), -(-rest // mu)), 2 * nu + mu, s.kappa + s.kappa1 + s.kappa2 + 3
+    return NextSizes(n, r, k, k * (r * (r + 1) // 2 + r * n + 1) * s.d)
 
 
 # ---- the library
@@ -81,7 +184,7 @@ _GarbageSizes = _struct("_GarbageSizes", "d n r k l w kappa2 b1 t1")
 _Sizes = _struct("_Sizes", " ".join(Sizes._fields), ("bound", "target"))
 _PartSizes = _struct("_PartSizes", "d n r kappa t1 t2 nu mu")
 _Part = _struct("_Part", "start length")
-Header = namedtuple("Header", "d n r k l w kappa kappa1 kappa2 b b1 b2 t1 t2 nu mu bound target")
+_HEADER = "d n r k l w kappa kappa1 kappa2 b b1 b2 t1 t2 nu mu bound target".split()
 
 
 class _Answer(ctypes.Structure):
@@ -89,7 +192,7 @@ class _Answer(ctypes.Structure):
 
 
 class _Sheet(ctypes.Structure):
-    _fields_ = _Answer._fields_ + [(f, ctypes.c_uint64 if f in ("bound", "target") else ctypes.c_size_t) for f in Header._fields]
+    _fields_ = _Answer._fields_ + [(f, ctypes.c_uint64 if f in ("bound", "target") else ctypes.c_size_t) for f in _HEADER]
 
 
 class _Element(ctypes.Structure):
@@ -144,11 +247,15 @@ def _sized(kind, sizes):
     return kind(*(getattr(sizes, field) if 0 <= getattr(sizes, field) < 2**64 else 2**64 - 1 for field, _ in kind._fields_))
 
 
-def _room(sizes, *names, **cut):
+def _room(sizes, *names):
     """Lists to write to, of the lengths that the sizes give; empty where the sizes are past their limits, which the call refuses."""
-    small = all(0 <= x <= 65536 for x in sizes[:14]) and max(sizes.n, sizes.r, sizes.k, sizes.l, sizes.w) <= 256
-    known = lengths(sizes, **cut) if small else {}
-    return [(ctypes.c_int32 * min(known.get(name, 0), 2**30))() for name in names]
+    known = lengths(sizes)
+    return [_zeros(known[name]) for name in names]
+
+
+def _zeros(length):
+    # sizes within their limits give no length as large as this
+    return (ctypes.c_int32 * (length if 0 <= length < 2**27 else 0))()
 
 
 def _written(answer, *outs):
@@ -168,7 +275,11 @@ def _judged(answer):
 # ---- the calls
 
 def multiply(d, x, y):
-    """The product of two elements, d numbers each, in Z_q[X]/(X^d+1)."""
+    """The product of two elements, d numbers each, in Z_q[X]/(X^d+1). Refused 1, 8.
+
+    >>> multiply(2, [1, 2], [1, 2])
+    [-3, 4]
+    """
     # an element has sixty-four numbers, and a number past them is a number past d
     x, y = (_Element((ctypes.c_int32 * 64)(*_numbers(e[:64] if not any(e[64:]) else [_LEAST]))) for e in (x, y))
     answer = _call("multiply", d, x, y)
@@ -176,51 +287,61 @@ def multiply(d, x, y):
 
 
 def commit(sizes, a_matrix, b_matrix, c_matrix, witness):
-    """Message 1: the t digits, the g digits and u1."""
+    """Message 1: the t digits, the g digits and u1. Refused 1 to 4, 7, 8."""
     outs = _room(sizes, "t", "g", "u1")
     return _written(_call("commit", _sized(_CommitSizes, sizes), *map(_numbers, (a_matrix, b_matrix, c_matrix, witness)), *outs), *outs)
 
 
 def project(sizes, projections, witness):
-    """Message 2: p."""
+    """Message 2: p. Refused 1, 2, 7 to 9."""
     outs = _room(sizes, "p")
     return _written(_call("project", _sized(_Shape, sizes), sizes.w, _numbers(projections), _numbers(witness), *outs), *outs)
 
 
 def aggregate(sizes, constant_terms, projections, psi, omega, witness):
-    """Message 3: the five b''."""
+    """Message 3: the five b''. Refused 1, 2, 7 to 9."""
     outs = _room(sizes, "second_b")
     lists = map(_numbers, (constant_terms, projections, psi, omega, witness))
     return _written(_call("aggregate", _sized(_Shape, sizes), sizes.l, sizes.w, *lists, *outs), *outs)
 
 
 def commit_garbage(sizes, whole, constant_terms, projections, psi, omega, alpha, delta, d_matrix, witness):
-    """Message 4: the h digits and u2."""
+    """Message 4: the h digits and u2. Refused 1 to 4, 7 to 9."""
     outs = _room(sizes, "h", "u2")
     lists = map(_numbers, (whole, constant_terms, projections, psi, omega, alpha, delta, d_matrix, witness))
     return _written(_call("commit_garbage", _sized(_GarbageSizes, sizes), *lists, *outs), *outs)
 
 
 def amortize(sizes, c, witness):
-    """Message 5: z low, then z high."""
+    """Message 5: z low, then z high. Refused 1, 2, 4, 7, 8, 10."""
     outs = _room(sizes, "z")
     return _written(_call("amortize", _sized(_Shape, sizes), sizes.b, _numbers(c), _numbers(witness), *outs), *outs)
 
 
+def prove(sizes, witness, *, a_matrix, b_matrix, c_matrix, d_matrix, whole, constant_terms, projections, psi, omega, alpha, delta, c):
+    """The proof: all five messages, where everything is drawn already. bindings/python/prove.py is an example."""
+    t, g, u1 = commit(sizes, a_matrix, b_matrix, c_matrix, witness)
+    p = project(sizes, projections, witness)
+    second_b = aggregate(sizes, constant_terms, projections, psi, omega, witness)
+    h, u2 = commit_garbage(sizes, whole, constant_terms, projections, psi, omega, alpha, delta, d_matrix, witness)
+    opening = amortize(sizes, c, witness) + t + g + h
+    return Proof(a_matrix, b_matrix, c_matrix, d_matrix, whole, constant_terms, u1, projections, p, psi, omega, second_b, alpha, delta, u2, c, opening)
+
+
 def verify(sizes, proof):
-    """The verdict: Accepted() or Failed(check)."""
+    """The verdict: Accepted() or Failed(check). Refused 1 to 4, 6 to 10."""
     return _judged(_call("verify", _sized(_Sizes, sizes), *map(_numbers, proof)))
 
 
 def next_instance(sizes, nu, mu, proof):
-    """The constraints of the next instance, one list; Failed(1) or Failed(2) where that check fails. The opening is not looked at."""
-    outs = _room(sizes, "next_whole", nu=nu, mu=mu) if max(nu, mu) <= 16 else _room(sizes, "none")
-    answer = _call("next_instance", _sized(_Sizes, sizes), nu, mu, *map(_numbers, proof[:-1]), *outs)
-    return Failed(answer.number) if answer.kind == 1 else _written(answer, *outs)
+    """The constraints of the next instance, one list; Failed(1) or Failed(2) where that check fails. The opening is not looked at. Refused 1 to 11."""
+    out = _zeros(next_sizes(sizes, nu, mu).whole if nu > 0 and mu > 0 else 0)
+    answer = _call("next_instance", _sized(_Sizes, sizes), nu, mu, *map(_numbers, proof[:-1]), out)
+    return Failed(answer.number) if answer.kind == 1 else _written(answer, out)
 
 
 def next_part(sizes, nu, mu, part, opening):
-    """Part `part`, from 1, of the next witness, without its padding."""
+    """Part `part`, from 1, of the next witness, without the zeros that pad it. Refused 1 to 5, 7; 2 also for a part that is not 1 to 2ν+μ."""
     values = {**sizes._asdict(), "nu": nu, "mu": mu}
     taken = _sized(_PartSizes, namedtuple("Values", values)(**values))
     opening_numbers = _numbers(opening)
@@ -231,26 +352,29 @@ def next_part(sizes, nu, mu, part, opening):
     return list(opening[place.start:place.start + place.length])
 
 
+def next_witness(sizes, nu, mu, opening):
+    """The next witness: its parts, each padded with zeros. Refused as `next_part` is."""
+    first = next_part(sizes, nu, mu, 1, opening)
+    after = next_sizes(sizes, nu, mu)
+    parts = [first] + [next_part(sizes, nu, mu, part, opening) for part in range(2, after.r + 1)]
+    return [x for part in parts for x in part + [0] * (after.n * sizes.d - len(part))]
+
+
 def judge_sheet(text):
-    """The verdict on a sheet, as the program prints it: Accepted() or Failed(check)."""
+    """The verdict on a sheet of at most 65536 bytes, as the program prints it: Accepted() or Failed(check). Refused 12, 1 to 6, 8 to 10."""
     return _judged(_call("judge_sheet", _bytes(text)))
 
 
 def read_sheet(text):
-    """A sheet's header, and the numbers after it."""
-    sheet = _bytes(text)
-    numbers = (ctypes.c_int32 * _call("sheet_numbers", sheet))()
-    answer = _call("read_sheet", sheet, numbers)
+    """A sheet of any length, given as bytes: its sizes, ν, μ and its lists as a Proof. Refused 12, 1 to 6, 8 to 10."""
+    taken = _bytes(text)
+    # a number takes 16 bytes: where the text is too short for the numbers of its header, it is refused by 12 before their length counts
+    numbers = (ctypes.c_int32 * min(_call("sheet_numbers", taken), len(text) // 16))()
+    answer = _call("read_sheet", taken, numbers)
     read = _written(answer, numbers)
-    return Header(*(getattr(answer, field) for field in Header._fields)), read
-
-
-def sheet_proof(text):
-    """A sheet's header, the sizes of its statement, and its lists as a Proof."""
-    header, numbers = read_sheet(text)
-    sizes = Sizes(*(getattr(header, field) for field in Sizes._fields))
+    sizes = Sizes(*(getattr(answer, field) for field in Sizes._fields))
     known, at, cut = lengths(sizes), 0, []
     for name in Proof._fields:
-        cut.append(numbers[at:at + known[name]])
+        cut.append(read[at:at + known[name]])
         at += known[name]
-    return header, sizes, Proof(*cut)
+    return Sheet(sizes, answer.nu, answer.mu, Proof(*cut))

@@ -1,7 +1,11 @@
 #!/usr/bin/env python3
 """Holds the Python calls to the second implementation (tools/reference): random small folds, refusals, sheets. python3 bindings/python/test.py"""
 
+import doctest
+import os
 import random
+import re
+import subprocess
 import sys
 from pathlib import Path
 
@@ -15,11 +19,11 @@ import ring
 import sheet
 import sizes as reference
 from fixtures import challenges, random_sizes, uniform
-from lizkarg import Accepted, Failed, Proof, Refused, Sizes
+from library import library_sizes as taken
+from library import library_verdict
+from lizkarg import Accepted, Failed, Proof, Refused
 
-
-def taken(s):
-    return Sizes(*(getattr(s, {"k": "K", "l": "L", "bound": "beta_squared", "target": "target_beta_squared"}.get(f, f)) for f in Sizes._fields))
+GIVEN = [name for name in Proof._fields if name not in ("u1", "p", "second_b", "u2", "opening")] + ["witness"]
 
 
 def refusal(call, *arguments):
@@ -30,33 +34,34 @@ def refusal(call, *arguments):
     return 0
 
 
-def made(s, x):
-    """The proof by the library's five messages."""
-    z = taken(s)
-    t, g, u1 = lizkarg.commit(z, x["a_matrix"], x["b_matrix"], x["c_matrix"], x["witness"])
-    p = lizkarg.project(z, x["projections"], x["witness"])
-    second_b = lizkarg.aggregate(z, x["constant_terms"], x["projections"], x["psi"], x["omega"], x["witness"])
-    h, u2 = lizkarg.commit_garbage(z, *(x[name] for name in "whole constant_terms projections psi omega alpha delta d_matrix witness".split()))
-    low_high = lizkarg.amortize(z, x["c"], x["witness"])
-    sent = {"u1": u1, "p": p, "second_b": second_b, "u2": u2, "opening": low_high + t + g + h}
-    return z, Proof(*(sent[name] if name in sent else x[name] for name in Proof._fields))
+def test_docstrings():
+    os.chdir(ROOT)
+    for failed, tried in (doctest.testmod(lizkarg), doctest.testfile(str(ROOT / "bindings/python/README.md"), module_relative=False)):
+        assert failed == 0 and tried > 5
 
 
-def test_class():
-    s, x, y = case.honest()
-    z, proof = made(s, x)
-    assert proof == Proof(**y)
-    assert lizkarg.verify(z, proof) == Accepted()
-    text = sheet.write_sheet(s, y)
-    assert lizkarg.judge_sheet(text) == Accepted()
-    header, again, lists = lizkarg.sheet_proof(text)
-    assert again == z and lists == proof and (header.nu, header.mu) == (s.nu, s.mu)
-    changed = proof._replace(opening=[proof.opening[0] + 1, *proof.opening[1:]])
-    assert lizkarg.verify(z, changed) == Failed(5)
-    assert lizkarg.next_instance(z, s.nu, s.mu, proof) == fold.next_instance(s, y)["next_whole"]
-    for part in range(1, 2 * s.nu + s.mu + 1):
-        assert lizkarg.next_part(z, s.nu, s.mu, part, proof.opening) == fold.next_part(s, y, part)
-    assert refusal(lizkarg.next_part, z, s.nu, s.mu, 2 * s.nu + s.mu + 1, proof.opening) == 2
+def test_example():
+    example = subprocess.run([sys.executable, ROOT / "bindings/python/prove.py"], capture_output=True, text=True, check=True)
+    assert example.stdout == "accepted: all nine checks hold\n"
+
+
+def test_answers():
+    assert Accepted() and not Failed(3)
+    assert str(Failed(9)) == "failed: check 9, the digits are longer than the target bound"
+    assert str(Refused(7)) == "refused: 7, a list's length is not what the sizes give"
+    # the command verdict --words says the same; but it knows no parts
+    said = re.findall(r"[012]\.[0-9*]+\) echo (?:'([^']*)'|\"([^\"]*)\") ;;", (ROOT / "verdict").read_text())
+    rows = [str(Refused(number)).replace("L, w or a part number", "L or w") for number in range(1, 13) if number not in (7, 11)]
+    assert [one or other for one, other in said] == [str(Accepted()), *(str(Failed(check)) for check in range(1, 10)), *rows]
+
+
+def next_answer(z, s, proof):
+    """The next instance as the second implementation answers it."""
+    try:
+        found = lizkarg.next_instance(z, s.nu, s.mu, proof)
+    except Refused as refused:
+        return ("refused", refused.number)
+    return ("failed", found.check) if isinstance(found, Failed) else ("written", {"next_whole": found})
 
 
 def test_random(count=40):
@@ -65,12 +70,14 @@ def test_random(count=40):
         s = random_sizes(rng)._replace(beta_squared=rng.randint(0, 400), target_beta_squared=rng.randint(0, 10**15 - 1))
         x = {name: uniform(rng, ring.LARGEST, length(s)) for name, length in reference.LENGTHS.items()}
         x |= {"projections": uniform(rng, 1, len(x["projections"])), "c": challenges(rng, s), "witness": uniform(rng, 3, len(x["witness"]))}
-        z, proof = made(s, x)
-        y = fold.honest(s, x)
+        z, y = taken(s), fold.honest(s, x)
+        proof = lizkarg.prove(z, **{name: x[name] for name in GIVEN})
         assert proof == Proof(**y)
-        kind, number = fold.verdict(s, y)
-        assert lizkarg.verify(z, proof) == (Accepted() if kind == "accepted" else Failed(number))
-        assert lizkarg.lengths(z, s.nu, s.mu)["next_whole"] == reference.LENGTHS["next_whole"](s)
+        assert lizkarg.verify(z, proof) == library_verdict(fold.verdict(s, y))
+        assert lizkarg.read_sheet(sheet.write_sheet(s, y)) == (z, s.nu, s.mu, proof)
+        assert lizkarg.next_sizes(z, s.nu, s.mu).whole == reference.LENGTHS["next_whole"](s)
+        assert next_answer(z, s, proof) == fold.answer("next_instance", s, y | {"next_whole": [0] * reference.LENGTHS["next_whole"](s)})
+        assert lizkarg.next_witness(z, s.nu, s.mu, proof.opening) == fold.flat(fold.flat(fold.next_witness(s, y)))
         for name in Proof._fields + ("witness",):
             assert lizkarg.lengths(z)[name] == reference.LENGTHS[name](s), name
 
@@ -89,8 +96,16 @@ def test_refusals():
     assert refusal(lizkarg.next_instance, z, 0, 1, proof) == 5
     assert refusal(lizkarg.next_instance, z, 2**64, 1, proof) == 5
     assert refusal(lizkarg.commit, z._replace(r=10**9), x["a_matrix"], x["b_matrix"], x["c_matrix"], x["witness"]) == 2
+    for change, row in (({"d": -1}, 1), ({"n": -1}, 2), ({"r": 2**70}, 2), ({"kappa": 2**64}, 3), ({"t1": -2}, 4), ({"t2": 2**64, "r": 2**64}, 2)):
+        assert refusal(lizkarg.commit, z._replace(**change), x["a_matrix"], x["b_matrix"], x["c_matrix"], x["witness"]) == row, change
+    for w in (-1, 257, 2**64, 2**70):
+        assert refusal(lizkarg.project, z._replace(w=w), x["projections"], x["witness"]) == 2, w
     assert refusal(lizkarg.judge_sheet, b"") == 12
     assert refusal(lizkarg.read_sheet, b"no sheet") == 12
+    largest = "64 256 16 32 32 256 8 8 8 4 8 4 8 8 1 1 5 13".split()
+    assert refusal(lizkarg.read_sheet, ("".join(f"{x:>16}" for x in largest) + "\n").encode()) == 12
+    assert refusal(lizkarg.next_part, z, s.nu, s.mu, 2 * s.nu + s.mu + 1, proof.opening) == 2
+    assert refusal(lizkarg.next_witness, z, 8, 1, proof.opening) == 5
 
 
 def test_product():

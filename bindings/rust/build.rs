@@ -9,9 +9,7 @@ fn main() {
     };
     let archive = folder.join("libcapi.a");
     println!("cargo:rerun-if-changed={}", archive.display());
-    if !archive.exists() {
-        panic!("{} is missing: run `rt staticlib capi` first, or set LIZKARG_LIB", archive.display());
-    }
+    assert!(archive.exists(), "{} is missing: run `rt staticlib capi` first, or set LIZKARG_LIB", archive.display());
     println!("cargo:rustc-link-search=native={}", folder.display());
     println!("cargo:rustc-link-lib=static=capi");
 }

@@ -16,6 +16,10 @@ READINGS = [[1, 2], [0, 1], [2, 1]]
 # The same sums from readings that are too large.
 TOO_LONG = [[6, 2], [0, 1], [-3, 1]]
 
+# For the exercises: other challenges, and readings with the same sums that are shorter.
+OTHER_C = [[0, 1], [1, 0], [1, 0]]
+SHORTER = [[1, 1], [1, 1], [1, 2]]
+
 SIZES = Sizes(
     d=2, n=1, r=3, K=0, L=2, w=2, kappa=1, kappa1=1, kappa2=1, b=4, b1=4, b2=4, t1=2, t2=2, nu=1, mu=2,
     beta_squared=sum(x * x for slot in READINGS for x in slot), target_beta_squared=sizes.LARGEST_BOUND,

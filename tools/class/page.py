@@ -1,9 +1,11 @@
 #!/usr/bin/env python3
 """The class's page and sheets: python3 tools/class/page.py ROOT writes ROOT/docs/CLASS.md, ROOT/docs/pictures/class.svg and
-ROOT/examples/class*.
+ROOT/examples/class*. python3 tools/class/page.py --library compares the class's case with the proved library (bindings/python/build builds it).
 
 Every number of the page is computed here, by the second implementation, so that the page cannot go stale: tools/all writes it anew and compares.
 """
+
+import sys
 
 import case
 from case import pair
@@ -27,6 +29,11 @@ def table(head, rows):
 
 def name(letter, i, j):
     return f"{letter}{i + 1}{j + 1}"
+
+
+def factor(e):
+    """A pair as it stands in a product: in brackets where it has a sign or two places."""
+    return pair(e) if pair(e).isalnum() else f"({pair(e)})"
 
 
 def digits(base, count, e):
@@ -57,9 +64,10 @@ def page():
     t = [row[0] for row in verifier.recomposed_t(s, y)]
     g, h = verifier.recomposed_g(s, y), verifier.recomposed_h(s, y)
     z = verifier.recomposed_z(s, y)[0]
-    m1, m4 = fold.message_1(s, x), fold.message_4(s, x)
     phi = [row[0] for row in fold.aggregate(s, x).phi]
     second_b = fold.elements(s.d, y["second_b"])
+    second_phi = [[row[0] for row in f.phi] for f in fold.second_functions(s, x)]
+    delta = fold.elements(s.d, x["delta"])
     rows = fold.projection_rows(s, x)
     first_code, second_code = case.codes(case.READINGS)
     minus_x = [0, -1]
@@ -72,6 +80,21 @@ def page():
 
     def mixed(garbage):
         return verifier.garbage_sum(s, y, garbage)
+
+    def summed(digit_elements, count, at):
+        """The sum of the digits at place `at` of each number, each number having `count`."""
+        return add(*digit_elements[at::count])
+
+    def weighted(row, values, count):
+        """A row of a fingerprint's matrix times the digits: what each place counts, the sum of the digits there, the product."""
+        return [(row[at], summed(values, count, at), times(row[at], summed(values, count, at))) for at in range(count)]
+
+    b_row, c_row, d_row = (fold.elements(s.d, x[matrix]) for matrix in ("b_matrix", "c_matrix", "d_matrix"))
+    for row, count in ((b_row, s.t1), (c_row, s.t2), (d_row, s.t1)):
+        assert all(e == row[at % count] for at, e in enumerate(row)), "the page says that a digit counts by its place only"
+    first_print = weighted(b_row, parts.t_digits, s.t1) + weighted(c_row, parts.g_digits, s.t2)
+    second_print = weighted(d_row, parts.h_digits, s.t1)
+    assert add(*(e for *_, e in first_print)) == y["u1"] and add(*(e for *_, e in second_print)) == y["u2"]
 
     checks = [
         ("the projection is short", f"2·({' + '.join(f'{k}²' for k in y['p'])}) = {2 * ring.squared_norm(y['p'])}", f"at most {s.w}·{s.beta_squared} = {s.w * s.beta_squared}"),
@@ -93,11 +116,15 @@ def page():
         named.setdefault((block, kind, number), 0)
         named[block, kind, number] += 1
     long_s, long_x, long_y = case.honest(case.TOO_LONG)
+    other_z = add(*(times(e, slot[0]) for e, slot in zip(case.OTHER_C, slots)))
+    assert times(a, other_z) == add(*(times(case.OTHER_C[i], t[i]) for i in range(3))) and times(other_z, other_z) == verifier.garbage_sum(s, y | {"c": fold.flat(case.OTHER_C)}, g)
+    assert fold.message_1(s, case.lists(case.READINGS[::-1]))["u1"] == y["u1"]
+    assert case.codes(case.SHORTER) == case.codes(case.READINGS)
 
     return f"""# A class with one control unit
 
 For people who know cars. You need to add, to multiply small numbers, and half an hour. Every number on this page was computed by a program
-(tools/class/page.py), and every step can be checked with a pencil.
+(tools/class/page.py), every message and verdict by the proved library too, and every step can be checked with a pencil.
 
 ![One control unit, three slots, two stored codes](pictures/class.svg)
 
@@ -118,96 +145,118 @@ the readings met the schedule. This page makes that sheet.
 
 ## Two numbers as one
 
-The two readings of a slot are written as one thing, with X for "second place":
+The two readings of a slot are written as one *pair*, with X for "second place":
 
     s1 = {pair(s1)}        s2 = {pair(s2)}        s3 = {pair(s3)}
 
-They are added place by place. They are multiplied like numbers in brackets, with one rule more: **X·X = -1**.
+Pairs are added place by place. They are multiplied like sums in brackets, each piece of the left with each piece of the right, with one rule more: **X·X = -1**. So a product of two pairs is a
+pair again.
 
-    (1 + X)·({pair(s1)}) = 1 + 2X + X + 2·X·X = 1 + 3X - 2 = {pair(times([1, 1], s1))}
+    (1 + X)·({pair(s1)}) = 1·1 + 1·2X + X·1 + X·2X = 1 + 2X + X + 2·(X·X) = 1 + 3X - 2 = {pair(times([1, 1], s1))}
 
-In a real unit a slot has up to 256 such things of 64 readings each, and numbers wrap at q = 4294967197. Here they are too small to wrap.
+In a real unit a slot has up to 256 such things, of 64 readings each instead of two, and numbers start again when they are too large, as an odometer does, after q = 4294967197 of them. Here
+they are too small for that.
 
 ## The codes as sums of products
 
 Multiply a slot by 1, and its first reading stands first. Multiply it by -X, and its *second* reading stands first:
 
-    -X·({pair(s1)}) = {pair(times(minus_x, s1))}
+    -X·({pair(s1)}) = -X·1 - X·2X = -X - 2·(X·X) = -X + 2 = {pair(times(minus_x, s1))}
 
 So each code is a sum of products, of which only the first place counts:
 
     1·s1 + 1·s2 + 1·s3 = {pair(add(s1, s2, s3))}            first place {first_code}: the first code
     -X·s1 - X·s2 - X·s3 = {pair(add(*(times(minus_x, e) for e in (s1, s2, s3))))}        first place {second_code}: the second code
 
-These are the two *dot-product constraints* of the sheet. What stands before the slots, here 1 and -X, is called φ.
+These are the two *dot-product constraints* of the sheet: what must hold between the slots. What stands before the slots, here 1 and -X, is called φ (a Greek letter, say "fi").
 
 ## Five messages
 
-Whoever has the readings now makes five messages. Between them numbers are drawn that nobody could know before; in class, roll dice. Here they are
-given, and small.
+Whoever has the readings, the *maker*, now makes five messages. Between them numbers are drawn that nobody could know before; in class, roll dice. Here they are
+given, and small. The order is the trick: what is drawn late decides how the numbers that were fixed before are mixed, so nobody can choose them to suit.
 
 ### 1. Commit
 
-Everybody knows A = {pair(a)}. The maker forms t = A·s for each slot, and g, every slot times every slot:
+Everybody knows A = {pair(a)}. The maker forms t = A·s for each slot (t1 is the product above), and g, every slot times every slot: g12 is s1·s2 =
+{factor(s1)}·{factor(s2)} = {pair(times(s1, s2))}.
 
 {table(["", *(f"slot {i + 1}" for i in range(3))], [["t = A·s", *(pair(e) for e in t)]])}
 
 {table([name("g", i, j) for i, j in pairs(3)], [[pair(g[p]) for p in pairs(3)]])}
 
-Long numbers are cut into digits, to base {s.b1}: a low digit is -2, -1, 0 or 1, and what is left is divided by {s.b1}. So 3 is -1 + 1·{s.b1}: low digit -1, high digit 1. All t and g as digits,
-low; high:
+Long numbers are cut into digits, to base {s.b1}: a low digit is -2, -1, 0 or 1, and what is left is divided by {s.b1}. So 3 is -1 + 1·{s.b1}: low digit -1, high digit 1. Each place of a pair is cut
+for itself: t1 = {pair(t[0])} has the low digits {pair(ring.element_digits(s.b1, s.t1, t[0])[0])} and the high digits {pair(ring.element_digits(s.b1, s.t1, t[0])[1])}. All t and g as digits, low; high:
 
 {table([f"t{i + 1}" for i in range(3)] + [name("g", i, j) for i, j in pairs(3)], [[digits(s.b1, s.t1, e) for e in t] + [digits(s.b2, s.t2, g[p]) for p in pairs(3)]])}
 
-The first message is one thing only, a fingerprint of all these digits, formed with fixed numbers B and C: **u1 = {pair(y["u1"])}**. The digits stay with the maker for
-now. With numbers as small as these one can find other digits with the same fingerprint; in a real unit nobody knows how, and so they are fixed from here on.
+The first message is one pair only, a fingerprint of all these digits. Everybody knows how often each digit counts (the sheet has these numbers as B and C):
+
+{table(["digits", "added up", "count", "gives"], [[what, pair(total), pair(factor) + " times" if factor != [1, 0] else "once", pair(e)] for what, (factor, total, e) in zip(("t, low", "t, high", "g, low", "g, high"), first_print)])}
+
+Together: **u1 = {pair(y["u1"])}**. The digits stay with the maker for now. With numbers as small as these one can find other digits with the same fingerprint; in a real unit nobody
+knows how, and so they are fixed from here on.
 
 ### 2. Project
 
-Two rows of -1, 0 and 1 are drawn, as long as all readings together. Each is multiplied with the readings and added up:
+Two rows of -1, 0 and 1 are drawn, a number for each reading: two for slot 1, two for slot 2, two for slot 3. Each is multiplied with its reading, and all is added up. The readings are
+{", ".join(str(k) for k in x["witness"])}:
 
 {table(["drawn row", "times the readings", "p"], [[", ".join(str(k) for k in row), " ".join(("+ " if k > 0 else "- ") + str(value) for k, value in zip(row, x["witness"]) if k).removeprefix("+ "), p] for row, p in zip(rows, y["p"])])}
 
-The second message is **p = {", ".join(str(k) for k in y["p"])}**. Wild readings would make p large: a sum with random signs is rarely small.
+The second message is **p = {", ".join(str(k) for k in y["p"])}**. Wild readings would make p large: a sum with random signs is rarely small. About half of the numbers of a row are 0, so the square of
+each p is about half of the squares of all readings together.
 
 ### 3. Add up five times
 
-For five sums numbers ψ and ω are drawn: how often each code and each row of message 2 counts. The row counts as a constraint too: its φ turns each drawn pair around, so that the first place of the sum is p.
+There are four things to hold to now: two codes and two values p. A row of message 2 can be written with φ like the codes, too: where a, b was drawn for a slot, a - bX stands before it, for
+the first place of (a - bX) times a slot is a times its first reading plus b times its second. The first row gives
 
-{table(["sum", "ψ: codes", "ω: rows", "b''"], [[k + 1, ", ".join(str(v) for v in x["psi"][k * s.L : (k + 1) * s.L]), ", ".join(str(v) for v in x["omega"][k * s.w : (k + 1) * s.w]), pair(second_b[k])] for k in range(5)])}
+    1·s1 - 1·s2 - X·s3 = ({pair(s1)}) + ({pair(times([-1, 0], s2))}) + ({pair(times(minus_x, s3))}) = {pair(second_b[2])}        first place {y["p"][0]}: the first p
 
-The third message are the five values b'' in full, both places.
+Five times numbers are drawn that say how often each code (ψ) and each row (ω) counts, and all is added up accordingly. In a real unit up to 32 codes and 256 rows become five sums in this way:
+
+{table(["sum", "ψ: codes", "ω: rows", "before s1", "before s2", "before s3", "gives b''"], [[k + 1, ", ".join(str(v) for v in x["psi"][k * s.L : (k + 1) * s.L]), ", ".join(str(v) for v in x["omega"][k * s.w : (k + 1) * s.w]), *(pair(e) for e in second_phi[k]), pair(second_b[k])] for k in range(5)])}
+
+Sum 5, for one, counts both codes and the first row once: ({pair(second_b[0])}) + ({pair(second_b[1])}) + ({pair(second_b[2])}) = {pair(second_b[4])}. The third message is the five values b'', both places.
 
 ### 4. One sum of all
 
-Five more things δ are drawn, {", ".join(pair(e) for e in fold.elements(s.d, x["delta"]))}, and the five sums become one: δ times each, added. What stands before the slots is now
+Five more pairs δ are drawn, {", ".join(pair(e) for e in delta)}, and the five sums become one: δ times each, added. Before the slots stands now
 
     φ1 = {pair(phi[0])}        φ2 = {pair(phi[1])}        φ3 = {pair(phi[2])}
 
-and h holds what φ and the slots give: h11 = φ1·s1, and for two slots the half of both ways, h12 = (φ1·s2 + φ2·s1)/2.
+(φ1, down its column: {" + ".join(f"{factor(d)}·{factor(e[0])}" for d, e in zip(delta, second_phi) if any(d))} = {pair(phi[0])}), and the sum must give b, from the b'' in the same way:
+
+    b = {" + ".join(f"{factor(d)}·{factor(e)}" for d, e in zip(delta, second_b) if any(d))} = {pair(fold.aggregate_constant(s, y))}
+
+h holds what φ and the slots give: h11 = φ1·s1, and for two slots the half of both ways, h12 = (φ1·s2 + φ2·s1)/2. Below it its digits, low; high:
 
 {table([name("h", i, j) for i, j in pairs(3)], [[pair(h[p]) for p in pairs(3)], [digits(s.b1, s.t1, h[p]) for p in pairs(3)]])}
 
-The fourth message is the fingerprint of the h digits: **u2 = {pair(y["u2"])}**.
+The fourth message is the fingerprint of the h digits (the sheet has its numbers as D): the low ones, {pair(second_print[0][1])} together, count once, the high ones, {pair(second_print[1][1])} together, count
+{pair(second_print[1][0])} times: ({pair(second_print[0][2])}) + ({pair(second_print[1][2])}), so **u2 = {pair(y["u2"])}**.
 
 ### 5. Fold
 
-Last, one thing for each slot is drawn: c1 = {pair(c[0])}, c2 = {pair(c[1])}, c3 = {pair(c[2])}. The three slots are folded into one:
+Last, one pair for each slot is drawn: c1 = {pair(c[0])}, c2 = {pair(c[1])}, c3 = {pair(c[2])}. The three slots are folded into one:
 
     z = c1·s1 + c2·s2 + c3·s3 = ({pair(times(c[0], s1))}) + ({pair(times(c[1], s2))}) + ({pair(times(c[2], s3))}) = {pair(z)}
 
-The fifth message, the *opening*, is z, t, g and h in digits: {sizes.LENGTHS["opening"](s) // s.d} things, {sizes.LENGTHS["opening"](s)} numbers. z in digits: {digits(s.b, 2, z)}.
+The fifth message, the *opening*, is z, t, g and h in digits: {sizes.LENGTHS["opening"](s) // s.d} pairs, {sizes.LENGTHS["opening"](s)} numbers. z in digits: {digits(s.b, 2, z)}.
 
 The sheet is not made to hide the readings: here one could work back from t to s. It is made to be short and hard to fake. A real unit has thousands of readings, and
 its opening is far smaller than they are.
 
 ## The verdict
 
-The verifier has the codes, all that was drawn, and the five messages. No readings. It makes nine checks, and names the first that fails:
+The verifier has the codes, all that was drawn, and the five messages. No readings. It makes nine checks, left side against right side, and names the first that fails:
 
 {table(["check", "what", "left", "right"], [[k + 1, *cells] for k, cells in enumerate(checks)])}
 
-(In checks 6 and 7, "from the g" means g11·c1·c1 + g22·c2·c2 + g33·c3·c3 + 2·(g12·c1·c2 + g13·c1·c3 + g23·c2·c3), and so with h.)
+(In check 6, "from the g" means g11·c1·c1 + g22·c2·c2 + g33·c3·c3 + 2·(g12·c1·c2 + g13·c1·c3 + g23·c2·c3); in check 7 the same with h.)
+
+Why do they hold? z is c1·s1 + c2·s2 + c3·s3. So A·z is c1·A·s1 + c2·A·s2 + c3·A·s3, and A·s is t: that is check 5. Likewise z·z is every slot times every slot, with the c before it: check 6.
+Whoever has no such readings would have to make up t, g and h before c is drawn, and z after it.
 
     ./verdict --words examples/class.sheet
 {program_line("class")}
@@ -224,17 +273,21 @@ Somebody changes one digit in the archive by one. Which check says so?
 ## Readings that are too large
 
 Now slot 1 reads {", ".join(str(k) for k in case.TOO_LONG[0])} and slot 3 reads {", ".join(str(k) for k in case.TOO_LONG[2])}. Both codes are still met: {" + ".join(f"({slot[0]})" if slot[0] < 0 else str(slot[0]) for slot in case.TOO_LONG)} = {case.codes(case.TOO_LONG)[0]} and {" + ".join(str(slot[1]) for slot in case.TOO_LONG)} = {case.codes(case.TOO_LONG)[1]}. But the squares add up to {ring.squared_norm(long_x["witness"])}, not {s.beta_squared}. The projection tells:
-p = {", ".join(str(k) for k in long_y["p"])}, and 2·({" + ".join(f"{k}²" for k in long_y["p"])}) = {2 * ring.squared_norm(long_y["p"])} is above {s.w * s.beta_squared}. Check 1 fails.
+the rows give p = {", ".join(str(k) for k in long_y["p"])}, and 2·({" + ".join(f"{k}²" for k in long_y["p"])}) = {2 * ring.squared_norm(long_y["p"])} is above {s.w * s.beta_squared}. Check 1 fails.
 
     ./verdict --words examples/class-too-long.sheet
 {program_line("class-too-long")}
 
 ## To try
 
-1. Make z from other challenges, say c1 = X, c2 = 1, c3 = 1, and check 5 and 6 by hand.
+1. Make z from other drawn pairs, say {", ".join(f"c{i + 1} = {pair(e)}" for i, e in enumerate(case.OTHER_C))}, and make checks 5 and 6 by hand.
 2. Exchange the readings of slots 1 and 3. Both codes are met. Does u1 stay?
 3. Find three slots that meet both codes, with squares that add up to less than {s.beta_squared}.
 4. Open examples/class.sheet in an editor (docs/SHEET.md says where each list stands), change one number, and say before the program does which check will fail.
+
+Answers. 1: z = {pair(other_z)}; check 5 has {pair(times(a, other_z))} on both sides, check 6 {pair(times(other_z, other_z))}. 2: It does, since on this page a digit counts alike
+for all slots; in a real unit each digit has a number of its own. 3: For one,
+{", ".join(f"{slot[0]} and {slot[1]}" for slot in case.SHORTER)}: the squares add up to {sum(k * k for slot in case.SHORTER for k in slot)}.
 """
 
 
@@ -275,4 +328,9 @@ def files():
 
 
 if __name__ == "__main__":
-    stored.write(files)
+    if sys.argv[1:] == ["--library"]:
+        import library
+
+        library.compare(sheets())
+    else:
+        stored.write(files)

@@ -1,9 +1,7 @@
 /* Every call of lizkarg.h on stored cases: the layout of its structs, the order of its arguments, each number that a call writes. The
  * cases come from tools/reference/binding_cases.py; `run` beside this file builds and runs the test. A list of no numbers is passed as NULL. */
 #include "../lizkarg.h"
-#include <stdio.h>
-#include <stdlib.h>
-#include <string.h>
+#include "held.h"
 
 /* ---- layout: x86-64, System V */
 
@@ -22,33 +20,11 @@ AT(lizkarg_sheet, mu, 128); AT(lizkarg_sheet, bound, 136); AT(lizkarg_sheet, tar
 SIZE(lizkarg_element, 256);
 SIZE(lizkarg_product, 260); AT(lizkarg_product, kind, 0); AT(lizkarg_product, number, 1); AT(lizkarg_product, element, 4);
 
-/* ---- what is held */
-
-static const char *name;
-static int failures, held;
-
-static void hold(int right, int line, const char *what) {
-    held++;
-    if (!right) {
-        failures++;
-        printf("%s: calls.c:%d: %s\n", name, line, what);
-    }
-}
-
-#define HOLD(right) hold(right, __LINE__, #right)
-#define ANSWER(answer, k, no) do { lizkarg_answer x = answer; hold(x.kind == (k) && x.number == (no), __LINE__, #answer); } while (0)
-
 /* ---- lists */
 
 typedef struct { int32_t *at; size_t length; } list;
 
 #define LIST(x) (x).at, (x).length
-
-static void *room(size_t count, size_t size) {
-    void *at = calloc(count, size);
-    if (!at) exit(2);
-    return at;
-}
 
 static list filled(size_t length, int32_t number) {
     list x = {length ? room(length, sizeof(int32_t)) : NULL, length};
@@ -70,21 +46,10 @@ static int is_blank(list x) {
 }
 
 /* Holds that the call wrote what it should, and frees it. */
-#define WRITTEN(x, should) do { hold(equal(x, should), __LINE__, #x " is " #should); free((x).at); } while (0)
-#define UNTOUCHED(x) do { hold(is_blank(x), __LINE__, #x " is as it was"); free((x).at); } while (0)
+#define WRITTEN(x, should) do { hold(equal(x, should), __FILE__, __LINE__, #x " is " #should); free((x).at); } while (0)
+#define UNTOUCHED(x) do { hold(is_blank(x), __FILE__, __LINE__, #x " is as it was"); free((x).at); } while (0)
 
 /* ---- stored numbers */
-
-static char *read_file(const char *folder, const char *ending, size_t *size) {
-    char path[4096];
-    snprintf(path, sizeof path, "%s/%s%s", folder, name, ending);
-    FILE *file = fopen(path, "rb");
-    if (!file) { perror(path); exit(2); }
-    char *text = room(1 << 20, 1);
-    *size = fread(text, 1, (1 << 20) - 1, file);
-    fclose(file);
-    return text;
-}
 
 static list next_list(char **at, size_t length) {
     list x = filled(length, 0);
@@ -295,6 +260,5 @@ int main(int argc, char **argv) {
         sheets(&s);
     }
     products();
-    printf("%d passed, %d failed\n", held - failures, failures);
-    return failures != 0;
+    return report();
 }

@@ -1,23 +1,48 @@
-// The C interface, as bindings/c/lizkarg.h declares it.
+//! The C interface, as bindings/c/lizkarg.h declares it, each list as a slice. All that is unsafe in this crate stands in `calls!`.
+
+use crate::{Element, Refused, Sizes, Verdict};
 
 #[repr(C)]
-pub struct RawAnswer {
-    pub kind: u8,
-    pub number: u8,
+#[derive(Clone, Copy)]
+pub struct Answer {
+    kind: u8,
+    number: u8,
 }
 
-/// Degree, rank, number of parts.
+impl Answer {
+    /// Ok where the call has written, and where it has judged.
+    fn not_refused(self) -> Result<Answer, Refused> {
+        match self.kind {
+            2 => Err(Refused(self.number)),
+            _ => Ok(self),
+        }
+    }
+
+    pub fn written(self) -> Result<(), Refused> {
+        self.not_refused().map(|_| ())
+    }
+
+    pub fn judged(self) -> Result<Verdict, Refused> {
+        self.not_refused().map(|answer| match answer.kind {
+            0 => Verdict::Accepted,
+            _ => Verdict::Failed(answer.number),
+        })
+    }
+
+    /// The check that fails, or none where the call has written.
+    pub fn written_or_failed(self) -> Result<Option<u8>, Refused> {
+        self.not_refused().map(|answer| (answer.kind == 1).then_some(answer.number))
+    }
+}
+
 #[repr(C)]
-#[derive(Clone, Copy, Debug, PartialEq, Eq)]
 pub struct Shape {
     pub d: usize,
     pub n: usize,
     pub r: usize,
 }
 
-/// The sizes of message 1.
 #[repr(C)]
-#[derive(Clone, Copy, Debug, PartialEq, Eq)]
 pub struct CommitSizes {
     pub d: usize,
     pub n: usize,
@@ -30,9 +55,7 @@ pub struct CommitSizes {
     pub t2: usize,
 }
 
-/// The sizes of message 4.
 #[repr(C)]
-#[derive(Clone, Copy, Debug, PartialEq, Eq)]
 pub struct GarbageSizes {
     pub d: usize,
     pub n: usize,
@@ -45,31 +68,8 @@ pub struct GarbageSizes {
     pub t1: usize,
 }
 
-/// The sizes of the verifier; `bound` is β² and `target` is β'².
 #[repr(C)]
-#[derive(Clone, Copy, Debug, PartialEq, Eq)]
-pub struct Sizes {
-    pub d: usize,
-    pub n: usize,
-    pub r: usize,
-    pub k: usize,
-    pub l: usize,
-    pub w: usize,
-    pub kappa: usize,
-    pub kappa1: usize,
-    pub kappa2: usize,
-    pub b: usize,
-    pub b1: usize,
-    pub b2: usize,
-    pub t1: usize,
-    pub t2: usize,
-    pub bound: u64,
-    pub target: u64,
-}
-
-/// The sizes of an opening and of its cut into ν and μ chunks.
-#[repr(C)]
-#[derive(Clone, Copy, Debug, PartialEq, Eq)]
+#[derive(Clone, Copy)]
 pub struct PartSizes {
     pub d: usize,
     pub n: usize,
@@ -82,17 +82,14 @@ pub struct PartSizes {
 }
 
 #[repr(C)]
-pub struct RawPart {
+pub struct Part {
     pub start: usize,
     pub length: usize,
 }
 
-/// A sheet's header, after the answer.
 #[repr(C)]
-#[derive(Clone, Copy, Debug, PartialEq, Eq)]
-pub struct Sheet {
-    pub(crate) kind: u8,
-    pub(crate) number: u8,
+pub struct Header {
+    pub answer: Answer,
     pub d: usize,
     pub n: usize,
     pub r: usize,
@@ -113,113 +110,49 @@ pub struct Sheet {
     pub target: u64,
 }
 
-/// A ring element: sixty-four numbers, lowest power first, those past d zero.
 #[repr(C)]
-#[derive(Clone, Copy, Debug, PartialEq, Eq)]
-pub struct Element {
-    pub coefficients: [i32; 64],
-}
-
-#[repr(C)]
-pub struct RawProduct {
-    pub kind: u8,
-    pub number: u8,
+pub struct Product {
+    pub answer: Answer,
     pub element: Element,
 }
 
-type In = *const i32;
-type Out = *mut i32;
+/// Calls as `NAME(sizes; lists of T that it reads; lists that it writes)`: in C each list is a pointer and a length.
+macro_rules! calls {
+    ($($name:ident<$t:ty>($($size:ident: $s:ty),*; $($list:ident),*; $($out:ident),*) -> $answer:ty;)*) => {
+        mod c {
+            use super::*;
+            extern "C" {
+                $(pub fn $name($($size: $s,)* $($list: *const $t, _: usize,)* $($out: *mut i32, _: usize,)*) -> $answer;)*
+            }
+        }
+        $(
+            #[allow(clippy::too_many_arguments)]
+            pub fn $name($($size: $s,)* $($list: &[$t],)* $($out: &mut [i32],)*) -> $answer {
+                // SAFETY: the library reads and writes within the lengths, which are the slices'; what it writes overlaps no other list,
+                // since the borrow is mutable. It keeps no pointer.
+                unsafe { c::$name($($size,)* $($list.as_ptr(), $list.len(),)* $($out.as_mut_ptr(), $out.len(),)*) }
+            }
+        )*
+    };
+}
 
-extern "C" {
-    pub fn lizkarg_multiply(d: usize, x: Element, y: Element) -> RawProduct;
-    pub fn lizkarg_commit(
-        sizes: CommitSizes,
-        a_matrix: In, a_matrix_len: usize,
-        b_matrix: In, b_matrix_len: usize,
-        c_matrix: In, c_matrix_len: usize,
-        witness: In, witness_len: usize,
-        t: Out, t_len: usize,
-        g: Out, g_len: usize,
-        u1: Out, u1_len: usize,
-    ) -> RawAnswer;
-    pub fn lizkarg_project(
-        shape: Shape, w: usize,
-        projections: In, projections_len: usize,
-        witness: In, witness_len: usize,
-        p: Out, p_len: usize,
-    ) -> RawAnswer;
-    pub fn lizkarg_aggregate(
-        shape: Shape, l: usize, w: usize,
-        constant_terms: In, constant_terms_len: usize,
-        projections: In, projections_len: usize,
-        psi: In, psi_len: usize,
-        omega: In, omega_len: usize,
-        witness: In, witness_len: usize,
-        second_b: Out, second_b_len: usize,
-    ) -> RawAnswer;
-    pub fn lizkarg_commit_garbage(
-        sizes: GarbageSizes,
-        whole: In, whole_len: usize,
-        constant_terms: In, constant_terms_len: usize,
-        projections: In, projections_len: usize,
-        psi: In, psi_len: usize,
-        omega: In, omega_len: usize,
-        alpha: In, alpha_len: usize,
-        delta: In, delta_len: usize,
-        d_matrix: In, d_matrix_len: usize,
-        witness: In, witness_len: usize,
-        h: Out, h_len: usize,
-        u2: Out, u2_len: usize,
-    ) -> RawAnswer;
-    pub fn lizkarg_amortize(
-        shape: Shape, b: usize,
-        c: In, c_len: usize,
-        witness: In, witness_len: usize,
-        z: Out, z_len: usize,
-    ) -> RawAnswer;
-    pub fn lizkarg_verify(
-        sizes: Sizes,
-        a_matrix: In, a_matrix_len: usize,
-        b_matrix: In, b_matrix_len: usize,
-        c_matrix: In, c_matrix_len: usize,
-        d_matrix: In, d_matrix_len: usize,
-        whole: In, whole_len: usize,
-        constant_terms: In, constant_terms_len: usize,
-        u1: In, u1_len: usize,
-        projections: In, projections_len: usize,
-        p: In, p_len: usize,
-        psi: In, psi_len: usize,
-        omega: In, omega_len: usize,
-        second_b: In, second_b_len: usize,
-        alpha: In, alpha_len: usize,
-        delta: In, delta_len: usize,
-        u2: In, u2_len: usize,
-        c: In, c_len: usize,
-        opening: In, opening_len: usize,
-    ) -> RawAnswer;
-    pub fn lizkarg_next_instance(
-        sizes: Sizes, nu: usize, mu: usize,
-        a_matrix: In, a_matrix_len: usize,
-        b_matrix: In, b_matrix_len: usize,
-        c_matrix: In, c_matrix_len: usize,
-        d_matrix: In, d_matrix_len: usize,
-        whole: In, whole_len: usize,
-        constant_terms: In, constant_terms_len: usize,
-        u1: In, u1_len: usize,
-        projections: In, projections_len: usize,
-        p: In, p_len: usize,
-        psi: In, psi_len: usize,
-        omega: In, omega_len: usize,
-        second_b: In, second_b_len: usize,
-        alpha: In, alpha_len: usize,
-        delta: In, delta_len: usize,
-        u2: In, u2_len: usize,
-        c: In, c_len: usize,
-        out: Out, out_len: usize,
-    ) -> RawAnswer;
-    pub fn lizkarg_next_part_refusal(sizes: PartSizes, part: usize, opening: In, opening_len: usize) -> u8;
-    pub fn lizkarg_next_part(sizes: PartSizes, part: usize, opening: In, opening_len: usize) -> RawPart;
-    pub fn lizkarg_judge_sheet(text: *const u8, text_len: usize) -> RawAnswer;
-    pub fn lizkarg_sheet_numbers(text: *const u8, text_len: usize) -> usize;
-    pub fn lizkarg_read_sheet(text: *const u8, text_len: usize, numbers: Out, numbers_len: usize) -> Sheet;
+calls! {
+    lizkarg_multiply<i32>(d: usize, x: Element, y: Element;;) -> Product;
+    lizkarg_commit<i32>(sizes: CommitSizes; a_matrix, b_matrix, c_matrix, witness; t, g, u1) -> Answer;
+    lizkarg_project<i32>(shape: Shape, w: usize; projections, witness; p) -> Answer;
+    lizkarg_aggregate<i32>(shape: Shape, l: usize, w: usize; constant_terms, projections, psi, omega, witness; second_b) -> Answer;
+    lizkarg_commit_garbage<i32>(
+        sizes: GarbageSizes; whole, constant_terms, projections, psi, omega, alpha, delta, d_matrix, witness; h, u2) -> Answer;
+    lizkarg_amortize<i32>(shape: Shape, b: usize; c, witness; z) -> Answer;
+    lizkarg_verify<i32>(
+        sizes: Sizes; a_matrix, b_matrix, c_matrix, d_matrix, whole, constant_terms, u1, projections, p, psi, omega, second_b, alpha, delta,
+        u2, c, opening;) -> Answer;
+    lizkarg_next_instance<i32>(
+        sizes: Sizes, nu: usize, mu: usize; a_matrix, b_matrix, c_matrix, d_matrix, whole, constant_terms, u1, projections, p, psi, omega,
+        second_b, alpha, delta, u2, c; out) -> Answer;
+    lizkarg_next_part_refusal<i32>(sizes: PartSizes, part: usize; opening;) -> u8;
+    lizkarg_next_part<i32>(sizes: PartSizes, part: usize; opening;) -> Part;
+    lizkarg_judge_sheet<u8>(; text;) -> Answer;
+    lizkarg_sheet_numbers<u8>(; text;) -> usize;
+    lizkarg_read_sheet<u8>(; text; numbers) -> Header;
 }

@@ -1,29 +1,35 @@
 // The whole case and the first worked values of SPECIFICATION 12, through the C interface.
-mod common;
-
-use lizkarg::*;
-use lizkarg::Answer::Judged;
 use lizkarg::Verdict::{Accepted, Failed};
+use lizkarg::*;
 
-fn element(xs: &[i32]) -> Element {
-    let mut e = Element { coefficients: [0; 64] };
-    e.coefficients[..xs.len()].copy_from_slice(xs);
-    e
-}
+#[path = "../examples/prove.rs"]
+mod prove;
 
 #[test]
 fn products() {
-    assert_eq!(multiply(2, element(&[1, 2]), element(&[1, 2])), Ok(element(&[-3, 4])));
-    assert_eq!(multiply(2, element(&[0, 1]), element(&[0, 1])), Ok(element(&[-1])));
-    assert_eq!(multiply(3, element(&[]), element(&[])), Err(1));
-    assert_eq!(multiply(2, element(&[0, 0, 1]), element(&[])), Err(8));
-    assert_eq!(multiply(2, element(&[2147483599]), element(&[])), Err(8));
-    assert_eq!(multiply(2, element(&[2147483598]), element(&[1])), Ok(element(&[2147483598])));
+    let (x, y) = (Element::new([1, 2]), Element::X);
+    assert_eq!(x.multiply(2, x), Ok(Element::new([-3, 4])));
+    assert_eq!(y.multiply(2, y), Ok(Element::new([-1])));
+    assert_eq!(x.multiply(2, Element::ONE), Ok(x));
+    assert_eq!(Element::ZERO.multiply(3, Element::ZERO), Err(Refused(1)));
+    assert_eq!(Element::new([0, 0, 1]).multiply(2, Element::ZERO), Err(Refused(8)));
+    assert_eq!(Element::new([2147483599]).multiply(2, Element::ZERO), Err(Refused(8)));
+    assert_eq!(Element::new([2147483598]).multiply(2, Element::ONE), Ok(Element::new([2147483598])));
+}
+
+/// The example makes a proof that is accepted, and one of another witness that is not.
+#[test]
+fn example() {
+    assert_eq!(prove::main(), Ok(()));
+    assert_eq!(prove::verdict(&[1, 2]), Ok(Accepted));
+    assert_eq!(prove::verdict(&[2, 1]), Ok(Failed(8)));
+    assert_eq!(prove::verdict(&[1, 2, 0]), Err(Refused(7)));
+    assert_eq!(prove::verdict(&[i32::MIN, 2]), Err(Refused(8)));
 }
 
 const CASE: &str = "2 1 1 1 0 0 1 1 1 4 8 4 2 2 1 1 5 13/1 0/1 0/0 0/1 0/0 0/1 0/1 0/1 0/0 0/-3 4/2 2/0 0/0 0/0 0/0 0/0 0/1 0/0 0/0 0/0 0/0 0/0 0/0 0/0 1/-2 1/0 0/1 2/0 0/1 0/-1 1/0 0/0 0";
 
-fn sheet(case: &str) -> Vec<u8> {
+fn text(case: &str) -> Vec<u8> {
     let mut text = String::new();
     for line in case.split('/') {
         for field in line.split(' ') {
@@ -34,52 +40,108 @@ fn sheet(case: &str) -> Vec<u8> {
     text.into_bytes()
 }
 
-/// The header, its sizes for the verifier, and the lists of a case, or the number of its refusal.
-fn read<T>(case: &str, then: impl Fn(Sheet, Sizes, Proof) -> T) -> Result<T, u8> {
-    let text = sheet(case);
-    let mut numbers = vec![77; sheet_numbers(&text)];
-    let h = read_sheet(&text, &mut numbers)?;
-    let sizes = [h.d, h.n, h.r, h.k, h.l, h.w, h.kappa, h.kappa1, h.kappa2, h.b, h.b1, h.b2, h.t1, h.t2, h.nu, h.mu, 0, 0];
-    let (sizes, ..) = common::sizes(sizes.map(|x| x as u64));
-    let sizes = Sizes { bound: h.bound, target: h.target, ..sizes };
-    Ok(then(h, sizes, common::proof(&sizes, &numbers)))
-}
-
 /// The verdict by the reader and the verifier, which is the judge's.
-fn verdict(case: &str) -> Answer {
-    let answer = read(case, |_, sizes, proof| verify(sizes, &proof)).unwrap_or_else(Answer::Refused);
-    assert_eq!(judge_sheet(&sheet(case)), answer);
+fn verdict(case: &str) -> Result<Verdict, Refused> {
+    let answer = Sheet::read(&text(case)).and_then(|sheet| sheet.proof().verify());
+    assert_eq!(judge_sheet(&text(case)), answer);
     answer
 }
 
 #[test]
 fn whole_case() {
-    assert_eq!(verdict(CASE), Judged(Accepted));
-    assert_eq!(verdict(&CASE.replace("5 13/", "5 12/")), Judged(Failed(9)));
-    assert_eq!(verdict(&CASE.replace("2 1 1 1 0 0", "3 1 1 1 0 0")), Answer::Refused(1));
-    assert_eq!(verdict(&CASE.replace("-3 4", "-3 a")), Answer::Refused(12));
-    assert_eq!(verdict(CASE).code(), (0, 0));
+    assert_eq!(verdict(CASE), Ok(Accepted));
+    assert_eq!(verdict(&CASE.replace("5 13/", "5 12/")), Ok(Failed(9)));
+    assert_eq!(verdict(&CASE.replace("2 1 1 1 0 0", "3 1 1 1 0 0")), Err(Refused(1)));
+    assert_eq!(verdict(&CASE.replace("-3 4", "-3 a")), Err(Refused(12)));
+}
+
+#[test]
+fn words() {
+    assert_eq!(verdict(CASE).unwrap().code(), (0, 0));
+    assert_eq!(Failed(5).code(), (1, 5));
+    assert_eq!(Failed(5).to_string(), "failed: check 5, A z is not the sum of the c_i t_i");
+    let error: Box<dyn std::error::Error> = Refused(7).into();
+    assert_eq!(error.to_string(), "refused: 7, a list's length is not what the sizes give");
+    assert_ne!(Refused(11).reason(), Refused(99).reason());
+}
+
+/// The command `verdict --words` says the same; but it knows no parts.
+#[test]
+fn words_of_the_command() {
+    let command = include_str!("../../../verdict");
+    let said =
+        |sentence: String| command.contains(&format!(") echo '{sentence}' ;;")) || command.contains(&format!(") echo \"{sentence}\" ;;"));
+    assert!(said(Accepted.to_string()));
+    for check in 1..=9 {
+        assert!(said(Failed(check).to_string()), "{}", Failed(check));
+    }
+    for row in [1, 2, 3, 4, 5, 6, 8, 9, 10, 12] {
+        assert!(said(Refused(row).to_string().replace("L, w or a part number", "L or w")), "{}", Refused(row));
+    }
 }
 
 /// Row 7: the slice of 64 numbers has the length that the sizes give.
 #[test]
 fn length_of_the_slice() {
-    let text = sheet(CASE);
+    let text = text(CASE);
     assert_eq!(sheet_numbers(&text), 64);
     assert_eq!(sheet_numbers(&text[..288]), 0);
-    for (length, answer) in [(63, Some(7)), (64, None), (65, Some(7))] {
+    for (length, refused) in [(63, true), (64, false), (65, true)] {
         let mut numbers = vec![77; length];
-        assert_eq!(read_sheet(&text, &mut numbers).err(), answer);
-        assert_eq!(numbers.iter().all(|x| *x == 77), answer.is_some());
+        assert_eq!(read_sheet(&text, &mut numbers).err(), refused.then_some(Refused(7)));
+        assert_eq!(numbers.iter().all(|x| *x == 77), refused);
     }
 }
 
 #[test]
 fn long_sheet() {
-    let mut text = sheet(CASE);
+    let mut text = text(CASE);
     text.resize(65537, b' ');
-    assert_eq!(judge_sheet(&text), Answer::Refused(12));
-    assert_eq!(judge_sheet(&[]), Answer::Refused(12));
+    assert_eq!(judge_sheet(&text), Err(Refused(12)));
+    assert_eq!(judge_sheet(&[]), Err(Refused(12)));
+}
+
+/// A header alone, of the largest sizes: refused without room for its 87 million numbers.
+#[test]
+fn header_alone() {
+    let text = text("64 256 16 32 32 256 8 8 8 4 8 4 8 8 1 1 5 13");
+    assert!(sheet_numbers(&text) > 80_000_000);
+    assert_eq!(Sheet::read(&text), Err(Refused(12)));
+}
+
+/// Numbers that are too few or too many are refused by 7.
+#[test]
+fn numbers_of_a_proof() {
+    let Sheet { sizes, numbers, .. } = Sheet::read(&text(CASE)).unwrap();
+    assert_eq!(Proof::of_numbers(sizes, &numbers).verify(), Ok(Accepted));
+    for wrong in [&numbers[1..], &numbers[..63], &[], &[&numbers[..], &[0]].concat()] {
+        assert_eq!(Proof::of_numbers(sizes, wrong).verify(), Err(Refused(7)));
+    }
+}
+
+/// Sizes past their limits are refused by their rows whatever lengths they give.
+#[test]
+fn huge_sizes() {
+    let sheet = Sheet::read(&text(CASE)).unwrap();
+    let (huge, sizes) = (usize::MAX, sheet.sizes);
+    for (changed, number) in [
+        (Sizes { d: huge, ..sizes }, 1),
+        (Sizes { n: huge, ..sizes }, 2),
+        (Sizes { r: huge, ..sizes }, 2),
+        (Sizes { kappa: huge, ..sizes }, 3),
+        (Sizes { t1: huge, t2: huge, ..sizes }, 4),
+        (Sizes { n: huge, r: huge, k: huge, l: huge, w: huge, ..sizes }, 2),
+    ] {
+        let proof = Proof { statement: Statement { sizes: changed, ..sheet.proof().statement }, ..sheet.proof() };
+        assert_eq!(Prover::new(proof.statement, &[1, 2]).prove(proof.draws).err(), Some(Refused(number)));
+        assert_eq!(proof.verify(), Err(Refused(number)));
+        assert_eq!(proof.next_instance(sheet.cut), Err(Refused(number)));
+        assert_eq!(proof.next_witness(sheet.cut), Err(Refused(number)));
+    }
+    for cut in [Cut { nu: huge, mu: 1 }, Cut { nu: 1, mu: huge }, Cut { nu: 0, mu: 1 }, Cut { nu: 1, mu: 0 }, Cut { nu: 8, mu: 1 }] {
+        assert_eq!(sheet.proof().next_instance(cut), Err(Refused(5)));
+        assert!(sheet.proof().next_witness(cut).is_err());
+    }
 }
 
 /// n' = 6, r' = 3, K' = 6: the constraints of the whole case in the order 5, 6, 7, 8, 3, 4, each 25 elements: 6 of a, 18 of φ, b.
@@ -101,37 +163,39 @@ fn next_instance_of_the_whole_case() {
             should[at..at + 2].copy_from_slice(element);
         }
     }
-    read(CASE, |h, sizes, proof| {
-        let mut out = vec![77; should.len()];
-        assert_eq!(next_instance(sizes, h.nu, h.mu, &proof, &mut out), Answer::Written);
-        assert_eq!(out, should);
-        // not written: a check fails, the length is not right, ν and μ are out of range
-        let old = vec![77; should.len() + 1];
-        let mut out = old.clone();
-        let bad = Proof { second_b: &[1, 0, 0, 0, 0, 0, 0, 0, 0, 0], ..proof };
-        assert_eq!(next_instance(sizes, 1, 1, &bad, &mut out[1..]), Judged(Failed(2)));
-        assert_eq!(next_instance(sizes, 1, 1, &proof, &mut out), Answer::Refused(7));
-        assert_eq!(next_instance(sizes, 8, 1, &proof, &mut out), Answer::Refused(5));
-        assert_eq!(next_instance(sizes, 1, usize::MAX, &proof, &mut out), Answer::Refused(5));
-        assert_eq!(out, old);
-    })
-    .unwrap();
+    let sheet = Sheet::read(&text(CASE)).unwrap();
+    let (proof, cut) = (sheet.proof(), sheet.cut);
+    let mut out = vec![77; should.len()];
+    assert_eq!(proof.write_next_instance(cut, &mut out), Ok(Next::Written(())));
+    assert_eq!(out, should);
+    assert_eq!(proof.next_instance(cut), Ok(Next::Written(should)));
+    // not written: a check fails, the length is not right, ν and μ are out of range
+    let old = vec![77; out.len() + 1];
+    let mut out = old.clone();
+    let bad = Proof { messages: Messages { second_b: &[1, 0, 0, 0, 0, 0, 0, 0, 0, 0], ..proof.messages }, ..proof };
+    assert_eq!(bad.write_next_instance(cut, &mut out[1..]), Ok(Next::Failed(2)));
+    assert_eq!(bad.next_instance(cut), Ok(Next::Failed(2)));
+    assert_eq!(proof.write_next_instance(cut, &mut out), Err(Refused(7)));
+    assert_eq!(proof.write_next_instance(Cut { nu: 8, mu: 1 }, &mut out), Err(Refused(5)));
+    assert_eq!(proof.write_next_instance(Cut { nu: 1, mu: usize::MAX }, &mut out), Err(Refused(5)));
+    assert_eq!(out, old);
 }
 
 #[test]
 fn parts_of_the_whole_case() {
-    read(CASE, |h, _, proof| {
-        let sizes = PartSizes { d: h.d, n: h.n, r: h.r, kappa: h.kappa, t1: h.t1, t2: h.t2, nu: h.nu, mu: h.mu };
-        let o = proof.opening;
-        for (part, chunk) in [(1, &o[..2]), (2, &o[2..4]), (3, &o[4..])] {
-            assert_eq!(next_part_refusal(sizes, part, o), 0);
-            assert_eq!(next_part(sizes, part, o).as_ptr_range(), chunk.as_ptr_range());
-        }
-        let wide = PartSizes { nu: 8, ..sizes };
-        for (sizes, part, opening, number) in [(sizes, 0, o, 2), (sizes, 4, o, 2), (wide, 17, o, 5), (wide, 18, o, 2), (sizes, 1, &o[1..], 7)] {
-            assert_eq!(next_part_refusal(sizes, part, opening), number);
-            assert!(next_part(sizes, part, opening).is_empty());
-        }
-    })
-    .unwrap();
+    let sheet = Sheet::read(&text(CASE)).unwrap();
+    let (proof, cut) = (sheet.proof(), sheet.cut);
+    let o = proof.messages.opening;
+    for (part, chunk) in [(1, &o[..2]), (2, &o[2..4]), (3, &o[4..])] {
+        assert_eq!(proof.next_part(cut, part).unwrap().as_ptr_range(), chunk.as_ptr_range());
+    }
+    assert_eq!(proof.next_witness(cut).unwrap(), [&o[..2], &[0; 10], &o[2..4], &[0; 10], &o[4..]].concat());
+    let short = Proof { messages: Messages { opening: &o[1..], ..proof.messages }, ..proof };
+    let wide = Cut { nu: 8, ..cut };
+    for (proof, cut, part, number) in
+        [(proof, cut, 0, 2), (proof, cut, 4, 2), (proof, wide, 17, 5), (proof, wide, 18, 2), (short, cut, 1, 7)]
+    {
+        assert_eq!(proof.next_part(cut, part), Err(Refused(number)));
+        assert!(proof.next_part_or_empty(cut, part).is_empty());
+    }
 }

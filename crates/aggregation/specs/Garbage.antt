@@ -1,9 +1,7 @@
 -- The garbage h and its commitment as the loops of message 4 form them: all products <φ_i, s_j> first, then half of the sum of two of them.
---     aggregatePart, cross      φ_i of the aggregate, and the products <φ_i, s_j>
---     Squares                   the loop that writes these products, row by row; el-square reads them back
---     halved                    h_ij from the products that a list holds
---     h-written                 the h digits, from what was written before
---     row-end, outer-end        a row of D·(h digits), and all rows
+--     cross, partProduct     the products <φ_i, s_j>, and the same where a list holds φ_i
+--     squareElements         the list of these products
+--     halved                 h_ij from the products that a list holds
 use mathlib.Core.List.{List}
 use Prim.Native.Nat.{ℕ, _+_, _*_}
 use lib.IntN.{ℤ}
@@ -12,12 +10,7 @@ use Rattle.algebra.specs.DotProduct.{inner}
 use Rattle.ring.specs.Element.{R, el}
 use Rattle.fold.specs.Statement.{part}
 use Rattle.fold.specs.Messages.{elements, half}
-use Rattle.fold.specs.Entries.{aggregateΦ}
 
-unfoldable pub aggregatePart : (d n r K L w : ℕ) (whole constantTerms projections ψ ω α δ : List ℤ) → ℕ → ℕ → R d .Carrier
-aggregatePart d n r K L w whole constantTerms projections ψ ω α δ i y = aggregateΦ d n r K L w whole constantTerms projections ψ ω α δ (i * n + y)
-
--- <φ_i, s_j>, and the same where a list holds φ_i
 unfoldable pub cross : (d n : ℕ) → (ℕ → ℕ → R d .Carrier) → List ℤ → ℕ → ℕ → R d .Carrier
 cross d n φ s i j = inner (R d) n (φ i) (part d n s j)
 

@@ -2,7 +2,5 @@
 pub mod Rows
 pub mod Values
 pub mod Garbage
--- What a call that is not refused knows
-pub mod Known
 -- Laws
 pub mod Laws

@@ -7,11 +7,11 @@ ghost use Rattle.ring.specs.Element.{Degree, el, array};
 ghost use Rattle.fold.specs.Sizes.{pairs};
 ghost use Rattle.fold.specs.Messages.{elements, times, aggregate, hDigits, u₂};
 ghost use Rattle.fold.specs.PairElements.{pairElements};
-ghost use Rattle.aggregation.specs.Known.Facts.{HFacts, OuterFacts};
+ghost use Rattle.fold.specs.Known.WorkFacts.{HFacts, U₂Facts};
 ghost use Rattle.aggregation.specs.Garbage.{halved};
 use crate::products::write_products;
+use constraints::ConstraintSizes;
 use fold::GarbageSizes;
-use fold::Shape;
 use fold::counts::garbage_size;
 use fold::counts::pair_count;
 use prover::garbage::write_digits;
@@ -75,24 +75,21 @@ pub fn write_h(
     witness: &[i32],
     out: &mut [i32],
 )
-    requires { ⌜ HFacts (sizes .shape .d) (sizes .shape .n) (sizes .shape .r) (sizes .k) (sizes .l) (sizes .w) (sizes .b1) (sizes .t1) (now whole) (now «constant_terms») (now projections) (now psi) (now omega) (now alpha) (now delta) (now witness) (now out) ⌝ }
+    requires { ⌜ HFacts sizes (now whole) (now «constant_terms») (now projections) (now psi) (now omega) (now alpha) (now delta) (now witness) (now out) ⌝ }
     ensures { λ _. ⌜ now (out .exit) ≡ hDigits (sizes .shape .d) (sizes .shape .n) (sizes .shape .r) (sizes .b1) (sizes .t1) (aggregate (sizes .shape .d) (sizes .shape .n) (sizes .shape .r) (sizes .k) (sizes .l) (sizes .w) (now (whole .entry)) (now («constant_terms» .entry)) (now (projections .entry)) (now (psi .entry)) (now (omega .entry)) (now (alpha .entry)) (now (delta .entry)) .φ) (now (witness .entry)) ⌝ }
 {
-    let d = sizes.shape.d;
-    let n = sizes.shape.n;
-    let r = sizes.shape.r;
-    let kc = sizes.k;
-    let l = sizes.l;
-    let w = sizes.w;
-    let b1 = sizes.b1;
-    let t1 = sizes.t1;
-    let shape = Shape { d, n, r };
+    let shape = sizes.shape;
+    let d = shape.d;
+    let r = shape.r;
+    let constraint_sizes = ConstraintSizes {
+        shape,
+        k: sizes.k,
+        l: sizes.l,
+        w: sizes.w,
+    };
     let mut products = [0i32; 16384];
     write_products(
-        shape,
-        kc,
-        l,
-        w,
+        constraint_sizes,
         whole,
         constant_terms,
         projections,
@@ -106,7 +103,7 @@ pub fn write_h(
     let mut values = [0i32; 8704];
     write_half_sums(d, r, &products, &mut values);
     let count = pair_count(r);
-    write_digits(d, b1, t1, count, &values, out);
+    write_digits(d, sizes.b1, sizes.t1, count, &values, out);
 }
 
 // The product of a matrix of m columns with the vector x, row by row.
@@ -128,7 +125,7 @@ fn write_rows(d: usize, rows: usize, m: usize, matrix: &[i32], x: &[i32], out: &
 
 // u2 = D·(h digits).
 pub fn write_u2(sizes: GarbageSizes, d_matrix: &[i32], digits: &[i32], out: &mut [i32])
-    requires { ⌜ OuterFacts (sizes .shape .d) (sizes .shape .r) (sizes .kappa2) (sizes .t1) (now «d_matrix») (now digits) (now out) ⌝ }
+    requires { ⌜ U₂Facts sizes (now «d_matrix») (now digits) (now out) ⌝ }
     ensures { λ _. ⌜ now (out .exit) ≡ u₂ (sizes .shape .d) (sizes .shape .r) (sizes .kappa2) (sizes .t1) (now («d_matrix» .entry)) (now (digits .entry)) ⌝ }
 {
     let m = garbage_size(sizes.shape.r, sizes.t1);

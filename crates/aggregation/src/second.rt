@@ -7,10 +7,12 @@ ghost use Rattle.algebra.specs.Triangle.{pair};
 ghost use Rattle.fold.specs.Sizes.{pairs};
 ghost use Rattle.fold.specs.Messages.{b″};
 ghost use Rattle.constraints.specs.RowGroups.{OmegaSums};
-ghost use Rattle.aggregation.specs.Known.Facts.{PairFacts, ValueFacts};
+ghost use Rattle.fold.specs.Known.WorkFacts.{PairFacts, ValueFacts};
+ghost use Rattle.fold.specs.Known.CallFacts.{AggregateCallFacts};
 ghost use Rattle.aggregation.specs.Rows.{Sums};
 ghost use Rattle.aggregation.specs.Values.{pairSummand, witnessSummand};
 use crate::rows;
+use constraints::projected_rows::projection_row;
 use constraints::row_groups;
 use constraints::second::second_row_a;
 use constraints::second::second_row_phi;
@@ -100,17 +102,8 @@ fn weigh_witness(
     let mut sums = [[0i32; 64]; 5];
     let mut e = 0;
     while e < count {
-        let row = second_row_phi(
-            shape,
-            l,
-            w,
-            constant_terms,
-            projections,
-            psi,
-            omega,
-            omega_sums,
-            e,
-        );
+        let projected = projection_row(shape, w, projections, omega, omega_sums, e);
+        let row = second_row_phi(shape, l, constant_terms, psi, projected, e);
         let element = Element::from_slice(d, witness, e);
         let y = element.coefficients;
         let more = rows::add_products(d, sums, row, y);
@@ -132,8 +125,7 @@ pub fn write_second_b(
     witness: &[i32],
     second_b: &mut [i32],
 )
-    requires { ⌜ ValueFacts (shape .d) (shape .n) (shape .r) l w (now «constant_terms») (now projections) (now psi) (now omega) (now witness) ⌝ }
-    requires { ⌜ length (now «second_b») ≡ 5 * shape .d ⌝ }
+    requires { ⌜ AggregateCallFacts shape l w (now «constant_terms») (now projections) (now psi) (now omega) (now witness) (now «second_b») ⌝ }
     ensures { λ _. ⌜ now («second_b» .exit) ≡ b″ (shape .d) (shape .n) (shape .r) l w (now («constant_terms» .entry)) (now (projections .entry)) (now (psi .entry)) (now (omega .entry)) (now (witness .entry)) ⌝ }
 {
     let mut omega_sums = [0i64; 25920];

@@ -8,10 +8,10 @@ ghost use Rattle.ring.specs.Element.{Degree, R, lift, el, array};
 ghost use Rattle.fold.specs.Sizes.{pairs, functionSize};
 ghost use Rattle.fold.specs.Messages.{aggregateConstant};
 ghost use Rattle.fold.specs.Sizes.{five};
-ghost use Rattle.fold.specs.Entries.{wholeEntry, aggregateA, aggregateΦ};
-ghost use Rattle.constraints.specs.Known.Facts.{TermFacts, SecondFacts, WholeFacts, AggregateFacts};
-ghost use Rattle.constraints.specs.RowGroups.{OmegaSums};
-ghost use Rattle.constraints.specs.Aggregated.{weightedA, weightedΦ};
+ghost use Rattle.fold.specs.Entries.{wholeEntry, aggregateA};
+ghost use Rattle.constraints.specs.Known.Facts.{TermFacts, WholeFacts};
+ghost use Rattle.constraints.specs.Aggregated.{weightedA, weightedΦ, aggregateRowΦ};
+use crate::ConstraintSizes;
 use crate::second::COUNT;
 use crate::second::second_row_a;
 use crate::second::second_row_phi;
@@ -93,45 +93,29 @@ fn weighted_a(
     weighted_row(d, delta, row)
 }
 
-// Σ_k δ_k φ''_k at element e of the witness.
+// Σ_k δ_k φ''_k at element e of the witness, from the row of the projected parts.
 fn weighted_phi(
     shape: Shape,
     l: usize,
-    w: usize,
     constant_terms: &[i32],
-    projections: &[i32],
     psi: &[i32],
-    omega: &[i32],
-    omega_sums: &[i64; 25920],
     delta: &[i32],
+    projected: [[i32; 64]; 5],
     e: usize,
 ) -> Element
-    requires { ⌜ SecondFacts (shape .d) (shape .n) (shape .r) l w (now «constant_terms») (now projections) (now psi) (now omega) ⌝ }
-    requires { ⌜ OmegaSums w (now omega) (now «omega_sums») ⌝ }
+    requires { ⌜ TermFacts (shape .d) (shape .n) (shape .r) l (now «constant_terms») (now psi) ⌝ }
     requires { ⌜ (length (now delta) ≡ 5 * shape .d) × (e < shape .r * shape .n) ⌝ }
-    ensures { λ r. ⌜ r .coefficients ≡ array (shape .d) (sum (R (shape .d)) five (weightedΦ (shape .d) (shape .n) (shape .r) l w
-        (now («constant_terms» .entry)) (now (projections .entry)) (now (psi .entry)) (now (omega .entry)) (now (delta .entry)) e)) ⌝ }
+    ensures { λ r. ⌜ r .coefficients ≡ array (shape .d) (sum (R (shape .d)) five (weightedΦ (shape .d) (shape .n) (shape .r) l
+        (now («constant_terms» .entry)) (now (psi .entry)) (now (delta .entry)) projected e)) ⌝ }
 {
     let d = shape.d;
-    let row = second_row_phi(
-        shape,
-        l,
-        w,
-        constant_terms,
-        projections,
-        psi,
-        omega,
-        omega_sums,
-        e,
-    );
+    let row = second_row_phi(shape, l, constant_terms, psi, projected, e);
     weighted_row(d, delta, row)
 }
 
 // The aggregate's a at pair place e.
 pub fn aggregate_a(
-    shape: Shape,
-    kc: usize,
-    l: usize,
+    sizes: ConstraintSizes,
     whole: &[i32],
     constant_terms: &[i32],
     psi: &[i32],
@@ -139,58 +123,42 @@ pub fn aggregate_a(
     delta: &[i32],
     e: usize,
 ) -> Element
-    requires { ⌜ WholeFacts (shape .d) (shape .n) (shape .r) kc (now whole) (now alpha) ⌝ }
-    requires { ⌜ TermFacts (shape .d) (shape .n) (shape .r) l (now «constant_terms») (now psi) ⌝ }
-    requires { ⌜ (length (now delta) ≡ 5 * shape .d) × (e < pairs (shape .r)) ⌝ }
-    ensures { λ r. ⌜ r .coefficients ≡ array (shape .d) (aggregateA (shape .d) (shape .n) (shape .r) kc l (now (whole .entry))
-        (now («constant_terms» .entry)) (now (psi .entry)) (now (alpha .entry)) (now (delta .entry)) e) ⌝ }
+    requires { ⌜ WholeFacts (sizes .shape .d) (sizes .shape .n) (sizes .shape .r) (sizes .k) (now whole) (now alpha) ⌝ }
+    requires { ⌜ TermFacts (sizes .shape .d) (sizes .shape .n) (sizes .shape .r) (sizes .l) (now «constant_terms») (now psi) ⌝ }
+    requires { ⌜ (length (now delta) ≡ 5 * sizes .shape .d) × (e < pairs (sizes .shape .r)) ⌝ }
+    ensures { λ r. ⌜ r .coefficients ≡ array (sizes .shape .d) (aggregateA (sizes .shape .d) (sizes .shape .n) (sizes .shape .r) (sizes .k)
+        (sizes .l) (now (whole .entry)) (now («constant_terms» .entry)) (now (psi .entry)) (now (alpha .entry)) (now (delta .entry)) e) ⌝ }
 {
+    let shape = sizes.shape;
     let d = shape.d;
-    let wholes = whole_entry(shape, kc, whole, alpha, e);
-    let seconds = weighted_a(shape, l, constant_terms, psi, delta, e);
+    let wholes = whole_entry(shape, sizes.k, whole, alpha, e);
+    let seconds = weighted_a(shape, sizes.l, constant_terms, psi, delta, e);
     wholes.sum(d, seconds)
 }
 
-// The aggregate's φ at element e of the witness. `omega_sums` are the sums of ω.
+// The aggregate's φ at element e of the witness, from the row of the projected parts.
 pub fn aggregate_phi(
-    shape: Shape,
-    kc: usize,
-    l: usize,
-    w: usize,
+    sizes: ConstraintSizes,
     whole: &[i32],
     constant_terms: &[i32],
-    projections: &[i32],
     psi: &[i32],
-    omega: &[i32],
-    omega_sums: &[i64; 25920],
     alpha: &[i32],
     delta: &[i32],
+    projected: [[i32; 64]; 5],
     e: usize,
 ) -> Element
-    requires { ⌜ AggregateFacts (shape .d) (shape .n) (shape .r) kc l w (now whole) (now «constant_terms») (now projections) (now psi) (now omega)
-        (now alpha) (now delta) ⌝ }
-    requires { ⌜ OmegaSums w (now omega) (now «omega_sums») ⌝ }
-    requires { ⌜ e < shape .r * shape .n ⌝ }
-    ensures { λ r. ⌜ r .coefficients ≡ array (shape .d) (aggregateΦ (shape .d) (shape .n) (shape .r) kc l w (now (whole .entry))
-        (now («constant_terms» .entry)) (now (projections .entry)) (now (psi .entry)) (now (omega .entry)) (now (alpha .entry))
-        (now (delta .entry)) e) ⌝ }
+    requires { ⌜ WholeFacts (sizes .shape .d) (sizes .shape .n) (sizes .shape .r) (sizes .k) (now whole) (now alpha) ⌝ }
+    requires { ⌜ TermFacts (sizes .shape .d) (sizes .shape .n) (sizes .shape .r) (sizes .l) (now «constant_terms») (now psi) ⌝ }
+    requires { ⌜ (length (now delta) ≡ 5 * sizes .shape .d) × (e < sizes .shape .r * sizes .shape .n) ⌝ }
+    ensures { λ r. ⌜ r .coefficients ≡ array (sizes .shape .d) (aggregateRowΦ (sizes .shape .d) (sizes .shape .n) (sizes .shape .r) (sizes .k)
+        (sizes .l) (now (whole .entry)) (now («constant_terms» .entry)) (now (psi .entry)) (now (alpha .entry)) (now (delta .entry)) projected e) ⌝ }
 {
+    let shape = sizes.shape;
     let d = shape.d;
     let pairs = counts::pair_count(shape.r);
     let place = pairs + e;
-    let wholes = whole_entry(shape, kc, whole, alpha, place);
-    let seconds = weighted_phi(
-        shape,
-        l,
-        w,
-        constant_terms,
-        projections,
-        psi,
-        omega,
-        omega_sums,
-        delta,
-        e,
-    );
+    let wholes = whole_entry(shape, sizes.k, whole, alpha, place);
+    let seconds = weighted_phi(shape, sizes.l, constant_terms, psi, delta, projected, e);
     wholes.sum(d, seconds)
 }
 

@@ -73,10 +73,9 @@ fn add_entry(acc: &mut [i64; 320], at: usize, w: usize, omega: &[i32], j: usize,
     }
 }
 
-// Adds four rows, by their codes; a row has `count` elements.
+// Adds four rows, by their codes.
 fn add_group(
-    d: usize,
-    count: usize,
+    shape: Shape,
     w: usize,
     projections: &[i32],
     omega: &[i32],
@@ -86,16 +85,16 @@ fn add_group(
     group: usize,
     acc: &mut [i64; 320],
 )
-    requires { ⌜ (Degree d) × (w ≤ 256) × (group < w / 4) ⌝ }
+    requires { ⌜ (Degree (shape .d)) × (w ≤ 256) × (group < w / 4) ⌝ }
     requires { ⌜ OmegaSums w (now omega) (now «omega_sums») ⌝ }
-    requires { ⌜ CodesOf d count (now projections) e (w / 4) (now codes) ⌝ }
-    requires { ⌜ Summed d count w (now projections) (now omega) e (group * 4) (now acc) ⌝ }
-    ensures { λ _. ⌜ Summed d count w (now (projections .entry)) (now (omega .entry)) e (group * 4 + 4) (now (acc .exit)) ⌝ }
+    requires { ⌜ CodesOf (shape .d) (shape .r * shape .n) (now projections) e (w / 4) (now codes) ⌝ }
+    requires { ⌜ Summed (shape .d) (shape .r * shape .n) w (now projections) (now omega) e (group * 4) (now acc) ⌝ }
+    ensures { λ _. ⌜ Summed (shape .d) (shape .r * shape .n) w (now (projections .entry)) (now (omega .entry)) e (group * 4 + 4) (now (acc .exit)) ⌝ }
 {
     let place = group * 64;
     let first = group * 81;
     let mut y = 0;
-    while y < d {
+    while y < shape.d {
         let c = codes[place + y] as usize;
         let number = first + c;
         add_five(acc, y * 5, omega_sums, number * 5);
@@ -134,8 +133,7 @@ fn add_row(
 
 // Adds the groups of four rows.
 fn add_groups(
-    d: usize,
-    count: usize,
+    shape: Shape,
     w: usize,
     projections: &[i32],
     omega: &[i32],
@@ -144,18 +142,17 @@ fn add_groups(
     codes: &[u32; 4096],
     acc: &mut [i64; 320],
 )
-    requires { ⌜ (Degree d) × (w ≤ 256) ⌝ }
+    requires { ⌜ (Degree (shape .d)) × (w ≤ 256) ⌝ }
     requires { ⌜ OmegaSums w (now omega) (now «omega_sums») ⌝ }
-    requires { ⌜ CodesOf d count (now projections) e (w / 4) (now codes) ⌝ }
-    requires { ⌜ Summed d count w (now projections) (now omega) e 0 (now acc) ⌝ }
-    ensures { λ _. ⌜ Summed d count w (now (projections .entry)) (now (omega .entry)) e (w / 4 * 4) (now (acc .exit)) ⌝ }
+    requires { ⌜ CodesOf (shape .d) (shape .r * shape .n) (now projections) e (w / 4) (now codes) ⌝ }
+    requires { ⌜ Summed (shape .d) (shape .r * shape .n) w (now projections) (now omega) e 0 (now acc) ⌝ }
+    ensures { λ _. ⌜ Summed (shape .d) (shape .r * shape .n) w (now (projections .entry)) (now (omega .entry)) e (w / 4 * 4) (now (acc .exit)) ⌝ }
 {
     let groups = w / 4;
     let mut group = 0;
     while group < groups {
         add_group(
-            d,
-            count,
+            shape,
             w,
             projections,
             omega,
@@ -239,15 +236,11 @@ pub fn projection_row(
         (now (omega .entry)) k e)) ⌝ }
 {
     let d = shape.d;
-    let parts = shape.r;
-    let rank = shape.n;
-    let count = parts * rank;
     let mut codes = [0u32; 4096];
     group_codes(shape, w, projections, omega, e, &mut codes);
     let mut acc = [0i64; 320];
     add_groups(
-        d,
-        count,
+        shape,
         w,
         projections,
         omega,

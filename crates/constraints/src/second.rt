@@ -6,10 +6,9 @@ ghost use Rattle.algebra.specs.Conjugation.{conjugate};
 ghost use Rattle.residues.specs.Modulus.{Zq};
 ghost use Rattle.ring.specs.Element.{R, lift, array};
 ghost use Rattle.fold.specs.Sizes.{pairs, functionSize};
-ghost use Rattle.fold.specs.Entries.{termEntry, secondA, secondΦ};
-ghost use Rattle.constraints.specs.Known.Facts.{TermFacts, SecondFacts};
-ghost use Rattle.constraints.specs.RowGroups.{OmegaSums};
-use crate::projected_rows::projection_row;
+ghost use Rattle.fold.specs.Entries.{termEntry, secondA};
+ghost use Rattle.constraints.specs.Known.Facts.{TermFacts};
+ghost use Rattle.constraints.specs.Aggregated.{secondRowΦ};
 use fold::Shape;
 use fold::counts;
 use ring::element::Element;
@@ -98,31 +97,26 @@ fn second_phi(
     own.sum(d, conjugated)
 }
 
-// The φ of the five second functions at element e of the witness. `omega_sums` are the sums of ω.
+// The φ of the five second functions at element e of the witness, from the row of their projected parts.
 pub fn second_row_phi(
     shape: Shape,
     l: usize,
-    w: usize,
     constant_terms: &[i32],
-    projections: &[i32],
     psi: &[i32],
-    omega: &[i32],
-    omega_sums: &[i64; 25920],
+    projected: [[i32; 64]; 5],
     e: usize,
 ) -> [[i32; 64]; 5]
-    requires { ⌜ SecondFacts (shape .d) (shape .n) (shape .r) l w (now «constant_terms») (now projections) (now psi) (now omega) ⌝ }
-    requires { ⌜ OmegaSums w (now omega) (now «omega_sums») ⌝ }
+    requires { ⌜ TermFacts (shape .d) (shape .n) (shape .r) l (now «constant_terms») (now psi) ⌝ }
     requires { ⌜ e < shape .r * shape .n ⌝ }
-    ensures { λ r. ⌜ r ≡ tab 5 (λ k. array (shape .d) (secondΦ (shape .d) (shape .n) (shape .r) l w (now («constant_terms» .entry))
-        (now (projections .entry)) (now (psi .entry)) (now (omega .entry)) k e)) ⌝ }
+    ensures { λ r. ⌜ r ≡ tab 5 (λ k. array (shape .d) (secondRowΦ (shape .d) (shape .n) (shape .r) l (now («constant_terms» .entry))
+        (now (psi .entry)) projected k e)) ⌝ }
 {
-    let projected_row = projection_row(shape, w, projections, omega, omega_sums, e);
     let mut row = [[0i32; 64]; 5];
     let mut k = 0;
     while k < COUNT {
-        let coefficients = projected_row[k];
-        let projected = Element { coefficients };
-        let entry = second_phi(shape, l, constant_terms, psi, projected, k, e);
+        let coefficients = projected[k];
+        let part = Element { coefficients };
+        let entry = second_phi(shape, l, constant_terms, psi, part, k, e);
         let phi = entry.coefficients;
         row[k] = phi;
         k += 1;

@@ -1,4 +1,5 @@
 pub mod Facts
+pub mod WorkFacts
 pub mod CallFacts
 pub mod CallLimits
 pub mod CutSizes

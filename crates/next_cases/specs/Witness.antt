@@ -21,11 +21,11 @@ productOf x y = sizeOf 32768 (pos x) * sizeOf 32768 (pos y)
 
 -- the witness of the second fold: as many parts as its sizes say, of as many numbers
 abbrev pub widthFor : Sizes → ℕ
-widthFor second = productOf (second .n) (second .d)
+widthFor second = productOf (second .shape .n) (second .shape .d)
 
 abbrev pub countFor : Sizes → ℕ
-countFor second = sizeOf 32768 (pos (productOf (second .r) (widthFor second)))
+countFor second = sizeOf 32768 (pos (productOf (second .shape .r) (widthFor second)))
 
 unfoldable pub witnessOf : PartSizes → Sizes → List ℤ → List ℤ
 witnessOf m second o =
-    over (filled (countFor second)) 0 (take (countFor second) (nextWitness m (second .r) (widthFor second) o))
+    over (filled (countFor second)) 0 (take (countFor second) (nextWitness m (second .shape .r) (widthFor second) o))

@@ -1,13 +1,14 @@
--- Σ φ_i c_i at one element of z: its summands, and their sum.
+-- Σ φ_i c_i by element of z, and the step that adds one part to the sums.
 use mathlib.Core.List.{List}
-use Prim.Native.Nat.{ℕ, _+_, _*_}
+use Prim.Native.Nat.{ℕ}
 use lib.IntN.{ℤ}
 use Rattle.algebra.specs.Sum.{sum}
 use Rattle.ring.specs.Element.{R, el}
-use Rattle.fold.specs.Entries.{aggregateΦ}
 
-unfoldable pub foldedSummand : (d n r K L w : ℕ) (whole constantTerms projections ψ ω α δ c : List ℤ) (k : ℕ) → ℕ → R d .Carrier
-foldedSummand d n r K L w whole constantTerms projections ψ ω α δ c k i = R d .mul (aggregateΦ d n r K L w whole constantTerms projections ψ ω α δ (i * n + k)) (el d c i)
+-- over the first m parts, at element k
+unfoldable pub foldedSum : (d m : ℕ) (φ : ℕ → ℕ → R d .Carrier) (c : List ℤ) → ℕ → R d .Carrier
+foldedSum d m φ c k = sum (R d) m (λ i. R d .mul (φ i k) (el d c i))
 
-unfoldable pub foldedSum : (d n r K L w : ℕ) (whole constantTerms projections ψ ω α δ c : List ℤ) → ℕ → R d .Carrier
-foldedSum d n r K L w whole constantTerms projections ψ ω α δ c k = sum (R d) r (foldedSummand d n r K L w whole constantTerms projections ψ ω α δ c k)
+-- x_k + y_k u, where two lists hold the x_k and the y_k
+unfoldable pub plusMultiple : (d : ℕ) (xs ys : List ℤ) (u : R d .Carrier) → ℕ → R d .Carrier
+plusMultiple d xs ys u k = R d .add (el d xs k) (R d .mul (el d ys k) u)

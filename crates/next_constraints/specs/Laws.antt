@@ -5,4 +5,5 @@ pub mod SpreadLaws
 pub mod CutLaws
 pub mod Forming
 pub mod CheckLaws
+pub mod FoldedLaws
 pub mod TableLaws

@@ -7,6 +7,7 @@ use crate::folded::write_folded;
 use crate::tables::write_aggregate_a;
 use crate::tables::write_diagonal;
 use crate::tables::write_products;
+use constraints::ConstraintSizes;
 use fold::Sizes;
 
 pub fn write_tables(
@@ -32,10 +33,17 @@ pub fn write_tables(
         (now (projections .entry)) (now (psi .entry)) (now (omega .entry)) (now (alpha .entry)) (now (delta .entry)) (now (c .entry))
         (now (folded .exit)) (now (products .exit)) (now («aggregate_a» .exit)) (now (diagonal .exit)) ⌝ }
 {
-    let d = sizes.shape.d;
-    let r = sizes.shape.r;
+    let shape = sizes.shape;
+    let d = shape.d;
+    let r = shape.r;
+    let constraint_sizes = ConstraintSizes {
+        shape,
+        k: sizes.k,
+        l: sizes.l,
+        w: sizes.w,
+    };
     write_folded(
-        sizes,
+        constraint_sizes,
         whole,
         constant_terms,
         projections,
@@ -47,6 +55,14 @@ pub fn write_tables(
         folded,
     );
     write_products(d, r, c, products);
-    write_aggregate_a(sizes, whole, constant_terms, psi, alpha, delta, aggregate_a);
+    write_aggregate_a(
+        constraint_sizes,
+        whole,
+        constant_terms,
+        psi,
+        alpha,
+        delta,
+        aggregate_a,
+    );
     write_diagonal(d, r, diagonal);
 }

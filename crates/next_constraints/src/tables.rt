@@ -14,8 +14,8 @@ ghost use Rattle.fold.specs.Entries.{aggregateA};
 ghost use Rattle.fold.specs.NextInstance.{product};
 ghost use Rattle.fold.specs.PairElements.{pairElements};
 ghost use Rattle.constraints.specs.Known.Facts.{WholeFacts, TermFacts};
+use constraints::ConstraintSizes;
 use constraints::aggregated::aggregate_a;
-use fold::Sizes;
 use fold::counts::pair_count;
 use ring::element::Element;
 
@@ -120,38 +120,9 @@ pub fn write_diagonal(d: usize, r: usize, out: &mut [i32])
     }
 }
 
-// The aggregate's a at pair place e.
-fn aggregate_a_entry(
-    sizes: Sizes,
-    whole: &[i32],
-    constant_terms: &[i32],
-    psi: &[i32],
-    alpha: &[i32],
-    delta: &[i32],
-    e: usize,
-) -> Element
-    requires { ⌜ WholeFacts (sizes .shape .d) (sizes .shape .n) (sizes .shape .r) (sizes .k) (now whole) (now alpha) ⌝ }
-    requires { ⌜ TermFacts (sizes .shape .d) (sizes .shape .n) (sizes .shape .r) (sizes .l) (now «constant_terms») (now psi) ⌝ }
-    requires { ⌜ (length (now delta) ≡ 5 * sizes .shape .d) × (e < pairs (sizes .shape .r)) ⌝ }
-    ensures { λ x. ⌜ x .coefficients ≡ array (sizes .shape .d) (aggregateA (sizes .shape .d) (sizes .shape .n) (sizes .shape .r) (sizes .k) (sizes .l) (now (whole .entry))
-        (now («constant_terms» .entry)) (now (psi .entry)) (now (alpha .entry)) (now (delta .entry)) e) ⌝ }
-{
-    aggregate_a(
-        sizes.shape,
-        sizes.k,
-        sizes.l,
-        whole,
-        constant_terms,
-        psi,
-        alpha,
-        delta,
-        e,
-    )
-}
-
 // The aggregate's a by pair place, as the first elements of `out`.
 pub fn write_aggregate_a(
-    sizes: Sizes,
+    sizes: ConstraintSizes,
     whole: &[i32],
     constant_terms: &[i32],
     psi: &[i32],
@@ -169,7 +140,7 @@ pub fn write_aggregate_a(
     let count = pair_count(sizes.shape.r);
     let mut e = 0;
     while e < count {
-        let entry = aggregate_a_entry(sizes, whole, constant_terms, psi, alpha, delta, e);
+        let entry = aggregate_a(sizes, whole, constant_terms, psi, alpha, delta, e);
         entry.store(d, out, e);
         e += 1;
     }

@@ -147,9 +147,8 @@ pub fn write_instance(
     c: &[i32],
     out: &mut [i32],
 )
-    requires { ⌜ NextFacts (statementOf sizes (now «a_matrix») (now «b_matrix») (now «c_matrix») (now «d_matrix») (now whole) (now «constant_terms»))
-        (drawsOf (now projections) (now psi) (now omega) (now alpha) (now delta) (now c))
-        (transcriptOf (now u1) (now p) (now «second_b») (now u2)) nu mu (now out) ⌝ }
+    requires { ⌜ NextFacts sizes (now «a_matrix») (now «b_matrix») (now «c_matrix») (now «d_matrix») (now whole) (now «constant_terms») (now projections)
+        (now psi) (now omega) (now alpha) (now delta) (now c) (now u1) (now p) (now «second_b») (now u2) nu mu (now out) ⌝ }
     ensures { λ _. ⌜ now (out .exit) ≡ nextWhole
         (statementOf sizes (now («a_matrix» .entry)) (now («b_matrix» .entry)) (now («c_matrix» .entry)) (now («d_matrix» .entry)) (now (whole .entry)) (now («constant_terms» .entry)))
         (drawsOf (now (projections .entry)) (now (psi .entry)) (now (omega .entry)) (now (alpha .entry)) (now (delta .entry)) (now (c .entry)))

@@ -5,7 +5,7 @@ ghost use lib.ListN.{length};
 ghost use Rattle.integers.specs.Over.{over};
 ghost use Rattle.ring.specs.Element.{Degree, array};
 ghost use Rattle.fold.specs.Messages.{elements, z, zDigits};
-ghost use Rattle.prover.specs.Known.Facts.{AmortizeFacts};
+ghost use Rattle.fold.specs.Known.CallFacts.{AmortizeFacts};
 use fold::Shape;
 use residues::digits::split_digits;
 use ring::element::Element;
@@ -57,7 +57,8 @@ fn write_folded(
 
 // z in tz digits to base b, the lowest first. The elements stand in the last place before they are split; one digit is z itself.
 pub fn write_z(tz: usize, shape: Shape, b: usize, c: &[i32], witness: &[i32], out: &mut [i32])
-    requires { ⌜ AmortizeFacts tz shape b (now c) (now witness) (now out) ⌝ }
+    requires { ⌜ (0 < tz) × (tz ≤ 2) ⌝ }
+    requires { ⌜ AmortizeFacts shape tz b (now c) (now witness) (now out) ⌝ }
     ensures { λ _. ⌜ now (out .exit) ≡ zDigits (shape .d) (shape .n) (shape .r) tz b (now (c .entry)) (now (witness .entry)) ⌝ }
 {
     let d = shape.d;

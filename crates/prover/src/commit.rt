@@ -7,7 +7,8 @@ ghost use Rattle.integers.specs.Over.{over};
 ghost use Rattle.ring.specs.Element.{Degree, array};
 ghost use Rattle.residues.specs.Digits.{Base, split};
 ghost use Rattle.fold.specs.Messages.{elements, t};
-ghost use Rattle.prover.specs.Known.Facts.{PartFacts, TFacts, GFacts, OuterFacts};
+ghost use Rattle.fold.specs.Known.WorkFacts.{TFacts, GFacts, U₁Facts};
+ghost use Rattle.prover.specs.Known.Facts.{PartFacts};
 ghost use Rattle.prover.specs.Outputs.{outer, tOf, gOf, u₁Of};
 use crate::garbage::write_garbage_digits;
 use crate::garbage::write_pair_products;
@@ -177,7 +178,7 @@ pub fn write_u1(
     g: &[i32],
     out: &mut [i32],
 )
-    requires { ⌜ OuterFacts sizes (now «b_matrix») (now «c_matrix») (now t) (now g) (now out) ⌝ }
+    requires { ⌜ U₁Facts sizes (now «b_matrix») (now «c_matrix») (now t) (now g) (now out) ⌝ }
     ensures { λ _. ⌜ now (out .exit) ≡ u₁Of sizes (now («b_matrix» .entry)) (now («c_matrix» .entry)) (now (t .entry)) (now (g .entry)) ⌝ }
 {
     let m = t_size(sizes.shape.r, sizes.kappa, sizes.t1);

@@ -7,7 +7,7 @@ ghost use lib.IntN.{natAbs, _+ℤ_, _*ℤ_};
 ghost use Rattle.residues.specs.Modulus.{centred};
 ghost use Rattle.residues.specs.Range.{projectionEntries};
 ghost use Rattle.fold.specs.Messages.{p};
-ghost use Rattle.prover.specs.Known.Facts.{ProjectFacts};
+ghost use Rattle.fold.specs.Known.CallFacts.{ProjectFacts};
 ghost use Rattle.prover.specs.Projected.{dot};
 use fold::Shape;
 use residues::modulus::centre;

@@ -1,27 +1,15 @@
 -- Check 2 as its loops compute it: sums of products of numbers modulo q, and the constant term of an element.
-use mathlib.Core.Path.{_≡_}
 use mathlib.Core.Bool.{Bool}
 use mathlib.Core.List.{List}
 use Prim.Native.Nat.{ℕ, _+_, _*_}
 use lib.Dec.{eqb}
-use lib.ListN.{length, getD}
+use lib.ListN.{getD}
 use lib.IntN.{ℤ, pos}
 use Rattle.algebra.specs.Sum.{sum}
 use Rattle.algebra.specs.Conjugation.{ct}
 use Rattle.residues.specs.Modulus.{Zq, red}
 use Rattle.ring.specs.Element.{el}
-use Rattle.fold.specs.declared.Sizes.{Sizes}
 use Rattle.fold.specs.Statement.{termConstant}
-use Rattle.fold.specs.Refusals.{constantTermsLength}
-use Rattle.verifier.specs.Known.Facts.{Holds}
-
--- what check 2 needs of its slices
-pub record Terms (s : Sizes) (constantTerms ψ ω p b″ : List ℤ) : Type 0 where
-  pub terms : length constantTerms ≡ constantTermsLength (s .shape .d) (s .shape .n) (s .shape .r) (s .l)
-  pub psi : length ψ ≡ 5 * s .l
-  pub omega-length : length ω ≡ 5 * s .w
-  pub projections : length p ≡ s .w
-  pub second : Holds (s .shape .d) 5 b″
 
 -- product l of a weighted sum
 unfoldable pub weighted : List ℤ → ℕ → List ℤ → ℕ → ℕ → ℕ → Zq .Carrier

@@ -9,7 +9,8 @@ ghost use Rattle.ring.specs.Element.{R, el, array, same};
 ghost use Rattle.fold.specs.Messages.{times};
 ghost use Rattle.fold.specs.Opening.{block, garbageOf};
 ghost use Rattle.fold.specs.Verdict.{check₅, check₆};
-ghost use Rattle.verifier.specs.Known.Facts.{Fits, Holds, Opening, tValue, gValue};
+ghost use Rattle.fold.specs.Known.WorkFacts.{FoldedFacts, AmortizedFacts};
+ghost use Rattle.verifier.specs.Known.Facts.{Holds, tValue, gValue};
 ghost use Rattle.verifier.specs.Mixed.{Garbage, mixedSummand, mixedRow};
 use crate::outer;
 use crate::recomposed;
@@ -21,9 +22,7 @@ use ring::product;
 
 // c_i times row k of t_i.
 fn folded_summand(sizes: Sizes, c: &[i32], opening: &[i32], i: usize, k: usize) -> Element
-    requires { ⌜ Fits sizes ⌝ }
-    requires { ⌜ Holds (sizes .shape .d) (sizes .shape .r) (now c) ⌝ }
-    requires { ⌜ Opening sizes (now opening) ⌝ }
+    requires { ⌜ FoldedFacts 2 sizes (now c) (now opening) ⌝ }
     requires { ⌜ (i < sizes .shape .r) × (k < sizes .kappa) ⌝ }
     ensures { λ x.
         ⌜ x .coefficients ≡ array (sizes .shape .d) (R (sizes .shape .d) .mul (el (sizes .shape .d) (now (c .entry)) i)
@@ -38,9 +37,7 @@ fn folded_summand(sizes: Sizes, c: &[i32], opening: &[i32], i: usize, k: usize) 
 
 // Row k of Σ c_i t_i.
 fn folded_row(sizes: Sizes, c: &[i32], opening: &[i32], k: usize) -> Element
-    requires { ⌜ Fits sizes ⌝ }
-    requires { ⌜ Holds (sizes .shape .d) (sizes .shape .r) (now c) ⌝ }
-    requires { ⌜ Opening sizes (now opening) ⌝ }
+    requires { ⌜ FoldedFacts 2 sizes (now c) (now opening) ⌝ }
     requires { ⌜ k < sizes .kappa ⌝ }
     ensures { λ x.
         ⌜ x .coefficients ≡ array (sizes .shape .d) (sum (R (sizes .shape .d)) (sizes .shape .r)
@@ -67,11 +64,8 @@ fn amortized_row(
     opening: &[i32],
     k: usize,
 ) -> bool
-    requires { ⌜ Fits sizes ⌝ }
-    requires { ⌜ Holds (sizes .shape .d) (sizes .kappa * sizes .shape .n) (now «a_matrix») ⌝ }
-    requires { ⌜ Holds (sizes .shape .d) (sizes .shape .r) (now c) ⌝ }
+    requires { ⌜ AmortizedFacts 2 sizes (now «a_matrix») (now c) (now opening) ⌝ }
     requires { ⌜ sizes .shape .n * sizes .shape .d ≤ length (now z) ⌝ }
-    requires { ⌜ Opening sizes (now opening) ⌝ }
     requires { ⌜ k < sizes .kappa ⌝ }
     ensures { λ r.
         ⌜ r ≡ same (sizes .shape .d) (times (sizes .shape .d) (sizes .shape .n) (now («a_matrix» .entry)) k (el (sizes .shape .d) (now (z .entry))))
@@ -86,11 +80,8 @@ fn amortized_row(
 
 // Check 5: every row of A z, with z read from the start of a slice.
 pub fn amortized(sizes: Sizes, a_matrix: &[i32], c: &[i32], z: &[i32], opening: &[i32]) -> bool
-    requires { ⌜ Fits sizes ⌝ }
-    requires { ⌜ Holds (sizes .shape .d) (sizes .kappa * sizes .shape .n) (now «a_matrix») ⌝ }
-    requires { ⌜ Holds (sizes .shape .d) (sizes .shape .r) (now c) ⌝ }
+    requires { ⌜ AmortizedFacts 2 sizes (now «a_matrix») (now c) (now opening) ⌝ }
     requires { ⌜ sizes .shape .n * sizes .shape .d ≤ length (now z) ⌝ }
-    requires { ⌜ Opening sizes (now opening) ⌝ }
     ensures { λ r.
         ⌜ r ≡ check₅ (sizes .shape .d) (sizes .shape .n) (sizes .shape .r) (sizes .kappa) (now («a_matrix» .entry)) (now (c .entry))
         (el (sizes .shape .d) (now (z .entry))) (tValue sizes (now (opening .entry))) ⌝ }
@@ -193,10 +184,8 @@ pub fn mixed_sum(
 
 // Check 6: <z,z> is the mixed sum of g, with z read from the start of a slice.
 pub fn self_product(sizes: Sizes, c: &[i32], z: &[i32], opening: &[i32]) -> bool
-    requires { ⌜ Fits sizes ⌝ }
-    requires { ⌜ Holds (sizes .shape .d) (sizes .shape .r) (now c) ⌝ }
+    requires { ⌜ FoldedFacts 2 sizes (now c) (now opening) ⌝ }
     requires { ⌜ sizes .shape .n * sizes .shape .d ≤ length (now z) ⌝ }
-    requires { ⌜ Opening sizes (now opening) ⌝ }
     ensures { λ r.
         ⌜ r ≡ check₆ (sizes .shape .d) (sizes .shape .n) (sizes .shape .r) (now (c .entry)) (el (sizes .shape .d) (now (z .entry)))
         (gValue sizes (now (opening .entry))) ⌝ }

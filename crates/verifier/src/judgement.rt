@@ -2,10 +2,10 @@
 ghost use mathlib.Core.Path.{_≡_};
 ghost use Rattle.fold.specs.Answers.{firstFailing, judged};
 ghost use Rattle.fold.specs.Verdict.{checks};
-ghost use Rattle.fold.specs.Arguments.{VerifySized, statementOf, drawsOf, transcriptOf};
+ghost use Rattle.fold.specs.Arguments.{statementOf, drawsOf, transcriptOf};
+ghost use Rattle.fold.specs.Known.WorkFacts.{MessageFacts, OuterFacts, OpeningFacts};
 ghost use Rattle.fold.specs.Known.CallFacts.{VerifyFacts};
-ghost use Rattle.verifier.specs.ConstantTerms.{Terms};
-ghost use Rattle.verifier.specs.Judgement.{messageChecksOf, outerChecksOf, openingChecksOf, OuterFacts, OpeningFacts, Recomposed};
+ghost use Rattle.verifier.specs.Judgement.{messageChecksOf, outerChecksOf, openingChecksOf, Recomposed};
 use crate::amortized;
 use crate::linear;
 use crate::norms;
@@ -26,8 +26,7 @@ pub fn message_checks(
     omega: &[i32],
     second_b: &[i32],
 ) -> u8
-    requires { ⌜ VerifySized sizes ⌝ }
-    requires { ⌜ Terms sizes (now «constant_terms») (now psi) (now omega) (now p) (now «second_b») ⌝ }
+    requires { ⌜ MessageFacts sizes (now «constant_terms») (now psi) (now omega) (now p) (now «second_b») ⌝ }
     ensures { λ x.
         ⌜ x ≡ firstFailing (messageChecksOf sizes (now («constant_terms» .entry)) (now (p .entry)) (now (psi .entry)) (now (omega .entry))
         (now («second_b» .entry))) ⌝ }
@@ -50,7 +49,7 @@ fn outer_checks(
     u2: &[i32],
     opening: &[i32],
 ) -> u8
-    requires { ⌜ OuterFacts sizes (now «b_matrix») (now «c_matrix») (now «d_matrix») (now u1) (now u2) (now opening) ⌝ }
+    requires { ⌜ OuterFacts 2 sizes (now «b_matrix») (now «c_matrix») (now «d_matrix») (now u1) (now u2) (now opening) ⌝ }
     ensures { λ x.
         ⌜ x ≡ firstFailing (outerChecksOf sizes (now («b_matrix» .entry)) (now («c_matrix» .entry)) (now («d_matrix» .entry))
         (now (u1 .entry)) (now (u2 .entry)) (now (opening .entry))) ⌝ }
@@ -79,7 +78,7 @@ fn recomposed_checks(
     opening: &[i32],
     z: &[i32],
 ) -> u8
-    requires { ⌜ OpeningFacts sizes (now «a_matrix») (now whole) (now «constant_terms») (now projections) (now psi) (now omega) (now «second_b») (now alpha) (now delta)
+    requires { ⌜ OpeningFacts 2 sizes (now «a_matrix») (now whole) (now «constant_terms») (now projections) (now psi) (now omega) (now «second_b») (now alpha) (now delta)
         (now c) (now opening) ⌝ }
     requires { ⌜ Recomposed sizes (now opening) (now z) ⌝ }
     ensures { λ x.
@@ -143,7 +142,7 @@ fn opening_checks(
     c: &[i32],
     opening: &[i32],
 ) -> u8
-    requires { ⌜ OpeningFacts sizes (now «a_matrix») (now whole) (now «constant_terms») (now projections) (now psi) (now omega) (now «second_b») (now alpha) (now delta)
+    requires { ⌜ OpeningFacts 2 sizes (now «a_matrix») (now whole) (now «constant_terms») (now projections) (now psi) (now omega) (now «second_b») (now alpha) (now delta)
         (now c) (now opening) ⌝ }
     ensures { λ x.
         ⌜ x ≡ firstFailing (openingChecksOf sizes (now («a_matrix» .entry)) (now (whole .entry)) (now («constant_terms» .entry)) (now (projections .entry))
@@ -190,9 +189,8 @@ pub fn first_failing(
     c: &[i32],
     opening: &[i32],
 ) -> u8
-    requires { ⌜ VerifyFacts (statementOf sizes (now «a_matrix») (now «b_matrix») (now «c_matrix») (now «d_matrix») (now whole) (now «constant_terms»)) (drawsOf
-        (now projections) (now psi) (now omega) (now alpha) (now delta) (now c)) (transcriptOf (now u1) (now p) (now «second_b») (now u2))
-        (now opening) ⌝ }
+    requires { ⌜ VerifyFacts sizes (now «a_matrix») (now «b_matrix») (now «c_matrix») (now «d_matrix») (now whole) (now «constant_terms»)
+        (now projections) (now psi) (now omega) (now alpha) (now delta) (now c) (now u1) (now p) (now «second_b») (now u2) (now opening) ⌝ }
     ensures { λ x.
         ⌜ x ≡ firstFailing (checks (statementOf sizes (now («a_matrix» .entry)) (now («b_matrix» .entry)) (now («c_matrix» .entry))
         (now («d_matrix» .entry)) (now (whole .entry)) (now («constant_terms» .entry))) (drawsOf (now (projections .entry)) (now (psi .entry))

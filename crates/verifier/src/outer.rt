@@ -7,7 +7,8 @@ ghost use Rattle.fold.specs.Sizes.{tSize, garbageSize};
 ghost use Rattle.fold.specs.Messages.{times, outer₁, outer₂};
 ghost use Rattle.fold.specs.Opening.{block};
 ghost use Rattle.fold.specs.Verdict.{check₃, check₄};
-ghost use Rattle.verifier.specs.Known.Facts.{Fits, Holds, Opening, tBlockOf, gBlockOf, hBlockOf};
+ghost use Rattle.fold.specs.Known.WorkFacts.{FirstOuterFacts, SecondOuterFacts};
+ghost use Rattle.verifier.specs.Known.Facts.{tBlockOf, gBlockOf, hBlockOf};
 use fold::Sizes;
 use fold::counts::Z_DIGITS;
 use fold::counts::garbage_size;
@@ -38,11 +39,7 @@ fn first_row(
     opening: &[i32],
     k: usize,
 ) -> bool
-    requires { ⌜ Fits sizes ⌝ }
-    requires { ⌜ Holds (sizes .shape .d) (sizes .kappa1 * tSize (sizes .shape .r) (sizes .kappa) (sizes .t1)) (now «b_matrix») ⌝ }
-    requires { ⌜ Holds (sizes .shape .d) (sizes .kappa1 * garbageSize (sizes .shape .r) (sizes .t2)) (now «c_matrix») ⌝ }
-    requires { ⌜ Holds (sizes .shape .d) (sizes .kappa1) (now u1) ⌝ }
-    requires { ⌜ Opening sizes (now opening) ⌝ }
+    requires { ⌜ FirstOuterFacts 2 sizes (now «b_matrix») (now «c_matrix») (now u1) (now opening) ⌝ }
     requires { ⌜ k < sizes .kappa1 ⌝ }
     ensures { λ r.
         ⌜ r ≡ same (sizes .shape .d) (el (sizes .shape .d) (now (u1 .entry)) k) (outer₁ (sizes .shape .d) (sizes .shape .r) (sizes .kappa) (sizes .t1)
@@ -69,11 +66,7 @@ pub fn first_outer(
     u1: &[i32],
     opening: &[i32],
 ) -> bool
-    requires { ⌜ Fits sizes ⌝ }
-    requires { ⌜ Holds (sizes .shape .d) (sizes .kappa1 * tSize (sizes .shape .r) (sizes .kappa) (sizes .t1)) (now «b_matrix») ⌝ }
-    requires { ⌜ Holds (sizes .shape .d) (sizes .kappa1 * garbageSize (sizes .shape .r) (sizes .t2)) (now «c_matrix») ⌝ }
-    requires { ⌜ Holds (sizes .shape .d) (sizes .kappa1) (now u1) ⌝ }
-    requires { ⌜ Opening sizes (now opening) ⌝ }
+    requires { ⌜ FirstOuterFacts 2 sizes (now «b_matrix») (now «c_matrix») (now u1) (now opening) ⌝ }
     ensures { λ r.
         ⌜ r ≡ check₃ (sizes .shape .d) (sizes .shape .r) (sizes .kappa) (sizes .kappa1) (sizes .t1) (sizes .t2) (now («b_matrix» .entry))
         (now («c_matrix» .entry)) (now (u1 .entry)) (tBlockOf sizes (now (opening .entry))) (gBlockOf sizes (now (opening .entry))) ⌝ }
@@ -91,10 +84,7 @@ pub fn first_outer(
 
 // Row k of u2 is D·(h digits).
 fn second_row(sizes: Sizes, d_matrix: &[i32], u2: &[i32], opening: &[i32], k: usize) -> bool
-    requires { ⌜ Fits sizes ⌝ }
-    requires { ⌜ Holds (sizes .shape .d) (sizes .kappa2 * garbageSize (sizes .shape .r) (sizes .t1)) (now «d_matrix») ⌝ }
-    requires { ⌜ Holds (sizes .shape .d) (sizes .kappa2) (now u2) ⌝ }
-    requires { ⌜ Opening sizes (now opening) ⌝ }
+    requires { ⌜ SecondOuterFacts 2 sizes (now «d_matrix») (now u2) (now opening) ⌝ }
     requires { ⌜ k < sizes .kappa2 ⌝ }
     ensures { λ r.
         ⌜ r ≡ same (sizes .shape .d) (el (sizes .shape .d) (now (u2 .entry)) k) (outer₂ (sizes .shape .d) (sizes .shape .r) (sizes .t1)
@@ -110,10 +100,7 @@ fn second_row(sizes: Sizes, d_matrix: &[i32], u2: &[i32], opening: &[i32], k: us
 
 // Check 4: every row of u2.
 pub fn second_outer(sizes: Sizes, d_matrix: &[i32], u2: &[i32], opening: &[i32]) -> bool
-    requires { ⌜ Fits sizes ⌝ }
-    requires { ⌜ Holds (sizes .shape .d) (sizes .kappa2 * garbageSize (sizes .shape .r) (sizes .t1)) (now «d_matrix») ⌝ }
-    requires { ⌜ Holds (sizes .shape .d) (sizes .kappa2) (now u2) ⌝ }
-    requires { ⌜ Opening sizes (now opening) ⌝ }
+    requires { ⌜ SecondOuterFacts 2 sizes (now «d_matrix») (now u2) (now opening) ⌝ }
     ensures { λ r.
         ⌜ r ≡ check₄ (sizes .shape .d) (sizes .shape .r) (sizes .kappa2) (sizes .t1) (now («d_matrix» .entry)) (now (u2 .entry))
         (hBlockOf sizes (now (opening .entry))) ⌝ }

@@ -9,11 +9,12 @@ ghost use Rattle.fold.specs.Sizes.{pairs};
 ghost use Rattle.fold.specs.Messages.{aggregate, aggregateConstant};
 ghost use Rattle.fold.specs.Opening.{block, garbageOf};
 ghost use Rattle.fold.specs.Verdict.{check₈};
-ghost use Rattle.constraints.specs.Known.Facts.{TermFacts, WholeFacts};
-ghost use Rattle.verifier.specs.Known.Facts.{Fits, Holds, Opening, gValue, hValue};
+ghost use Rattle.fold.specs.Known.WorkFacts.{TermFacts, WholeFacts, RelationFacts};
+ghost use Rattle.verifier.specs.Known.Facts.{Holds, gValue, hValue};
 ghost use Rattle.verifier.specs.Mixed.{Garbage};
 ghost use Rattle.verifier.specs.Relation.{relationSummand};
 use crate::recomposed;
+use constraints::ConstraintSizes;
 use constraints::aggregated;
 use fold::Sizes;
 use fold::counts::Z_DIGITS;
@@ -42,11 +43,16 @@ fn relation_summand(
         ⌜ x .coefficients ≡ array (sizes .shape .d) (relationSummand sizes (now (whole .entry)) (now («constant_terms» .entry)) (now (psi .entry))
         (now (alpha .entry)) (now (delta .entry)) (now (opening .entry)) place q) ⌝ }
 {
-    let d = sizes.shape.d;
+    let shape = sizes.shape;
+    let d = shape.d;
+    let constraint_sizes = ConstraintSizes {
+        shape,
+        k: sizes.k,
+        l: sizes.l,
+        w: sizes.w,
+    };
     let aggregate_a = aggregated::aggregate_a(
-        sizes.shape,
-        sizes.k,
-        sizes.l,
+        constraint_sizes,
         whole,
         constant_terms,
         psi,
@@ -128,11 +134,7 @@ pub fn relation_holds(
     second_b: &[i32],
     opening: &[i32],
 ) -> bool
-    requires { ⌜ Fits sizes ⌝ }
-    requires { ⌜ WholeFacts (sizes .shape .d) (sizes .shape .n) (sizes .shape .r) (sizes .k) (now whole) (now alpha) ⌝ }
-    requires { ⌜ TermFacts (sizes .shape .d) (sizes .shape .n) (sizes .shape .r) (sizes .l) (now «constant_terms») (now psi) ⌝ }
-    requires { ⌜ (Holds (sizes .shape .d) 5 (now delta)) × (Holds (sizes .shape .d) 5 (now «second_b»)) ⌝ }
-    requires { ⌜ Opening sizes (now opening) ⌝ }
+    requires { ⌜ RelationFacts 2 sizes (now whole) (now «constant_terms») (now psi) (now alpha) (now delta) (now «second_b») (now opening) ⌝ }
     ensures { λ r.
         ⌜ ((w : ℕ) (projections omega : List ℤ) → r ≡ check₈ (sizes .shape .d) (sizes .shape .r)
         (aggregate (sizes .shape .d) (sizes .shape .n) (sizes .shape .r) (sizes .k) (sizes .l) w (now (whole .entry)) (now («constant_terms» .entry)) projections

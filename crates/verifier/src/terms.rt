@@ -9,8 +9,8 @@ ghost use Rattle.algebra.specs.Sum.{sum};
 ghost use Rattle.residues.specs.Modulus.{Zq, red, cent};
 ghost use Rattle.fold.specs.Sizes.{functionSize};
 ghost use Rattle.fold.specs.Verdict.{check₂};
-ghost use Rattle.verifier.specs.Known.Facts.{Fits};
-ghost use Rattle.verifier.specs.ConstantTerms.{Terms, weighted, termHolds};
+ghost use Rattle.fold.specs.Known.WorkFacts.{MessageFacts};
+ghost use Rattle.verifier.specs.ConstantTerms.{weighted, termHolds};
 use fold::Sizes;
 use fold::counts::function_size;
 use residues::modulus;
@@ -50,8 +50,7 @@ fn constant_term_holds(
     second_b: &[i32],
     k: usize,
 ) -> bool
-    requires { ⌜ Fits sizes ⌝ }
-    requires { ⌜ Terms sizes (now «constant_terms») (now psi) (now omega) (now p) (now «second_b») ⌝ }
+    requires { ⌜ MessageFacts sizes (now «constant_terms») (now psi) (now omega) (now p) (now «second_b») ⌝ }
     requires { ⌜ k < 5 ⌝ }
     ensures { λ r.
         ⌜ r ≡ termHolds (sizes .shape .d) (sizes .shape .n) (sizes .shape .r) (sizes .l) (sizes .w) (now («constant_terms» .entry)) (now (psi .entry))
@@ -76,8 +75,7 @@ pub fn constant_terms_hold(
     p: &[i32],
     second_b: &[i32],
 ) -> bool
-    requires { ⌜ Fits sizes ⌝ }
-    requires { ⌜ Terms sizes (now «constant_terms») (now psi) (now omega) (now p) (now «second_b») ⌝ }
+    requires { ⌜ MessageFacts sizes (now «constant_terms») (now psi) (now omega) (now p) (now «second_b») ⌝ }
     ensures { λ r.
         ⌜ r ≡ check₂ (sizes .shape .d) (sizes .shape .n) (sizes .shape .r) (sizes .l) (sizes .w) (now («constant_terms» .entry)) (now (psi .entry))
         (now (omega .entry)) (now (p .entry)) (now («second_b» .entry)) ⌝ }

@@ -1,9 +1,9 @@
 //! Each call of the library on a case, held to the second implementation: the answer, and every lent number afterwards.
+use crate::answer::Answer::{self, Judged, Refused, Written};
 use crate::case::Lists;
-use lizkarg::Answer::{Judged, Refused, Written};
 use lizkarg::Verdict::{Accepted, Failed};
-use lizkarg::{Answer, CommitSizes, GarbageSizes, PartSizes, Proof, Shape};
-use plain::lists::{Room, Sizes};
+use lizkarg::{Cut, Draws, Messages, Proof, Prover, Statement};
+use plain::lists::{self, Room, Sizes};
 use plain::messages::{self, Function};
 use plain::refusals::{self, Refusal};
 use plain::verdict;
@@ -16,7 +16,7 @@ const POISON: i32 = 1234567891;
 /// How often each call gave each answer.
 #[derive(Default)]
 pub struct Tally {
-    pub seen: BTreeMap<(&'static str, u8, u8), u64>,
+    pub seen: BTreeMap<(&'static str, u8, u64), u64>,
 }
 
 impl Tally {
@@ -54,12 +54,8 @@ impl<'a> Case<'a> {
     }
 }
 
-fn shape(s: &Sizes) -> Shape {
-    Shape { d: s.d, n: s.n, r: s.r }
-}
-
-pub fn part_sizes(s: &Sizes) -> PartSizes {
-    PartSizes { d: s.d, n: s.n, r: s.r, kappa: s.kappa, t1: s.t1, t2: s.t2, nu: s.nu, mu: s.mu }
+pub fn cut(s: &Sizes) -> Cut {
+    Cut { nu: s.nu, mu: s.mu }
 }
 
 pub fn sizes(s: &Sizes) -> lizkarg::Sizes {
@@ -69,22 +65,30 @@ pub fn sizes(s: &Sizes) -> lizkarg::Sizes {
     }
 }
 
-pub fn proof(l: &Lists) -> Proof<'_> {
-    Proof {
-        a_matrix: &l.a_matrix, b_matrix: &l.b_matrix, c_matrix: &l.c_matrix, d_matrix: &l.d_matrix, whole: &l.whole,
-        constant_terms: &l.constant_terms, u1: &l.u1, projections: &l.projections, p: &l.p, psi: &l.psi, omega: &l.omega,
-        second_b: &l.second_b, alpha: &l.alpha, delta: &l.delta, u2: &l.u2, c: &l.c, opening: &l.opening,
+fn statement<'a>(s: &Sizes, l: &'a Lists) -> Statement<'a> {
+    Statement {
+        sizes: sizes(s), a_matrix: &l.a_matrix, b_matrix: &l.b_matrix, c_matrix: &l.c_matrix, d_matrix: &l.d_matrix, whole: &l.whole,
+        constant_terms: &l.constant_terms,
     }
+}
+
+fn draws(l: &Lists) -> Draws<'_> {
+    Draws { projections: &l.projections, psi: &l.psi, omega: &l.omega, alpha: &l.alpha, delta: &l.delta, c: &l.c }
+}
+
+pub fn proof<'a>(s: &Sizes, l: &'a Lists) -> Proof<'a> {
+    let messages = Messages { u1: &l.u1, p: &l.p, second_b: &l.second_b, u2: &l.u2, opening: &l.opening };
+    Proof { statement: statement(s, l), draws: draws(l), messages }
 }
 
 /// Makes a call on lists of the given lengths. Refused, it leaves them as they were; else it answers written and writes what it should, or
 /// answers with the check that fails.
-pub fn written<const N: usize>(
-    tally: &mut Tally, call: &'static str, refusal: Refusal, room: [usize; N], run: impl FnOnce([&mut [i32]; N]) -> Answer,
+pub fn written<const N: usize, A: Into<Answer>>(
+    tally: &mut Tally, call: &'static str, refusal: Refusal, room: [usize; N], run: impl FnOnce([&mut [i32]; N]) -> A,
     should: impl FnOnce() -> Result<[Vec<i32>; N], u8>,
 ) -> Result<[Vec<i32>; N], Answer> {
     let mut out = room.map(|length| vec![POISON; length]);
-    let answer = run(out.each_mut().map(|list| &mut list[..]));
+    let answer = run(out.each_mut().map(|list| &mut list[..])).into();
     tally.count(call, answer);
     let should = refusal.map_err(Refused).and_then(|()| should().map_err(|check| Judged(Failed(check))));
     match should {
@@ -103,42 +107,45 @@ pub fn written<const N: usize>(
 
 pub fn commit(tally: &mut Tally, case: &Case, room: &Room) -> Result<[Vec<i32>; 3], Answer> {
     let (s, l) = (case.s, case.l);
-    let sizes = CommitSizes { d: s.d, n: s.n, r: s.r, kappa: s.kappa, kappa1: s.kappa1, b1: s.b1, b2: s.b2, t1: s.t1, t2: s.t2 };
-    let run = |[t, g, u1]: [&mut [i32]; 3]| lizkarg::commit(sizes, &l.a_matrix, &l.b_matrix, &l.c_matrix, &l.witness, t, g, u1);
+    let run = |[t, g, u1]: [&mut [i32]; 3]| statement(s, l).commit(&l.witness, t, g, u1);
     written(tally, "commit", refusals::commit(s, l, room), [room.t, room.g, room.u1], run, || Ok(messages::message1(s, l)))
 }
 
 pub fn project(tally: &mut Tally, case: &Case, room: &Room) -> Result<[Vec<i32>; 1], Answer> {
     let (s, l) = (case.s, case.l);
-    let run = |[p]: [&mut [i32]; 1]| lizkarg::project(shape(s), s.w, &l.projections, &l.witness, p);
+    let run = |[p]: [&mut [i32]; 1]| statement(s, l).project(&draws(l), &l.witness, p);
     written(tally, "project", refusals::project(s, l, room), [room.p], run, || Ok(messages::message2(s, l)))
 }
 
 pub fn aggregate(tally: &mut Tally, case: &Case, room: &Room) -> Result<[Vec<i32>; 1], Answer> {
     let (s, l) = (case.s, case.l);
-    let run = |[second_b]: [&mut [i32]; 1]| {
-        lizkarg::aggregate(shape(s), s.l, s.w, &l.constant_terms, &l.projections, &l.psi, &l.omega, &l.witness, second_b)
-    };
+    let run = |[second_b]: [&mut [i32]; 1]| statement(s, l).aggregate(&draws(l), &l.witness, second_b);
     let should = || Ok(messages::message3(s, l, case.second()));
     written(tally, "aggregate", refusals::aggregate(s, l, room), [room.second_b], run, should)
 }
 
 pub fn commit_garbage(tally: &mut Tally, case: &Case, room: &Room) -> Result<[Vec<i32>; 2], Answer> {
     let (s, l) = (case.s, case.l);
-    let sizes = GarbageSizes { d: s.d, n: s.n, r: s.r, k: s.k, l: s.l, w: s.w, kappa2: s.kappa2, b1: s.b1, t1: s.t1 };
-    let run = |[h, u2]: [&mut [i32]; 2]| {
-        lizkarg::commit_garbage(
-            sizes, &l.whole, &l.constant_terms, &l.projections, &l.psi, &l.omega, &l.alpha, &l.delta, &l.d_matrix, &l.witness, h, u2,
-        )
-    };
+    let run = |[h, u2]: [&mut [i32]; 2]| statement(s, l).commit_garbage(&draws(l), &l.witness, h, u2);
     let should = || Ok(messages::message4(s, l, &messages::aggregate(s, l, case.second())));
     written(tally, "commit_garbage", refusals::commit_garbage(s, l, room), [room.h, room.u2], run, should)
 }
 
 pub fn amortize(tally: &mut Tally, case: &Case, room: &Room) -> Result<[Vec<i32>; 1], Answer> {
     let (s, l) = (case.s, case.l);
-    let run = |[z]: [&mut [i32]; 1]| lizkarg::amortize(shape(s), s.b, &l.c, &l.witness, z);
+    let run = |[z]: [&mut [i32]; 1]| statement(s, l).amortize(&draws(l), &l.witness, z);
     written(tally, "amortize", refusals::amortize(s, l, room), [room.z], run, || Ok(messages::message5(s, l)))
+}
+
+/// The binding's lengths, held to the second implementation's.
+pub fn lengths(s: &Sizes) {
+    let (found, room) = (sizes(s).lengths(), s.room());
+    let lengths = [
+        found.a_matrix, found.b_matrix, found.c_matrix, found.d_matrix, found.whole, found.constant_terms, found.u1, found.projections,
+        found.p, found.psi, found.omega, found.second_b, found.alpha, found.delta, found.u2, found.c, found.opening, found.witness,
+    ];
+    assert_eq!(lists::Lists::from_array(lengths), s.lengths(), "lengths: {s:?}");
+    assert_eq!([found.z, found.t, found.g, found.h], [room.z, room.t, room.g, room.h], "lengths: {s:?}");
 }
 
 /// All five messages, put into the lists; the second functions.
@@ -151,12 +158,15 @@ pub fn fold(tally: &mut Tally, s: &Sizes, l: &mut Lists) -> Vec<Function> {
     let [z] = amortize(tally, &case, &room).unwrap();
     let second = case.second.into_inner().unwrap();
     (l.u1, l.p, l.second_b, l.u2, l.opening) = (u1, p, second_b, u2, [z, t, g, h].concat());
+    // the binding's prover, whose lists are its own
+    let mut prover = Prover::new(statement(s, l), &l.witness);
+    assert!(prover.prove(draws(l)) == Ok(proof(s, l)), "Prover: messages differ");
     second
 }
 
 /// The library's verdict, counted.
 pub fn judged(tally: &mut Tally, s: &Sizes, l: &Lists) -> Answer {
-    let answer = lizkarg::verify(sizes(s), &proof(l));
+    let answer = proof(s, l).verify().into();
     tally.count("verify", answer);
     answer
 }

@@ -1,9 +1,9 @@
 //! Folds at product size and at the limits: all five messages, the verdict, each block damaged, the next instance, a second fold.
+use crate::answer::Answer::Judged;
 use crate::calls::*;
 use crate::case::{self, Lists, LARGEST_BOUND, MOST};
 use crate::next_calls::*;
 use crate::random::Random;
-use lizkarg::Answer::Judged;
 use lizkarg::Verdict::{Accepted, Failed};
 use plain::lists::Sizes;
 use plain::ring::{elements, flat, squared_length};

@@ -1,4 +1,5 @@
 //! Compares the library with the second implementation: `check [--seed N] [--small COUNT] [--medium COUNT] [--large 0|1]`.
+mod answer;
 mod calls;
 mod case;
 mod large;

@@ -1,9 +1,10 @@
 //! The next instance, the parts of its witness and its fold, held to the second implementation.
+use crate::answer::Answer::{self, Judged, Written};
 use crate::calls::*;
 use crate::case::{self, Lists, LARGEST_BOUND, MOST};
 use crate::random::Random;
-use lizkarg::Answer::{self, Judged, Refused, Written};
 use lizkarg::Verdict::{Accepted, Failed};
+use lizkarg::{Draws, Messages, Proof, Statement};
 use plain::lists::Sizes;
 use plain::ring::squared_length;
 use plain::{next, refusals};
@@ -16,26 +17,37 @@ pub fn instance_room(s: &Sizes) -> usize {
 /// The next instance, into a slice of `room` numbers: the constraints where they are written.
 pub fn next_instance(tally: &mut Tally, case: &Case, room: usize) -> Option<Vec<i32>> {
     let (s, l) = (case.s, case.l);
-    let run = |[out]: [&mut [i32]; 1]| lizkarg::next_instance(sizes(s), s.nu, s.mu, &proof(l), out);
+    let run = |[out]: [&mut [i32]; 1]| proof(s, l).write_next_instance(cut(s), out);
     let should = || next::instance(s, l, case.second()).map(|all| [all]);
     let answer = written(tally, "next_instance", refusals::next_instance(s, l, room), [room], run, should);
     answer.ok().map(|[all]| all)
 }
 
+/// A proof of which only the sizes and the opening are given, as the parts of the next witness take it.
+fn opened<'a>(s: &Sizes, opening: &'a [i32]) -> Proof<'a> {
+    let none = &[];
+    let statement = Statement {
+        sizes: sizes(s), a_matrix: none, b_matrix: none, c_matrix: none, d_matrix: none, whole: none, constant_terms: none,
+    };
+    Proof { statement, draws: Draws::default(), messages: Messages { opening, ..Messages::default() } }
+}
+
 /// One part of the next witness: its refusal, and its place in the opening.
 fn part(tally: &mut Tally, s: &Sizes, number: usize, opening: &[i32]) {
-    let sizes = part_sizes(s);
-    let refusal = lizkarg::next_part_refusal(sizes, number, opening);
-    let found = lizkarg::next_part(sizes, number, opening);
+    let proof = opened(s, opening);
+    let answer = proof.next_part(cut(s), number);
+    let found = proof.next_part_or_empty(cut(s), number);
     let should = refusals::next_part(s, number, opening.len());
-    assert_eq!(refusal, should.err().unwrap_or(0), "next_part_refusal: {sizes:?}, part {number}");
+    assert_eq!(answer.map(|_| ()).map_err(|refused| refused.0), should, "next_part: {s:?}, part {number}");
     let chunk = match should {
         Ok(()) => next::chunks(s)[number - 1].clone(),
         Err(_) => 0..0,
     };
     let chunk = &opening[chunk.start * s.d..chunk.end * s.d];
-    assert_eq!(found.as_ptr_range(), chunk.as_ptr_range(), "next_part: {sizes:?}, part {number}");
-    tally.count("next_part", if refusal == 0 { Written } else { Refused(refusal) });
+    for found in answer.into_iter().chain([found]) {
+        assert_eq!(found.as_ptr_range(), chunk.as_ptr_range(), "next_part: {s:?}, part {number}");
+    }
+    tally.count("next_part", answer.map_or_else(Answer::from, |_| Written));
 }
 
 /// All parts from 0 to r' + 1, and part numbers far out; where r' is large, those at its ends.
@@ -61,11 +73,7 @@ pub fn odd_parts(tally: &mut Tally, s: &Sizes, opening: &[i32]) {
 
 /// The next witness, formed from the library's parts.
 fn witness(s: &Sizes, opening: &[i32]) -> Vec<i32> {
-    let mut all = vec![];
-    for number in 1..=2 * s.nu + s.mu {
-        all.extend_from_slice(lizkarg::next_part(part_sizes(s), number, opening));
-        all.resize(number * next::rank(s) * s.d, 0);
-    }
+    let all = opened(s, opening).next_witness(cut(s)).unwrap();
     assert!(all == next::witness(s, opening), "the next witness differs");
     all
 }

@@ -1,10 +1,10 @@
 //! Both sides of limits that random cases rarely meet: SPECIFICATION 12.2.
+use crate::answer::Answer::{self, Judged, Refused};
 use crate::calls::*;
 use crate::case::{self, Lists, LARGEST_BOUND, MOST};
 use crate::next_calls::*;
 use crate::random::Random;
 use crate::small::judge;
-use lizkarg::Answer::{self, Judged, Refused};
 use lizkarg::Verdict::{Accepted, Failed};
 use plain::lists::Sizes;
 use plain::{next, sheet};

@@ -1,9 +1,9 @@
 //! Random cases: valid, damaged, refused.
+use crate::answer::Answer::{self, Judged, Refused, Written};
 use crate::calls::*;
 use crate::case::{self, Lists, MOST};
 use crate::next_calls::*;
 use crate::random::Random;
-use lizkarg::Answer::{self, Judged, Refused, Written};
 use lizkarg::Element;
 use lizkarg::Verdict::{Accepted, Failed};
 use plain::lists::{Room, Sizes, LISTS, SIZES};
@@ -67,7 +67,7 @@ fn all_calls(tally: &mut Tally, case: &Case, room: &Room) -> Answer {
 fn products(tally: &mut Tally, rng: &mut Random) {
     let d = if rng.once_in(8) { odd_size(rng) as usize } else { 2 << rng.below(6) };
     let mut draw = || {
-        let mut e = Element { coefficients: [0; 64] };
+        let mut e = Element::ZERO;
         e.coefficients[..d.min(64)].fill_with(|| rng.signed(MOST));
         if rng.once_in(8) {
             e.coefficients[rng.below(64)] = odd_number(rng);
@@ -76,14 +76,14 @@ fn products(tally: &mut Tally, rng: &mut Random) {
     };
     let (x, y) = (draw(), draw());
     let bad = |e: &Element| e.coefficients.iter().enumerate().any(|(i, v)| (*v as i64).abs() > ring::MOST || i >= d && *v != 0);
-    let answer = lizkarg::multiply(d, x, y);
+    let answer = x.multiply(d, y).map_err(|refused| refused.0);
     let should = if ![2, 4, 8, 16, 32, 64].contains(&d) {
         Err(1)
     } else if bad(&x) || bad(&y) {
         Err(8)
     } else {
         let [x, y] = [x, y].map(|e| ring::elements(d, &e.coefficients[..d]).remove(0));
-        let mut product = Element { coefficients: [0; 64] };
+        let mut product = Element::ZERO;
         product.coefficients[..d].copy_from_slice(&ring::flat(&[ring::mul(&x, &y)]));
         Ok(product)
     };
@@ -93,7 +93,7 @@ fn products(tally: &mut Tally, rng: &mut Random) {
 
 /// The verdict on a sheet.
 pub fn judge(tally: &mut Tally, text: &[u8]) -> Answer {
-    let answer = lizkarg::judge_sheet(text);
+    let answer = lizkarg::judge_sheet(text).into();
     tally.count("judge_sheet", answer);
     let should = match sheet::judged(text) {
         Ok((s, l)) => plain_verify(&Case::new(&s, &l)),
@@ -107,20 +107,10 @@ pub fn judge(tally: &mut Tally, text: &[u8]) -> Answer {
 fn read(tally: &mut Tally, text: &[u8], length: usize) {
     let should = sheet::read(text, Some(length));
     let mut header = None;
-    let run = |[numbers]: [&mut [i32]; 1]| match lizkarg::read_sheet(text, numbers) {
-        Ok(h) => {
-            header = Some(h);
-            Written
-        }
-        Err(number) => Refused(number),
-    };
+    let run = |[numbers]: [&mut [i32]; 1]| lizkarg::read_sheet(text, numbers).map(|read| header = Some(read));
     let refusal = should.as_ref().map(|_| ()).map_err(|number| *number);
     let _ = written(tally, "read_sheet", refusal, [length], run, || Ok([should.clone().unwrap().1]));
-    let found = header.map(|h| {
-        let sizes = [h.d, h.n, h.r, h.k, h.l, h.w, h.kappa, h.kappa1, h.kappa2, h.b, h.b1, h.b2, h.t1, h.t2, h.nu, h.mu];
-        [&sizes.map(|v| v as u64)[..], &[h.bound, h.target]].concat()
-    });
-    assert_eq!(found, should.ok().map(|(s, _)| s.header().to_vec()), "read_sheet");
+    assert_eq!(header, should.ok().map(|(s, _)| (sizes(&s), cut(&s))), "read_sheet");
 }
 
 /// A sheet with a fault in its text, or none.
@@ -157,10 +147,15 @@ fn damage_text(rng: &mut Random, text: &mut Vec<u8>) {
 /// The sheet of a case, whole or damaged, judged, and read into slices of one number less, as many as its header gives, and one more.
 fn sheets(tally: &mut Tally, rng: &mut Random, s: &Sizes, l: &Lists) {
     let mut text = sheet::write(s, l);
+    if let Ok(read) = lizkarg::Sheet::read(&text) {
+        assert!(read.proof() == proof(s, l), "Sheet::proof");
+    }
     damage_text(rng, &mut text);
     judge(tally, &text);
     let count = lizkarg::sheet_numbers(&text);
     assert_eq!(count, sheet::count(&text), "sheet_numbers: {}", String::from_utf8_lossy(&text));
+    let read_whole = lizkarg::Sheet::read(&text).map(|read| (read.sizes, read.cut, read.numbers)).map_err(|refused| refused.0);
+    assert_eq!(read_whole, sheet::read(&text, None).map(|(s, numbers)| (sizes(&s), cut(&s), numbers)), "Sheet::read");
     // a damaged header may give millions of numbers, and then the other lines are broken
     for length in [count.saturating_sub(1), count, count + 1, l.in_sheet_order().len()] {
         read(tally, &text, length.min(1 << 20));
@@ -180,6 +175,7 @@ fn next_of(tally: &mut Tally, rng: &mut Random, case: &Case, answer: Answer) {
     let (s, l) = (case.s, case.l);
     parts(tally, s, &l.opening);
     let room = instance_room(s);
+    assert_eq!(room, sizes(s).next(cut(s)).whole, "next: {s:?}");
     if room > 10_000_000 {
         return;
     }
@@ -212,6 +208,7 @@ fn refused_next(tally: &mut Tally, rng: &mut Random, undamaged: &Sizes, s: &Size
 fn statement(tally: &mut Tally, seed: u64, number: u64, sizes: fn(&mut Random) -> Sizes) {
     let mut rng = Random::new(seed.wrapping_mul(0x100000001b3).wrapping_add(number));
     let s = sizes(&mut rng);
+    lengths(&s);
     let short = rng.once_in(2);
     let mut l = case::random(&mut rng, &s, short);
     let second = fold(tally, &s, &mut l);
@@ -243,6 +240,7 @@ fn damaged(tally: &mut Tally, rng: &mut Random, undamaged: Sizes, mut l: Lists) 
         }
         _ => damage_list(rng, &mut l),
     }
+    lengths(&s);
     let case = Case::new(&s, &l);
     let answer = all_calls(tally, &case, &room);
     match answer {

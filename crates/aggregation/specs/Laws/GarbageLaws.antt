@@ -20,12 +20,11 @@ use Rattle.residues.specs.Digits.{split}
 use Rattle.fold.specs.Known.Facts.{Shaped}
 use Rattle.fold.specs.Sizes.{pairs, garbageSize}
 use Rattle.fold.specs.Statement.{part}
-use Rattle.fold.specs.Messages.{elements, times, half, h, hDigits, aggregate, outer₂, u₂}
-use Rattle.fold.specs.Laws.EntryLaws.{aggregate-φ}
+use Rattle.fold.specs.Messages.{elements, times, half, h, hDigits, outer₂, u₂}
 use Rattle.fold.specs.Laws.WriterLaws.{length-elements, el-written, el-pairs, garbage-places, garbage-cong}
 use Rattle.fold.specs.PairElements.{pairElements}
 use Rattle.constraints.specs.Laws.AggregatedLaws.{values-sum}
-use Rattle.aggregation.specs.Garbage.{aggregatePart, cross, partProduct, squareElements, halved}
+use Rattle.aggregation.specs.Garbage.{cross, partProduct, squareElements, halved}
 
 -- ---- one row of products
 
@@ -88,44 +87,30 @@ square-place d r {i} {j} a b size = omega (arith, block-before d (i * r + j) (r 
 pub square-small : (r : ℕ) {i j : ℕ} → i < r → j < r → i * r + j < r * r
 square-small r {i} {j} a b = block-fits r r i j a b
 
-cross-aggregate : (d n r K L w : ℕ) (whole constantTerms projections ψ ω α δ s : List ℤ) (i j : ℕ)
-    → cross d n (aggregatePart d n r K L w whole constantTerms projections ψ ω α δ) s i j
-    ≡ inner (R d) n (aggregate d n r K L w whole constantTerms projections ψ ω α δ .φ i) (part d n s j)
-unfolding cross inner aggregatePart
-cross-aggregate d n r K L w whole constantTerms projections ψ ω α δ s i j =
-    sum-cong (R d) n _ _ (λ y _. ap (λ u. R d .mul u (part d n s j y)) (sym (aggregate-φ d n r L w constantTerms projections ψ ω K whole α δ i y)))
-
 -- that is the h of the message
-halved-h : (d n r K L w : ℕ) (whole constantTerms projections ψ ω α δ s old : List ℤ) {M : List ℤ}
-    → M ≡ over old 0 (squareElements d r (cross d n (aggregatePart d n r K L w whole constantTerms projections ψ ω α δ) s)) → (i j : ℕ) → i < r → j < r
-    → halved d r M i j ≡ h d n (aggregate d n r K L w whole constantTerms projections ψ ω α δ .φ) s i j
-unfolding halved h garbage
-halved-h d n r K L w whole constantTerms projections ψ ω α δ s old {M} filled i j a b =
-    ap₂ (λ u v. R d .mul (half d) (R d .add u v)) (product i j a b) (product j i b a)
-  where
-    product : (i j : ℕ) → i < r → j < r
-        → el d M (i * r + j) ≡ inner (R d) n (aggregate d n r K L w whole constantTerms projections ψ ω α δ .φ i) (part d n s j)
-    product i j a b =
-        el-square d r (cross d n (aggregatePart d n r K L w whole constantTerms projections ψ ω α δ) s) old filled i j a b
-        ∙ cross-aggregate d n r K L w whole constantTerms projections ψ ω α δ s i j
+halved-h : (d n r : ℕ) (φ : ℕ → ℕ → R d .Carrier) (s old : List ℤ) {M : List ℤ} → M ≡ over old 0 (squareElements d r (cross d n φ s))
+    → (i j : ℕ) → i < r → j < r → halved d r M i j ≡ h d n φ s i j
+unfolding halved h garbage cross
+halved-h d n r φ s old filled i j a b =
+    ap₂ (λ u v. R d .mul (half d) (R d .add u v)) (el-square d r (cross d n φ s) old filled i j a b) (el-square d r (cross d n φ s) old filled j i b a)
 
 -- ---- the digits
 
-pub h-written : (d n r K L w b₁ t₁ : ℕ) (whole constantTerms projections ψ ω α δ s old older : List ℤ) {M values out : List ℤ} {count : ℕ}
-    → M ≡ over old 0 (squareElements d r (cross d n (aggregatePart d n r K L w whole constantTerms projections ψ ω α δ) s))
+pub h-written : (d n r b₁ t₁ : ℕ) (φ : ℕ → ℕ → R d .Carrier) (s old older : List ℤ) {M values out : List ℤ} {count : ℕ}
+    → M ≡ over old 0 (squareElements d r (cross d n φ s))
     → pairs r * d ≤ length older
     → values ≡ over older 0 (pairElements d r (halved d r M))
     → count ≡ pairs r
     → out ≡ flat count (λ e. split b₁ t₁ (coeffs d (el d values e)))
-    → out ≡ hDigits d n r b₁ t₁ (aggregate d n r K L w whole constantTerms projections ψ ω α δ .φ) s
+    → out ≡ hDigits d n r b₁ t₁ φ s
 unfolding hDigits
-h-written d n r K L w b₁ t₁ whole constantTerms projections ψ ω α δ s old older {M} {values} filled room held all out =
+h-written d n r b₁ t₁ φ s old older {M} {values} filled room held all out =
     out
     ∙ ap (λ (m : ℕ). flat m (λ e. split b₁ t₁ (coeffs d (el d values e)))) all
     ∙ garbage-places d r b₁ t₁ (el d values)
     ∙ garbage-cong d r b₁ t₁ _ _ (λ i j a b.
     ap (λ (xs : List ℤ). el d xs (pair r i j)) held ∙ el-pairs d r (halved d r M) older room i j a b
-    ∙ halved-h d n r K L w whole constantTerms projections ψ ω α δ s old filled i j (omega arith) b)
+    ∙ halved-h d n r φ s old filled i j (omega arith) b)
 
 -- ---- D·(h digits)
 
@@ -144,9 +129,6 @@ pub digits-length : (d r t₁ : ℕ) {len count : ℕ} → count ≡ pairs r →
 unfolding garbageSize
 digits-length d r t₁ is e = e ∙ rw is (omega arith)
 
--- the elements of one φ_i, and all products, have room in the local lists
-pub phi-room : {d n r : ℕ} → Shaped d n r → n * d ≤ 16384
-phi-room shaped = mul-le-mul (shaped .rank-small) (shaped .degree .small)
-
+-- all products have room in a local list
 pub square-room : {d n r : ℕ} → Shaped d n r → r * r * d ≤ 16384
 square-room shaped = mul-le-mul (mul-le-mul (shaped .parts-small) (shaped .parts-small)) (shaped .degree .small)

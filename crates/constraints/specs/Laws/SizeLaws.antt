@@ -19,3 +19,7 @@ module _ {d n r : ℕ} (shaped : Shaped d n r) where
 
   pub numbers-small : functionSize n r * d ≤ 270848
   numbers-small = mul-le-mul function-small (shaped .degree .small)
+
+  -- the elements of one φ_i
+  pub phi-room : n * d ≤ 16384
+  phi-room = mul-le-mul (shaped .rank-small) (shaped .degree .small)

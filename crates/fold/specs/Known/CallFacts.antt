@@ -1,236 +1,157 @@
--- What a call that is not refused knows of its arguments, as far as its work needs it: the limits of its sizes, the length of every list, and
--- that projection rows keep row 9. For each call a record, and the law that no refusal gives it.
---     CommitFacts, ProjectFacts, AggregateFacts, GarbageFacts, AmortizeFacts, VerifyFacts
+-- What a call that is not refused knows of its arguments, as far as its work needs it: for each call a record, whose fields are what its work
+-- functions ask (WorkFacts), and the law that no refusal gives it. Rows are looked up by number, and within a row each fact by what it says.
+--     CommitFacts, ProjectFacts, AggregateCallFacts, GarbageFacts, AmortizeFacts, VerifyFacts
 --     commit-facts, project-facts, aggregate-facts, garbage-facts, amortize-facts, verify-facts
-use mathlib.Core.Path.{_≡_, refl}
+use mathlib.Core.Path.{_≡_, refl, _∙_}
 use mathlib.Core.Bool.{true}
 use mathlib.Core.List.{List}
 use Prim.Native.Nat.{ℕ, _*_}
 use lib.ListN.{length}
 use lib.IntN.{ℤ}
 use Rattle.residues.specs.Range.{projectionEntries}
-use Rattle.fold.specs.Sizes.{five, tSize, garbageSize, openingSize}
-use Rattle.fold.specs.Statement.{Relation}
+use Rattle.fold.specs.declared.Shape.{Shape}
+use Rattle.fold.specs.declared.CommitSizes.{CommitSizes}
+use Rattle.fold.specs.declared.GarbageSizes.{GarbageSizes}
+use Rattle.fold.specs.declared.Sizes.{Sizes}
+use Rattle.fold.specs.Sizes.{five}
 use Rattle.fold.specs.Statement.{Statement, Draws, Transcript}
 use Rattle.fold.specs.Answers.{firstFailing}
-use Rattle.fold.specs.Refusals.{allOf, lengths, wholeLength, constantTermsLength, projectionLength, sizeTests}
+use Rattle.fold.specs.Refusals.{projectionLength, sizeTests}
 use Rattle.fold.specs.Refusals.{commitBounds, projectBounds, aggregateBounds, garbageBounds, amortizeBounds}
 use Rattle.fold.specs.Refusals.{commitTests, projectTests, aggregateTests, garbageTests, amortizeTests, verifyTests}
-use Rattle.fold.specs.Laws.RefusalLaws.{refusal-passes, early-passes, allOf-all, allOf-drop, sized-iff}
-use Rattle.fold.specs.Known.CallLimits.{CommitLimits, ProjectLimits, AggregateLimits, GarbageLimits, AmortizeLimits, VerifyLimits}
+use Rattle.fold.specs.Arguments.{statementOf, drawsOf, transcriptOf}
+use Rattle.fold.specs.Arguments.{commitRefusal, projectRefusal, aggregateRefusal, garbageRefusal, verifyRefusal}
+use Rattle.fold.specs.Laws.RefusalLaws.{allOf-all, tested}
+use Rattle.fold.specs.Laws.TestLaws.{holds, early-holds}
+use Rattle.fold.specs.Known.CallLimits.{CommitSized, ProjectLimits, AggregateLimits, GarbageSized, AmortizeLimits, VerifySized}
 use Rattle.fold.specs.Known.CallLimits.{commit-limits, project-limits, aggregate-limits, garbage-limits, amortize-limits, verify-limits}
+use Rattle.fold.specs.Known.WorkFacts.{TFacts, GFacts, U₁Facts, ValueFacts, HFacts, U₂Facts, MessageFacts, OuterFacts, OpeningFacts}
 
 -- ---- message 1
 
-pub record CommitFacts (d n r κ κ₁ b₁ b₂ t₁ t₂ : ℕ) (A B C s ts gs u₁ : List ℤ) : Type 0 where
-  pub limits : CommitLimits d n r κ κ₁ b₁ b₂ t₁ t₂
-  pub A-length : length A ≡ κ * n * d
-  pub B-length : length B ≡ κ₁ * tSize r κ t₁ * d
-  pub C-length : length C ≡ κ₁ * garbageSize r t₂ * d
-  pub s-length : length s ≡ r * n * d
-  pub ts-length : length ts ≡ tSize r κ t₁ * d
-  pub gs-length : length gs ≡ garbageSize r t₂ * d
-  pub u₁-length : length u₁ ≡ κ₁ * d
+module _ (sizes : CommitSizes) where
+  open CommitSizes sizes using (shape, kappa, kappa1, b1, b2, t1, t2)
+  open Shape shape using (d, n, r)
 
-pub commit-facts : {d n r κ κ₁ b₁ b₂ t₁ t₂ : ℕ} {A B C s ts gs u₁ : List ℤ}
-    → firstFailing (commitTests d n r κ κ₁ b₁ b₂ t₁ t₂ A B C s ts gs u₁) ≡ 0
-    → CommitFacts d n r κ κ₁ b₁ b₂ t₁ t₂ A B C s ts gs u₁
-unfolding commitTests
-commit-facts {d} {n} {r} {κ} {κ₁} {b₁} {b₂} {t₁} {t₂} {A} {B} {C} {s} {ts} {gs} {u₁} e =
-    let passed = refusal-passes (commitTests d n r κ κ₁ b₁ b₂ t₁ t₂ A B C s ts gs u₁) refl e in
-    let lengths = allOf-all _ (passed .1 .1 .1 .1 .0) in
-    record {
-      limits = commit-limits d n r κ κ₁ b₁ b₂ t₁ t₂ (early-passes (commitBounds d n r κ κ₁ b₁ b₂ t₁ t₂) _ refl e);
-      A-length = sized-iff A _ .0 (lengths .0);
-      B-length = sized-iff B _ .0 (lengths .1 .0);
-      C-length = sized-iff C _ .0 (lengths .1 .1 .0);
-      s-length = sized-iff s _ .0 (lengths .1 .1 .1 .0);
-      ts-length = sized-iff ts _ .0 (lengths .1 .1 .1 .1 .0);
-      gs-length = sized-iff gs _ .0 (lengths .1 .1 .1 .1 .1 .0);
-      u₁-length = sized-iff u₁ _ .0 (lengths .1 .1 .1 .1 .1 .1 .0);
-    }
+  pub record CommitFacts (A B C s ts gs u₁ : List ℤ) : Type 0 where
+    pub t : TFacts sizes A s ts
+    pub g : GFacts sizes s gs
+    pub u : U₁Facts sizes B C ts gs u₁
 
--- ---- message 2
+  pub commit-facts : {A B C s ts gs u₁ : List ℤ} → commitRefusal sizes A B C s ts gs u₁ ≡ 0 → CommitFacts A B C s ts gs u₁
+  unfolding commitTests
+  commit-facts {A} {B} {C} {s} {ts} {gs} {u₁} e =
+      let row = holds (commitTests d n r kappa kappa1 b1 b2 t1 t2 A B C s ts gs u₁) refl e in
+      let limits = commit-limits d n r kappa kappa1 b1 b2 t1 t2 (early-holds (commitBounds d n r kappa kappa1 b1 b2 t1 t2) _ refl e) in
+      search (tested, limits, allOf-all _ (row 7))
 
-pub record ProjectFacts (d n r w : ℕ) (projections s p : List ℤ) : Type 0 where
-  pub limits : ProjectLimits d n r w
-  pub projections-length : length projections ≡ projectionLength d n r w
-  pub s-length : length s ≡ r * n * d
-  pub p-length : length p ≡ w
-  pub projections-entries : projectionEntries projections ≡ true
+  -- t′ and g′ are what was written to ts and gs
+  pub written-digits : {B C ts gs u₁ t′ g′ : List ℤ} → length t′ ≡ length ts → length g′ ≡ length gs
+      → U₁Facts sizes B C ts gs u₁ → U₁Facts sizes B C t′ g′ u₁
+  written-digits t-long g-long facts =
+      record {
+        limits = facts .limits;
+        B-length = facts .B-length;
+        C-length = facts .C-length;
+        ts-length = t-long ∙ facts .ts-length;
+        gs-length = g-long ∙ facts .gs-length;
+        u₁-length = facts .u₁-length;
+      }
 
-pub project-facts : {d n r w : ℕ} {projections s p : List ℤ}
-    → firstFailing (projectTests d n r w projections s p) ≡ 0
-    → ProjectFacts d n r w projections s p
-unfolding projectTests
-project-facts {d} {n} {r} {w} {projections} {s} {p} e =
-    let passed = refusal-passes (projectTests d n r w projections s p) refl e in
-    let lengths = allOf-all _ (passed .1 .1 .0) in
-    record {
-      limits = project-limits d n r w (early-passes (projectBounds d n r w) _ refl e);
-      projections-length = sized-iff projections _ .0 (lengths .0);
-      s-length = sized-iff s _ .0 (lengths .1 .0);
-      p-length = sized-iff p _ .0 (lengths .1 .1 .0);
-      projections-entries = passed .1 .1 .1 .1 .0;
-    }
+-- ---- messages 2, 3 and 5
 
--- ---- message 3
+module _ (shape : Shape) where
+  open Shape shape using (d, n, r)
 
-pub record AggregateFacts (d n r L w : ℕ) (constantTerms projections ψ ω s b″ : List ℤ) : Type 0 where
-  pub limits : AggregateLimits d n r L w
-  pub constant-terms-length : length constantTerms ≡ constantTermsLength d n r L
-  pub projections-length : length projections ≡ projectionLength d n r w
-  pub ψ-length : length ψ ≡ five * L
-  pub ω-length : length ω ≡ five * w
-  pub s-length : length s ≡ r * n * d
-  pub b″-length : length b″ ≡ five * d
-  pub projections-entries : projectionEntries projections ≡ true
+  pub record ProjectFacts (w : ℕ) (projections s p : List ℤ) : Type 0 where
+    pub limits : ProjectLimits d n r w
+    pub projections-length : length projections ≡ projectionLength d n r w
+    pub s-length : length s ≡ r * n * d
+    pub p-length : length p ≡ w
+    pub tested : projectionEntries projections ≡ true
 
-pub aggregate-facts : {d n r L w : ℕ} {constantTerms projections ψ ω s b″ : List ℤ}
-    → firstFailing (aggregateTests d n r L w constantTerms projections ψ ω s b″) ≡ 0
-    → AggregateFacts d n r L w constantTerms projections ψ ω s b″
-unfolding aggregateTests
-aggregate-facts {d} {n} {r} {L} {w} {constantTerms} {projections} {ψ} {ω} {s} {b″} e =
-    let passed = refusal-passes (aggregateTests d n r L w constantTerms projections ψ ω s b″) refl e in
-    let lengths = allOf-all _ (passed .1 .1 .0) in
-    record {
-      limits = aggregate-limits d n r L w (early-passes (aggregateBounds d n r L w) _ refl e);
-      constant-terms-length = sized-iff constantTerms _ .0 (lengths .0);
-      projections-length = sized-iff projections _ .0 (lengths .1 .0);
-      ψ-length = sized-iff ψ _ .0 (lengths .1 .1 .0);
-      ω-length = sized-iff ω _ .0 (lengths .1 .1 .1 .0);
-      s-length = sized-iff s _ .0 (lengths .1 .1 .1 .1 .0);
-      b″-length = sized-iff b″ _ .0 (lengths .1 .1 .1 .1 .1 .0);
-      projections-entries = passed .1 .1 .1 .1 .0;
-    }
+  pub project-facts : {w : ℕ} {projections s p : List ℤ} → projectRefusal shape w projections s p ≡ 0 → ProjectFacts w projections s p
+  unfolding projectTests
+  project-facts {w} {projections} {s} {p} e =
+      let row = holds (projectTests d n r w projections s p) refl e in
+      let limits = project-limits d n r w (early-holds (projectBounds d n r w) _ refl e) in
+      search (tested, limits, allOf-all _ (row 7), row 9)
+
+  pub record AggregateCallFacts (L w : ℕ) (constantTerms projections ψ ω s b″ : List ℤ) : Type 0 where
+    pub values : ValueFacts d n r L w constantTerms projections ψ ω s
+    pub b″-length : length b″ ≡ five * d
+
+  pub aggregate-facts : {L w : ℕ} {constantTerms projections ψ ω s b″ : List ℤ}
+      → aggregateRefusal shape L w constantTerms projections ψ ω s b″ ≡ 0
+      → AggregateCallFacts L w constantTerms projections ψ ω s b″
+  unfolding aggregateTests
+  aggregate-facts {L} {w} {constantTerms} {projections} {ψ} {ω} {s} {b″} e =
+      let row = holds (aggregateTests d n r L w constantTerms projections ψ ω s b″) refl e in
+      let limits = aggregate-limits d n r L w (early-holds (aggregateBounds d n r L w) _ refl e) in
+      search (tested, limits, allOf-all _ (row 7), row 9)
+
+  -- z has tz digits
+  pub record AmortizeFacts (tz b : ℕ) (c s zs : List ℤ) : Type 0 where
+    pub limits : AmortizeLimits d n r b
+    pub c-length : length c ≡ r * d
+    pub s-length : length s ≡ r * n * d
+    pub zs-length : length zs ≡ tz * n * d
+
+  pub amortize-facts : {tz b : ℕ} {c s zs : List ℤ} → firstFailing (amortizeTests d n r tz b c s zs) ≡ 0 → AmortizeFacts tz b c s zs
+  unfolding amortizeTests
+  amortize-facts {tz} {b} {c} {s} {zs} e =
+      let row = holds (amortizeTests d n r tz b c s zs) refl e in
+      let limits = amortize-limits d n r b (early-holds (amortizeBounds d n r b) _ refl e) in
+      search (tested, limits, allOf-all _ (row 7))
 
 -- ---- message 4
 
-pub record GarbageFacts (d n r K L w κ₂ b₁ t₁ : ℕ) (whole constantTerms projections ψ ω α δ D s hs u₂ : List ℤ) : Type 0 where
-  pub limits : GarbageLimits d n r K L w κ₂ b₁ t₁
-  pub whole-length : length whole ≡ wholeLength d n r K
-  pub constant-terms-length : length constantTerms ≡ constantTermsLength d n r L
-  pub projections-length : length projections ≡ projectionLength d n r w
-  pub ψ-length : length ψ ≡ five * L
-  pub ω-length : length ω ≡ five * w
-  pub α-length : length α ≡ K * d
-  pub δ-length : length δ ≡ five * d
-  pub D-length : length D ≡ κ₂ * garbageSize r t₁ * d
-  pub s-length : length s ≡ r * n * d
-  pub hs-length : length hs ≡ garbageSize r t₁ * d
-  pub u₂-length : length u₂ ≡ κ₂ * d
-  pub projections-entries : projectionEntries projections ≡ true
+module _ (sizes : GarbageSizes) where
+  open GarbageSizes sizes using (shape, k, l, w, kappa2, b1, t1)
+  open Shape shape using (d, n, r)
 
-pub garbage-facts : {d n r K L w κ₂ b₁ t₁ : ℕ} {whole constantTerms projections ψ ω α δ D s hs u₂ : List ℤ}
-    → firstFailing (garbageTests d n r K L w κ₂ b₁ t₁ whole constantTerms projections ψ ω α δ D s hs u₂) ≡ 0
-    → GarbageFacts d n r K L w κ₂ b₁ t₁ whole constantTerms projections ψ ω α δ D s hs u₂
-unfolding garbageTests
-garbage-facts {d} {n} {r} {K} {L} {w} {κ₂} {b₁} {t₁} {whole} {constantTerms} {projections} {ψ} {ω} {α} {δ} {D} {s} {hs} {u₂} e =
-    let passed = refusal-passes (garbageTests d n r K L w κ₂ b₁ t₁ whole constantTerms projections ψ ω α δ D s hs u₂) refl e in
-    let lengths = allOf-all _ (passed .1 .1 .1 .1 .0) in
-    record {
-      limits = garbage-limits d n r K L w κ₂ b₁ t₁ (early-passes (garbageBounds d n r K L w κ₂ b₁ t₁) _ refl e);
-      whole-length = sized-iff whole _ .0 (lengths .0);
-      constant-terms-length = sized-iff constantTerms _ .0 (lengths .1 .0);
-      projections-length = sized-iff projections _ .0 (lengths .1 .1 .0);
-      ψ-length = sized-iff ψ _ .0 (lengths .1 .1 .1 .0);
-      ω-length = sized-iff ω _ .0 (lengths .1 .1 .1 .1 .0);
-      α-length = sized-iff α _ .0 (lengths .1 .1 .1 .1 .1 .0);
-      δ-length = sized-iff δ _ .0 (lengths .1 .1 .1 .1 .1 .1 .0);
-      D-length = sized-iff D _ .0 (lengths .1 .1 .1 .1 .1 .1 .1 .0);
-      s-length = sized-iff s _ .0 (lengths .1 .1 .1 .1 .1 .1 .1 .1 .0);
-      hs-length = sized-iff hs _ .0 (lengths .1 .1 .1 .1 .1 .1 .1 .1 .1 .0);
-      u₂-length = sized-iff u₂ _ .0 (lengths .1 .1 .1 .1 .1 .1 .1 .1 .1 .1 .0);
-      projections-entries = passed .1 .1 .1 .1 .1 .1 .0;
-    }
+  pub record GarbageFacts (whole constantTerms projections ψ ω α δ D s hs u₂ : List ℤ) : Type 0 where
+    pub h : HFacts sizes whole constantTerms projections ψ ω α δ s hs
+    pub u : U₂Facts sizes D hs u₂
 
--- ---- message 5; z has tz digits
+  pub garbage-facts : {whole constantTerms projections ψ ω α δ D s hs u₂ : List ℤ}
+      → garbageRefusal sizes whole constantTerms projections ψ ω α δ D s hs u₂ ≡ 0
+      → GarbageFacts whole constantTerms projections ψ ω α δ D s hs u₂
+  unfolding garbageTests
+  garbage-facts {whole} {constantTerms} {projections} {ψ} {ω} {α} {δ} {D} {s} {hs} {u₂} e =
+      let row = holds (garbageTests d n r k l w kappa2 b1 t1 whole constantTerms projections ψ ω α δ D s hs u₂) refl e in
+      let limits = garbage-limits d n r k l w kappa2 b1 t1 (early-holds (garbageBounds d n r k l w kappa2 b1 t1) _ refl e) in
+      search (tested, limits, allOf-all _ (row 7), row 9)
 
-pub record AmortizeFacts (d n r tz b : ℕ) (c s zs : List ℤ) : Type 0 where
-  pub limits : AmortizeLimits d n r b
-  pub c-length : length c ≡ r * d
-  pub s-length : length s ≡ r * n * d
-  pub zs-length : length zs ≡ tz * n * d
+  -- h′ is what was written to hs
+  pub written-h : {D hs u₂ h′ : List ℤ} → length h′ ≡ length hs → U₂Facts sizes D hs u₂ → U₂Facts sizes D h′ u₂
+  written-h long facts =
+      record { limits = facts .limits; D-length = facts .D-length; hs-length = long ∙ facts .hs-length; u₂-length = facts .u₂-length }
 
-pub amortize-facts : {d n r tz b : ℕ} {c s zs : List ℤ}
-    → firstFailing (amortizeTests d n r tz b c s zs) ≡ 0
-    → AmortizeFacts d n r tz b c s zs
-unfolding amortizeTests
-amortize-facts {d} {n} {r} {tz} {b} {c} {s} {zs} e =
-    let passed = refusal-passes (amortizeTests d n r tz b c s zs) refl e in
-    let lengths = allOf-all _ (passed .1 .1 .1 .0) in
-    record {
-      limits = amortize-limits d n r b (early-passes (amortizeBounds d n r b) _ refl e);
-      c-length = sized-iff c _ .0 (lengths .0);
-      s-length = sized-iff s _ .0 (lengths .1 .0);
-      zs-length = sized-iff zs _ .0 (lengths .1 .1 .0);
-    }
+-- ---- the verifier, with the opening o
 
--- ---- the verifier, with the opening o, and the next instance
+module _ (sizes : Sizes) (A B C D whole constantTerms projections ψ ω α δ c u₁ p b″ u₂ o : List ℤ) where
+  open Sizes sizes using (shape, k, l, w, kappa, kappa1, kappa2, b, b1, b2, t1, t2, bound, target)
+  open Shape shape using (d, n, r)
 
-module _ (𝓢 : Statement) (𝓓 : Draws) (𝓣 : Transcript) where
-  open Statement 𝓢 using (relation, w, tz, κ, κ₁, κ₂, b, b₁, b₂, t₁, t₂, target, A, B, C, D)
-  open Relation relation using (d, n, r, K, L, bound, whole, constantTerms)
-  open Draws 𝓓 using (projections, ψ, ω, α, δ, c)
-  open Transcript 𝓣 using (u₁, p, b″, u₂)
+  abbrev 𝓢 : Statement
+  𝓢 = statementOf sizes A B C D whole constantTerms
 
-  -- the lengths of the statement's lists, of the draws and of the messages
-  pub record Lengths : Type 0 where
-    pub u₁-length : length u₁ ≡ κ₁ * d
-    pub p-length : length p ≡ w
-    pub b″-length : length b″ ≡ five * d
-    pub u₂-length : length u₂ ≡ κ₂ * d
-    pub A-length : length A ≡ κ * n * d
-    pub B-length : length B ≡ κ₁ * tSize r κ t₁ * d
-    pub C-length : length C ≡ κ₁ * garbageSize r t₂ * d
-    pub D-length : length D ≡ κ₂ * garbageSize r t₁ * d
-    pub whole-length : length whole ≡ wholeLength d n r K
-    pub constant-terms-length : length constantTerms ≡ constantTermsLength d n r L
-    pub projections-length : length projections ≡ projectionLength d n r w
-    pub ψ-length : length ψ ≡ five * L
-    pub ω-length : length ω ≡ five * w
-    pub α-length : length α ≡ K * d
-    pub δ-length : length δ ≡ five * d
-    pub c-length : length c ≡ r * d
+  abbrev 𝓓 : Draws
+  𝓓 = drawsOf projections ψ ω α δ c
 
-  pub lengths-known : allOf (lengths 𝓢 𝓓 𝓣) ≡ true → Lengths
-  lengths-known e =
-      let each = allOf-all _ e in
-      record {
-        u₁-length = sized-iff u₁ _ .0 (each .0);
-        p-length = sized-iff p _ .0 (each .1 .0);
-        b″-length = sized-iff b″ _ .0 (each .1 .1 .0);
-        u₂-length = sized-iff u₂ _ .0 (each .1 .1 .1 .0);
-        A-length = sized-iff A _ .0 (each .1 .1 .1 .1 .0);
-        B-length = sized-iff B _ .0 (each .1 .1 .1 .1 .1 .0);
-        C-length = sized-iff C _ .0 (each .1 .1 .1 .1 .1 .1 .0);
-        D-length = sized-iff D _ .0 (each .1 .1 .1 .1 .1 .1 .1 .0);
-        whole-length = sized-iff whole _ .0 (each .1 .1 .1 .1 .1 .1 .1 .1 .0);
-        constant-terms-length = sized-iff constantTerms _ .0 (each .1 .1 .1 .1 .1 .1 .1 .1 .1 .0);
-        projections-length = sized-iff projections _ .0 (each .1 .1 .1 .1 .1 .1 .1 .1 .1 .1 .0);
-        ψ-length = sized-iff ψ _ .0 (each .1 .1 .1 .1 .1 .1 .1 .1 .1 .1 .1 .0);
-        ω-length = sized-iff ω _ .0 (each .1 .1 .1 .1 .1 .1 .1 .1 .1 .1 .1 .1 .0);
-        α-length = sized-iff α _ .0 (each .1 .1 .1 .1 .1 .1 .1 .1 .1 .1 .1 .1 .1 .0);
-        δ-length = sized-iff δ _ .0 (each .1 .1 .1 .1 .1 .1 .1 .1 .1 .1 .1 .1 .1 .1 .0);
-        c-length = sized-iff c _ .0 (each .1 .1 .1 .1 .1 .1 .1 .1 .1 .1 .1 .1 .1 .1 .1 .0);
-      }
+  abbrev 𝓣 : Transcript
+  𝓣 = transcriptOf u₁ p b″ u₂
 
-  pub record VerifyFacts (o : List ℤ) : Type 0 where
-    pub limits : VerifyLimits d n r K L w κ κ₁ κ₂ b b₁ b₂ t₁ t₂ bound target
-    pub lists : Lengths
-    pub o-length : length o ≡ openingSize tz n r κ t₁ t₂ * d
-    pub projections-entries : projectionEntries projections ≡ true
+  pub record VerifyFacts : Type 0 where
+    pub message : MessageFacts sizes constantTerms ψ ω p b″
+    pub outer : OuterFacts 2 sizes B C D u₁ u₂ o
+    pub opening : OpeningFacts 2 sizes A whole constantTerms projections ψ ω b″ α δ c o
 
-  pub verify-facts : (o : List ℤ) → firstFailing (verifyTests 𝓢 𝓓 𝓣 o) ≡ 0 → VerifyFacts o
+  pub verify-facts : verifyRefusal 𝓢 𝓓 𝓣 o ≡ 0 → VerifyFacts
   unfolding verifyTests
-  verify-facts o e =
-      let passed = refusal-passes (verifyTests 𝓢 𝓓 𝓣 o) refl e in
-      let sizes = passed .1 .1 .1 .1 .1 .0 in
-      record {
-        limits =
-            verify-limits d n r K L w κ κ₁ κ₂ b b₁ b₂ t₁ t₂ bound target
-            (early-passes (sizeTests 𝓢 𝓓) _ refl e) (passed .1 .1 .1 .1 .0, tt);
-        lists = lengths-known (allOf-drop 1 _ sizes);
-        o-length = sized-iff o _ .0 (allOf-all _ sizes .0);
-        projections-entries = passed .1 .1 .1 .1 .1 .1 .1 .0;
-      }
+  verify-facts e =
+      let row = holds (verifyTests 𝓢 𝓓 𝓣 o) refl e in
+      let limits =
+      verify-limits d n r k l w kappa kappa1 kappa2 b b1 b2 t1 t2 bound target (early-holds (sizeTests 𝓢 𝓓) _ refl e) (row 6) in
+      search (tested, limits, allOf-all _ (row 7), row 9)

@@ -1,45 +1,48 @@
--- What a call of the next instance that is not refused knows of its arguments, as plain facts.
+-- What a call of the next instance that is not refused knows of its arguments: what its work functions ask (WorkFacts), the cut and the length of
+-- what it writes to.
 use mathlib.Core.Path.{_≡_, refl}
-use mathlib.Core.Bool.{true}
 use mathlib.Core.List.{List}
 use Prim.Native.Nat.{ℕ, _≤_}
 use lib.ListN.{length}
 use borrow.Author.Tests.{leb-true}
 use lib.IntN.{ℤ}
-use Rattle.residues.specs.Range.{projectionEntries}
+use Rattle.fold.specs.declared.Shape.{Shape}
+use Rattle.fold.specs.declared.Sizes.{Sizes}
 use Rattle.fold.specs.Sizes.{restSize, nextRank, nextParts, nextCount}
-use Rattle.fold.specs.Statement.{Relation}
 use Rattle.fold.specs.Statement.{Statement, Draws, Transcript}
 use Rattle.fold.specs.Answers.{firstFailing}
 use Rattle.fold.specs.Refusals.{wholeLength, sizeTests, nextTests}
-use Rattle.fold.specs.Laws.RefusalLaws.{early-passes, allOf-head, allOf-drop, sized-iff}
-use Rattle.fold.specs.Laws.TestLaws.{holds}
-use Rattle.fold.specs.Known.CallLimits.{VerifyLimits, ChunkLimits, verify-limits, chunk-limits}
-use Rattle.fold.specs.Known.CallFacts.{Lengths, lengths-known}
+use Rattle.fold.specs.Arguments.{statementOf, drawsOf, transcriptOf}
+use Rattle.fold.specs.Laws.RefusalLaws.{allOf-all, tested}
+use Rattle.fold.specs.Laws.TestLaws.{holds, early-holds}
+use Rattle.fold.specs.Known.CallLimits.{VerifySized, ChunkLimits, verify-limits, chunk-limits}
+use Rattle.fold.specs.Known.WorkFacts.{AggregateFacts, MessageFacts, EntryFacts, ConstantFacts}
 
-module _ (𝓢 : Statement) (𝓓 : Draws) (𝓣 : Transcript) (ν μ : ℕ) (out : List ℤ) where
-  open Statement 𝓢 using (relation, w, tz, κ, κ₁, κ₂, b, b₁, b₂, t₁, t₂, target)
-  open Relation relation using (d, n, r, K, L, bound)
-  open Draws 𝓓 using (projections)
+module _ (sizes : Sizes) (A B C D whole constantTerms projections ψ ω α δ c u₁ p b″ u₂ : List ℤ) (ν μ : ℕ) (out : List ℤ) where
+  open Sizes sizes using (shape, k, l, w, kappa, kappa1, kappa2, b, b1, b2, t1, t2, bound, target)
+  open Shape shape using (d, n, r)
+
+  abbrev 𝓢 : Statement
+  𝓢 = statementOf sizes A B C D whole constantTerms
+
+  abbrev 𝓓 : Draws
+  𝓓 = drawsOf projections ψ ω α δ c
+
+  abbrev 𝓣 : Transcript
+  𝓣 = transcriptOf u₁ p b″ u₂
 
   pub record NextFacts : Type 0 where
-    pub limits : VerifyLimits d n r K L w κ κ₁ κ₂ b b₁ b₂ t₁ t₂ bound target
-    pub lists : Lengths 𝓢 𝓓 𝓣
-    pub cut : ChunkLimits tz ν μ
-    pub rank-small : nextRank n ν (restSize r κ t₁ t₂) μ ≤ 256
-    pub out-length : length out ≡ wholeLength d (nextRank n ν (restSize r κ t₁ t₂) μ) (nextParts tz ν μ) (nextCount κ κ₁ κ₂)
-    pub projections-entries : projectionEntries projections ≡ true
+    pub message : MessageFacts sizes constantTerms ψ ω p b″
+    pub aggregated : AggregateFacts d n r k l w whole constantTerms projections ψ ω α δ
+    pub entries : EntryFacts sizes A B C D c
+    pub constants : ConstantFacts sizes whole α δ b″ u₁ u₂
+    pub cut : ChunkLimits 2 ν μ
+    pub rank-small : nextRank n ν (restSize r kappa t1 t2) μ ≤ 256
+    pub out-length : length out ≡ wholeLength d (nextRank n ν (restSize r kappa t1 t2) μ) (nextParts 2 ν μ) (nextCount kappa kappa1 kappa2)
 
   pub next-facts : firstFailing (nextTests 𝓢 𝓓 𝓣 ν μ out) ≡ 0 → NextFacts
   unfolding nextTests
   next-facts e =
       let row = holds (nextTests 𝓢 𝓓 𝓣 ν μ out) refl e in
-      record {
-        limits =
-            verify-limits d n r K L w κ κ₁ κ₂ b b₁ b₂ t₁ t₂ bound target (early-passes (sizeTests 𝓢 𝓓) _ refl e) (row 6, tt);
-        lists = lengths-known 𝓢 𝓓 𝓣 (allOf-drop 1 _ (row 7));
-        cut = chunk-limits tz ν μ (row 5);
-        rank-small = leb-true _ 256 (row 11);
-        out-length = sized-iff out _ .0 (allOf-head _ _ (row 7));
-        projections-entries = row 9;
-      }
+      let limits = verify-limits d n r k l w kappa kappa1 kappa2 b b1 b2 t1 t2 bound target (early-holds (sizeTests 𝓢 𝓓) _ refl e) (row 6) in
+      search (tested, chunk-limits, leb-true, limits, row 5, allOf-all _ (row 7), row 9, row 11)

@@ -20,7 +20,7 @@ use Rattle.fold.specs.Verdict.{verdict, check₁}
 use Rattle.fold.specs.Honest.{honestTranscript, honestOpening}
 use Rattle.fold.specs.Laws.HonestChecks.{Shaped, passes₂, passes₃, passes₄, passes₅, passes₆, passes₇, passes₈, states₉}
 use Rattle.fold.specs.Refusals.{proverTests}
-use Rattle.fold.specs.Laws.RefusalLaws.{refusal-iff, allOf-all, degree-fits, base-iff, digitCount-iff}
+use Rattle.fold.specs.Laws.RefusalLaws.{refusal-iff, allOf-all, degree-fits, base-least, digitCount-least}
 use Rattle.fold.specs.Laws.TestLaws.{holds, first-after, accepted-none, failed-number, number-failed}
 
 -- the two checks of lengths, and whether each holds
@@ -63,7 +63,7 @@ module _ (a b c e : ℕ) where
       )
 
 module _ (𝓢 : Statement) (𝓓 : Draws) (s : List ℤ) where
-  open Statement 𝓢 using (relation, w, tz, target)
+  open Statement 𝓢 using (relation, w, tz, t₁, t₂, target)
   open Relation relation using (bound)
 
   pub honest-verdict : Shaped 𝓢 → Meets relation s
@@ -84,10 +84,10 @@ module _ (𝓢 : Statement) (𝓓 : Draws) (s : List ℤ) where
       let bases = allOf-all _ (row 4) in
       record {
         degree = degree-fits _ (row 1) .positive;
-        base = base-iff _ .0 (bases .0) .0;
-        base₁ = base-iff _ .0 (bases .1 .0) .0;
-        base₂ = base-iff _ .0 (bases .1 .1 .0) .0;
+        base = search (base-least, bases);
+        base₁ = search (base-least, bases);
+        base₂ = search (base-least, bases);
         digits = some;
-        digits₁ = omega (arith, digitCount-iff _ .0 (bases .1 .1 .1 .0) .0);
-        digits₂ = omega (arith, digitCount-iff _ .0 (bases .1 .1 .1 .1 .0) .0);
+        digits₁ = omega (arith, digitCount-least t₁ (search bases));
+        digits₂ = omega (arith, digitCount-least t₂ (search bases));
       }

@@ -15,7 +15,8 @@ use Rattle.fold.specs.Verification.{verification}
 use Rattle.fold.specs.Statement.{Solves}
 use Rattle.fold.specs.Verdict.{messageChecks}
 use Rattle.fold.specs.Refusals.{nextTests, partTests, wholeLength}
-use Rattle.fold.specs.Laws.RefusalLaws.{passes-refusal, allOf-all, between-iff, chunks-iff, sized-iff}
+use Rattle.fold.specs.Laws.RefusalLaws.{passes-refusal, allOf-all, between-iff, sized-iff}
+use Rattle.fold.specs.Known.CallLimits.{chunk-limits}
 use Rattle.fold.specs.Laws.TestLaws.{holds}
 use Rattle.fold.specs.Chunks.{width, padded, unpadded, ZeroPadding}
 use Rattle.fold.specs.Laws.PaddingLaws.{chunk-padded}
@@ -84,7 +85,7 @@ pub part-of-padded : (d n r κ t₁ t₂ tz ν μ i : ℕ) (o : List ℤ) → pa
 unfolding partRefusal nextPart partTests openingSize written
 part-of-padded d n r κ t₁ t₂ tz ν μ i o e =
     let row = holds (partTests d n r κ t₁ t₂ tz ν μ i o) refl e in
-    let inside = between-iff 1 (nextParts tz ν μ) i .0 (allOf-all _ (row 2) .1 .1 .0) in
-    let chunks = chunks-iff tz ν μ .0 (row 5) in
+    let inside = between-iff 1 (nextParts tz ν μ) i .0 (search (allOf-all _ (row 2))) in
+    let cut = chunk-limits tz ν μ (row 5) in
     let size = sized-iff o _ .0 (row 7) in
-    rw e (sym (chunk-padded d tz n ν (restSize r κ t₁ t₂) μ (chunks .0) (chunks .1 .0) o size (i - 1) (omega (arith, inside))))
+    rw e (sym (chunk-padded d tz n ν (restSize r κ t₁ t₂) μ (cut .ν-positive) (cut .μ-positive) o size (i - 1) (omega (arith, inside))))

@@ -3,6 +3,7 @@
 --     passes-join, -front, -back, early-passes     lists of tests joined
 --     All, allOf-iff, Any, anyOf-iff    the tests of one row
 --     between-iff, degree-fits, ..      the tests by name
+--     tested                            what each test says: `search (tested, ..)` finds a record of facts among tests that hold
 use mathlib.Core.Path.{_≡_, refl, sym, subst}
 use mathlib.Core.Bool.{Bool, true, false, cond}
 use mathlib.Core.Logic.{_↔_, _⊎_, inl, inr}
@@ -31,6 +32,11 @@ false-true e = absurd (subst T (sym e) tt)
 abbrev pub Passes : List (ℕ × Bool) → Type 0
 Passes [] = Unit {0}
 Passes (test ∷ tests) = (test .1 ≡ true) × Passes tests
+
+-- a test that holds, before others that do
+infixr 60 _&_
+pub _&_ : {A B : Type 0} → A → B → A × B
+a & b = (a, b)
 
 -- no test has the number 0, which says that there is no refusal; computes on the calls' lists
 abbrev pub numbered : List (ℕ × Bool) → Bool
@@ -111,6 +117,10 @@ all-allOf (t ∷ ts) a = both-true t (allOf ts) (a .0) (all-allOf ts (a .1))
 
 pub allOf-iff : (ts : List Bool) → (allOf ts ≡ true) ↔ All ts
 allOf-iff ts = (allOf-all ts, all-allOf ts)
+
+pub all-join : (ts us : List Bool) → All ts → All us → All (ts ++ us)
+all-join [] us a b = b
+all-join (t ∷ ts) us a b = (a .0, all-join ts us (a .1) b)
 
 abbrev pub Any : List Bool → Type 0
 Any [] = ⊥
@@ -200,11 +210,84 @@ sized-iff xs k = (eqb-true (length xs) k, eq-eqb (length xs) k)
 pub chunks-iff : (tz ν μ : ℕ) → (chunks tz (pos ν) (pos μ) ≡ true) ↔ ((1 ≤ ν) × ((1 ≤ μ) × (tz * ν + μ ≤ 16)))
 unfolding chunks
 chunks-iff tz ν μ = (
-  λ e. let a = allOf-all _ e in (leb-true 1 ν (a .0), (leb-true 1 μ (a .1 .0), leb-true (tz * ν + μ) 16 (a .1 .1 .0))),
-  λ h. all-allOf _ (le-leb 1 ν (h .0), (le-leb 1 μ (h .1 .0), (le-leb (tz * ν + μ) 16 (h .1 .1), tt))),
+  λ e. search (leb-true, allOf-all _ e),
+  λ h. all-allOf _ (search (le-leb, h)),
 )
 
 pub challenges-iff : (d r : ℕ) (c : List ℤ)
     → (challenges d r c ≡ true) ↔ ((i : ℕ) → i < r → challenge (take d (drop (i * d) c)) ≡ true)
 unfolding challenges
 challenges-iff d r c = (every-true r _, true-every r _)
+
+-- ---- what a test says, one law a fact: a record of facts is found by these, whatever stands before or after the tests that it needs
+
+pub rank-least : (n : ℕ) → rank (pos n) ≡ true → 0 < n
+rank-least n e = rank-iff n .0 e .0
+
+pub rank-most : (n : ℕ) → rank (pos n) ≡ true → n ≤ 256
+rank-most n e = rank-iff n .0 e .1
+
+pub parts-least : (r : ℕ) → parts (pos r) ≡ true → 0 < r
+parts-least r e = parts-iff r .0 e .0
+
+pub parts-most : (r : ℕ) → parts (pos r) ≡ true → r ≤ 16
+parts-most r e = parts-iff r .0 e .1
+
+pub constraintCount-most : (k : ℕ) → constraintCount (pos k) ≡ true → k ≤ 32
+constraintCount-most k e = constraintCount-iff k .0 e .1
+
+pub projectionCount-most : (w : ℕ) → projectionCount (pos w) ≡ true → w ≤ 256
+projectionCount-most w e = projectionCount-iff w .0 e .1
+
+pub commitmentRank-least : (κ : ℕ) → commitmentRank (pos κ) ≡ true → 1 ≤ κ
+commitmentRank-least κ e = commitmentRank-iff κ .0 e .0
+
+pub commitmentRank-most : (κ : ℕ) → commitmentRank (pos κ) ≡ true → κ ≤ 8
+commitmentRank-most κ e = commitmentRank-iff κ .0 e .1
+
+pub base-least : (b : ℕ) → base (pos b) ≡ true → 2 ≤ b
+base-least b e = base-iff b .0 e .0
+
+pub digitCount-least : (t : ℕ) → digitCount (pos t) ≡ true → 2 ≤ t
+digitCount-least t e = digitCount-iff t .0 e .0
+
+pub digitCount-most : (t : ℕ) → digitCount (pos t) ≡ true → t ≤ 8
+digitCount-most t e = digitCount-iff t .0 e .1
+
+pub lengthBound-most : (β² : ℕ) → lengthBound (pos β²) ≡ true → β² ≤ 999999999999999
+lengthBound-most β² e = lengthBound-iff β² .0 e .1
+
+pub between-least : (low high n : ℕ) → between low high (pos n) ≡ true → low ≤ n
+between-least low high n e = between-iff low high n .0 e .0
+
+pub between-most : (low high n : ℕ) → between low high (pos n) ≡ true → n ≤ high
+between-most low high n e = between-iff low high n .0 e .1
+
+pub sized-length : {A : Type 0} (xs : List A) (k : ℕ) → sized xs k ≡ true → length xs ≡ k
+sized-length xs k = sized-iff xs k .0
+
+pub length-sized : {A : Type 0} (xs : List A) (k : ℕ) → length xs ≡ k → sized xs k ≡ true
+length-sized xs k = sized-iff xs k .1
+
+pub between-tested : (low high n : ℕ) → low ≤ n → n ≤ high → between low high (pos n) ≡ true
+between-tested low high n h l = between-iff low high n .1 (h, l)
+
+pub ruleset tested = (
+  degree-fits,
+  rank-least,
+  rank-most,
+  parts-least,
+  parts-most,
+  constraintCount-most,
+  projectionCount-most,
+  commitmentRank-least,
+  commitmentRank-most,
+  base-fits,
+  base-least,
+  digitCount-least,
+  digitCount-most,
+  lengthBound-most,
+  between-least,
+  between-most,
+  sized-length,
+)

@@ -1,7 +1,8 @@
 -- Laws of a list of numbered tests: the refusals of a call, the checks of the verdict.
 --     rising                    the numbers rise; computes on the lists that are written out
 --     passing, failing          one test more; passes, fails: where code asks
---     holds, holds-iff          where none fails, each number's test holds
+--     Rows, passes-rows         each number's test holds
+--     holds, early-holds, holds-iff     where none fails, each number's test holds
 --     First, first-iff          k is the first exactly when its test fails and those of lower numbers hold
 --     first-after               the same by place: those before it hold
 --     stops, goes-on, after-passes     a list in two parts
@@ -16,7 +17,7 @@ use lib.Dec.{T, eqb, ltb}
 use borrow.Author.Tests.{ltb-true, ltb-false, lt-ltb, eqb-true, eqb-false, eq-eqb, ne-eqb, not-true, not-false}
 use Rattle.fold.specs.declared.Verdict.the-variants.{Accepted, Failed}
 use Rattle.fold.specs.Answers.{firstFailing, testOf, judged}
-use Rattle.fold.specs.Laws.RefusalLaws.{both-left, both-right, Passes, numbered, refusal-passes}
+use Rattle.fold.specs.Laws.RefusalLaws.{both-left, both-right, Passes, numbered, refusal-passes, early-passes}
 
 -- the numbers rise, from above k
 abbrev pub rising : ℕ → List (ℕ × Bool) → Bool
@@ -79,12 +80,20 @@ passes k tests {r} e f h = passing k tests (sym e ∙ not-false r f) h
 
 -- ---- none fails
 
-passes-number : (tests : List (ℕ × Bool)) → Passes tests → (k : ℕ) → testOf k tests ≡ true
-passes-number [] p k = refl
-passes-number (test ∷ tests) p k = either (eqb (test .0) k) (λ e. rw e (p .0)) (λ e. rw e (passes-number tests (p .1) k))
+-- each number's test holds
+abbrev pub Rows : List (ℕ × Bool) → Type 0
+Rows tests = (k : ℕ) → testOf k tests ≡ true
 
-pub holds : (tests : List (ℕ × Bool)) → numbered tests ≡ true → firstFailing tests ≡ 0 → (k : ℕ) → testOf k tests ≡ true
-holds tests l e = passes-number tests (refusal-passes tests l e)
+pub passes-rows : (tests : List (ℕ × Bool)) → Passes tests → Rows tests
+passes-rows [] p k = refl
+passes-rows (test ∷ tests) p k = either (eqb (test .0) k) (λ e. rw e (p .0)) (λ e. rw e (passes-rows tests (p .1) k))
+
+pub holds : (tests : List (ℕ × Bool)) → numbered tests ≡ true → firstFailing tests ≡ 0 → Rows tests
+holds tests l e = passes-rows tests (refusal-passes tests l e)
+
+-- the first tests of a call that is not refused
+pub early-holds : (early later : List (ℕ × Bool)) → numbered (early ++ later) ≡ true → firstFailing (early ++ later) ≡ 0 → Rows early
+early-holds early later l e = passes-rows early (early-passes early later l e)
 
 -- numbers up to the first are not in a rising list
 absent : (m : ℕ) (tests : List (ℕ × Bool)) → rising m tests ≡ true → (j : ℕ) → j ≤ m → testOf j tests ≡ true
@@ -160,10 +169,10 @@ pub first-iff : (tests : List (ℕ × Bool)) → rising 0 tests ≡ true → (k 
 first-iff tests e k some = (first-is 0 tests e k some, is-first 0 tests e k)
 
 -- where none fails each number's test holds, and back
-pub holds-iff : (tests : List (ℕ × Bool)) → rising 0 tests ≡ true → (firstFailing tests ≡ 0) ↔ ((k : ℕ) → testOf k tests ≡ true)
+pub holds-iff : (tests : List (ℕ × Bool)) → rising 0 tests ≡ true → (firstFailing tests ≡ 0) ↔ Rows tests
 holds-iff tests e = (holds tests (rising-numbered 0 tests e), none (firstFailing tests) refl)
   where
-    none : (k : ℕ) → firstFailing tests ≡ k → ((k : ℕ) → testOf k tests ≡ true) → firstFailing tests ≡ 0
+    none : (k : ℕ) → firstFailing tests ≡ k → Rows tests → firstFailing tests ≡ 0
     none zero q h = q
     none (suc k) q h = true-false (h (suc k)) (first-is 0 tests e (suc k) (omega arith) q .fails)
 

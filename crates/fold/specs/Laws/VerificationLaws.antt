@@ -15,7 +15,7 @@ use Rattle.fold.specs.Sizes.{openingSize}
 use Rattle.fold.specs.Statement.{Relation, Statement, Draws, Transcript}
 use Rattle.fold.specs.Verdict.{verdict}
 use Rattle.fold.specs.Refusals.{verifyTests}
-use Rattle.fold.specs.Laws.RefusalLaws.{allOf-head, sized-iff, challenges-iff}
+use Rattle.fold.specs.Laws.RefusalLaws.{allOf-all, sized-length, challenges-iff}
 use Rattle.fold.specs.Laws.TestLaws.{holds}
 use Rattle.fold.specs.Verification.{verification}
 use Rattle.fold.specs.Laws.Accepted.{Accepts, accepts}
@@ -36,7 +36,6 @@ module _ (𝓢 : Statement) (𝓓 : Draws) (𝓣 : Transcript) (o : List ℤ) wh
     pub small : coefficients o ≡ true
     pub rule : (i : ℕ) → i < r → challenge (take d (drop (i * d) c)) ≡ true
 
-  -- rows 7 and 8 look at the opening first
   pub accepted-opening : verification 𝓢 𝓓 𝓣 o ≡ Judged Accepted → AcceptedOpening
   unfolding verifyTests
   accepted-opening e =
@@ -44,7 +43,7 @@ module _ (𝓢 : Statement) (𝓓 : Draws) (𝓣 : Transcript) (o : List ℤ) wh
       let row = holds (verifyTests 𝓢 𝓓 𝓣 o) refl unrefused in
       record {
         facts = accepts 𝓢 𝓓 𝓣 o passed;
-        sized = sized-iff o _ .0 (allOf-head _ _ (row 7));
-        small = allOf-head _ _ (row 8);
+        sized = sized-length o _ (search (allOf-all _ (row 7)));
+        small = search (allOf-all _ (row 8));
         rule = challenges-iff d r c .0 (row 10);
       }

@@ -25,7 +25,8 @@ use Rattle.fold.specs.Statement.{Statement, Draws, Transcript}
 use Rattle.fold.specs.Verdict.{verdict}
 use Rattle.fold.specs.Laws.Accepted.{accepts, accepted}
 use Rattle.fold.specs.Refusals.{verifyTests, nextTests}
-use Rattle.fold.specs.Laws.RefusalLaws.{passes-refusal, allOf-all, allOf-cons, allOf-tail, sized-iff, chunks-iff, lengthBound-iff}
+use Rattle.fold.specs.Laws.RefusalLaws.{passes-refusal, allOf-all, allOf-cons, allOf-tail, sized-iff, lengthBound-most}
+use Rattle.fold.specs.Known.CallLimits.{chunk-limits}
 use Rattle.fold.specs.Laws.TestLaws.{holds}
 use Rattle.fold.specs.Verification.{verification}
 use Rattle.fold.specs.Laws.VerificationLaws.{judged-accepted}
@@ -60,15 +61,15 @@ module _ (𝓢 : Statement) (𝓓 : Draws) (𝓣 : Transcript) (ν μ : ℕ) (ou
 
   some-ν : 0 < ν
   unfolding nextTests
-  some-ν = chunks-iff tz ν μ .0 (row 5) .0
+  some-ν = chunk-limits tz ν μ (row 5) .ν-positive
 
   some-μ : 0 < μ
   unfolding nextTests
-  some-μ = chunks-iff tz ν μ .0 (row 5) .1 .0
+  some-μ = chunk-limits tz ν μ (row 5) .μ-positive
 
   small-target : target ≤ 999999999999999
   unfolding nextTests
-  small-target = lengthBound-iff target .0 (allOf-all _ (row 6) .1 .0) .1
+  small-target = lengthBound-most target (search (allOf-all _ (row 6)))
 
   -- an opening whose length and range are right is not refused
   unrefused-opening : (o : List ℤ) → length o ≡ openingSize tz n r κ t₁ t₂ * d → coefficients o ≡ true → firstFailing (verifyTests 𝓢 𝓓 𝓣 o) ≡ 0

@@ -15,8 +15,10 @@ use Rattle.ring.specs.Element.{every}
 use Rattle.ring.specs.Laws.ElementEquality.{every-true}
 use Rattle.fold.specs.Answers.{firstFailing, testOf}
 use Rattle.fold.specs.Refusals.{allOf, sized, ranges, verifyTests}
-use Rattle.fold.specs.Laws.RefusalLaws.{Passes, passes-refusal, allOf-all, all-allOf, sized-iff}
-use Rattle.fold.specs.Laws.TestLaws.{after-passes}
+use Rattle.fold.specs.Laws.RefusalLaws.{Passes, _&_, passes-refusal, allOf-all, all-allOf, sized-iff}
+use Rattle.fold.specs.Laws.TestLaws.{passes-rows, after-passes}
+use Rattle.fold.specs.Sizes.{zCount}
+use Rattle.limits.specs.Stages.{nextBoundsOf}
 use Rattle.sheet.specs.declared.sizes.SheetSizes.{SheetSizes}
 use Rattle.sheet.specs.Lists.{listLengths, listAt}
 use Rattle.sheet.specs.Sections.{total}
@@ -24,11 +26,6 @@ use Rattle.sheet.specs.Laws.ListLaws.{length-list, coefficients-list, list-coef
 use Rattle.sheet.specs.Laws.HeaderLaws.{header-passes}
 use Rattle.sheet.specs.Reading.{headerTests, sizesOf, foldSizes, projectionsIn, challengesIn, numberTests}
 use Rattle.judge.specs.Judging.{sheetStatement, sheetDraws, sheetTranscript, sheetOpening}
-
--- facts of a list's tests, one after another
-infixr 4 _&_
-_&_ : {A B : Type 0} → A → B → A × B
-a & b = (a, b)
 
 module _ (s : SheetSizes) (xs : List ℤ) where
   module _ (count : length xs ≡ total s) where
@@ -53,14 +50,14 @@ module _ (h xs : List ℤ) (header : Passes (headerTests h)) (count : length xs 
   early : Passes (take 6 tests)
   unfolding verifyTests foldSizes listLengths
   early =
-      let sizes = header-passes h header in
+      let row = passes-rows (nextBoundsOf zCount (foldSizes (sizesOf h)) (sizesOf h .nu) (sizesOf h .mu)) (header-passes h header) in
       let size : (k : ℕ) → k < 17 → sized (listAt (listLengths (sizesOf h)) xs k) (getD (listLengths (sizesOf h)) k 0) ≡ true =
       sized-list (sizesOf h) xs count in
-      sizes .0
-      & sizes .1 .0
-      & sizes .1 .1 .0
-      & sizes .1 .1 .1 .0
-      & sizes .1 .1 .1 .1 .1 .0
+      row 1
+      & row 2
+      & row 3
+      & row 4
+      & row 6
       & all-allOf _ (
       size 16 (omega arith)
       & size 6 (omega arith)

@@ -2,11 +2,11 @@
 use mathlib.Core.Path.{refl}
 use native.Mathlib.Omega.{arith}
 use Rattle.fold.specs.Refusals.{verifyTests}
-use Rattle.fold.specs.Laws.RefusalLaws.{sized-iff}
+use Rattle.fold.specs.Laws.RefusalLaws.{sized-length}
 use Rattle.fold.specs.Laws.TestLaws.{stops}
 use Rattle.limits.specs.Stages.{verifyBoundsOf}
 use Rattle.limits.specs.Laws.RowLaws.{end, _&_, joined-row}
-use Rattle.limits.specs.Laws.StageLaws.{unfit, fit, fitting, single, none, append-rows}
+use Rattle.limits.specs.Laws.StageLaws.{unfit, fit, fitting-last, single, none, append-rows}
 use Rattle.limits.specs.Known.StageLimits.{verify-sized}
 use Rattle.limits.proofs.verify_refusal.Statement.{statement}
 use Rattle.limits.proofs.verify_refusal.Tie as tie
@@ -76,8 +76,8 @@ challenges-requires c κs =
     let c9 = c8 .before in
     let opened = append-rows _ _ (joined-row (c9 .opening-fits .ensures & end)) (c8 .message-lengths .ensures) in
     let lists = append-rows _ _ opened (c7 .matrix-lengths .ensures) in
-    let fits = fitting _ (append-rows _ _ lists (c6 .draw-lengths .ensures)) (c5 .if2 .left) in
-    sized-iff _ _ .0 (fits .1 .1 .1 .1 .1 .1 .1 .1 .1 .1 .1 .1 .1 .1 .1 .1 .0)
+    let fits = fitting-last _ (append-rows _ _ lists (c6 .draw-lengths .ensures)) (c5 .if2 .left) in
+    sized-length _ _ fits
 
 returns-3 : tie.Need-returns-3
 unfolding verifyTests

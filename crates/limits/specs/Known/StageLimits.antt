@@ -8,7 +8,7 @@ use Rattle.fold.specs.declared.GarbageSizes.{GarbageSizes}
 use Rattle.fold.specs.declared.Sizes.{Sizes}
 use Rattle.fold.specs.declared.PartSizes.{PartSizes}
 use Rattle.fold.specs.Answers.{firstFailing}
-use Rattle.fold.specs.Laws.RefusalLaws.{Passes, refusal-passes, passes-front, passes-back}
+use Rattle.fold.specs.Laws.TestLaws.{Rows, holds, early-holds}
 use Rattle.fold.specs.Known.CallLimits.{ProjectLimits, AggregateLimits, AmortizeLimits, ChunkLimits, chunk-limits, part-limits}
 use Rattle.fold.specs.Known.CallLimits.{commit-limits, project-limits, aggregate-limits, garbage-limits, amortize-limits, verify-limits}
 use Rattle.fold.specs.Known.CutSizes.{CutSizes, cut-sizes}
@@ -19,36 +19,35 @@ use Rattle.limits.specs.Stages.{commitBoundsOf, garbageBoundsOf, verifyB
 use Rattle.limits.specs.Stages.{ConstraintLimits}
 
 pub commit-sized : (m : CommitSizes) {x : ℕ} → x ≡ firstFailing (commitBoundsOf m) → x ≡ 0 → CommitSized m
-commit-sized m e z = commit-limits _ _ _ _ _ _ _ _ _ (refusal-passes (commitBoundsOf m) refl (sym e ∙ z))
+commit-sized m e z = commit-limits _ _ _ _ _ _ _ _ _ (holds (commitBoundsOf m) refl (sym e ∙ z))
 
 pub project-sized : (d n r w : ℕ) {x : ℕ} → x ≡ firstFailing (projectBounds d n r w) → x ≡ 0 → ProjectLimits d n r w
-project-sized d n r w e z = project-limits d n r w (refusal-passes (projectBounds d n r w) refl (sym e ∙ z))
+project-sized d n r w e z = project-limits d n r w (holds (projectBounds d n r w) refl (sym e ∙ z))
 
 pub aggregate-sized : (d n r L w : ℕ) {x : ℕ} → x ≡ firstFailing (aggregateBounds d n r L w) → x ≡ 0 → AggregateLimits d n r L w
-aggregate-sized d n r L w e z = aggregate-limits d n r L w (refusal-passes (aggregateBounds d n r L w) refl (sym e ∙ z))
+aggregate-sized d n r L w e z = aggregate-limits d n r L w (holds (aggregateBounds d n r L w) refl (sym e ∙ z))
 
 pub garbage-sized : (m : GarbageSizes) {x : ℕ} → x ≡ firstFailing (garbageBoundsOf m) → x ≡ 0 → GarbageSized m
-garbage-sized m e z = garbage-limits _ _ _ _ _ _ _ _ _ (refusal-passes (garbageBoundsOf m) refl (sym e ∙ z))
+garbage-sized m e z = garbage-limits _ _ _ _ _ _ _ _ _ (holds (garbageBoundsOf m) refl (sym e ∙ z))
 
 pub amortize-sized : (d n r b : ℕ) {x : ℕ} → x ≡ firstFailing (amortizeBounds d n r b) → x ≡ 0 → AmortizeLimits d n r b
-amortize-sized d n r b e z = amortize-limits d n r b (refusal-passes (amortizeBounds d n r b) refl (sym e ∙ z))
+amortize-sized d n r b e z = amortize-limits d n r b (holds (amortizeBounds d n r b) refl (sym e ∙ z))
 
 pub verify-sized : (m : Sizes) {x : ℕ} → x ≡ firstFailing (verifyBoundsOf m) → x ≡ 0 → VerifySized m
 verify-sized m e z =
-    let p = refusal-passes (verifyBoundsOf m) refl (sym e ∙ z) in
-    verify-limits _ _ _ _ _ _ _ _ _ _ _ _ _ _ _ _ (passes-front (sizeRowsOf m) (boundRowsOf m) p) (passes-back (sizeRowsOf m) (boundRowsOf m) p)
+    verify-limits _ _ _ _ _ _ _ _ _ _ _ _ _ _ _ _ (early-holds (sizeRowsOf m) (boundRowsOf m) refl (sym e ∙ z)) (holds (verifyBoundsOf m) refl (sym e ∙ z) 6)
 
 module _ (tz : ℕ) (m : Sizes) (ν μ : ℕ) {x : ℕ} (e : x ≡ firstFailing (nextBoundsOf tz m ν μ)) (z : x ≡ 0) where
-  passed : Passes (nextBoundsOf tz m ν μ)
-  passed = refusal-passes (nextBoundsOf tz m ν μ) refl (sym e ∙ z)
+  row : Rows (nextBoundsOf tz m ν μ)
+  row = holds (nextBoundsOf tz m ν μ) refl (sym e ∙ z)
 
   pub next-sized : VerifySized m
   next-sized =
       verify-limits _ _ _ _ _ _ _ _ _ _ _ _ _ _ _ _
-      (passes-front (sizeRowsOf m) ((5, chunks tz (pos ν) (pos μ)) ∷ boundRowsOf m) passed) (passed .1 .1 .1 .1 .1)
+      (early-holds (sizeRowsOf m) ((5, chunks tz (pos ν) (pos μ)) ∷ boundRowsOf m) refl (sym e ∙ z)) (row 6)
 
   pub next-cut : ChunkLimits tz ν μ
-  next-cut = chunk-limits tz ν μ (passed .1 .1 .1 .1 .0)
+  next-cut = chunk-limits tz ν μ (row 5)
 
   pub next-cut-sizes : 0 < tz → CutSizes (m .shape .n) ν (restSize (m .shape .r) (m .kappa) (m .t1) (m .t2)) μ
   next-cut-sizes some =
@@ -56,7 +55,7 @@ module _ (tz : ℕ) (m : Sizes) (ν μ : ℕ) {x : ℕ} (e : x ≡ firstFailing 
       cut-sizes tz _ _ _ _ some (l .shaped .rank-small) (l .shaped .parts-small) (l .κ-small) (l .t₁-most) (l .t₂-most) next-cut refl
 
 pub part-sized : (tz : ℕ) (m : PartSizes) (i : ℕ) {x : ℕ} → x ≡ firstFailing (partBoundsOf tz m i) → x ≡ 0 → PartSizedWith tz m i
-part-sized tz m i e z = part-limits _ _ _ _ _ _ _ _ _ _ (refusal-passes (partBoundsOf tz m i) refl (sym e ∙ z))
+part-sized tz m i e z = part-limits _ _ _ _ _ _ _ _ _ _ (holds (partBoundsOf tz m i) refl (sym e ∙ z))
 
 -- the sizes of the constraints alone
 pub garbage-constraints : (m : GarbageSizes) → GarbageSized m → ConstraintLimits (m .shape .d) (m .shape .n) (m .shape .r) (m .k) (m .l) (m .w)

@@ -11,7 +11,8 @@ use borrow.Author.Tests.{leb-true, leb-false, le-leb}
 use Rattle.fold.specs.Sizes.{nextParts}
 use Rattle.fold.specs.Refusals.{chunks, between}
 use Rattle.fold.specs.Laws.SizeBounds.{product-bound}
-use Rattle.fold.specs.Laws.RefusalLaws.{chunks-iff, between-iff}
+use Rattle.fold.specs.Laws.RefusalLaws.{between-iff}
+use Rattle.fold.specs.Known.CallLimits.{chunk-limits}
 use Rattle.limits.specs.Laws.RowLaws.{joined-allOf}
 
 untrue : (t : Bool) → (t ≡ true → ⊥) → false ≡ t
@@ -34,10 +35,10 @@ leb-same a b c d f g = by (leb a b) refl
 
 pub many-ν : (tz ν μ : ℕ) → 0 < tz → 16 < ν → false ≡ chunks tz (pos ν) (pos μ)
 many-ν tz ν μ some h =
-    untrue _ (λ e. let l = chunks-iff tz ν μ .0 e .1 .1 in omega (arith, h, l, product-bound 1 ν tz ν some (le-refl ν)))
+    untrue _ (λ e. omega (arith, h, chunk-limits tz ν μ e .parts-small, product-bound 1 ν tz ν some (le-refl ν)))
 
 pub many-μ : (tz ν μ : ℕ) → 16 < μ → false ≡ chunks tz (pos ν) (pos μ)
-many-μ tz ν μ h = untrue _ (λ e. let l = chunks-iff tz ν μ .0 e .1 .1 in omega (arith, h, l))
+many-μ tz ν μ h = untrue _ (λ e. omega (arith, h, chunk-limits tz ν μ e .parts-small))
 
 pub chunk-tests : (tz ν μ : ℕ) → leb 1 ν && leb 1 μ && leb (tz * ν + μ) 16 ≡ chunks tz (pos ν) (pos μ)
 unfolding chunks

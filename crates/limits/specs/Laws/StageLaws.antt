@@ -2,7 +2,7 @@
 --     single, row, none        one row of a nest of `first`, and its end
 --     after-rows               the first rows, then the later ones
 --     unfit, fit               none of those fails, and row m does or does not
---     fitting                  what row m then says
+--     fitting, fitting-last    what row m then says, and its last test
 --     joined-tests, append-rows     the tests of a row, and a row in two parts
 use mathlib.Core.Path.{_≡_, refl, sym, _∙_}
 use mathlib.Core.Bool.{Bool, true, false, cond, not, _&&_}
@@ -67,3 +67,15 @@ append-rows ss ts e f = rw (e, f) (allOf-append ss ts)
 -- the tests of a row that has passed
 pub fitting : (ts : List Bool) {s : Bool} → s ≡ allOf ts → not s ≡ false → All ts
 fitting ts {s} q f = allOf-all ts (sym q ∙ not-false s f)
+
+-- the last of them, whatever stands before it
+abbrev pub lastOf : Bool → List Bool → Bool
+lastOf t [] = t
+lastOf t (u ∷ ts) = lastOf u ts
+
+last-holds : (t : Bool) (ts : List Bool) → All (t ∷ ts) → lastOf t ts ≡ true
+last-holds t [] a = a .0
+last-holds t (u ∷ ts) a = last-holds u ts (a .1)
+
+pub fitting-last : (ts : List Bool) {s : Bool} → s ≡ allOf ts → not s ≡ false → lastOf true ts ≡ true
+fitting-last ts q f = last-holds true ts (refl, fitting ts q f)

@@ -1,4 +1,5 @@
 use borrow.Author.Needs.{needs}
+use native.Mathlib.Omega.{arith}
 use Rattle.lizkarg.specs.Laws.CallLaws.{amortize-refused, amortize-facts, amortize-written}
 use Rattle.lizkarg.proofs.amortize.Statement.{statement}
 use Rattle.lizkarg.proofs.amortize.Tie as tie
@@ -7,7 +8,7 @@ returns : tie.Need-returns
 returns c = amortize-refused (c .before .amortize-refusal .ensures) (c .if1 .taken)
 
 write-z-requires : tie.Need-write-z-requires
-write-z-requires c κs = amortize-facts (c .before .before .amortize-refusal .ensures) (c .before .if1 .left)
+write-z-requires c κs = ((omega arith, omega arith), amortize-facts (c .before .before .amortize-refusal .ensures) (c .before .if1 .left))
 
 returns-2 : tie.Need-returns-2
 returns-2 c = amortize-written (c .before .before .before .before .amortize-refusal .ensures) (c .before .before .before .if1 .left) (c .before .write-z .ensures)

@@ -1,8 +1,7 @@
 -- An answer and what was written, by the number of the refusal.
 use mathlib.Core.Path.{_≡_, refl, sym, ap, ap₂, _∙_}
 use mathlib.Core.List.{List}
-use Prim.Native.Nat.{ℕ, zero, suc, _*_}
-use native.Mathlib.Omega.{arith}
+use Prim.Native.Nat.{ℕ, zero, suc}
 use lib.ListN.{length, replicate}
 use lib.IntN.{ℤ, pos}
 use Rattle.ring.specs.declared.element.Element.{Element}
@@ -18,11 +17,9 @@ use Rattle.fold.specs.Arguments.{productRefusal, commitRefusal, projectRefusal,
 use Rattle.fold.specs.Known.CallFacts as CallFacts
 use Rattle.fold.specs.Sizes.{zCount}
 use Rattle.fold.specs.Messages.{p, b″, u₂, zDigits}
-use Rattle.prover.specs.Known.Facts.{TFacts, GFacts, OuterFacts, ProjectFacts, AmortizeFacts}
-use Rattle.prover.specs.Known.Facts as ProverFacts
+use Rattle.fold.specs.Known.CallFacts.{CommitFacts, ProjectFacts, AggregateCallFacts, GarbageFacts, AmortizeFacts, written-digits, written-h}
+use Rattle.fold.specs.Known.WorkFacts.{TFacts, GFacts, U₁Facts, HFacts, U₂Facts}
 use Rattle.prover.specs.Outputs.{tOf, gOf, u₁Of}
-use Rattle.aggregation.specs.Known.Facts.{ValueFacts, HFacts}
-use Rattle.aggregation.specs.Known.Facts as AggregationFacts
 use Rattle.lizkarg.specs.declared.Product.{Product}
 use Rattle.lizkarg.specs.Calls.{productOf, Committed, Projected, Aggregated, GarbageCommitted, Amortized, hOf}
 
@@ -82,41 +79,18 @@ module _ (sizes : CommitSizes) (A B C s t g u : List ℤ) {x : ℕ} (number : x 
         u-is = kept (u₁Of sizes B C (tOf sizes A s) (gOf sizes s)) u number some;
       }
 
-  facts : x ≡ 0 → CallFacts.CommitFacts (sizes .shape .d) (sizes .shape .n) (sizes .shape .r) (sizes .kappa) (sizes .kappa1) (sizes .b1) (sizes .b2) (sizes .t1) (sizes .t2) A B C s t g u
-  facts none = CallFacts.commit-facts (sym number ∙ none)
-
-  limits : x ≡ 0 → ProverFacts.CommitFacts sizes
-  limits none =
-      let found = facts none .limits in
-      record {
-        shape = found .shaped;
-        rank-small = found .κ-small;
-        t-base = found .base₁;
-        g-base = found .base₂;
-        t-digits = omega (arith, found .t₁-least);
-        t-digits-few = found .t₁-most;
-        g-digits = omega (arith, found .t₂-least);
-        g-digits-few = found .t₂-most;
-      }
+  facts : x ≡ 0 → CommitFacts sizes A B C s t g u
+  facts none = CallFacts.commit-facts sizes (sym number ∙ none)
 
   pub commit-t : x ≡ 0 → TFacts sizes A s t
-  commit-t none =
-      record { sized = limits none; matrix = facts none .A-length; witness = facts none .s-length; output = facts none .ts-length }
+  commit-t none = facts none .t
 
   pub commit-g : x ≡ 0 → GFacts sizes s g
-  commit-g none = record { sized = limits none; witness = facts none .s-length; output = facts none .gs-length }
+  commit-g none = facts none .g
 
   -- t′ and g′ are what the two calls before left
-  pub commit-u : {t′ g′ : List ℤ} → x ≡ 0 → length t′ ≡ length t → length g′ ≡ length g → OuterFacts sizes B C t′ g′ u
-  commit-u none t-long g-long =
-      record {
-        sized = limits none;
-        t-matrix = facts none .B-length;
-        g-matrix = facts none .C-length;
-        t-digits = t-long ∙ facts none .ts-length;
-        g-digits = g-long ∙ facts none .gs-length;
-        output = facts none .u₁-length;
-      }
+  pub commit-u : {t′ g′ : List ℤ} → x ≡ 0 → length t′ ≡ length t → length g′ ≡ length g → U₁Facts sizes B C t′ g′ u
+  commit-u none t-long g-long = written-digits sizes t-long g-long (facts none .u)
 
   pub commit-written : {t′ g′ u′ : List ℤ} → x ≡ 0 → t′ ≡ tOf sizes A s → g′ ≡ gOf sizes s → u′ ≡ u₁Of sizes B C t′ g′
       → Committed sizes A B C s t g u Written t′ g′ u′
@@ -137,15 +111,7 @@ module _ {shape : Shape} {w : ℕ} {projections s v : List ℤ} {x : ℕ} (numbe
       record { answer-is = refused Written number some; p-is = kept (p (shape .d) (shape .n) (shape .r) w projections s) v number some }
 
   pub project-facts : x ≡ 0 → ProjectFacts shape w projections s v
-  project-facts none =
-      let facts = CallFacts.project-facts (sym number ∙ none) in
-      record {
-        shaped = facts .limits .shaped;
-        entries = facts .projections-entries;
-        matrix = facts .projections-length;
-        witness = facts .s-length;
-        output = facts .p-length;
-      }
+  project-facts none = CallFacts.project-facts shape (sym number ∙ none)
 
   pub project-written : {v′ : List ℤ} → x ≡ 0 → v′ ≡ p (shape .d) (shape .n) (shape .r) w projections s → Projected shape w projections s v Written v′
   project-written none new = record { answer-is = answers Written (sym number ∙ none); p-is = writes v (sym number ∙ none) new }
@@ -160,11 +126,8 @@ module _ (shape : Shape) (L w : ℕ) (constantTerms projections ψ ω s v : List
         b-is = kept (b″ (shape .d) (shape .n) (shape .r) L w constantTerms projections ψ ω s) v number some;
       }
 
-  pub aggregate-facts : x ≡ 0 → ValueFacts (shape .d) (shape .n) (shape .r) L w constantTerms projections ψ ω s
-  aggregate-facts none = AggregationFacts.value-facts (CallFacts.aggregate-facts {b″ = v} (sym number ∙ none))
-
-  pub aggregate-room : x ≡ 0 → length v ≡ 5 * shape .d
-  aggregate-room none = CallFacts.aggregate-facts {b″ = v} (sym number ∙ none) .b″-length
+  pub aggregate-facts : x ≡ 0 → AggregateCallFacts shape L w constantTerms projections ψ ω s v
+  aggregate-facts none = CallFacts.aggregate-facts shape (sym number ∙ none)
 
   pub aggregate-written : {v′ : List ℤ} → x ≡ 0 → v′ ≡ b″ (shape .d) (shape .n) (shape .r) L w constantTerms projections ψ ω s
       → Aggregated shape L w constantTerms projections ψ ω s v Written v′
@@ -174,10 +137,8 @@ module _ (shape : Shape) (L w : ℕ) (constantTerms projections ψ ω s v : List
 
 module _ (sizes : GarbageSizes) (whole constantTerms projections ψ ω α δ D s h u : List ℤ) {x : ℕ}
     (number : x ≡ garbageRefusal sizes whole constantTerms projections ψ ω α δ D s h u) where
-  garbage-found : x ≡ 0
-      → CallFacts.GarbageFacts (sizes .shape .d) (sizes .shape .n) (sizes .shape .r) (sizes .k) (sizes .l) (sizes .w) (sizes .kappa2) (sizes .b1) (sizes .t1)
-      whole constantTerms projections ψ ω α δ D s h u
-  garbage-found none = CallFacts.garbage-facts (sym number ∙ none)
+  garbage-found : x ≡ 0 → GarbageFacts sizes whole constantTerms projections ψ ω α δ D s h u
+  garbage-found none = CallFacts.garbage-facts sizes (sym number ∙ none)
 
   pub garbage-refused : (x ≡ 0 → ⊥) → GarbageCommitted sizes whole constantTerms projections ψ ω α δ D s h u (Refused x) h u
   garbage-refused some =
@@ -187,13 +148,11 @@ module _ (sizes : GarbageSizes) (whole constantTerms projections ψ ω α δ D s
         u-is = kept (u₂ (sizes .shape .d) (sizes .shape .r) (sizes .kappa2) (sizes .t1) D (hOf sizes whole constantTerms projections ψ ω α δ s)) u number some;
       }
 
-  pub garbage-h : x ≡ 0
-      → HFacts (sizes .shape .d) (sizes .shape .n) (sizes .shape .r) (sizes .k) (sizes .l) (sizes .w) (sizes .b1) (sizes .t1) whole constantTerms projections ψ ω α δ s h
-  garbage-h none = AggregationFacts.h-facts (garbage-found none)
+  pub garbage-h : x ≡ 0 → HFacts sizes whole constantTerms projections ψ ω α δ s h
+  garbage-h none = garbage-found none .h
 
-  pub garbage-u : {h′ : List ℤ} → x ≡ 0 → length h′ ≡ length h
-      → AggregationFacts.OuterFacts (sizes .shape .d) (sizes .shape .r) (sizes .kappa2) (sizes .t1) D h′ u
-  garbage-u none long = AggregationFacts.outer-facts (garbage-found none) long
+  pub garbage-u : {h′ : List ℤ} → x ≡ 0 → length h′ ≡ length h → U₂Facts sizes D h′ u
+  garbage-u none long = written-h sizes long (garbage-found none .u)
 
   pub garbage-written : {h′ u′ : List ℤ} → x ≡ 0 → h′ ≡ hOf sizes whole constantTerms projections ψ ω α δ s
       → u′ ≡ u₂ (sizes .shape .d) (sizes .shape .r) (sizes .kappa2) (sizes .t1) D h′
@@ -213,18 +172,8 @@ module _ {shape : Shape} {b : ℕ} {c s v : List ℤ} {x : ℕ} (number : x ≡ 
   amortize-refused some =
       record { answer-is = refused Written number some; z-is = kept (zDigits (shape .d) (shape .n) (shape .r) zCount b c s) v number some }
 
-  pub amortize-facts : x ≡ 0 → AmortizeFacts zCount shape b c s v
-  amortize-facts none =
-      let facts = CallFacts.amortize-facts (sym number ∙ none) in
-      record {
-        shaped = facts .limits .shaped;
-        some = omega arith;
-        few = omega arith;
-        base = facts .limits .base;
-        challenges = facts .c-length;
-        witness = facts .s-length;
-        output = facts .zs-length;
-      }
+  pub amortize-facts : x ≡ 0 → AmortizeFacts shape zCount b c s v
+  amortize-facts none = CallFacts.amortize-facts shape (sym number ∙ none)
 
   pub amortize-written : {v′ : List ℤ} → x ≡ 0 → v′ ≡ zDigits (shape .d) (shape .n) (shape .r) zCount b c s → Amortized shape b c s v Written v′
   amortize-written none new = record { answer-is = answers Written (sym number ∙ none); z-is = writes v (sym number ∙ none) new }

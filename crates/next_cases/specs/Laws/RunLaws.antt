@@ -189,16 +189,16 @@ second-run {sizes} {whole} {s} {lists} {m′ = m′} {verdict = verdict} project
 
 -- the witness as it is written
 pub witness-is : (m : PartSizes) (second : Sizes) (o : List ℤ) {s : List ℤ} {width all count : ℕ} → width ≡ widthFor second
-    → all ≡ productOf (second .r) width → count ≡ sizeOf 32768 (pos all)
-    → s ≡ over (front count) 0 (take (length (front count)) (nextWitness m (second .r) width o)) → s ≡ witnessOf m second o
+    → all ≡ productOf (second .shape .r) width → count ≡ sizeOf 32768 (pos all)
+    → s ≡ over (front count) 0 (take (length (front count)) (nextWitness m (second .shape .r) width o)) → s ≡ witnessOf m second o
 unfolding witnessOf
 witness-is m second o {s} {width} {all} {count} width-is all-is count-is e =
     let number : count ≡ countFor second =
-    count-is ∙ ap (λ (k : ℕ). sizeOf 32768 (pos k)) (all-is ∙ ap (λ (k : ℕ). productOf (second .r) k) width-is) in
+    count-is ∙ ap (λ (k : ℕ). sizeOf 32768 (pos k)) (all-is ∙ ap (λ (k : ℕ). productOf (second .shape .r) k) width-is) in
     let small : count ≤ 32768 = fitting-inside 32768 all count-is in
     let blank : front count ≡ filled (countFor second) = front-filled 32768 count small ∙ ap filled number in
     let long : length (front count) ≡ countFor second = ap (λ (l : List ℤ). length l) blank ∙ length-filled (countFor second) in
-    e ∙ (λ i. over (blank i) 0 (take (long i) (nextWitness m (second .r) (width-is i) o)))
+    e ∙ (λ i. over (blank i) 0 (take (long i) (nextWitness m (second .shape .r) (width-is i) o)))
 
 pub second-of : {sizes : Sizes} {whole s s₂ lists : List ℤ} {verdict : CAnswer} → s ≡ s₂ → SecondRun sizes whole s lists verdict
     → SecondRun sizes whole s₂ lists verdict

@@ -1,37 +1,31 @@
 -- The lists of Tables.antt as the functions of tables.rt and folded.rt write them, each at the beginning of a list.
 --     cond-equal, cond-apart    the two values of a test for i = j
---     product-end, folded-end   what a function returns, from what its calls return
+--     product-end               what a function returns, from what its calls return
 --     tables-of                 the four contracts give the record Tables
 use mathlib.Core.Path.{_≡_, refl, sym, ap, ap₂, _∙_}
 use mathlib.Core.Bool.{Bool, true, false, cond}
 use mathlib.Core.List.{List}
-use Prim.Native.Nat.{ℕ, _+_, _*_, _≤_, _<_}
-use native.Mathlib.Nat.{zero-add, zero-mul}
-use native.Mathlib.Omega.{arith}
+use Prim.Native.Nat.{ℕ, _≤_, _<_}
 use lib.Dec.{eqb}
 use borrow.Author.Tests.{eq-eqb, ne-eqb}
-use lib.ListN.{length}
 use lib.IntN.{ℤ, pos}
 use mir.Syntax.{w32}
 use mir.Val.{toZ, ofZ}
 use Rattle.integers.specs.Over.{over}
-use Rattle.algebra.specs.Sum.{sum}
-use Rattle.algebra.specs.Laws.SumLaws.{sum-cong}
 use Rattle.algebra.specs.Triangle.{pair}
 use Rattle.algebra.specs.Laws.TriangleLaws.{pair-bound}
 use Rattle.ring.specs.Element.{R, Degree, lift, el, array, number}
 use Rattle.ring.specs.Laws.ElementLaws.{lift-array}
-use Rattle.ring.specs.Laws.ElementPlaces.{el-overs, el-flat-coeffs}
 use Rattle.fold.specs.Sizes.{pairs}
 use Rattle.fold.specs.Messages.{elements, aggregate}
-use Rattle.fold.specs.Entries.{aggregateA, aggregateΦ}
-use Rattle.fold.specs.Laws.EntryLaws.{aggregate-a, aggregate-φ}
+use Rattle.fold.specs.Entries.{aggregateA}
+use Rattle.fold.specs.Laws.EntryLaws.{aggregate-a}
 use Rattle.fold.specs.NextInstance.{product}
-use Rattle.fold.specs.Laws.WriterLaws.{length-elements, el-pairs}
+use Rattle.fold.specs.Laws.WriterLaws.{el-written, el-pairs}
 use Rattle.fold.specs.PairElements.{pairElements}
 use Rattle.constraints.specs.Laws.AggregatedLaws.{values-product}
 use Rattle.next_constraints.specs.Tables.{TableRoom, Tables}
-use Rattle.next_constraints.specs.Folded.{foldedSummand, foldedSum}
+use Rattle.next_constraints.specs.Folded.{foldedSum}
 
 -- ---- the two values of a test for i = j
 
@@ -62,37 +56,7 @@ product-end d c i j factor degree is by product times scaled out =
     let counted = scaled ∙ ap₂ (λ x u. array d (R d .mul (number d x) u)) word (ap (lift d) once ∙ lift-array d _ small) in
     out ∙ ap (λ u. array d (R d .neg u)) (ap (lift d) counted ∙ lift-array d _ small)
 
-pub folded-summand-end : (d n r K L w : ℕ) (whole constantTerms projections ψ ω α δ c : List ℤ) (k i : ℕ) {phi challenge out : List ℤ} → Degree d
-    → phi ≡ array d (aggregateΦ d n r K L w whole constantTerms projections ψ ω α δ (i * n + k)) → challenge ≡ array d (el d c i)
-    → out ≡ array d (R d .mul (lift d phi) (lift d challenge))
-    → out ≡ array d (foldedSummand d n r K L w whole constantTerms projections ψ ω α δ c k i)
-unfolding foldedSummand
-folded-summand-end d n r K L w whole constantTerms projections ψ ω α δ c k i degree is by out = values-product d degree _ _ is by out
-
-pub folded-end : (d n r K L w : ℕ) (whole constantTerms projections ψ ω α δ c : List ℤ) (k : ℕ) {out : List ℤ}
-    → out ≡ array d (sum (R d) r (foldedSummand d n r K L w whole constantTerms projections ψ ω α δ c k))
-    → out ≡ array d (foldedSum d n r K L w whole constantTerms projections ψ ω α δ c k)
-unfolding foldedSum
-folded-end d n r K L w whole constantTerms projections ψ ω α δ c k out = out
-
 -- ---- the lists read back
-
--- elements at the beginning of a list
-el-written : (d m : ℕ) (x : ℕ → R d .Carrier) (old : List ℤ) {xs : List ℤ} → xs ≡ over old 0 (elements d m x) → (e : ℕ) → e < m
-    → el d xs e ≡ x e
-unfolding elements
-el-written d m x old written e h =
-    let within : 0 * d ≤ length old = omega arith in
-    ap (λ (xs : List ℤ). el d xs e) written
-    ∙ (rw (zero-mul d, zero-add e) at (el-overs d old (elements d m x) 0 m e within (length-elements d m x) h))
-    ∙ el-flat-coeffs d m x e h
-
-folded-sum : (d n r K L w : ℕ) (whole constantTerms projections ψ ω α δ c : List ℤ) (k : ℕ)
-    → foldedSum d n r K L w whole constantTerms projections ψ ω α δ c k
-    ≡ sum (R d) r (λ i. R d .mul (aggregate d n r K L w whole constantTerms projections ψ ω α δ .φ i k) (el d c i))
-unfolding foldedSum foldedSummand
-folded-sum d n r K L w whole constantTerms projections ψ ω α δ c k =
-    sum-cong (R d) r _ _ (λ i _. ap (λ u. R d .mul u (el d c i)) (sym (aggregate-φ d n r L w constantTerms projections ψ ω K whole α δ i k)))
 
 pair-place : (r i j : ℕ) → i ≤ j → j < r → pair r i j < pairs r
 unfolding pairs
@@ -101,14 +65,15 @@ pair-place r i j h l = pair-bound r i j h l
 pub tables-of : (d n r K L w : ℕ) (whole constantTerms projections ψ ω α δ c : List ℤ) (folded products aggregatedA diagonal : List ℤ)
     {folded′ products′ aggregatedA′ diagonal′ : List ℤ}
     → TableRoom d n r folded products aggregatedA diagonal
-    → folded′ ≡ over folded 0 (elements d n (foldedSum d n r K L w whole constantTerms projections ψ ω α δ c))
+    → folded′ ≡ over folded 0 (elements d n (foldedSum d r (aggregate d n r K L w whole constantTerms projections ψ ω α δ .φ) c))
     → products′ ≡ over products 0 (pairElements d r (λ i j. R d .neg (product d (el d c) i j)))
     → aggregatedA′ ≡ over aggregatedA 0 (elements d (pairs r) (aggregateA d n r K L whole constantTerms ψ α δ))
     → diagonal′ ≡ over diagonal 0 (pairElements d r (λ i j. cond (eqb i j) (R d .one) (R d .zero)))
     → Tables d n r K L w whole constantTerms projections ψ ω α δ c folded′ products′ aggregatedA′ diagonal′
+unfolding foldedSum
 tables-of d n r K L w whole constantTerms projections ψ ω α δ c folded products aggregatedA diagonal room φ g a δ′ =
     record {
-      folded-is = λ k h. el-written d n _ folded φ k h ∙ folded-sum d n r K L w whole constantTerms projections ψ ω α δ c k;
+      folded-is = λ k h. el-written d n _ folded φ k h;
       products-is = λ i j h l.
           ap (λ (xs : List ℤ). el d xs (pair r i j)) g ∙ el-pairs d r _ products (room .products-length) i j h l;
       aggregate-a-is = λ i j h l.

@@ -1,5 +1,5 @@
 -- `next_instance::next_instance` meets its contract: a refusal, a failed check, or all is written. Assumes nothing.
-use Rattle.next_instance.specs.Laws.CallLaws.{next-refused, call-facts, check-facts, next-judged, next-written}
+use Rattle.next_instance.specs.Laws.CallLaws.{next-refused, call-facts, next-judged, next-written}
 use borrow.Author.Needs.{needs}
 use Rattle.next_instance.proofs.next_instance.Statement.{statement}
 use Rattle.next_instance.proofs.next_instance.Tie as tie
@@ -12,10 +12,7 @@ returns c =
 message-checks-requires : tie.Need-message-checks-requires
 message-checks-requires c κs =
     let a = c .before .before .before .args in
-    let number = c .before .next-refusal .ensures in (
-      call-facts (a .sizes) _ _ _ _ _ _ _ _ _ _ _ _ _ _ _ _ _ _ _ number (c .if1 .left) .limits,
-      check-facts (a .sizes) _ _ _ _ _ _ _ _ _ _ _ _ _ _ _ _ _ _ _ number (c .if1 .left),
-    )
+    call-facts (a .sizes) _ _ _ _ _ _ _ _ _ _ _ _ _ _ _ _ _ _ _ (c .before .next-refusal .ensures) (c .if1 .left) .message
 
 returns-2 : tie.Need-returns-2
 returns-2 c =

@@ -12,8 +12,6 @@ use Rattle.fold.specs.Arguments.{statementOf, drawsOf, transcriptOf}
 use Rattle.fold.specs.Refusals.{nextTests}
 use Rattle.fold.specs.NextInstance.{nextWhole}
 use Rattle.fold.specs.NextCall.{firstChecks, nextAnswer, nextOut}
-use Rattle.verifier.specs.ConstantTerms.{Terms}
-use Rattle.verifier.specs.Known.ListFacts.{terms-known}
 use Rattle.fold.specs.Known.NextFacts.{NextFacts, next-facts}
 use Rattle.verifier.specs.Judgement.{messageChecksOf}
 use Rattle.next_instance.specs.Calls.{NextCalled}
@@ -51,11 +49,8 @@ module _ (sizes : Sizes) (A B C D whole constantTerms projections ψ ω α δ c 
     next-refused some = refused-at 𝓢 𝓓 𝓣 ν μ out x (sym number) some
 
     module _ (none : x ≡ 0) where
-      pub call-facts : NextFacts 𝓢 𝓓 𝓣 ν μ out
-      call-facts = next-facts 𝓢 𝓓 𝓣 ν μ out (sym number ∙ none)
-
-      pub check-facts : Terms sizes constantTerms ψ ω p b″
-      check-facts = terms-known sizes A B C D whole constantTerms projections ψ ω α δ c u₁ p b″ u₂ (call-facts .lists)
+      pub call-facts : NextFacts sizes A B C D whole constantTerms projections ψ ω α δ c u₁ p b″ u₂ ν μ out
+      call-facts = next-facts sizes A B C D whole constantTerms projections ψ ω α δ c u₁ p b″ u₂ ν μ out (sym number ∙ none)
 
       module _ {y : ℕ} (asked : y ≡ firstFailing (messageChecksOf sizes constantTerms p ψ ω b″)) where
         first-is : firstChecks 𝓢 𝓓 𝓣 ≡ y

@@ -1,9 +1,8 @@
--- What a call of the next instance that is not refused knows, as the writer's functions ask for it, and what they have written in the end.
---     table-room, minus-room, all-room     the room that the writer gives its lists, and that `out` has
+-- The room that the writer's functions ask for, and what they have written in the end.
+--     table-room, minus-room, all-room, out-room     the room that the writer gives its lists, and that `out` has
 --     length-laid                          every constraint takes as many numbers
 --     middle-written                       checks 6, 7 and 8, one after the other
 --     groups-written                       the groups of checks, one after the other, are the next instance
---     aggregate-facts, out-room            what a call that is not refused knows
 use mathlib.Core.Path.{_≡_, refl, sym, ap, ap₂, _∙_}
 use mathlib.Core.List.{List, _++_, append-assoc}
 use Prim.Native.Nat.{ℕ, _+_, _*_, _≤_, _<_}
@@ -28,8 +27,6 @@ use Rattle.fold.specs.Constraint.{Constraint, laidOut}
 use Rattle.fold.specs.NextInstance.{nextWhole, m, n′, r′, constraint₃, constraint₄, constraint₅, constraint₆, constraint₇, constraint₈}
 use Rattle.fold.specs.Laws.SizeBounds.{pairs-bound}
 use Rattle.fold.specs.Laws.LaidOut.{length-laidOut}
-use Rattle.constraints.specs.Known.Facts.{AggregateFacts}
-use Rattle.verifier.specs.Known.ListFacts.{aggregate-known}
 use Rattle.fold.specs.Known.NextFacts.{NextFacts}
 use Rattle.next_constraints.specs.declared.cut.Cut.{Cut}
 use Rattle.next_constraints.specs.Known.Facts.{CutFacts}
@@ -217,12 +214,9 @@ pub same-instance : (s : Sizes) (cut : Cut) (A B C D whole constantTerms project
     ≡ nextWhole (statementOf s A B C D whole constantTerms) (drawsOf projections ψ ω α δ c) (transcriptOf u₁ p b″ u₂) ν μ
 same-instance s cut A B C D whole constantTerms projections ψ ω α δ c u₁ p b″ u₂ e f g = rw (e, f, g) refl
 
--- what a call that is not refused knows
-module _ (s : Sizes) (A B C D whole constantTerms projections ψ ω α δ c u₁ p b″ u₂ : List ℤ) (ν μ : ℕ) (out : List ℤ)
-    (facts : NextFacts (statementOf s A B C D whole constantTerms) (drawsOf projections ψ ω α δ c) (transcriptOf u₁ p b″ u₂) ν μ out) where
-  pub aggregate-facts : AggregateFacts (s .shape .d) (s .shape .n) (s .shape .r) (s .k) (s .l) (s .w) whole constantTerms projections ψ ω α δ
-  aggregate-facts = aggregate-known s A B C D whole constantTerms projections ψ ω α δ c u₁ p b″ u₂ (facts .lists) (facts .limits) (facts .projections-entries)
-
-  pub out-room : (cut : Cut) → CutFacts s cut → cut .tz ≡ 2 → cut .nu ≡ ν → cut .mu ≡ μ
-      → length out ≡ wholeLength (s .shape .d) (cut .rank) (cut .parts) (nextCount (s .kappa) (s .kappa1) (s .kappa2))
-  out-room cut known etz eν eμ = rw (known .rank-is, known .parts-is, known .rest-is, etz, eν, eμ) (facts .out-length)
+-- the room of `out`, where the call is not refused
+pub out-room : (s : Sizes) (A B C D whole constantTerms projections ψ ω α δ c u₁ p b″ u₂ : List ℤ) (ν μ : ℕ) (out : List ℤ)
+    → NextFacts s A B C D whole constantTerms projections ψ ω α δ c u₁ p b″ u₂ ν μ out → (cut : Cut) → CutFacts s cut → cut .tz ≡ 2 → cut .nu ≡ ν → cut .mu ≡ μ
+    → length out ≡ wholeLength (s .shape .d) (cut .rank) (cut .parts) (nextCount (s .kappa) (s .kappa1) (s .kappa2))
+out-room s A B C D whole constantTerms projections ψ ω α δ c u₁ p b″ u₂ ν μ out facts cut known etz eν eμ =
+    rw (known .rank-is, known .parts-is, known .rest-is, etz, eν, eμ) (facts .out-length)

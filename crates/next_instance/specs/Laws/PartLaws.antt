@@ -19,8 +19,8 @@ use Rattle.fold.specs.Refusals.{partBounds, partTests}
 use Rattle.fold.specs.Chunks.{width, cut, padded}
 use Rattle.fold.specs.NextCall.{partRefusal, nextPart}
 use Rattle.fold.specs.Arguments.{partRefusalOf, nextPartOf, PartSized}
-use Rattle.fold.specs.Laws.RefusalLaws.{early-passes, sized-iff}
-use Rattle.fold.specs.Laws.TestLaws.{holds}
+use Rattle.fold.specs.Laws.RefusalLaws.{sized-iff}
+use Rattle.fold.specs.Laws.TestLaws.{holds, early-holds}
 use Rattle.fold.specs.Laws.ChunkLaws.{widths-cover}
 use Rattle.fold.specs.Laws.NextCallLaws.{part-of-padded}
 use Rattle.fold.specs.Laws.SizeBounds.{product-bound}
@@ -58,7 +58,7 @@ module _ (m : PartSizes) (i : ℕ) (o : List ℤ) {x : ℕ} (e : x ≡ partRefus
     unfolding partRefusal partTests
     part-known =
         part-limits _ _ _ _ _ _ _ _ _ _
-        (early-passes (partBounds (m .shape .d) (m .shape .n) (m .shape .r) (m .kappa) (m .t1) (m .t2) 2 (m .nu) (m .mu) i) _ refl (sym e ∙ z))
+        (early-holds (partBounds (m .shape .d) (m .shape .n) (m .shape .r) (m .kappa) (m .t1) (m .t2) 2 (m .nu) (m .mu) i) _ refl (sym e ∙ z))
 
     opening-length : length o ≡ (2 * m .shape .n + restOf m) * m .shape .d
     unfolding partRefusal partTests openingSize

@@ -86,13 +86,13 @@ unfolding readingTests headerTests bodyTests numberTests
 reading-passed room text e =
     let p = refusal-passes (frontTests text ++ bodyTests room (sizesOf (headerNumbers text)) text) refl e in
     let front = passes-front (frontTests text) (bodyTests room (sizesOf (headerNumbers text)) text) p in
-    let back = passes-back (frontTests text) (bodyTests room (sizesOf (headerNumbers text)) text) p in
+    let (lines, (fits, numbers)) = passes-back (frontTests text) (bodyTests room (sizesOf (headerNumbers text)) text) p in
     record {
       header = front .0;
       sizes = front .1;
-      lines = back .0;
-      fits = eqb-true room (total (sizesOf (headerNumbers text))) (back .1 .0);
-      numbers = back .1 .1;
+      lines = lines;
+      fits = eqb-true room (total (sizesOf (headerNumbers text))) fits;
+      numbers = numbers;
     }
 
 pub passed-reading : (room : ℕ) (text : List ℕ) → Passed room text → firstFailing (readingTests room text) ≡ 0

@@ -132,22 +132,7 @@ module _ (h : List ℤ) where
 
     pub header-bounded : Bounded (sizesOf h)
     unfolding foldSizes
-    header-bounded =
-        let l = header-known in
-        record {
-          degree-positive = l .shaped .degree .positive;
-          degree = l .shaped .degree .small;
-          rank = l .shaped .rank-small;
-          parts = l .shaped .parts-small;
-          whole = l .K-small;
-          constantTerms = l .L-small;
-          projections = l .w-small;
-          κ = l .κ-small;
-          κ₁ = l .κ₁-small;
-          κ₂ = l .κ₂-small;
-          t₁ = l .t₁-most;
-          t₂ = l .t₂-most;
-        }
+    header-bounded = let limits = header-known in search limits
 
 -- ---- the layout
 

@@ -19,7 +19,7 @@ returns c = refused _ _ _ (c .before .verify-refusal .ensures) (c .if1 .taken)
 first-failing-requires : tie.Need-first-failing-requires
 first-failing-requires c κs =
     let none : c .before .verify-refusal .result ≡ 0 = omega (arith, c .if1 .left) in
-    verify-facts _ _ _ _ (sym (c .before .verify-refusal .ensures) ∙ none)
+    verify-facts _ _ _ _ _ _ _ _ _ _ _ _ _ _ _ _ _ _ (sym (c .before .verify-refusal .ensures) ∙ none)
 
 returns-2 : tie.Need-returns-2
 unfolding verdict

@@ -15,8 +15,8 @@ abbrev pub Fits : Sizes → Type 0
 Fits s = VerifySized s
 
 -- row 7: a list of m elements
-pub record Holds (d m : ℕ) (xs : List ℤ) : Type 0 where
-  pub sized : length xs ≡ m * d
+abbrev pub Holds : (d m : ℕ) (xs : List ℤ) → Type 0
+Holds d m xs = length xs ≡ m * d
 
 -- the verifier's opening
 abbrev pub Opening : Sizes → List ℤ → Type 0

@@ -15,12 +15,9 @@ use Rattle.fold.specs.Answers.{firstFailing, judged, answered}
 use Rattle.fold.specs.Messages.{elements}
 use Rattle.fold.specs.Verdict.{checks}
 use Rattle.fold.specs.Arguments.{statementOf, drawsOf, transcriptOf}
-use Rattle.fold.specs.Known.CallFacts.{VerifyFacts}
 use Rattle.verifier.specs.Known.Facts.{Fits, zValue}
-use Rattle.verifier.specs.ConstantTerms.{Terms}
-use Rattle.verifier.specs.Known.ListFacts.{terms-known, aggregate-known}
 use Rattle.fold.specs.Laws.WriterLaws.{el-written}
-use Rattle.verifier.specs.Judgement.{Recomposed, messageChecksOf, outerChecksOf, openingChecksOf, OuterFacts, OpeningFacts}
+use Rattle.verifier.specs.Judgement.{Recomposed, messageChecksOf, outerChecksOf, openingChecksOf}
 
 pub recomposed : (s : Sizes) → Fits s → (o old z : List ℤ) → length z ≡ 16384 → z ≡ over old 0 (elements (s .shape .d) (s .shape .n)
     (zValue s o)) → Recomposed s o z
@@ -36,33 +33,6 @@ module _ (s : Sizes) (A B C D whole constantTerms projections ψ ω α δ c u₁
       ++ (outerChecksOf s B C D u₁ u₂ o ++ openingChecksOf s A whole constantTerms projections ψ ω b″ α δ c o))
       ≡ firstFailing (checks (statementOf s A B C D whole constantTerms) (drawsOf projections ψ ω α δ c) (transcriptOf u₁ p b″ u₂) o)
   parts = refl
-
-  module _ (facts : VerifyFacts (statementOf s A B C D whole constantTerms) (drawsOf projections ψ ω α δ c) (transcriptOf u₁ p b″ u₂) o) where
-    pub term-facts : Terms s constantTerms ψ ω p b″
-    term-facts = terms-known s A B C D whole constantTerms projections ψ ω α δ c u₁ p b″ u₂ (facts .lists)
-
-    pub outer-facts : OuterFacts s B C D u₁ u₂ o
-    outer-facts = record {
-      fits = facts .limits;
-      first-matrix = record { sized = facts .lists .B-length };
-      second-matrix = record { sized = facts .lists .C-length };
-      third-matrix = record { sized = facts .lists .D-length };
-      first = record { sized = facts .lists .u₁-length };
-      second = record { sized = facts .lists .u₂-length };
-      opening = record { sized = facts .o-length };
-    }
-
-    pub opening-facts : OpeningFacts s A whole constantTerms projections ψ ω b″ α δ c o
-    opening-facts = record {
-      fits = facts .limits;
-      matrix = record { sized = facts .lists .A-length };
-      aggregated =
-          aggregate-known s A B C D whole constantTerms projections ψ ω α δ c u₁ p b″ u₂ (facts .lists) (facts .limits) (facts .projections-entries);
-      weights = record { sized = facts .lists .δ-length };
-      second = record { sized = facts .lists .b″-length };
-      challenges = record { sized = facts .lists .c-length };
-      opening = record { sized = facts .o-length };
-    }
 
 pub refused : (k n : ℕ) (a : Answer) → k ≡ n → 0 < k → Refused k ≡ answered n a
 unfolding answered

@@ -5,6 +5,7 @@ use Prim.Native.Nat.{ℕ, zero, suc, _+_, _-_, _*_, _<_, _≤_}
 use native.Mathlib.Nat.{sub-self, add-sub-cancel-left, mul-le-mul-right}
 use native.Mathlib.Numerals.{add-one}
 use native.Mathlib.Omega.{arith}
+use lib.ListN.{length}
 use lib.IntN.{ℤ}
 use Rattle.algebra.specs.CommRing.{CommRing}
 use Rattle.algebra.specs.Laws.RingLaws.{one-mul, add-mul}
@@ -122,7 +123,7 @@ module _ (s : Sizes) (fits : Fits s) (o : List ℤ) (whole : Opening s o) where
     base = fits .base₂;
     parts = fits .shaped .parts-small;
     digits = omega (arith, fits .t₂-least);
-    inside = rw e (g-within s o whole);
+    inside = rw e (g-within s (length o) whole);
   }
 
   pub h-garbage : (place : ℕ) → place ≡ hPlace 2 (s .shape .n) (s .shape .r) (s .kappa) (s .t1) (s .t2) → Garbage (s .shape .d) (s .shape .r) (s .b1) (s .t1) place o
@@ -132,7 +133,7 @@ module _ (s : Sizes) (fits : Fits s) (o : List ℤ) (whole : Opening s o) where
     base = fits .base₁;
     parts = fits .shaped .parts-small;
     digits = omega (arith, fits .t₁-least);
-    inside = rw e (h-within s o whole);
+    inside = rw e (h-within s (length o) whole);
   }
 
 pub garbage-below : (d r t place q l : ℕ) → q < pairs r → (place + pairs r * t) * d ≤ l → (place + (q * t + t)) * d ≤ l

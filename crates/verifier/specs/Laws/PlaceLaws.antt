@@ -4,7 +4,6 @@ use mathlib.Core.List.{List}
 use Prim.Native.Nat.{ℕ, suc, _+_, _*_, _-_, _<_, _≤_}
 use native.Mathlib.Nat.{mul-le-mul-right}
 use native.Mathlib.Omega.{arith}
-use lib.ListN.{length}
 use lib.IntN.{ℤ}
 use Rattle.algebra.specs.Sum.{sum}
 use Rattle.algebra.specs.Triangle.{pair}
@@ -15,7 +14,6 @@ use Rattle.ring.specs.Joined.{joined}
 use Rattle.ring.specs.Laws.DigitElements.{joined-cong}
 use Rattle.fold.specs.Messages.{times}
 use Rattle.fold.specs.Opening.{block, zOf, tOf, garbageOf}
-use Rattle.verifier.specs.Known.Facts.{Holds}
 use Rattle.verifier.specs.Places.{garbageAt}
 
 -- ---- recomposition
@@ -72,17 +70,17 @@ unfolding times inner block
 row-times d m M k o a = refl
 
 -- row k of m columns lies within a matrix of more rows
-pub row-fits : (d m rows k count : ℕ) (M : List ℤ) → count ≡ m → Holds d (rows * m) M → k < rows → (k * count + count) * d ≤ length M
-row-fits d m rows k count M e whole h =
+pub row-fits : (d m rows k count l : ℕ) → count ≡ m → l ≡ rows * m * d → k < rows → (k * count + count) * d ≤ l
+row-fits d m rows k count l e whole h =
     let below : k * m + m ≤ rows * m = omega (arith, mul-le-mul-right m h) in
-    rw e (omega (arith, mul-le-mul-right d below, whole .sized))
+    rw e (omega (arith, mul-le-mul-right d below, whole))
 
 pub part-fits : (d : ℕ) {p m place count l : ℕ} → place ≡ p → count ≡ m → (p + m) * d ≤ l → (place + count) * d ≤ l
 part-fits d e f h = rw (e, f) h
 
 -- element k of a list of n
-pub element-fits : (d n k : ℕ) (xs : List ℤ) → Holds d n xs → k < n → k * d + d ≤ length xs
-element-fits d n k xs whole h = element-within d h (omega (arith, whole .sized))
+pub element-fits : (d n k l : ℕ) → l ≡ n * d → k < n → k * d + d ≤ l
+element-fits d n k l whole h = element-within d h (omega (arith, whole))
 
 -- ---- the places themselves fit a machine word
 

@@ -2,8 +2,10 @@
 use mathlib.Core.Path.{_≡_, refl, sym, ap, ap₂, _∙_}
 use mathlib.Core.Bool.{Bool}
 use mathlib.Core.List.{List}
-use Prim.Native.Nat.{ℕ, _+_, _*_, _<_, _≤_}
+use Prim.Native.Nat.{ℕ, _+_, _≤_}
+use native.Mathlib.Nat.{zero-add}
 use lib.IntN.{ℤ}
+use Rattle.integers.specs.Over.{over}
 use Rattle.algebra.specs.Sum.{sum}
 use Rattle.algebra.specs.Laws.SumLaws.{sum-cong}
 use Rattle.algebra.specs.Triangle.{pair, rows}
@@ -12,58 +14,40 @@ use Rattle.algebra.specs.DotProduct.{inner, mixed}
 use Rattle.ring.specs.Element.{R, lift, el, array, same}
 use Rattle.fold.specs.declared.Sizes.{Sizes}
 use Rattle.fold.specs.Sizes.{pairs}
-use Rattle.fold.specs.Entries.{aggregateA, aggregateΦ}
-use Rattle.fold.specs.Laws.EntryLaws.{aggregate-a, aggregate-φ}
-use Rattle.fold.specs.Messages.{aggregate, aggregateConstant}
+use Rattle.fold.specs.Entries.{aggregateA}
+use Rattle.fold.specs.Laws.EntryLaws.{aggregate-a}
+use Rattle.fold.specs.Messages.{elements, aggregate, aggregateConstant}
+use Rattle.fold.specs.Laws.WriterLaws.{el-written}
 use Rattle.fold.specs.Opening.{block, gPlace, hPlace, garbageOf}
 use Rattle.fold.specs.Verdict.{check₇, check₈}
-use Rattle.ring.specs.Laws.Loops.{held}
+use Rattle.ring.specs.Laws.Loops.{held, held-product}
 use Rattle.verifier.specs.Known.Facts.{gBlockOf, gValue, hValue}
 use Rattle.verifier.specs.Laws.PlaceLaws.{garbage-at}
 use Rattle.verifier.specs.Places.{garbageAt}
-use Rattle.verifier.specs.Relation.{phiSummand, phiProduct, linearSummand, relationSummand}
+use Rattle.verifier.specs.Relation.{linearSummand, relationSummand}
 
-module _ (s : Sizes) (whole constantTerms projections ψ ω α δ : List ℤ) where
-  module _ (z : List ℤ) where
-    pub phi-product : (i : ℕ) → sum (R (s .shape .d)) (s .shape .n) (λ y. phiSummand s whole constantTerms projections ψ ω α δ z (i * s .shape .n + y) y) ≡ phiProduct s whole constantTerms projections ψ ω α δ z i
-    unfolding phiProduct
-    phi-product i = refl
+-- ---- check 7
 
-    pub phi-summand : (e y : ℕ) (phi value r : List ℤ) → s .shape .d ≤ 64
-        → phi ≡ array (s .shape .d) (aggregateΦ (s .shape .d) (s .shape .n) (s .shape .r) (s .k) (s .l) (s .w) whole constantTerms projections ψ ω α δ e)
-        → value ≡ array (s .shape .d) (el (s .shape .d) z y) → r ≡ array (s .shape .d) (R (s .shape .d) .mul (lift (s .shape .d) phi) (lift (s .shape .d) value))
-        → r ≡ array (s .shape .d) (phiSummand s whole constantTerms projections ψ ω α δ z e y)
-    unfolding phiSummand
-    phi-summand e y phi value r small ep ev er = er ∙ ap (array (s .shape .d)) (ap₂ (R (s .shape .d) .mul) (held small ep) (held small ev))
+-- φ_i stands at the beginning of a list
+pub linear-summand : (d n : ℕ) (φ : ℕ → ℕ → R d .Carrier) (c z : List ℤ) (i : ℕ) (old : List ℤ) {phi product challenge r : List ℤ} → d ≤ 64
+    → phi ≡ over old 0 (elements d n (φ i))
+    → product ≡ array d (sum (R d) n (λ y. R d .mul (el d phi (0 + y)) (el d z (0 + y))))
+    → challenge ≡ array d (el d c i) → r ≡ array d (R d .mul (lift d product) (lift d challenge))
+    → r ≡ array d (linearSummand d n φ c z i)
+unfolding linearSummand inner
+linear-summand d n φ c z i old small written is by product =
+    held-product _ _ small
+    (is ∙ ap (array d) (sum-cong (R d) n _ _ (λ y h. rw (zero-add y) (ap (λ u. R d .mul u (el d z y)) (el-written d n (φ i) old written y h))))) by product
 
-  module _ (c z : List ℤ) where
-    pub linear-summand : (i : ℕ) (product challenge r : List ℤ) → s .shape .d ≤ 64 → product ≡ array (s .shape .d) (phiProduct s whole constantTerms projections ψ ω α δ z i)
-        → challenge ≡ array (s .shape .d) (el (s .shape .d) c i) → r ≡ array (s .shape .d) (R (s .shape .d) .mul (lift (s .shape .d) product) (lift (s .shape .d) challenge))
-        → r ≡ array (s .shape .d) (linearSummand s whole constantTerms projections ψ ω α δ c z i)
-    unfolding linearSummand
-    linear-summand i product challenge r small ep ec er =
-        er ∙ ap (array (s .shape .d)) (ap₂ (R (s .shape .d) .mul) (held small ep) (held small ec))
+pub check-seven : (s : Sizes) (φ : ℕ → ℕ → R (s .shape .d) .Carrier) (c z o : List ℤ) {place : ℕ} {left right : List ℤ} {t : Bool} → s .shape .d ≤ 64
+    → left ≡ array (s .shape .d) (sum (R (s .shape .d)) (s .shape .r) (linearSummand (s .shape .d) (s .shape .n) φ c z)) → place ≡ hPlace 2 (s .shape .n) (s .shape .r) (s .kappa) (s .t1) (s .t2)
+    → right ≡ array (s .shape .d) (mixed (R (s .shape .d)) (s .shape .r) (garbageOf (s .shape .d) (s .shape .r) (s .b1) (s .t1) (block (s .shape .d) o place)) (el (s .shape .d) c))
+    → t ≡ same (s .shape .d) (lift (s .shape .d) left) (lift (s .shape .d) right) → t ≡ check₇ (s .shape .d) (s .shape .n) (s .shape .r) c φ (el (s .shape .d) z) (hValue s o)
+unfolding check₇ linearSummand
+check-seven s φ c z o small el ep er result = result ∙ ap₂ (same (s .shape .d)) (held small el) (held small er ∙ rw ep refl)
 
-    linear-sum : sum (R (s .shape .d)) (s .shape .r) (linearSummand s whole constantTerms projections ψ ω α δ c z)
-        ≡ sum (R (s .shape .d)) (s .shape .r) (λ i. R (s .shape .d) .mul (inner (R (s .shape .d)) (s .shape .n) (aggregate (s .shape .d) (s .shape .n) (s .shape .r) (s .k) (s .l)
-        (s .w) whole constantTerms projections ψ ω α δ .φ i) (el (s .shape .d) z)) (el (s .shape .d) c i))
-    unfolding linearSummand phiProduct phiSummand inner
-    linear-sum =
-        sum-cong (R (s .shape .d)) (s .shape .r) _ _ (λ i _. ap (λ u. R (s .shape .d) .mul u (el (s .shape .d) c i)) (sum-cong (R (s .shape .d)) (s .shape .n) _ _ (λ y _.
-        ap (λ u. R (s .shape .d) .mul u (el (s .shape .d) z y)) (sym (aggregate-φ (s .shape .d) (s .shape .n) (s .shape .r) (s .l) (s .w) constantTerms projections ψ ω
-        (s .k) whole α δ i y)))))
+-- ---- check 8
 
-    pub check-seven : (o : List ℤ) (place : ℕ) (left right : List ℤ) (t : Bool) → s .shape .d ≤ 64
-        → left ≡ array (s .shape .d) (sum (R (s .shape .d)) (s .shape .r) (linearSummand s whole constantTerms projections ψ ω α δ c z)) → place ≡ hPlace 2 (s .shape .n) (s .shape .r) (s .kappa) (s .t1) (s .t2)
-        → right ≡ array (s .shape .d) (mixed (R (s .shape .d)) (s .shape .r) (garbageOf (s .shape .d) (s .shape .r) (s .b1) (s .t1) (block (s .shape .d) o place)) (el (s .shape .d) c))
-        → t ≡ same (s .shape .d) (lift (s .shape .d) left) (lift (s .shape .d) right)
-        → t ≡ check₇ (s .shape .d) (s .shape .n) (s .shape .r) c (aggregate (s .shape .d) (s .shape .n) (s .shape .r) (s .k) (s .l) (s .w) whole constantTerms projections ψ ω α δ .φ) (el
-        (s .shape .d) z) (hValue s o)
-    unfolding check₇
-    check-seven o place left right t small el ep er result =
-        result ∙ ap₂ (same (s .shape .d)) (held small el ∙ linear-sum) (held small er ∙ rw ep refl)
-
--- element y of part i, of r parts of rank n
 module _ (s : Sizes) (whole constantTerms ψ α δ o : List ℤ) where
   pub relation-summand : (place q : ℕ) (a g r : List ℤ) → s .shape .d ≤ 64
       → a ≡ array (s .shape .d) (aggregateA (s .shape .d) (s .shape .n) (s .shape .r) (s .k) (s .l) whole constantTerms ψ α δ q)

@@ -1,42 +1,39 @@
 -- The blocks of an opening lie within it, and a bound of a constraint's functions.
 use mathlib.Core.Path.{_≡_}
-use mathlib.Core.List.{List}
 use Prim.Native.Nat.{ℕ, _+_, _*_, _<_, _≤_}
 use native.Mathlib.Nat.{mul-le-mul-right}
 use native.Mathlib.Omega.{arith}
-use lib.ListN.{length}
-use lib.IntN.{ℤ}
 use Rattle.fold.specs.declared.Sizes.{Sizes}
 use Rattle.fold.specs.Sizes.{functionSize, tSize, garbageSize, restSize, openingSize}
 use Rattle.fold.specs.Laws.SizeBounds.{functionSize-bound}
 use Rattle.fold.specs.Opening.{tPlace, gPlace, hPlace}
-use Rattle.verifier.specs.Known.Facts.{Fits, Opening}
+use Rattle.verifier.specs.Known.Facts.{Fits}
 
--- the blocks lie within the opening
-module _ (s : Sizes) (o : List ℤ) (whole : Opening s o) where
-  pub z-within : 2 * s .shape .n * s .shape .d ≤ length o
+-- the blocks lie within the opening, which is o long
+module _ (s : Sizes) (o : ℕ) (whole : o ≡ openingSize 2 (s .shape .n) (s .shape .r) (s .kappa) (s .t1) (s .t2) * s .shape .d) where
+  pub z-within : 2 * s .shape .n * s .shape .d ≤ o
   unfolding openingSize
-  z-within = omega (arith, whole .sized)
+  z-within = omega (arith, whole)
 
-  pub t-within : (tPlace 2 (s .shape .n) + tSize (s .shape .r) (s .kappa) (s .t1)) * s .shape .d ≤ length o
+  pub t-within : (tPlace 2 (s .shape .n) + tSize (s .shape .r) (s .kappa) (s .t1)) * s .shape .d ≤ o
   unfolding openingSize restSize tPlace
-  t-within = omega (arith, whole .sized)
+  t-within = omega (arith, whole)
 
-  pub g-within : (gPlace 2 (s .shape .n) (s .shape .r) (s .kappa) (s .t1) + garbageSize (s .shape .r) (s .t2)) * s .shape .d ≤ length o
+  pub g-within : (gPlace 2 (s .shape .n) (s .shape .r) (s .kappa) (s .t1) + garbageSize (s .shape .r) (s .t2)) * s .shape .d ≤ o
   unfolding openingSize restSize gPlace tPlace
-  g-within = omega (arith, whole .sized)
+  g-within = omega (arith, whole)
 
-  pub h-within : (hPlace 2 (s .shape .n) (s .shape .r) (s .kappa) (s .t1) (s .t2) + garbageSize (s .shape .r) (s .t1)) * s .shape .d ≤ length o
+  pub h-within : (hPlace 2 (s .shape .n) (s .shape .r) (s .kappa) (s .t1) (s .t2) + garbageSize (s .shape .r) (s .t1)) * s .shape .d ≤ o
   unfolding openingSize restSize hPlace gPlace tPlace
-  h-within = omega (arith, whole .sized)
+  h-within = omega (arith, whole)
 
 pub t-before-h : (s : Sizes) → tPlace 2 (s .shape .n) ≤ hPlace 2 (s .shape .n) (s .shape .r) (s .kappa) (s .t1) (s .t2)
 unfolding hPlace gPlace
 t-before-h s = omega arith
 
 -- the digits of t_i lie within the t block
-pub t-part-within : (s : Sizes) (o : List ℤ) → Opening s o → (i place : ℕ) → i < s .shape .r → place ≡ tPlace 2 (s .shape .n)
-    → (place + (i * s .t1 + s .t1) * s .kappa) * s .shape .d ≤ length o
+pub t-part-within : (s : Sizes) (o : ℕ) → o ≡ openingSize 2 (s .shape .n) (s .shape .r) (s .kappa) (s .t1) (s .t2) * s .shape .d → (i place : ℕ) → i < s .shape .r → place ≡ tPlace 2 (s .shape .n)
+    → (place + (i * s .t1 + s .t1) * s .kappa) * s .shape .d ≤ o
 unfolding tSize
 t-part-within s o whole i place h e =
     let below : place + (i * s .t1 + s .t1) * s .kappa ≤ tPlace 2 (s .shape .n) + tSize (s .shape .r) (s .kappa) (s .t1)

@@ -14,9 +14,9 @@ write-rows-requires c κs =
     let s = c .before .before in
     let z = s .args .sizes in
     let size = c .before .garbage-size .ensures in (
-      s .pre .degree,
+      s .pre .limits .shaped .degree,
       (
-        rw size (omega (arith, garbageSize-bound (z .shape .r) (z .t1) (s .pre .parts-small) (s .pre .t₁-small))),
+        rw size (omega (arith, garbageSize-bound (z .shape .r) (z .t1) (s .pre .limits .shaped .parts-small) (s .pre .limits .t₁-most))),
         rw size (omega (arith, s .pre .D-length)),
         rw size (omega (arith, s .pre .hs-length)),
         s .pre .u₂-length,

@@ -7,21 +7,17 @@ use Rattle.constraints.proofs.aggregated.aggregate_a.Tie as tie
 
 whole-entry-requires : tie.Need-whole-entry-requires
 whole-entry-requires c κs =
-    let size = function-parts (c .args .shape .n) (c .args .shape .r) in
-    (c .pre .0, omega (arith, size, c .pre .1 .1 .1))
-
-weighted-a-requires : tie.Need-weighted-a-requires
-weighted-a-requires c κs = c .before .pre .1
-
-sum-requires : tie.Need-sum-requires
-sum-requires c κs = c .before .before .pre .0 .shaped .degree
+    let s = c .before in
+    let size = function-parts (s .args .sizes .shape .n) (s .args .sizes .shape .r) in
+    (s .pre .0, omega (arith, size, s .pre .1 .1 .1))
 
 returns : tie.Need-returns
 returns c =
-    let s = c .before .before .before in
+    let s = c .before .before .before .before in
     aggregate-a-end _ _ _ _ _ _ _ _ _ _ _ (s .pre .0 .shaped .degree) (c .before .before .whole-entry .ensures)
     (c .before .weighted-a .ensures) (c .sum .ensures)
 
 pub aggregate-a-spec : {M : Type 1} → statement M
 aggregate-a-spec =
-    tie.close (tie.spec whole-entry-requires weighted-a-requires sum-requires returns)
+    tie.close
+    (tie.spec whole-entry-requires (λ c κs. c .before .before .pre .1) (λ c κs. c .before .before .before .pre .0 .shaped .degree) returns)

@@ -7,10 +7,10 @@ use Rattle.constraints.proofs.projected_rows.add_groups.Statement.{stat
 use Rattle.constraints.proofs.projected_rows.add_groups.Tie as tie
 
 abbrev Inv-loop : tie.InvT-loop
-Inv-loop d count w projections omega omega-sums e codes acc₀ groups group₀ acc group = (group ≤ groups) × Summed d count w projections omega e (group * 4) acc
+Inv-loop shape w projections omega omega-sums e codes acc₀ groups group₀ acc group = (group ≤ groups) × Summed (shape .d) (shape .r * shape .n) w projections omega e (group * 4) acc
 
 abbrev μ-loop : tie.MeasureT-loop
-μ-loop d count w projections omega omega-sums e codes acc₀ groups group₀ acc group = groups - group
+μ-loop shape w projections omega omega-sums e codes acc₀ groups group₀ acc group = groups - group
 
 add-group-requires : tie.Need-add-group-requires Inv-loop μ-loop
 add-group-requires c κs =

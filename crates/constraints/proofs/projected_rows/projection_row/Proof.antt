@@ -1,9 +1,7 @@
 -- `constraints::projected_rows::projection_row` meets its contract.
 use Prim.Native.Nat.{ℕ}
 use mathlib.Core.Path.{_∙_}
-use native.Mathlib.Omega.{arith}
 use lib.ListN.{length-replicate}
-use Rattle.constraints.specs.Laws.SizeLaws.{witness-small}
 use Rattle.constraints.specs.Laws.ProjectedRowLaws.{summed-start, row-end}
 use borrow.Author.Needs.{needs}
 use Rattle.constraints.proofs.projected_rows.projection_row.Statement.{statement}
@@ -21,7 +19,6 @@ add-groups-requires c κs =
 pub projection-row-spec : {M : Type 1} → statement M
 projection-row-spec =
     tie.close
-    (tie.spec (λ c. omega (arith, witness-small (c .pre .0 .shaped)))
-    (λ c κs. (c .before .pre .0, (c .before .pre .1 .1, length-replicate {A = ℕ} 4096 0))) add-groups-requires
+    (tie.spec (λ c κs. (c .before .pre .0, (c .before .pre .1 .1, length-replicate {A = ℕ} 4096 0))) add-groups-requires
     (λ c κs. search needs) (λ c κs. search needs)
     (λ c. c .centred-row .ensures ∙ row-end _ _ _ _ _ _ _ (c .before .before .add-rest .ensures)))

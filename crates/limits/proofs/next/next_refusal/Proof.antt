@@ -4,11 +4,11 @@ use lib.Dec.{leb}
 use native.Mathlib.Omega.{arith}
 use Rattle.fold.specs.Sizes.{zCount}
 use Rattle.fold.specs.Refusals.{nextTests}
-use Rattle.fold.specs.Laws.RefusalLaws.{sized-iff}
+use Rattle.fold.specs.Laws.RefusalLaws.{sized-length}
 use Rattle.fold.specs.Laws.TestLaws.{stops}
 use Rattle.limits.specs.Stages.{nextBoundsOf}
 use Rattle.limits.specs.Laws.RowLaws.{end, _&_, joined-row}
-use Rattle.limits.specs.Laws.StageLaws.{unfit, fit, fitting, single, none, append-rows}
+use Rattle.limits.specs.Laws.StageLaws.{unfit, fit, fitting-last, single, none, append-rows}
 use Rattle.limits.specs.Known.StageLimits.{next-sized, next-cut, next-cut-sizes}
 use Rattle.limits.proofs.next.next_refusal.Statement.{statement}
 use Rattle.limits.proofs.next.next_refusal.Tie as tie
@@ -89,8 +89,8 @@ challenges-requires c κs =
     let c8 = c7 .before in
     let opened = append-rows _ _ (joined-row (c8 .out-fits .ensures & end)) (c7 .message-lengths .ensures) in
     let lists = append-rows _ _ opened (c6 .matrix-lengths .ensures) in
-    let fits = fitting _ (append-rows _ _ lists (c5 .draw-lengths .ensures)) (c4 .if2 .left) in
-    sized-iff _ _ .0 (fits .1 .1 .1 .1 .1 .1 .1 .1 .1 .1 .1 .1 .1 .1 .1 .1 .0)
+    let fits = fitting-last _ (append-rows _ _ lists (c5 .draw-lengths .ensures)) (c4 .if2 .left) in
+    sized-length _ _ fits
 
 returns-3 : tie.Need-returns-3
 unfolding nextTests

@@ -22,9 +22,7 @@ returns c =
     let size-at2 = size-at3 .before in
     let size-at = size-at2 .before in
     λ i. record {
-      d = size-at .size-at .ensures i;
-      n = size-at2 .size-at2 .ensures i;
-      r = size-at3 .size-at3 .ensures i;
+      shape = record { d = size-at .size-at .ensures i; n = size-at2 .size-at2 .ensures i; r = size-at3 .size-at3 .ensures i };
       k = size-at4 .size-at4 .ensures i;
       l = size-at5 .size-at5 .ensures i;
       w = size-at6 .size-at6 .ensures i;

@@ -17,8 +17,8 @@ Inv-loop sizes whole constant-terms psi alpha delta out₀ d count e₀ out e =
 abbrev μ-loop : tie.MeasureT-loop
 μ-loop sizes whole constant-terms psi alpha delta out₀ d count e₀ out e = count - e
 
-aggregate-a-entry-requires : tie.Need-aggregate-a-entry-requires Inv-loop μ-loop
-aggregate-a-entry-requires c κs =
+aggregate-a-requires : tie.Need-aggregate-a-requires Inv-loop μ-loop
+aggregate-a-requires c κs =
     let f = c .before .before in
     let s = f .before in
     (s .pre .0, (s .pre .1 .0, (s .pre .1 .1 .0, omega (arith, c .loop-test .taken, f .pair-count .ensures))))
@@ -33,7 +33,7 @@ loop-again : tie.Need-loop-again Inv-loop μ-loop
 loop-again c =
     let l = c .before .before .before .before .before in
     elements-turn (l .loop .inv) (l .before .before .pre .0 .shaped .degree) (sym (zero-add _)) (c .before .before .before .before .loop-test .taken)
-    (c .before .before .before .aggregate-a-entry .ensures) (c .before .store .ensures)
+    (c .before .before .before .aggregate-a .ensures) (c .before .store .ensures)
 
 returns : tie.Need-returns Inv-loop μ-loop
 unfolding elements
@@ -43,7 +43,7 @@ pub write-aggregate-a-spec : {M : Type 1} → statement M
 write-aggregate-a-spec =
     tie.close
     (tie.spec Inv-loop μ-loop (λ c κs. c .pre .0 .shaped .parts-small)
-    (λ c. elements-start₀ (rw (← (c .pair-count .ensures)) at (c .before .pre .1 .1 .1))) aggregate-a-entry-requires
+    (λ c. elements-start₀ (rw (← (c .pair-count .ensures)) at (c .before .pre .1 .1 .1))) aggregate-a-requires
     (λ c κs. (c .before .before .before .before .before .pre .0 .shaped .degree, elements-fit (c .before .before .before .loop .inv) (sym (zero-add _)) (c .before .before .loop-test .taken)))
     add-e (λ c. omega (arith, c .before .before .before .before .loop-test .taken)) loop-again (λ c. c .before .loop .inv .same)
     returns)

@@ -7,7 +7,7 @@ use lib.ListN.{length}
 use Rattle.ring.specs.Laws.Loops.{held}
 use Rattle.next_constraints.specs.Laws.CutLaws.{size-small}
 use Rattle.next_constraints.specs.Laws.CheckLaws.{minus-held}
-use Rattle.next_instance.specs.Laws.Instance.{table-room, minus-room, all-room, groups-small, canonical, groups-written, same-instance, aggregate-facts, out-room}
+use Rattle.next_instance.specs.Laws.Instance.{table-room, minus-room, all-room, groups-small, canonical, groups-written, same-instance, out-room}
 use borrow.Author.Needs.{needs}
 use Rattle.next_instance.proofs.writer.write_instance.Statement.{statement}
 use Rattle.next_instance.proofs.writer.write_instance.Tie as tie
@@ -16,18 +16,18 @@ write-row-requires : tie.Need-write-row-requires
 write-row-requires c κs =
     let s = c .before .before .before in
     let g = s .args .sizes in
-    let read : (0 + g .shape .r) * g .shape .d ≤ length (s .args .c .now) = omega (arith, s .pre .lists .c-length) in
-    let written : (0 + g .shape .r) * g .shape .d ≤ 1024 = omega (arith, minus-room g (s .pre .limits)) in
-    (s .pre .limits .shaped .degree, (read, written))
+    let read : (0 + g .shape .r) * g .shape .d ≤ length (s .args .c .now) = omega (arith, s .pre .entries .c-length) in
+    let written : (0 + g .shape .r) * g .shape .d ≤ 1024 = omega (arith, minus-room g (s .pre .entries .limits)) in
+    (s .pre .entries .limits .shaped .degree, (read, written))
 
 write-tables-requires : tie.Need-write-tables-requires
 write-tables-requires c κs =
     let s = c .before .before .before .before .before .before .before .before .before in
-    let challenges : s .args .sizes .shape .r * s .args .sizes .shape .d ≤ length (s .args .c .now) = omega (arith, s .pre .lists .c-length) in (
-      aggregate-facts _ _ _ _ _ _ _ _ _ _ _ _ _ _ _ _ _ _ _ _ (s .pre),
+    let challenges : s .args .sizes .shape .r * s .args .sizes .shape .d ≤ length (s .args .c .now) = omega (arith, s .pre .entries .c-length) in (
+      s .pre .aggregated,
       (
         challenges,
-        table-room (s .args .sizes) (s .pre .limits) (le-refl 16384) (le-refl 8704) (le-refl 8704) (le-refl 8704),
+        table-room (s .args .sizes) (s .pre .entries .limits) (le-refl 16384) (le-refl 8704) (le-refl 8704) (le-refl 8704),
       ),
     )
 
@@ -39,7 +39,7 @@ write-rows5-requires c κs =
     let g = s .args .sizes in
     let cut = k .cut-of .ensures in
     let room = all-room g (k .cut-of .result) (cut .0) (out-room _ _ _ _ _ _ _ _ _ _ _ _ _ _ _ _ _ _ _ _ (s .pre) (k .cut-of .result) (cut .0) (cut .1) (cut .2) (cut .3)) in
-    (s .pre .limits, (cut .0, ((s .pre .lists .A-length, omega (arith, minus-room g (s .pre .limits), w .write-row .kept .1 .1 .1 .1 .1 .0)), omega (arith, room))))
+    (s .pre .entries .limits, (cut .0, ((s .pre .entries .A-length, omega (arith, minus-room g (s .pre .entries .limits), w .write-row .kept .1 .1 .1 .1 .1 .0)), omega (arith, room))))
 
 write-middle-requires : tie.Need-write-middle-requires
 write-middle-requires c κs =
@@ -52,12 +52,12 @@ write-middle-requires c κs =
     let cut = k .cut-of .ensures in
     let room = all-room g (k .cut-of .result) (cut .0) (out-room _ _ _ _ _ _ _ _ _ _ _ _ _ _ _ _ _ _ _ _ (s .pre) (k .cut-of .result) (cut .0) (cut .1) (cut .2) (cut .3)) in
     let kept = t .write-tables .kept .1 .1 .1 .1 .1 .1 .1 .1 .1 in (
-      s .pre .limits,
+      s .pre .entries .limits,
       (
         cut .0,
         (
-          table-room g (s .pre .limits) (omega (arith, kept .0)) (omega (arith, kept .1 .0)) (omega (arith, kept .1 .1 .0)) (omega (arith, kept .1 .1 .1 .0)),
-          (canonical _ (s .pre .limits .shaped .degree .small) (b .aggregate-constant .ensures), omega (arith, room, r5 .write-rows5 .kept .1 .1 .1 .1 .0)),
+          table-room g (s .pre .entries .limits) (omega (arith, kept .0)) (omega (arith, kept .1 .0)) (omega (arith, kept .1 .1 .0)) (omega (arith, kept .1 .1 .1 .0)),
+          (canonical _ (s .pre .entries .limits .shaped .degree .small) (b .aggregate-constant .ensures), omega (arith, room, r5 .write-rows5 .kept .1 .1 .1 .1 .0)),
         ),
       ),
     )
@@ -72,7 +72,7 @@ write-rows3-requires c κs =
     let cut = k .cut-of .ensures in
     let room = all-room g (k .cut-of .result) (cut .0) (out-room _ _ _ _ _ _ _ _ _ _ _ _ _ _ _ _ _ _ _ _ (s .pre) (k .cut-of .result) (cut .0) (cut .1) (cut .2) (cut .3)) in
     let kept = m .write-middle .kept .1 .1 .1 .1 .1 .1 .1 .0 ∙ r5 .write-rows5 .kept .1 .1 .1 .1 .0 in
-    (s .pre .limits, (cut .0, (s .pre .lists .B-length, (s .pre .lists .C-length, (s .pre .lists .u₁-length, omega (arith, room, kept))))))
+    (s .pre .entries .limits, (cut .0, (s .pre .entries .B-length, (s .pre .entries .C-length, (s .pre .constants .u₁-length, omega (arith, room, kept))))))
 
 write-rows4-requires : tie.Need-write-rows4-requires
 write-rows4-requires c κs =
@@ -85,7 +85,7 @@ write-rows4-requires c κs =
     let cut = k .cut-of .ensures in
     let room = all-room g (k .cut-of .result) (cut .0) (out-room _ _ _ _ _ _ _ _ _ _ _ _ _ _ _ _ _ _ _ _ (s .pre) (k .cut-of .result) (cut .0) (cut .1) (cut .2) (cut .3)) in
     let kept = r3 .write-rows3 .kept .1 .1 .1 .1 .1 .0 ∙ m .write-middle .kept .1 .1 .1 .1 .1 .1 .1 .0 ∙ r5 .write-rows5 .kept .1 .1 .1 .1 .0 in
-    (s .pre .limits, (cut .0, (s .pre .lists .D-length, (s .pre .lists .u₂-length, omega (arith, room, kept)))))
+    (s .pre .entries .limits, (cut .0, (s .pre .entries .D-length, (s .pre .constants .u₂-length, omega (arith, room, kept)))))
 
 returns : tie.Need-returns
 returns c =
@@ -103,7 +103,7 @@ returns c =
     let size = out-room _ _ _ _ _ _ _ _ _ _ _ _ _ _ _ _ _ _ _ _ (s .pre) (k .cut-of .result) (cut .0) (cut .1) (cut .2) (cut .3) in
     groups-written (a .sizes) (k .cut-of .result) (cut .0) _ _ _ _ _ _ _ _ _ _ _ (a .c .now) _ (a .p .now) _ _ _ _ _ _ _ _
     (minus-held (a .sizes .shape .d) (a .sizes .shape .r) (a .c .now) _ (w .write-row .ensures)) (t .write-tables .ensures)
-    (held (s .pre .limits .shaped .degree .small) (b .aggregate-constant .ensures)) (a .out .now) size refl refl refl (r5 .write-rows5 .ensures)
+    (held (s .pre .entries .limits .shaped .degree .small) (b .aggregate-constant .ensures)) (a .out .now) size refl refl refl (r5 .write-rows5 .ensures)
     (m .write-middle .ensures) (r3 .write-rows3 .ensures) (r4 .write-rows4 .ensures)
     ∙ same-instance (a .sizes) (k .cut-of .result) _ _ _ _ _ _ _ _ _ _ _ _ _ _ _ _ (cut .1) (cut .2) (cut .3)
 
@@ -113,11 +113,11 @@ write-instance-spec =
     (tie.spec (λ c κs. search needs) (λ c. let k = c .before in omega (arith, size-small (k .before .args .sizes) (k .cut-of .result) (k .cut-of .ensures .0)))
     (λ c. search needs) write-row-requires (λ c. search needs) (λ c. search needs) (λ c. search needs) (λ c. search needs) write-tables-requires
     (λ c κs. search needs)
-    (λ c. let k = c .before .before .before .before .before .before .before .before .before .before .before .before .before .before .before in let g = groups-small (k .before .args .sizes) (k .cut-of .result) (k .before .pre .limits) (k .cut-of .ensures .0) in omega (arith, g .0, g .1, g .2))
-    (λ c. let k = c .before .before .before .before .before .before .before .before .before .before .before .before .before .before .before in let g = groups-small (k .before .args .sizes) (k .cut-of .result) (k .before .pre .limits) (k .cut-of .ensures .0) in omega (arith, g .0, g .1, g .2))
-    (λ c. let k = c .before .before .before .before .before .before .before .before .before .before .before .before .before .before .before in let g = groups-small (k .before .args .sizes) (k .cut-of .result) (k .before .pre .limits) (k .cut-of .ensures .0) in omega (arith, g .0, g .1, g .2))
-    (λ c. let k = c .before .before .before .before .before .before .before .before .before .before .before .before .before .before .before .before in let g = groups-small (k .before .args .sizes) (k .cut-of .result) (k .before .pre .limits) (k .cut-of .ensures .0) in omega (arith, g .0, g .1, g .2))
-    (λ c. let k = c .before .before .before .before .before .before .before .before .before .before .before .before .before .before .before .before in let g = groups-small (k .before .args .sizes) (k .cut-of .result) (k .before .pre .limits) (k .cut-of .ensures .0) in omega (arith, g .0, g .1, g .2))
+    (λ c. let k = c .before .before .before .before .before .before .before .before .before .before .before .before .before .before .before in let g = groups-small (k .before .args .sizes) (k .cut-of .result) (k .before .pre .entries .limits) (k .cut-of .ensures .0) in omega (arith, g .0, g .1, g .2))
+    (λ c. let k = c .before .before .before .before .before .before .before .before .before .before .before .before .before .before .before in let g = groups-small (k .before .args .sizes) (k .cut-of .result) (k .before .pre .entries .limits) (k .cut-of .ensures .0) in omega (arith, g .0, g .1, g .2))
+    (λ c. let k = c .before .before .before .before .before .before .before .before .before .before .before .before .before .before .before in let g = groups-small (k .before .args .sizes) (k .cut-of .result) (k .before .pre .entries .limits) (k .cut-of .ensures .0) in omega (arith, g .0, g .1, g .2))
+    (λ c. let k = c .before .before .before .before .before .before .before .before .before .before .before .before .before .before .before .before in let g = groups-small (k .before .args .sizes) (k .cut-of .result) (k .before .pre .entries .limits) (k .cut-of .ensures .0) in omega (arith, g .0, g .1, g .2))
+    (λ c. let k = c .before .before .before .before .before .before .before .before .before .before .before .before .before .before .before .before in let g = groups-small (k .before .args .sizes) (k .cut-of .result) (k .before .pre .entries .limits) (k .cut-of .ensures .0) in omega (arith, g .0, g .1, g .2))
     (λ c. search needs) write-rows5-requires (λ c. search needs)
     (λ c. search needs) (λ c. search needs) (λ c. search needs) write-middle-requires write-rows3-requires write-rows4-requires
     (λ c. search needs) returns)

@@ -11,11 +11,11 @@ use Rattle.prover.proofs.commit.write_g.Tie as tie
 write-pair-products-requires : tie.Need-write-pair-products-requires
 write-pair-products-requires c κs =
     let s = c .before in
-    let shape = s .pre .sized .shape in (
+    let shape = s .pre .limits .shaped in (
       shape .degree,
       (
         shape .rank-small,
-        omega (arith, s .pre .witness),
+        omega (arith, s .pre .s-length),
         mul-le-mul (pairs-bound (s .args .sizes .shape .r) (shape .parts-small)) (shape .degree .small),
       ),
     )
@@ -23,17 +23,17 @@ write-pair-products-requires c κs =
 write-garbage-digits-requires : tie.Need-write-garbage-digits-requires
 write-garbage-digits-requires c κs =
     let s = c .before .before .before .before .before in
-    let facts = s .pre .sized in
-    let fits = mul-le-mul (pairs-bound (s .args .sizes .shape .r) (facts .shape .parts-small)) (facts .shape .degree .small) in (
-      facts .shape .degree,
+    let facts = s .pre .limits in
+    let fits = mul-le-mul (pairs-bound (s .args .sizes .shape .r) (facts .shaped .parts-small)) (facts .shaped .degree .small) in (
+      facts .shaped .degree,
       (
-        facts .g-base,
+        facts .base₂,
         (
-          facts .shape .parts-small,
-          facts .g-digits,
-          facts .g-digits-few,
+          facts .shaped .parts-small,
+          omega (arith, facts .t₂-least),
+          facts .t₂-most,
           omega (arith, fits, c .before .before .before .write-pair-products .kept .1 .1 .1 .1 .0),
-          s .pre .output,
+          s .pre .gs-length,
         ),
       ),
     )
@@ -43,7 +43,7 @@ unfolding gDigits
 returns c =
     let s = c .before .before .before .before .before .before .before in
     let z = s .args .sizes in
-    let shape = s .pre .sized .shape in
+    let shape = s .pre .limits .shaped in
     let fits = mul-le-mul (pairs-bound (z .shape .r) (shape .parts-small)) (shape .degree .small) in
     garbage-written (z .shape .d) (z .shape .r) (z .b2) (z .t2) (g (z .shape .d) (z .shape .n) (s .args .witness .now)) _ fits
     (c .before .before .before .before .before .write-pair-products .ensures) (c .before .write-garbage-digits .ensures)

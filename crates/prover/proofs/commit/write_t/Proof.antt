@@ -21,8 +21,8 @@ abbrev μ-loop : tie.MeasureT-loop
 
 mul-width-2 : tie.Need-mul-width-2 Inv-loop μ-loop
 mul-width-2 c =
-    let facts = c .pre .sized in
-    omega (arith, mul-le-mul (facts .t-digits-few) (mul-le-mul (facts .rank-small) (facts .shape .degree .small)))
+    let facts = c .pre .limits in
+    omega (arith, mul-le-mul (facts .t₁-most) (mul-le-mul (facts .κ-small) (facts .shaped .degree .small)))
 
 write-t-part-requires : tie.Need-write-t-part-requires Inv-loop μ-loop
 write-t-part-requires c κs =
@@ -30,12 +30,12 @@ write-t-part-requires c κs =
     let s = l .before in
     let z = s .args .sizes in
     let facts : PartFacts (z .shape .d) (z .shape .n) (z .kappa) (l .loop .i) (s .args .a-matrix .now) (s .args .witness .now) = record {
-      rank-small = s .pre .sized .shape .rank-small;
-      matrix = omega (arith, s .pre .matrix);
-      part = row-fits (z .shape .d) (z .shape .n) {r = z .shape .r} (c .before .loop-test .taken) (omega (arith, s .pre .witness));
+      rank-small = s .pre .limits .shaped .rank-small;
+      matrix = omega (arith, s .pre .A-length);
+      part = row-fits (z .shape .d) (z .shape .n) {r = z .shape .r} (c .before .loop-test .taken) (omega (arith, s .pre .s-length));
     } in
     let block = blocks-part (l .loop .inv) (c .before .loop-test .taken) in
-    (s .pre .sized .shape .degree, (s .pre .sized .t-base, (facts, (s .pre .sized .t-digits, block))))
+    (s .pre .limits .shaped .degree, (s .pre .limits .base₁, (facts, (omega (arith, s .pre .limits .t₁-least), block))))
 
 loop-again : tie.Need-loop-again Inv-loop μ-loop
 loop-again c =
@@ -53,7 +53,7 @@ returns c =
 pub write-t-spec : {M : Type 1} → statement M
 write-t-spec =
     tie.close
-    (tie.spec Inv-loop μ-loop (λ c. omega (arith, mul-le-mul (c .pre .sized .rank-small) (c .pre .sized .shape .degree .small)))
+    (tie.spec Inv-loop μ-loop (λ c. omega (arith, mul-le-mul (c .pre .limits .κ-small) (c .pre .limits .shaped .degree .small)))
     mul-width-2 (λ c. blocks-start (omega (arith, t-length (c .pre))))
     (λ c. omega (arith, blocks-fit (c .before .loop .inv) (c .loop-test .taken), c .before .loop .inv .same))
     (λ c. omega (arith, blocks-fit (c .before .loop .inv) (c .loop-test .taken), c .before .loop .inv .same)) (λ c. omega arith)

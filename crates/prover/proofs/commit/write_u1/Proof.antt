@@ -17,17 +17,17 @@ write-outer-requires : tie.Need-write-outer-requires
 write-outer-requires c κs =
     let s = c .before .before .before in
     let z = s .args .sizes in
-    let facts = s .pre .sized in
+    let facts = s .pre .limits in
     let m = c .before .before .t-size .ensures in
     let l = c .before .garbage-size .ensures in
-    let ts = tSize-bound (z .shape .r) (z .kappa) (z .t1) (facts .shape .parts-small) (facts .rank-small) (facts .t-digits-few) in
-    let gs = garbageSize-bound (z .shape .r) (z .t2) (facts .shape .parts-small) (facts .g-digits-few) in (
-      facts .shape .degree,
+    let ts = tSize-bound (z .shape .r) (z .kappa) (z .t1) (facts .shaped .parts-small) (facts .κ-small) (facts .t₁-most) in
+    let gs = garbageSize-bound (z .shape .r) (z .t2) (facts .shaped .parts-small) (facts .t₂-most) in (
+      facts .shaped .degree,
       (
-        (rw m (omega (arith, ts)), rw m (omega (arith, s .pre .t-matrix)), rw m (omega (arith, s .pre .t-digits))),
+        (rw m (omega (arith, ts)), rw m (omega (arith, s .pre .B-length)), rw m (omega (arith, s .pre .ts-length))),
         (
-          (rw l (omega (arith, gs)), rw l (omega (arith, s .pre .g-matrix)), rw l (omega (arith, s .pre .g-digits))),
-          s .pre .output,
+          (rw l (omega (arith, gs)), rw l (omega (arith, s .pre .C-length)), rw l (omega (arith, s .pre .gs-length))),
+          s .pre .u₁-length,
         ),
       ),
     )

@@ -18,7 +18,7 @@ project-row-requires : tie.Need-project-row-requires Inv-loop μ-loop
 project-row-requires c κs =
     let l = c .before .before in
     let s = l .before in (
-      projection-entries-part (l .loop .at) (l .loop .at + length (s .args .witness .now) - l .loop .at) (s .args .projections .now) (s .pre .entries),
+      projection-entries-part (l .loop .at) (l .loop .at + length (s .args .witness .now) - l .loop .at) (s .args .projections .now) (s .pre .tested),
       projecting-part (l .loop .inv) (c .before .loop-test .taken),
       witness-short (s .pre),
     )
@@ -32,12 +32,12 @@ returns : tie.Need-returns Inv-loop μ-loop
 returns c =
     let s = c .before .before in
     let z = s .args .shape in
-    projecting-end (c .before .loop .inv) (z .d) (z .n) (z .r) (s .pre .witness) (c .loop-test .left)
+    projecting-end (c .before .loop .inv) (z .d) (z .n) (z .r) (s .pre .s-length) (c .loop-test .left)
 
 pub write-p-spec : {M : Type 1} → statement M
 write-p-spec =
     tie.close
-    (tie.spec Inv-loop μ-loop (λ c. projecting-start (projections-length (c .pre)) (c .pre .output))
+    (tie.spec Inv-loop μ-loop (λ c. projecting-start (projections-length (c .pre)) (c .pre .p-length))
     (λ c. omega (arith, projecting-fit (c .before .loop .inv) (c .loop-test .taken)))
     (λ c. omega (arith, projecting-fit (c .before .loop .inv) (c .loop-test .taken)))
     (λ c. omega arith) (λ c. omega arith)

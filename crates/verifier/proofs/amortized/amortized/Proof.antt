@@ -21,7 +21,7 @@ amortized-row-requires : tie.Need-amortized-row-requires Inv-loop μ-loop
 amortized-row-requires c κs =
     let s = c .before .before in
     let p = s .pre in
-    (p .0, (p .1 .0, (p .1 .1 .0, (p .1 .1 .1 .0, (p .1 .1 .1 .1, c .loop-test .taken)))))
+    (p .0, (p .1, c .loop-test .taken))
 
 returns : tie.Need-returns Inv-loop μ-loop
 unfolding check₅

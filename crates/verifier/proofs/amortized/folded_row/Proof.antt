@@ -18,18 +18,18 @@ folded-summand-requires : tie.Need-folded-summand-requires Inv-loop μ-loop
 folded-summand-requires c κs =
     let s = c .before .before .before in
     let p = s .pre in
-    (p .0, (p .1 .0, (p .1 .1 .0, (c .loop-test .taken, p .1 .1 .1))))
+    (p .0, (c .loop-test .taken, p .1))
 
 loop-again : tie.Need-loop-again Inv-loop μ-loop
 loop-again c =
     let l = c .before .before .before in
     let s = l .before .before in
-    summed-step (l .loop .inv) (s .pre .0 .shaped .degree) (c .before .before .loop-test .taken)
+    summed-step (l .loop .inv) (s .pre .0 .limits .shaped .degree) (c .before .before .loop-test .taken)
     (c .before .folded-summand .ensures) (c .sum .ensures)
 
 pub folded-row-spec : {M : Type 1} → statement M
 folded-row-spec =
     tie.close
     (tie.spec Inv-loop μ-loop (λ c κs. tt) (λ c. summed-start (c .additive-identity .ensures _)) folded-summand-requires
-    (λ c κs. c .before .before .before .before .pre .0 .shaped .degree) (λ c. omega arith) (λ c. omega arith) loop-again
+    (λ c κs. c .before .before .before .before .pre .0 .limits .shaped .degree) (λ c. omega arith) (λ c. omega arith) loop-again
     (λ c. summed-end (c .before .loop .inv) (c .loop-test .left)))

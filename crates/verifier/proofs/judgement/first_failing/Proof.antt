@@ -1,13 +1,12 @@
 -- `verifier::judgement::first_failing` meets its contract: a part in which a check fails, or the parts after it.
 use mathlib.Core.Path.{_∙_, refl}
 use Rattle.fold.specs.Laws.TestLaws.{stops, goes-on}
-use Rattle.verifier.specs.Laws.JudgementLaws.{parts, term-facts, outer-facts, opening-facts}
+use Rattle.verifier.specs.Laws.JudgementLaws.{parts}
 use Rattle.verifier.proofs.judgement.first_failing.Statement.{statement}
 use Rattle.verifier.proofs.judgement.first_failing.Tie as tie
 
 message-checks-requires : tie.Need-message-checks-requires
-message-checks-requires c κs =
-    (c .pre .limits, term-facts (c .args .sizes) _ _ _ _ _ _ _ _ _ _ _ _ _ _ _ _ _ (c .pre))
+message-checks-requires c κs = c .pre .message
 
 returns : tie.Need-returns
 returns c =
@@ -17,8 +16,7 @@ returns c =
     ∙ parts (s .args .sizes) _ _ _ _ _ _ _ _ _ _ _ _ _ _ _ _ _
 
 outer-checks-requires : tie.Need-outer-checks-requires
-outer-checks-requires c κs =
-    let s = c .before .before in outer-facts (s .args .sizes) _ _ _ _ _ _ _ _ _ _ _ _ _ _ _ _ _ (s .pre)
+outer-checks-requires c κs = c .before .before .pre .outer
 
 returns-2 : tie.Need-returns-2
 returns-2 c =
@@ -30,8 +28,7 @@ returns-2 c =
     ∙ parts (s .args .sizes) _ _ _ _ _ _ _ _ _ _ _ _ _ _ _ _ _
 
 opening-checks-requires : tie.Need-opening-checks-requires
-opening-checks-requires c κs =
-    let s = c .before .before .before .before in opening-facts (s .args .sizes) _ _ _ _ _ _ _ _ _ _ _ _ _ _ _ _ _ (s .pre)
+opening-checks-requires c κs = c .before .before .before .before .pre .opening
 
 returns-3 : tie.Need-returns-3
 returns-3 c =

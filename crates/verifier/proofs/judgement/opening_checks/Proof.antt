@@ -9,12 +9,12 @@ use Rattle.verifier.proofs.judgement.opening_checks.Tie as tie
 write-z-requires : tie.Need-write-z-requires
 write-z-requires c κs =
     let s = c .before in
-    let f = s .pre .fits in (
+    let f = s .pre .relation .limits in (
       f .shaped .degree,
       (
         f .base,
         (
-          z-within (s .args .sizes) _ (s .pre .opening),
+          z-within (s .args .sizes) _ (s .pre .relation .o-length),
           mul-le-mul (f .shaped .rank-small)
               (f .shaped .degree .small),
         ),
@@ -24,7 +24,7 @@ write-z-requires c κs =
 recomposed-checks-requires : tie.Need-recomposed-checks-requires
 recomposed-checks-requires c κs =
     let s = c .before .before .before .before in
-    (s .pre, recomposed (s .args .sizes) (s .pre .fits) _ _ _ (search needs) (c .before .before .write-z .ensures))
+    (s .pre, recomposed (s .args .sizes) (s .pre .relation .limits) _ _ _ (search needs) (c .before .before .write-z .ensures))
 
 pub opening-checks-spec : {M : Type 1} → statement M
 opening-checks-spec =

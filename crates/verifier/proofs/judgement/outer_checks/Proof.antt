@@ -6,14 +6,13 @@ use Rattle.verifier.proofs.judgement.outer_checks.Statement.{statement}
 use Rattle.verifier.proofs.judgement.outer_checks.Tie as tie
 
 first-outer-requires : tie.Need-first-outer-requires
-first-outer-requires c κs =
-    let f = c .pre in (f .fits, (f .first-matrix, (f .second-matrix, (f .first, f .opening))))
+first-outer-requires c κs = c .pre .first
 
 returns : tie.Need-returns
 returns c = fails 3 _ (c .before .first-outer .ensures) (c .if1 .taken)
 
 second-outer-requires : tie.Need-second-outer-requires
-second-outer-requires c κs = let f = c .before .before .pre in (f .fits, (f .third-matrix, (f .second, f .opening)))
+second-outer-requires c κs = c .before .before .pre .second
 
 returns-2 : tie.Need-returns-2
 returns-2 c =

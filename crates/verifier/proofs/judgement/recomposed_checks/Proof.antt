@@ -26,7 +26,7 @@ linear-part-requires : tie.Need-linear-part-requires
 linear-part-requires c κs =
     let s = c .before .before .before .before in
     let f = s .pre .0 in
-    (f .fits, (f .aggregated, (f .challenges, (s .pre .1 .room, f .opening))))
+    (f .relation .limits, (f .aggregated, (f .amortized .folded .c-length, (s .pre .1 .room, f .relation .o-length))))
 
 returns-3 : tie.Need-returns-3
 returns-3 c =
@@ -42,9 +42,7 @@ returns-3 c =
 
 relation-holds-requires : tie.Need-relation-holds-requires
 relation-holds-requires c κs =
-    let s = c .before .before .before .before .before .before in
-    let f = s .pre .0 in
-    (f .fits, (f .aggregated .wholes, (f .aggregated .seconds .terms, ((f .weights, f .second), f .opening))))
+    c .before .before .before .before .before .before .pre .0 .relation
 
 returns-4 : tie.Need-returns-4
 returns-4 c =
@@ -84,14 +82,14 @@ pub recomposed-checks-spec : {M : Type 1} → statement M
 recomposed-checks-spec =
     tie.close
     (tie.spec
-    (λ c κs. search needs)
+    (λ c κs. (c .pre .0 .amortized, c .pre .1 .room))
     returns
-    (λ c κs. search needs)
+    (λ c κs. let s = c .before .before in (s .pre .0 .amortized .folded, s .pre .1 .room))
     returns-2
     linear-part-requires
     returns-3
     relation-holds-requires
     returns-4
-    (λ c κs. search needs)
+    (λ c κs. let f = c .before .before .before .before .before .before .before .before .pre .0 .relation in (f .limits, f .o-length))
     (λ c κs. search needs)
     returns-5)

@@ -1,26 +1,13 @@
 -- `verifier::linear::linear_part` meets its contract.
 use native.Mathlib.Omega.{arith}
-use lib.ListN.{length-replicate}
-use lib.IntN.{pos}
 use Rattle.verifier.specs.Laws.MixedLaws.{h-garbage}
 use Rattle.verifier.specs.Laws.RelationLaws.{check-seven}
 use Rattle.verifier.proofs.linear.linear_part.Statement.{statement}
 use Rattle.verifier.proofs.linear.linear_part.Tie as tie
 
-write-omega-sums-requires : tie.Need-write-omega-sums-requires
-write-omega-sums-requires c κs =
-    let projected = c .before .pre .1 .0 .seconds .projected in
-    (projected .row-count, projected .ω-length, length-replicate 25920 (pos 0))
-
-linear-sum-requires : tie.Need-linear-sum-requires
-linear-sum-requires c κs =
-    let w = c .before in
-    let s = w .before .before in
-    (s .pre .1 .0, (w .write-omega-sums .ensures, (s .pre .1 .1 .0, s .pre .1 .1 .1 .0)))
-
 mixed-sum-requires : tie.Need-mixed-sum-requires
 mixed-sum-requires c κs =
-    let s = c .before .before .before .before .before in
+    let s = c .before .before .before in
     (h-garbage (s .args .sizes) (s .pre .0) _ (s .pre .1 .1 .1 .1) _ (c .h-place .ensures), s .pre .1 .1 .0)
 
 returns : tie.Need-returns
@@ -28,13 +15,12 @@ returns c =
     let right = c .before in
     let start = right .before in
     let left = start .before in
-    let s = left .before .before .before .before in
-    check-seven (s .args .sizes) _ _ _ _ _ _ _ _ _ _ _ _ _ _ (s .pre .0 .shaped .degree .small) (left .linear-sum .ensures)
-    (start .h-place .ensures)
+    let s = left .before .before in
+    check-seven (s .args .sizes) _ _ _ _ (s .pre .0 .shaped .degree .small) (left .linear-sum .ensures) (start .h-place .ensures)
     (right .mixed-sum .ensures) (c .equals .ensures)
 
 pub linear-part-spec : {M : Type 1} → statement M
 linear-part-spec =
     tie.close
-    (tie.spec write-omega-sums-requires linear-sum-requires (λ c κs. (omega arith, c .before .before .before .before .pre .0)) mixed-sum-requires
-    (λ c κs. c .before .before .before .before .before .before .pre .0 .shaped .degree) returns)
+    (tie.spec (λ c κs. let s = c .before in (s .pre .1 .0, (s .pre .1 .1 .0, s .pre .1 .1 .1 .0))) (λ c κs. (omega arith, c .before .before .pre .0)) mixed-sum-requires
+    (λ c κs. c .before .before .before .before .pre .0 .shaped .degree) returns)

@@ -1,6 +1,13 @@
 -- `verifier::linear::linear_sum` meets its contract. The accumulator holds the sum of the summands so far.
-use Prim.Native.Nat.{_-_}
+use mathlib.Core.Path.{_≡_, _∙_}
+use borrow.Author.Needs.{needs}
+use Prim.Native.Nat.{_-_, _<_}
+use native.Mathlib.Nat.{zero-add}
 use native.Mathlib.Omega.{arith}
+use lib.ListN.{length, length-replicate}
+use lib.IntN.{pos}
+use Rattle.fold.specs.Messages.{aggregate}
+use Rattle.constraints.specs.Laws.SizeLaws.{phi-room}
 use Rattle.verifier.specs.Laws.PlaceLaws.{element-fits}
 use Rattle.verifier.specs.Relation.{linearSummand}
 use Rattle.verifier.specs.Laws.RelationLaws.{linear-summand}
@@ -9,41 +16,75 @@ use Rattle.verifier.proofs.linear.linear_sum.Statement.{statement}
 use Rattle.verifier.proofs.linear.linear_sum.Tie as tie
 
 abbrev Inv-loop : tie.InvT-loop
-Inv-loop sizes whole constant-terms projections psi omega omega-sums alpha delta c z d count acc₀ i₀ acc i = Summed (sizes .shape .d) count
-    (linearSummand sizes whole constant-terms projections psi omega alpha delta c z) i (acc .coefficients)
+Inv-loop sizes whole constant-terms projections psi omega alpha delta c z omega-sums d rank parts phi₀ acc₀ i₀ phi acc i =
+    (length phi ≡ 16384) × Summed d parts (linearSummand d rank
+    (aggregate d rank parts (sizes .k) (sizes .l) (sizes .w) whole constant-terms projections psi omega alpha delta .φ) c z) i (acc .coefficients)
 
 abbrev μ-loop : tie.MeasureT-loop
-μ-loop sizes whole constant-terms projections psi omega omega-sums alpha delta c z d count acc₀ i₀ acc i = count - i
+μ-loop sizes whole constant-terms projections psi omega alpha delta c z omega-sums d rank parts phi₀ acc₀ i₀ phi acc i = parts - i
+
+write-omega-sums-requires : tie.Need-write-omega-sums-requires Inv-loop μ-loop
+write-omega-sums-requires c κs =
+    let projected = c .before .pre .0 .seconds .projected in
+    (projected .row-count, projected .ω-length, length-replicate 25920 (pos 0))
+
+write-phi-part-requires : tie.Need-write-phi-part-requires Inv-loop μ-loop
+write-phi-part-requires c κs =
+    let l = c .before .before .before in
+    let w = l .before .before in
+    let s = w .before .before in
+    (s .pre .0, (w .write-omega-sums .ensures, (c .before .before .loop-test .taken, rw (l .loop .inv .0) (phi-room (s .pre .0 .wholes .shaped)))))
+
+inner-requires : tie.Need-inner-requires Inv-loop μ-loop
+inner-requires c κs =
+    let p = c .before .before in
+    let l = p .before .before .before .before in
+    let s = l .before .before .before .before in
+    let shaped = s .pre .0 .wholes .shaped in
+    let n = s .args .sizes .shape .n in
+    let kept = p .write-phi-part .kept .1 .1 .1 .1 .1 .1 .1 .1 .1 .1 .0 in (
+      shaped .degree,
+      (
+        omega (arith, shaped .rank-small),
+        rw (zero-add n) (omega (arith, phi-room shaped, kept, l .loop .inv .0)),
+        rw (zero-add n) (s .pre .1 .1),
+      ),
+    )
 
 from-slice-requires : tie.Need-from-slice-requires Inv-loop μ-loop
 from-slice-requires c κs =
-    let s = c .before .before .before .before in
-    (s .pre .0 .wholes .shaped .degree, element-fits _ _ (c .before .before .loop .i) _ (s .pre .1 .1 .0) (c .before .loop-test .taken))
+    let l = c .before .before .before .before .before .before .before in
+    let s = l .before .before .before .before in
+    let taken = c .before .before .before .before .before .before .loop-test .taken in
+    (s .pre .0 .wholes .shaped .degree, element-fits _ _ (l .loop .i) _ (s .pre .1 .0) taken)
 
-add-i : tie.Need-add-i Inv-loop μ-loop
-add-i c =
-    let l = c .before .before .before .before in
-    omega (arith, l .loop-test .taken, l .before .before .before .pre .0 .wholes .shaped .parts-small)
+-- the turn's part is one of them
+turn : (c : tie.After-sum Inv-loop μ-loop) → let l = c .before .before .before .before .before .before .before .before .before .before in
+    l .loop .i < l .before .before .before .before .args .sizes .shape .r
+turn c = c .before .before .before .before .before .before .before .before .before .loop-test .taken
 
 loop-again : tie.Need-loop-again Inv-loop μ-loop
 loop-again c =
-    let e = c .before in
-    let f = e .before in
-    let p = f .before in
-    let l = p .before .before in
-    let s = l .before .before in
-    let small = s .pre .0 .wholes .shaped .degree .small in
-    let value = linear-summand (s .args .sizes) _ _ _ _ _ _ _ _ _ (l .loop .i) _ _ _ small (p .phi-product .ensures)
-    (f .from-slice .ensures) (e .product .ensures) in
-    summed-step (l .loop .inv) (s .pre .0 .wholes .shaped .degree) (p .before .loop-test .taken)
-    value (c .sum .ensures)
+    let product = c .before in
+    let challenge = product .before in
+    let inner = challenge .before in
+    let p = inner .before .before .before in
+    let l = p .before .before .before .before in
+    let s = l .before .before .before .before in
+    let degree = s .pre .0 .wholes .shaped .degree in
+    let kept = p .write-phi-part .kept .1 .1 .1 .1 .1 .1 .1 .1 .1 .1 .0 in
+    let summand = linear-summand _ _ _ _ _ (l .loop .i) _ (degree .small) (p .write-phi-part .ensures) (inner .inner .ensures)
+    (challenge .from-slice .ensures) (product .product .ensures) in
+    (kept ∙ l .loop .inv .0, summed-step (l .loop .inv .1) degree (turn c) summand (c .sum .ensures))
 
 pub linear-sum-spec : {M : Type 1} → statement M
 linear-sum-spec =
     tie.close
-    (tie.spec Inv-loop μ-loop (λ c κs. tt) (λ c. summed-start (c .additive-identity .ensures _))
-    (λ c κs. let s = c .before .before .before in (s .pre .0, (s .pre .1 .0, (s .pre .1 .1 .1, c .loop-test .taken))))
-    from-slice-requires (λ c κs. c .before .before .before .before .before .pre .0 .wholes .shaped .degree)
-    (λ c κs. c .before .before .before .before .before .before .pre .0 .wholes .shaped .degree) add-i
-    (λ c. omega (arith, c .before .before .before .before .loop-test .taken)) loop-again
-    (λ c. summed-end (c .before .loop .inv) (c .loop-test .left)))
+    (tie.spec Inv-loop μ-loop write-omega-sums-requires (λ c κs. tt)
+    (λ c. (length-replicate 16384 (pos 0), summed-start (c .additive-identity .ensures _))) (λ c. search needs) write-phi-part-requires
+    (λ c. search needs) inner-requires from-slice-requires
+    (λ c κs. c .before .before .before .before .before .before .before .before .before .before .before .before .pre .0 .wholes .shaped .degree)
+    (λ c κs. c .before .before .before .before .before .before .before .before .before .before .before .before .before .pre .0 .wholes .shaped .degree)
+    (λ c. let l = c .before .before .before .before .before .before .before .before .before .before in
+    omega (arith, l .before .before .before .before .pre .0 .wholes .shaped .parts-small, turn c))
+    (λ c. omega (arith, turn c)) loop-again (λ c. summed-end (c .before .loop .inv .1) (c .loop-test .left)))

@@ -34,7 +34,7 @@ returns : tie.Need-returns
 returns c =
     let s = c .before .before .before in
     c .short-parts .ensures
-    ∙ check-nine _ _ _ _ _ _ _ _ _ _ _ (s .pre .1 .sized) (ap (λ (a : ℕ). a * s .args .sizes .shape .d) (c .before .before .t-place .ensures))
+    ∙ check-nine _ _ _ _ _ _ _ _ _ _ _ (s .pre .1) (ap (λ (a : ℕ). a * s .args .sizes .shape .d) (c .before .before .t-place .ensures))
     (ap (λ (a : ℕ). a * s .args .sizes .shape .d) (c .before .h-place .ensures))
 
 pub short-opening-spec : {M : Type 1} → statement M

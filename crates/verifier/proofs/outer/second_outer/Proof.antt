@@ -24,6 +24,6 @@ pub second-outer-spec : {M : Type 1} → statement M
 second-outer-spec =
     tie.close
     (tie.spec Inv-loop μ-loop (λ c. tested-start)
-    (λ c κs. let s = c .before .before in let p = s .pre in (p .0, (p .1 .0, (p .1 .1 .0, (p .1 .1 .1, c .loop-test .taken)))))
+    (λ c κs. (c .before .before .pre, c .loop-test .taken))
     (λ c. omega arith) (λ c. omega arith)
     (λ c. tested-step (c .before .before .loop .inv) (c .before .loop-test .taken) (c .second-row .ensures)) returns)

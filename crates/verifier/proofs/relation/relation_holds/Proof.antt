@@ -9,18 +9,18 @@ relation-sum-requires : tie.Need-relation-sum-requires
 relation-sum-requires c κs =
     let s = c .before in
     let p = s .pre in
-    (p .1 .0, (p .1 .1 .0, (p .1 .1 .1 .0 .0, g-garbage (s .args .sizes) (p .0) _ (p .1 .1 .1 .1) _ (c .g-place .ensures))))
+    (p .wholes, (p .terms, (p .δ-length, g-garbage (s .args .sizes) (p .limits) _ (p .o-length) _ (c .g-place .ensures))))
 
 diagonal-sum-requires : tie.Need-diagonal-sum-requires
 diagonal-sum-requires c κs =
     let s = c .before .before .before in
-    h-garbage (s .args .sizes) (s .pre .0) _ (s .pre .1 .1 .1 .1) _ (c .h-place .ensures)
+    h-garbage (s .args .sizes) (s .pre .limits) _ (s .pre .o-length) _ (c .h-place .ensures)
 
 aggregate-constant-requires : tie.Need-aggregate-constant-requires
 aggregate-constant-requires c κs =
     let s = c .before .before .before .before .before in
     let p = s .pre in
-    (p .1 .0, (p .1 .1 .1 .0 .0 .sized, p .1 .1 .1 .0 .1 .sized))
+    (p .wholes, (p .δ-length, p .b″-length))
 
 returns : tie.Need-returns
 returns c =
@@ -32,7 +32,7 @@ returns c =
     let gs = hp .before in
     let gp = gs .before in
     let s = gp .before in
-    check-eight (s .args .sizes) _ _ _ _ _ _ w projections omega _ _ _ _ _ _ _ _ (s .pre .0 .shaped .degree .small) (gp .g-place .ensures)
+    check-eight (s .args .sizes) _ _ _ _ _ _ w projections omega _ _ _ _ _ _ _ _ (s .pre .limits .shaped .degree .small) (gp .g-place .ensures)
     (gs .relation-sum .ensures) (hp .h-place .ensures) (hs .diagonal-sum .ensures) (left .sum .ensures)
     (right .aggregate-constant .ensures) (c .equals .ensures)
 

@@ -10,7 +10,7 @@ aggregate-a-requires c κs = search needs
 
 garbage-of-requires : tie.Need-garbage-of-requires
 garbage-of-requires c κs =
-    let s = c .before in
+    let s = c .before .before in
     let z = s .args .sizes in
     let g = s .pre .1 .1 .1 .0 in
     (g .degree, (g .base, (g .digits, garbage-below (z .shape .d) (z .shape .r) (z .t2) (s .args .place) (s .args .q) _ (s .pre .1 .1 .1 .1) (g .inside))))
@@ -20,7 +20,7 @@ product-requires c κs = search needs
 
 returns : tie.Need-returns
 returns c =
-    let s = c .before .before .before in
+    let s = c .before .before .before .before in
     relation-summand (s .args .sizes) _ _ _ _ _ _ (s .args .place) (s .args .q) _ _ _ (s .pre .0 .shaped .degree .small)
     (c .before .before .aggregate-a .ensures) (c .before .garbage-of .ensures) (c .product .ensures)
 

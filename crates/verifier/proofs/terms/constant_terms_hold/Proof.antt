@@ -19,6 +19,6 @@ pub constant-terms-hold-spec : {M : Type 1} → statement M
 constant-terms-hold-spec =
     tie.close
     (tie.spec Inv-loop μ-loop (λ c. tested-start)
-    (λ c κs. let s = c .before .before in (s .pre .0, (s .pre .1, c .loop-test .taken))) (λ c. omega arith) (λ c. omega arith)
+    (λ c κs. let s = c .before .before in (s .pre, c .loop-test .taken)) (λ c. omega arith) (λ c. omega arith)
     (λ c. tested-step (c .before .before .loop .inv) (c .before .loop-test .taken) (c .constant-term-holds .ensures))
     (λ c. tested-end (c .before .loop .inv) (c .loop-test .left) ∙ check-two _ _ _ _ _ _ _ _ _ _))
