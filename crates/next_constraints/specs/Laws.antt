@@ -1,10 +1,9 @@
+pub mod BlockLaws
+pub mod Powers
+pub mod Squares
+pub mod SpreadLaws
+pub mod CutLaws
+pub mod Forming
+pub mod CheckLaws
 pub mod FoldedLaws
 pub mod TableLaws
-pub mod BlockPlaces
-pub mod Order
-pub mod EntrySteps
-pub mod EntryTables
-pub mod CoefficientLaws
-pub mod Powers
-pub mod EntryRoom
-pub mod Squares

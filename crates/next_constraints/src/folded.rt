@@ -3,28 +3,15 @@ ghost use mathlib.Core.Path.{_≡_};
 ghost use Prim.Native.Nat.{_*_, _≤_};
 ghost use lib.ListN.{length};
 ghost use Rattle.integers.specs.Over.{over};
-ghost use Rattle.ring.specs.Element.{R, Degree, lift};
+ghost use Rattle.ring.specs.Element.{Degree, lift};
 ghost use Rattle.fold.specs.Messages.{elements, aggregate};
 ghost use Rattle.constraints.specs.Known.Facts.{AggregateFacts};
 ghost use Rattle.next_constraints.specs.Folded.{plusMultiple, foldedSum};
+use crate::blocks::write_zeros;
 use constraints::ConstraintSizes;
 use constraints::phi::write_phi_part;
 use constraints::row_groups;
 use ring::element::Element;
-
-// Zero as the first n elements of `out`.
-fn write_zeros(d: usize, n: usize, out: &mut [i32])
-    requires { ⌜ Degree d ⌝ }
-    requires { ⌜ n * d ≤ length (now out) ⌝ }
-    ensures { λ _. ⌜ now (out .exit) ≡ over (now (out .entry)) 0 (elements d n (λ _. R d .zero)) ⌝ }
-{
-    let mut k = 0;
-    while k < n {
-        let zero = Element::additive_identity();
-        zero.store(d, out, k);
-        k += 1;
-    }
-}
 
 // Adds the first n elements of a list, times a weight, to those of `out`.
 fn add_multiples(d: usize, n: usize, list: &[i32], weight: Element, out: &mut [i32])
@@ -70,7 +57,7 @@ pub fn write_folded(
     let d = sizes.shape.d;
     let rank = sizes.shape.n;
     let parts = sizes.shape.r;
-    write_zeros(d, rank, out);
+    write_zeros(d, rank, out, 0);
     let mut phi = [0i32; 16384];
     let mut i = 0;
     while i < parts {

@@ -1,6 +1,4 @@
-pub mod Filled
+pub mod Order
 pub mod Instance
-pub mod Places
-pub mod WrittenLaws
 pub mod CallLaws
 pub mod PartLaws

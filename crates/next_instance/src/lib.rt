@@ -8,10 +8,7 @@ use limits::next::next_refusal;
 use verifier::judgement::message_checks;
 use writer::write_instance;
 
-pub mod a_part;
-pub mod cut;
 pub mod part;
-pub mod phi_part;
 pub mod writer;
 
 // Writes the constraints of the next instance to `out`, unless the call is refused or check 1 or 2 fails.

@@ -1,11 +1,13 @@
--- The power b^e modulo q as a loop forms it, and the entries of the blocks, which are products with it.
+-- The power b^e modulo q as a loop forms it, and the entries of the blocks of z and of digits, which are products with it.
 use mathlib.Core.Path.{_≡_, sym, ap, ap₂, _∙_}
+use mathlib.Core.Bool.{Bool, cond}
 use mathlib.Core.List.{List}
-use Prim.Native.Nat.{ℕ, suc, _+_, _*_, _/_, _%_, _^_, _≤_, _<_}
-use native.Mathlib.Nat.{pow-zero, pow-suc, mul-le-mul-right}
+use Prim.Native.Nat.{ℕ, _+_, _*_, _^_, _≤_}
+use native.Mathlib.Nat.{pow-zero, pow-suc}
 use native.Mathlib.Numerals.{add-one}
 use native.Mathlib.Omega.{arith}
 use lib.IntN.{ℤ, pos, _+ℤ_, _*ℤ_}
+use borrow.Author.Tests.{eq-eqb, ne-eqb}
 use mir.Syntax.{w32}
 use mir.Val.{toZ, ofZ}
 use mir.Facts.{toZ-ofZ}
@@ -13,10 +15,15 @@ use Rattle.integers.specs.Laws.Bridge.{add-pn, zarith}
 use Rattle.algebra.specs.Polynomial.{constant}
 use Rattle.residues.specs.Modulus.{Zq, red, centred}
 use Rattle.residues.specs.Laws.ModulusLaws.{red-mul, red-centred, centred-eq, centred-fixed, centred-fits}
-use Rattle.ring.specs.Element.{R, lift, el, array, number}
+use Rattle.integers.specs.Lists.{tab}
+use Rattle.integers.specs.Laws.FlatLaws.{flat-cong}
+use Rattle.ring.specs.Element.{R, lift, el, coeffs, array, number}
 use Rattle.ring.specs.Laws.ElementLaws.{lift-array}
 use Rattle.fold.specs.NextInstance.{power}
-use Rattle.next_constraints.specs.Entries.{zEntry, partEntry, garbageEntry}
+use Rattle.fold.specs.Messages.{elements}
+use Rattle.next_constraints.specs.declared.blocks.Digits.{Digits}
+use Rattle.next_constraints.specs.Blocks.{numbers, digitRow}
+use Rattle.next_constraints.specs.Laws.BlockLaws.{numbers-tab}
 
 -- ---- the loop, with the bits of its local
 
@@ -67,38 +74,25 @@ module _ (d : ℕ) where
   weighted b e r u xs out small h l o =
       o ∙ ap (array d) (ap₂ (R d .mul) (weight-is b e r h) (ap (lift d) l ∙ lift-array d u small))
 
-  -- the entries of the blocks, as they are formed
-  pub z-end : (n b : ℕ) (ys : List ℤ) (from p : ℕ) (r : ℤ) (xs out : List ℤ) → d ≤ 64 → r ≡ centred (pos (b ^ (p / n)))
-      → xs ≡ array d (el d ys (from + p % n)) → out ≡ array d (R d .mul (number d (toZ w32 (ofZ w32 r))) (lift d xs))
-      → out ≡ array d (zEntry d n b ys from p)
-  unfolding zEntry
-  z-end n b ys from p r xs out small h l o = weighted b (p / n) r (el d ys (from + p % n)) xs out small h l o
+  -- a row of elements times b^e, as the digits of z want it
+  pub weighted-row : (n b e : ℕ) (r : ℤ) (x : ℕ → R d .Carrier) → r ≡ centred (pos (b ^ e))
+      → elements d n (λ k. R d .mul (number d (toZ w32 (ofZ w32 r))) (x k)) ≡ numbers d (tab n (λ k. R d .mul (power d b e) (x k)))
+  unfolding elements
+  weighted-row n b e r x h =
+      flat-cong n _ _ (λ k _. ap (λ u. coeffs d (R d .mul u (x k))) (weight-is b e r h))
+      ∙ sym (numbers-tab d n (λ k. R d .mul (power d b e) (x k)))
 
-  pub garbage-end : (b t : ℕ) (ys : List ℤ) (p : ℕ) (r : ℤ) (xs out : List ℤ) → d ≤ 64 → r ≡ centred (pos (b ^ (p % t)))
-      → xs ≡ array d (el d ys (p / t)) → out ≡ array d (R d .mul (number d (toZ w32 (ofZ w32 r))) (lift d xs))
-      → out ≡ array d (garbageEntry d b t ys p)
-  unfolding garbageEntry
-  garbage-end b t ys p r xs out small h l o =
-      weighted b (p % t) r (el d ys (p / t)) xs out small h l o
-      ∙ ap (array d) (R d .mul-comm (power d b (p % t)) (el d ys (p / t)))
+  -- row j of digit e of element i, where it is the digits' row, and where it is another
+  module _ (digits : Digits) (ys : List ℤ) (i e j : ℕ) where
+    pub digit-here : (r : ℤ) (xs out : List ℤ) → d ≤ 64 → j ≡ digits .row → r ≡ centred (pos (digits .base ^ e)) → xs ≡ array d (el d ys i)
+        → out ≡ array d (R d .mul (number d (toZ w32 (ofZ w32 r))) (lift d xs)) → out ≡ array d (digitRow d digits ys i e j)
+    unfolding digitRow
+    digit-here r xs out small same h l o =
+        weighted (digits .base) e r (el d ys i) xs out small h l o
+        ∙ ap (array d) (R d .mul-comm (power d (digits .base) e) (el d ys i))
+        ∙ ap (λ (t : Bool). array d (cond t (R d .mul (el d ys i) (power d (digits .base) e)) (R d .zero))) (sym (eq-eqb j (digits .row) same))
 
-  pub part-end : (κ b t : ℕ) (ys : List ℤ) (p : ℕ) (r : ℤ) (xs scaled out : List ℤ) → d ≤ 64 → r ≡ centred (pos (b ^ (p / κ % t)))
-      → xs ≡ array d (el d ys (p / κ / t)) → scaled ≡ array d (R d .mul (number d (toZ w32 (ofZ w32 r))) (lift d xs))
-      → out ≡ array d (R d .neg (lift d scaled)) → out ≡ array d (partEntry d κ b t ys p)
-  unfolding partEntry
-  part-end κ b t ys p r xs scaled out small h l e o =
-      let u = el d ys (p / κ / t) in
-      let w = power d b (p / κ % t) in
-      o
-      ∙ ap (λ v. array d (R d .neg v)) (ap (lift d) (weighted b (p / κ % t) r u xs scaled small h l e) ∙ lift-array d (R d .mul w u) small)
-      ∙ ap (λ v. array d (R d .neg v)) (R d .mul-comm w u)
-
--- ---- places within a list of l numbers, d to an element
-
-pub place-within : (d p l : ℕ) → 0 < d → p * d ≤ l → p ≤ l
-place-within d p l above h = omega (arith, mul-le-mul-right p above)
-
-pub z-room : (d n from k l : ℕ) → k < n → (from + n) * d ≤ l → (from + k) * d + d ≤ l
-z-room d n from k l h fits =
-    let below : suc (from + k) ≤ from + n = omega arith in
-    omega (arith, mul-le-mul-right d below)
+    pub digit-elsewhere : (out : List ℤ) → (j ≡ digits .row → ⊥) → out ≡ array d (R d .zero) → out ≡ array d (digitRow d digits ys i e j)
+    unfolding digitRow
+    digit-elsewhere out other o =
+        o ∙ ap (λ (t : Bool). array d (cond t (R d .mul (el d ys i) (power d (digits .base) e)) (R d .zero))) (sym (ne-eqb j (digits .row) other))

@@ -43,30 +43,34 @@ module _ (s s₂ : ℕ) (z : ℤ) where
 
 -- ---- the element
 
-module _ (d ν b s s₂ : ℕ) where
-  pub square-first : 2 * ν ≤ s → squares d 2 ν b s s₂ ≡ R d .zero
-  unfolding squares
-  square-first h = rw (le-ltb s (2 * ν) h)
+-- sixty-four numbers that hold u hold v
+pub holds-as : (d : ℕ) {u v : R d .Carrier} {xs : List ℤ} → v ≡ u → xs ≡ array d u → xs ≡ array d v
+holds-as d e h = h ∙ ap (array d) (sym e)
 
-  pub square-second : s < 2 * ν → 2 * ν ≤ s₂ → squares d 2 ν b s s₂ ≡ R d .zero
+module _ (d tz ν b s s₂ : ℕ) where
+  pub square-first : tz * ν ≤ s → squares d tz ν b s s₂ ≡ R d .zero
   unfolding squares
-  square-second l h = rw (lt-ltb s (2 * ν) l, le-ltb s₂ (2 * ν) h)
+  square-first h = rw (le-ltb s (tz * ν) h)
 
-  pub square-apart : s < 2 * ν → s₂ < 2 * ν → (s % ν ≡ s₂ % ν → ⊥) → squares d 2 ν b s s₂ ≡ R d .zero
+  pub square-second : s < tz * ν → tz * ν ≤ s₂ → squares d tz ν b s s₂ ≡ R d .zero
   unfolding squares
-  square-apart l h e = rw (lt-ltb s (2 * ν) l, lt-ltb s₂ (2 * ν) h, ne-eqb (s % ν) (s₂ % ν) e)
+  square-second l h = rw (lt-ltb s (tz * ν) l, le-ltb s₂ (tz * ν) h)
 
-  pub square-same : s < 2 * ν → s₂ < 2 * ν → s % ν ≡ s₂ % ν
-      → squares d 2 ν b s s₂ ≡ R d .mul (number d (cond (eqb s s₂) (pos 1) (pos 2))) (power d b (s / ν + s₂ / ν))
+  pub square-apart : s < tz * ν → s₂ < tz * ν → (s % ν ≡ s₂ % ν → ⊥) → squares d tz ν b s s₂ ≡ R d .zero
+  unfolding squares
+  square-apart l h e = rw (lt-ltb s (tz * ν) l, lt-ltb s₂ (tz * ν) h, ne-eqb (s % ν) (s₂ % ν) e)
+
+  pub square-same : s < tz * ν → s₂ < tz * ν → s % ν ≡ s₂ % ν
+      → squares d tz ν b s s₂ ≡ R d .mul (number d (cond (eqb s s₂) (pos 1) (pos 2))) (power d b (s / ν + s₂ / ν))
   unfolding squares
   square-same l h e =
-      rw (lt-ltb s (2 * ν) l, lt-ltb s₂ (2 * ν) h)
+      rw (lt-ltb s (tz * ν) l, lt-ltb s₂ (tz * ν) h)
       (ap (λ (t : Bool). cond t (R d .mul (number d (cond (eqb s s₂) (pos 1) (pos 2))) (power d b (s / ν + s₂ / ν))) (R d .zero))
       (eq-eqb (s % ν) (s₂ % ν) e))
 
-  pub square-end : (r : ℤ) (xs : List ℤ) → s < 2 * ν → s₂ < 2 * ν → s % ν ≡ s₂ % ν
+  pub square-end : (r : ℤ) (xs : List ℤ) → s < tz * ν → s₂ < tz * ν → s % ν ≡ s₂ % ν
       → r ≡ centred (cond (eqb s s₂) (pos 1) (pos 2) *ℤ pos (b ^ (s / ν + s₂ / ν)))
-      → xs ≡ array d (number d (toZ w32 (ofZ w32 r))) → xs ≡ array d (squares d 2 ν b s s₂)
+      → xs ≡ array d (number d (toZ w32 (ofZ w32 r))) → xs ≡ array d (squares d tz ν b s s₂)
   square-end r xs l h e f o =
       let t : ℤ = cond (eqb s s₂) (pos 1) (pos 2) in
       let z : ℤ = pos (b ^ (s / ν + s₂ / ν)) in

@@ -2,6 +2,7 @@
 use borrow.Author.Needs.{needs}
 use mathlib.Core.Path.{_≡_, _∙_}
 use Prim.Native.Nat.{_-_, _<_}
+use native.Mathlib.Nat.{zero-add, zero-mul}
 use native.Mathlib.Omega.{arith}
 use lib.ListN.{length, length-replicate}
 use lib.IntN.{pos}
@@ -68,10 +69,10 @@ pub write-folded-spec : {M : Type 1} → statement M
 write-folded-spec =
     tie.close
     (tie.spec Inv-loop μ-loop write-omega-sums-requires
-    (λ c κs. let s = c .before .before .before in (s .pre .0 .wholes .shaped .degree, s .pre .1 .1))
-    (λ c. (length-replicate 16384 (pos 0), folding-start _ (c .before .before .before .before .before .pre .1 .1) (c .before .write-zeros .ensures)))
+    (λ c κs. let s = c .before .before .before in (s .pre .0 .wholes .shaped .degree, rw (zero-add (s .args .sizes .shape .n)) (s .pre .1 .1)))
+    (λ c. (length-replicate 16384 (pos 0), folding-start _ (c .before .before .before .before .before .pre .1 .1) (rw (zero-mul (c .before .before .before .before .before .args .sizes .shape .d)) at (c .before .write-zeros .ensures))))
     (λ c. search needs) write-phi-part-requires from-slice-requires (λ c. search needs) add-multiples-requires
     (λ c. let l = c .before .before .before .before .before .before .before .before .before .before in
     omega (arith, l .before .before .before .before .before .before .pre .0 .wholes .shaped .parts-small, turn c))
     (λ c. omega (arith, turn c)) loop-again (λ c. search needs)
-    (λ c. folding-end (c .before .loop .inv .1) _ (c .before .before .before .write-zeros .ensures) (c .loop-test .left)))
+    (λ c. folding-end (c .before .loop .inv .1) _ (rw (zero-mul (c .before .before .before .before .before .before .before .args .sizes .shape .d)) at (c .before .before .before .write-zeros .ensures)) (c .loop-test .left)))
