@@ -1,9 +1,5 @@
 pub mod BlockLaws
 pub mod Powers
 pub mod Squares
-pub mod SpreadLaws
-pub mod CutLaws
-pub mod Forming
-pub mod CheckLaws
 pub mod FoldedLaws
 pub mod TableLaws

@@ -10,16 +10,16 @@ ghost use Rattle.fold.specs.Arguments.{VerifySized, statementOf, drawsOf, trans
 ghost use Rattle.fold.specs.Sizes.{tSize, garbageSize};
 ghost use Rattle.fold.specs.NextInstance.{nextWhole};
 ghost use Rattle.fold.specs.Known.NextFacts.{NextFacts};
-ghost use Rattle.next_constraints.specs.Known.Facts.{CutFacts};
+ghost use Rattle.next_checks.specs.Known.Facts.{CutFacts};
 ghost use Rattle.next_constraints.specs.Tables.{TableRoom};
-ghost use Rattle.next_constraints.specs.Checks.{laid, check5, check6, check7, check8, check3, check4};
+ghost use Rattle.next_checks.specs.Checks.{laid, check5, check6, check7, check8, check3, check4};
 use constraints::aggregated;
 use fold::Sizes;
 use fold::counts::Z_DIGITS;
+use next_checks::checks;
+use next_checks::cut::Cut;
+use next_checks::cut::cut_of;
 use next_constraints::blocks::write_row;
-use next_constraints::checks;
-use next_constraints::cut::Cut;
-use next_constraints::cut::cut_of;
 use next_constraints::lists::write_tables;
 use ring::element::Element;
 

@@ -28,13 +28,13 @@ use Rattle.fold.specs.NextInstance.{nextWhole, m, n′, r′, constraint₃, co
 use Rattle.fold.specs.Laws.SizeBounds.{pairs-bound}
 use Rattle.fold.specs.Laws.LaidOut.{length-laidOut}
 use Rattle.fold.specs.Known.NextFacts.{NextFacts}
-use Rattle.next_constraints.specs.declared.cut.Cut.{Cut}
-use Rattle.next_constraints.specs.Known.Facts.{CutFacts}
+use Rattle.next_checks.specs.declared.cut.Cut.{Cut}
+use Rattle.next_checks.specs.Known.Facts.{CutFacts}
 use Rattle.next_constraints.specs.Tables.{TableRoom, Tables}
-use Rattle.next_constraints.specs.Spread.{widths}
-use Rattle.next_constraints.specs.Checks.{laid, check5, check6, check7, check8, check3, check4}
-use Rattle.next_constraints.specs.Laws.CutLaws.{size-small}
-use Rattle.next_constraints.specs.Laws.CheckLaws.{check-3, check-4, check-5, check-6, check-7, check-8}
+use Rattle.next_checks.specs.Spread.{widths}
+use Rattle.next_checks.specs.Checks.{laid, check5, check6, check7, check8, check3, check4}
+use Rattle.next_checks.specs.Laws.CutLaws.{size-small}
+use Rattle.next_checks.specs.Laws.CheckLaws.{check-3, check-4, check-5, check-6, check-7, check-8}
 use Rattle.next_instance.specs.Laws.Order.{check-by-check}
 
 -- the room that the writer gives its lists

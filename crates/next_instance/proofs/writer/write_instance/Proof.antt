@@ -5,8 +5,8 @@ use native.Mathlib.Nat.{le-refl}
 use native.Mathlib.Omega.{arith}
 use lib.ListN.{length}
 use Rattle.ring.specs.Laws.Loops.{held}
-use Rattle.next_constraints.specs.Laws.CutLaws.{size-small}
-use Rattle.next_constraints.specs.Laws.CheckLaws.{minus-held}
+use Rattle.next_checks.specs.Laws.CutLaws.{size-small}
+use Rattle.next_checks.specs.Laws.CheckLaws.{minus-held}
 use Rattle.next_instance.specs.Laws.Instance.{table-room, minus-room, all-room, groups-small, canonical, groups-written, same-instance, out-room}
 use borrow.Author.Needs.{needs}
 use Rattle.next_instance.proofs.writer.write_instance.Statement.{statement}

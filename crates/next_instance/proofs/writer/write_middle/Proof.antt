@@ -3,8 +3,8 @@ use mathlib.Core.Path.{refl}
 use Prim.Native.Nat.{_+_, _*_}
 use native.Mathlib.Omega.{arith}
 use Rattle.ring.specs.Laws.ElementPlaces.{place-below}
-use Rattle.next_constraints.specs.Checks.{check6, check7, check8}
-use Rattle.next_constraints.specs.Laws.CutLaws.{size-small}
+use Rattle.next_checks.specs.Checks.{check6, check7, check8}
+use Rattle.next_checks.specs.Laws.CutLaws.{size-small}
 use Rattle.next_instance.specs.Laws.Instance.{middle-written}
 use borrow.Author.Needs.{needs}
 use Rattle.next_instance.proofs.writer.write_middle.Statement.{statement}

@@ -1,8 +1,8 @@
 -- `next_instance::writer::write_rows5` meets its contract. The loop's invariant: the first k rows are written.
 use Prim.Native.Nat.{_+_, _-_}
 use native.Mathlib.Omega.{arith}
-use Rattle.next_constraints.specs.Checks.{laid, check5}
-use Rattle.next_constraints.specs.Laws.CutLaws.{size-small}
+use Rattle.next_checks.specs.Checks.{laid, check5}
+use Rattle.next_checks.specs.Laws.CutLaws.{size-small}
 use Rattle.next_constraints.specs.Laws.BlockLaws.{ElementBlocks, blocks-start, blocks-fit, blocks-below, blocks-turn, blocks-end}
 use Rattle.next_instance.specs.Laws.Instance.{length-laid}
 use Rattle.next_instance.proofs.writer.write_rows5.Statement.{statement}

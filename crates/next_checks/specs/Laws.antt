@@ -1,0 +1,4 @@
+pub mod CutLaws
+pub mod SpreadLaws
+pub mod Forming
+pub mod CheckLaws
