@@ -6,11 +6,13 @@ use lib.ListN.{length}
 use lib.IntN.{ℤ}
 use Rattle.fold.specs.declared.Answer.{Answer}
 use Rattle.fold.specs.Answers.{kindOf, numberOf, written}
+use Rattle.sheet.specs.declared.sizes.SheetSizes.{SheetSizes}
 use Rattle.sheet.specs.declared.reader.SheetAnswer.{SheetAnswer}
 use Rattle.sheet.specs.Reading.{headerNumbers, sizesOf, bodyNumbers, reading, readingRefusal, answerOf, headerOf}
 use Rattle.lizkarg.specs.declared.Product.{Product}
 use Rattle.capi.specs.declared.types.CAnswer.{CAnswer}
 use Rattle.capi.specs.declared.types.CProduct.{CProduct}
+use Rattle.capi.specs.declared.types.CHeader.{CHeader}
 use Rattle.capi.specs.declared.types.CSheet.{CSheet}
 
 abbrev pub codeOf : Answer → CAnswer
@@ -20,9 +22,34 @@ codeOf answer = record { kind = kindOf answer; number = numberOf answer }
 abbrev pub productCode : Product → CProduct
 productCode p = record { kind = kindOf (p .answer); number = numberOf (p .answer); element = record { coefficients = p .element .coefficients } }
 
+-- a header's numbers, in its order
+abbrev pub headerCode : SheetSizes → CHeader
+headerCode h =
+    let s = h .sizes in
+    record {
+      d = s .shape .d;
+      n = s .shape .n;
+      r = s .shape .r;
+      k = s .k;
+      l = s .l;
+      w = s .w;
+      kappa = s .kappa;
+      kappa1 = s .kappa1;
+      kappa2 = s .kappa2;
+      b = s .b;
+      b1 = s .b1;
+      b2 = s .b2;
+      t1 = s .t1;
+      t2 = s .t2;
+      nu = h .nu;
+      mu = h .mu;
+      bound = s .bound;
+      target = s .target;
+    }
+
 -- kind and number of the reader's answer, and its header
 abbrev pub sheetCode : SheetAnswer → CSheet
-sheetCode a = record { kind = kindOf (answerOf a); number = numberOf (answerOf a); header = headerOf a }
+sheetCode a = record { kind = kindOf (answerOf a); number = numberOf (answerOf a); header = headerCode (headerOf a) }
 
 -- a library call's promise on its answer, for a code
 pub record Coded (promise : Answer → Type 0) (code : CAnswer) : Type 0 where

@@ -1,7 +1,7 @@
 // What passes between C and the library beside the library's own structs of sizes: answers, as kind and number, and what comes with them.
 ghost use mathlib.Core.Path.{_≡_};
 ghost use Rattle.sheet.specs.Reading.{emptyHeader};
-ghost use Rattle.capi.specs.Codes.{codeOf, productCode, sheetCode};
+ghost use Rattle.capi.specs.Codes.{codeOf, productCode, headerCode, sheetCode};
 use fold::Answer;
 use lizkarg::Product;
 use sheet::reader::SheetAnswer;
@@ -14,12 +14,35 @@ pub struct CAnswer {
     pub number: u8,
 }
 
+// A sheet's header, in its order; `bound` is β² and `target` is β'².
+#[repr(C)]
+pub struct CHeader {
+    pub d: usize,
+    pub n: usize,
+    pub r: usize,
+    pub k: usize,
+    pub l: usize,
+    pub w: usize,
+    pub kappa: usize,
+    pub kappa1: usize,
+    pub kappa2: usize,
+    pub b: usize,
+    pub b1: usize,
+    pub b2: usize,
+    pub t1: usize,
+    pub t2: usize,
+    pub nu: usize,
+    pub mu: usize,
+    pub bound: u64,
+    pub target: u64,
+}
+
 // An answer and a sheet's header, whose numbers are all 0 where the sheet is refused.
 #[repr(C)]
 pub struct CSheet {
     pub kind: u8,
     pub number: u8,
-    pub header: SheetSizes,
+    pub header: CHeader,
 }
 
 // A ring element: sixty-four numbers, lowest power first, those past d zero.
@@ -61,11 +84,37 @@ pub fn product_code(product: Product) -> CProduct
     }
 }
 
-// The header of a refused sheet.
-fn empty_header() -> SheetSizes
-    ensures { λ r. ⌜ r ≡ emptyHeader ⌝ }
+// The numbers of a header.
+fn header_code(h: SheetSizes) -> CHeader
+    ensures { λ r. ⌜ r ≡ headerCode h ⌝ }
 {
-    SheetSizes {
+    CHeader {
+        d: h.sizes.shape.d,
+        n: h.sizes.shape.n,
+        r: h.sizes.shape.r,
+        k: h.sizes.k,
+        l: h.sizes.l,
+        w: h.sizes.w,
+        kappa: h.sizes.kappa,
+        kappa1: h.sizes.kappa1,
+        kappa2: h.sizes.kappa2,
+        b: h.sizes.b,
+        b1: h.sizes.b1,
+        b2: h.sizes.b2,
+        t1: h.sizes.t1,
+        t2: h.sizes.t2,
+        nu: h.nu,
+        mu: h.mu,
+        bound: h.sizes.bound,
+        target: h.sizes.target,
+    }
+}
+
+// The header of a refused sheet.
+fn empty_header() -> CHeader
+    ensures { λ r. ⌜ r ≡ headerCode emptyHeader ⌝ }
+{
+    CHeader {
         d: 0,
         n: 0,
         r: 0,
@@ -99,7 +148,7 @@ pub fn sheet_code(answer: SheetAnswer) -> CSheet
         SheetAnswer::Sheet(header) => CSheet {
             kind: 3,
             number: 0,
-            header: header,
+            header: header_code(header),
         },
     }
 }

@@ -14,19 +14,19 @@ use Rattle.fold.specs.Statement.{Statement, Draws, Transcript}
 use Rattle.fold.specs.Arguments.{statementOf, drawsOf, transcriptOf}
 use Rattle.fold.specs.Answers.{kindOf, numberOf}
 use Rattle.fold.specs.Verification.{verification}
-use Rattle.sheet.specs.declared.sizes.SheetSizes.{SheetSizes}
+use Rattle.fold.specs.declared.Sizes.{Sizes}
 use Rattle.sheet.specs.declared.reader.SheetAnswer.{SheetAnswer}
 use Rattle.sheet.specs.Sections.{total}
 use Rattle.sheet.specs.Lists.{listLengths, listAt}
-use Rattle.sheet.specs.Reading.{headerNumbers, sizesOf, foldSizes, bodyNumbers, reading, answerOf, headerOf}
+use Rattle.sheet.specs.Reading.{headerNumbers, sizesOf, bodyNumbers, reading, answerOf, headerOf}
 use Rattle.sheet.specs.Layout.{lineText}
 
-module _ (s : SheetSizes) (xs : List ℤ) where
+module _ (s : Sizes) (xs : List ℤ) where
   abbrev pub list : ℕ → List ℤ
   list k = listAt (listLengths s) xs k
 
   abbrev pub sheetStatement : Statement
-  sheetStatement = statementOf (foldSizes s) (list 0) (list 1) (list 2) (list 3) (list 4) (list 5)
+  sheetStatement = statementOf s (list 0) (list 1) (list 2) (list 3) (list 4) (list 5)
 
   abbrev pub sheetDraws : Draws
   sheetDraws = drawsOf (list 7) (list 9) (list 10) (list 12) (list 13) (list 15)
@@ -51,7 +51,7 @@ ifWritten (answer.Judged v) next = answer.Judged v
 
 -- the reader's refusal, or what the verifier answers to the numbers
 abbrev pub judgedBy : SheetAnswer → List ℤ → Answer
-judgedBy read numbers = ifWritten (answerOf read) (judgedNumbers (headerOf read) numbers)
+judgedBy read numbers = ifWritten (answerOf read) (judgedNumbers (headerOf read .sizes) numbers)
 
 -- the numbers' slice has the length that the header's sizes give, so that row 7 refuses no text
 unfoldable pub judged : List ℕ → Answer

@@ -13,18 +13,17 @@ use Rattle.fold.specs.Sizes.{five, zCount, openingSize}
 use Rattle.fold.specs.Refusals.{wholeLength, constantTermsLength, projectionLength}
 use Rattle.fold.specs.Arguments.{statementOf, drawsOf, transcriptOf}
 use Rattle.fold.specs.Verification.{verification}
-use Rattle.sheet.specs.declared.sizes.SheetSizes.{SheetSizes}
-use Rattle.sheet.specs.Reading.{foldSizes}
+use Rattle.fold.specs.declared.Sizes.{Sizes}
 
-module _ (s : SheetSizes) where
+module _ (s : Sizes) where
   unfoldable pub lastStage : (A B C D whole constantTerms u₁ projections p ψ ω b″ xs : List ℤ) → Answer
   lastStage A B C D whole constantTerms u₁ projections p ψ ω b″ xs =
-      let α = s .k * s .d in
-      let δ = five * s .d in
-      let u₂ = s .kappa2 * s .d in
-      let c = s .r * s .d in
-      let o = openingSize zCount (s .n) (s .r) (s .kappa) (s .t1) (s .t2) * s .d in
-      verification (statementOf (foldSizes s) A B C D whole constantTerms)
+      let α = s .k * s .shape .d in
+      let δ = five * s .shape .d in
+      let u₂ = s .kappa2 * s .shape .d in
+      let c = s .shape .r * s .shape .d in
+      let o = openingSize zCount (s .shape .n) (s .shape .r) (s .kappa) (s .t1) (s .t2) * s .shape .d in
+      verification (statementOf s A B C D whole constantTerms)
       (drawsOf projections ψ ω (take α xs) (take δ (drop α xs)) (take c (drop u₂ (drop δ (drop α xs)))))
       (transcriptOf u₁ p b″ (take u₂ (drop δ (drop α xs)))) (take o (drop c (drop u₂ (drop δ (drop α xs)))))
 
@@ -33,15 +32,15 @@ module _ (s : SheetSizes) where
       let p = s .w in
       let ψ = five * s .l in
       let ω = five * s .w in
-      let b″ = five * s .d in
+      let b″ = five * s .shape .d in
       lastStage A B C D whole constantTerms u₁ projections (take p xs) (take ψ (drop p xs)) (take ω (drop ψ (drop p xs)))
       (take b″ (drop ω (drop ψ (drop p xs)))) (drop b″ (drop ω (drop ψ (drop p xs))))
 
   unfoldable pub constraintStage : (A B C D xs : List ℤ) → Answer
   constraintStage A B C D xs =
-      let whole = wholeLength (s .d) (s .n) (s .r) (s .k) in
-      let constantTerms = constantTermsLength (s .d) (s .n) (s .r) (s .l) in
-      let u₁ = s .kappa1 * s .d in
-      let projections = projectionLength (s .d) (s .n) (s .r) (s .w) in
+      let whole = wholeLength (s .shape .d) (s .shape .n) (s .shape .r) (s .k) in
+      let constantTerms = constantTermsLength (s .shape .d) (s .shape .n) (s .shape .r) (s .l) in
+      let u₁ = s .kappa1 * s .shape .d in
+      let projections = projectionLength (s .shape .d) (s .shape .n) (s .shape .r) (s .w) in
       numberStage A B C D (take whole xs) (take constantTerms (drop whole xs)) (take u₁ (drop constantTerms (drop whole xs)))
       (take projections (drop u₁ (drop constantTerms (drop whole xs)))) (drop projections (drop u₁ (drop constantTerms (drop whole xs))))

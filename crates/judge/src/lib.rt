@@ -17,7 +17,7 @@ fn judge_read(read: SheetAnswer, numbers: &[i32]) -> Answer
     ensures { λ r. ⌜ r ≡ judgedBy read (now (numbers .entry)) ⌝ }
 {
     match read {
-        SheetAnswer::Sheet(s) => numbers::judge_sheet_numbers(s, numbers),
+        SheetAnswer::Sheet(s) => numbers::judge_sheet_numbers(s.sizes, numbers),
         SheetAnswer::Refused(number) => Answer::Refused(number),
     }
 }

@@ -8,13 +8,12 @@ use crate::lengths;
 use crate::lists::front;
 use crate::lists::rest;
 use fold::Answer;
+use fold::Sizes;
 use limits::sizes::list_length;
-use sheet::sizes::SheetSizes;
-use sheet::sizes::fold_sizes;
 
 // α, δ, u2, c and the opening.
 fn judge_last(
-    s: SheetSizes,
+    s: Sizes,
     a_matrix: &[i32],
     b_matrix: &[i32],
     c_matrix: &[i32],
@@ -35,18 +34,17 @@ fn judge_last(
         (now (whole .entry)) (now («constant_terms» .entry)) (now (u1 .entry)) (now (projections .entry)) (now (p .entry)) (now (psi .entry))
         (now (omega .entry)) (now («second_b» .entry)) (now (xs .entry)) ⌝ }
 {
-    let alpha_length = list_length(s.k, s.d);
-    let delta_length = list_length(5, s.d);
-    let u2_length = list_length(s.kappa2, s.d);
-    let c_length = list_length(s.r, s.d);
+    let alpha_length = list_length(s.k, s.shape.d);
+    let delta_length = list_length(5, s.shape.d);
+    let u2_length = list_length(s.kappa2, s.shape.d);
+    let c_length = list_length(s.shape.r, s.shape.d);
     let opening_length = lengths::opening_length(s);
     let after_alpha = rest(xs, alpha_length);
     let after_delta = rest(after_alpha, delta_length);
     let after_u2 = rest(after_delta, u2_length);
     let after_c = rest(after_u2, c_length);
-    let sizes = fold_sizes(s);
     verifier::verify(
-        sizes,
+        s,
         a_matrix,
         b_matrix,
         c_matrix,
@@ -69,7 +67,7 @@ fn judge_last(
 
 // p, ψ, ω and b''.
 fn judge_numbers(
-    s: SheetSizes,
+    s: Sizes,
     a_matrix: &[i32],
     b_matrix: &[i32],
     c_matrix: &[i32],
@@ -88,7 +86,7 @@ fn judge_numbers(
     let p_length = s.w;
     let psi_length = 5 * s.l;
     let omega_length = 5 * s.w;
-    let second_b_length = 5 * s.d;
+    let second_b_length = 5 * s.shape.d;
     let after_p = rest(xs, p_length);
     let after_psi = rest(after_p, psi_length);
     let after_omega = rest(after_psi, omega_length);
@@ -113,7 +111,7 @@ fn judge_numbers(
 
 // The constraints, u1 and the projection rows.
 fn judge_constraints(
-    s: SheetSizes,
+    s: Sizes,
     a_matrix: &[i32],
     b_matrix: &[i32],
     c_matrix: &[i32],
@@ -127,7 +125,7 @@ fn judge_constraints(
 {
     let whole_length = lengths::whole_length(s);
     let constant_terms_length = lengths::constant_terms_length(s);
-    let u1_length = list_length(s.kappa1, s.d);
+    let u1_length = list_length(s.kappa1, s.shape.d);
     let projections_length = lengths::projections_length(s);
     let after_whole = rest(xs, whole_length);
     let after_constant_terms = rest(after_whole, constant_terms_length);
@@ -148,7 +146,7 @@ fn judge_constraints(
 }
 
 // A, B, C and D. The answer to all numbers of a sheet.
-pub fn judge_sheet_numbers(s: SheetSizes, xs: &[i32]) -> Answer
+pub fn judge_sheet_numbers(s: Sizes, xs: &[i32]) -> Answer
     requires { ⌜ Bounded s ⌝ }
     ensures { λ r. ⌜ r ≡ judgedNumbers s (now (xs .entry)) ⌝ }
 {

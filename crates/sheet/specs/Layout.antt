@@ -11,7 +11,7 @@ use lib.IntN.{ℤ, pos}
 use Rattle.integers.specs.Flat.{flat}
 use Rattle.fold.specs.Answers.{firstFailing}
 use Rattle.fold.specs.Sizes.{zCount, pairs, tSize, garbageSize, openingSize}
-use Rattle.sheet.specs.declared.sizes.SheetSizes.{SheetSizes}
+use Rattle.fold.specs.declared.Sizes.{Sizes}
 use Rattle.sheet.specs.Field.{fieldText, Fits16}
 use Rattle.sheet.specs.Reading.{headerTests, sizesOf, numberTests}
 
@@ -31,25 +31,25 @@ unfoldable pub fields : List ℕ → ℕ
 fields [] = 0
 fields (w ∷ ws) = w + fields ws
 
-module _ (s : SheetSizes) where
+module _ (s : Sizes) where
   -- "A, B, C, D by rows"
   unfoldable pub matrixLines : List ℕ
   matrixLines =
-      elements (s .d) (s .kappa * s .n)
-      ++ (elements (s .d) (s .kappa1 * tSize (s .r) (s .kappa) (s .t1))
-      ++ (elements (s .d) (s .kappa1 * garbageSize (s .r) (s .t2)) ++ elements (s .d) (s .kappa2 * garbageSize (s .r) (s .t1))))
+      elements (s .shape .d) (s .kappa * s .shape .n)
+      ++ (elements (s .shape .d) (s .kappa1 * tSize (s .shape .r) (s .kappa) (s .t1))
+      ++ (elements (s .shape .d) (s .kappa1 * garbageSize (s .shape .r) (s .t2)) ++ elements (s .shape .d) (s .kappa2 * garbageSize (s .shape .r) (s .t1))))
 
   -- "each whole constraint as a (by i, then j), φ (by part), b"
   unfoldable pub wholeLines : List ℕ
-  wholeLines = copies (s .k) (elements (s .d) (pairs (s .r)) ++ (elements (s .d) (s .r * s .n) ++ elements (s .d) 1))
+  wholeLines = copies (s .k) (elements (s .shape .d) (pairs (s .shape .r)) ++ (elements (s .shape .d) (s .shape .r * s .shape .n) ++ elements (s .shape .d) 1))
 
   -- "each constant-term one likewise, its b a line of one field"
   unfoldable pub termLines : List ℕ
-  termLines = copies (s .l) (elements (s .d) (pairs (s .r)) ++ (elements (s .d) (s .r * s .n) ++ elements 1 1))
+  termLines = copies (s .l) (elements (s .shape .d) (pairs (s .shape .r)) ++ (elements (s .shape .d) (s .shape .r * s .shape .n) ++ elements 1 1))
 
   -- "u1; projection rows (by row, then part)"
   unfoldable pub rowLines : List ℕ
-  rowLines = elements (s .d) (s .kappa1) ++ elements (s .d) (s .w * (s .r * s .n))
+  rowLines = elements (s .shape .d) (s .kappa1) ++ elements (s .shape .d) (s .w * (s .shape .r * s .shape .n))
 
   -- "p, ψ, ω (one number a line, ψ and ω by k)"
   unfoldable pub numberLines : List ℕ
@@ -58,11 +58,11 @@ module _ (s : SheetSizes) where
   -- "b''; α; δ; u2; c; the opening."
   unfoldable pub lastLines : List ℕ
   lastLines =
-      elements (s .d) 5
-      ++ (elements (s .d) (s .k)
-      ++ (elements (s .d) 5
-      ++ (elements (s .d) (s .kappa2)
-      ++ (elements (s .d) (s .r) ++ elements (s .d) (openingSize zCount (s .n) (s .r) (s .kappa) (s .t1) (s .t2))))))
+      elements (s .shape .d) 5
+      ++ (elements (s .shape .d) (s .k)
+      ++ (elements (s .shape .d) 5
+      ++ (elements (s .shape .d) (s .kappa2)
+      ++ (elements (s .shape .d) (s .shape .r) ++ elements (s .shape .d) (openingSize zCount (s .shape .n) (s .shape .r) (s .kappa) (s .t1) (s .t2))))))
 
   unfoldable pub bodyLines : List ℕ
   bodyLines = matrixLines ++ (wholeLines ++ (termLines ++ (rowLines ++ (numberLines ++ lastLines))))

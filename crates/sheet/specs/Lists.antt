@@ -7,29 +7,29 @@ use lib.ListN.{take, drop}
 use lib.IntN.{ℤ}
 use Rattle.fold.specs.Sizes.{five, zCount, tSize, garbageSize, openingSize}
 use Rattle.fold.specs.Refusals.{wholeLength, constantTermsLength, projectionLength}
-use Rattle.sheet.specs.declared.sizes.SheetSizes.{SheetSizes}
+use Rattle.fold.specs.declared.Sizes.{Sizes}
 
 -- "A, B, C, D by rows; each whole constraint ..; each constant-term one ..; u1; projection rows ..; p, ψ, ω ..; b''; α; δ; u2; c; the opening":
 -- how many numbers each has
-unfoldable pub listLengths : SheetSizes → List ℕ
+unfoldable pub listLengths : Sizes → List ℕ
 listLengths s =
-    s .kappa * s .n * s .d
-    ∷ s .kappa1 * tSize (s .r) (s .kappa) (s .t1) * s .d
-    ∷ s .kappa1 * garbageSize (s .r) (s .t2) * s .d
-    ∷ s .kappa2 * garbageSize (s .r) (s .t1) * s .d
-    ∷ wholeLength (s .d) (s .n) (s .r) (s .k)
-    ∷ constantTermsLength (s .d) (s .n) (s .r) (s .l)
-    ∷ s .kappa1 * s .d
-    ∷ projectionLength (s .d) (s .n) (s .r) (s .w)
+    s .kappa * s .shape .n * s .shape .d
+    ∷ s .kappa1 * tSize (s .shape .r) (s .kappa) (s .t1) * s .shape .d
+    ∷ s .kappa1 * garbageSize (s .shape .r) (s .t2) * s .shape .d
+    ∷ s .kappa2 * garbageSize (s .shape .r) (s .t1) * s .shape .d
+    ∷ wholeLength (s .shape .d) (s .shape .n) (s .shape .r) (s .k)
+    ∷ constantTermsLength (s .shape .d) (s .shape .n) (s .shape .r) (s .l)
+    ∷ s .kappa1 * s .shape .d
+    ∷ projectionLength (s .shape .d) (s .shape .n) (s .shape .r) (s .w)
     ∷ s .w
     ∷ five * s .l
     ∷ five * s .w
-    ∷ five * s .d
-    ∷ s .k * s .d
-    ∷ five * s .d
-    ∷ s .kappa2 * s .d
-    ∷ s .r * s .d
-    ∷ openingSize zCount (s .n) (s .r) (s .kappa) (s .t1) (s .t2) * s .d
+    ∷ five * s .shape .d
+    ∷ s .k * s .shape .d
+    ∷ five * s .shape .d
+    ∷ s .kappa2 * s .shape .d
+    ∷ s .shape .r * s .shape .d
+    ∷ openingSize zCount (s .shape .n) (s .shape .r) (s .kappa) (s .t1) (s .t2) * s .shape .d
     ∷ []
 
 -- list k, where lists of these lengths stand one after another

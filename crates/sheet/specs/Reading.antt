@@ -1,8 +1,8 @@
 -- SPECIFICATION 10: what a reader answers. "The header's layout is read first (12), then 1 to 6, then the other lines (12), then 8 to 10."
 -- Row 7 stands before 8: "a slice's length is not what the sizes give", of the slice that takes the numbers. No limit on the text's length
 -- here: it is the program's.
---     headerNumbers, sizesOf      the header's numbers, and the sizes that they are
---     foldSizes                   those that the fold takes
+--     headerNumbers, sizesOf      the header's numbers, and the sizes that the fold takes from them
+--     sheetSizesOf                those with ν and μ
 --     numberCount                 how many numbers the sizes give
 --     bodyNumbers                 the numbers after the header
 --     readingTests, reading       the tests in their order, and the answer
@@ -56,11 +56,10 @@ unfoldable pub size : ℤ → ℕ
 size (pos n) = n
 size (negsuc n) = 18446744073709551615
 
-unfoldable pub sizesOf : List ℤ → SheetSizes
+-- the sizes that the fold takes; ν and μ stand beside them
+unfoldable pub sizesOf : List ℤ → Sizes
 sizesOf h = record {
-  d = at 0;
-  n = at 1;
-  r = at 2;
+  shape = record { d = at 0; n = at 1; r = at 2 };
   k = at 3;
   l = at 4;
   w = at 5;
@@ -72,8 +71,6 @@ sizesOf h = record {
   b2 = at 11;
   t1 = at 12;
   t2 = at 13;
-  nu = at 14;
-  mu = at 15;
   bound = at 16;
   target = at 17;
 }
@@ -81,24 +78,9 @@ sizesOf h = record {
     at : ℕ → ℕ
     at k = size (getD h k (pos 0))
 
--- the sizes that the fold takes; ν and μ stand beside them
-unfoldable pub foldSizes : SheetSizes → Sizes
-foldSizes s = record {
-  shape = record { d = s .d; n = s .n; r = s .r };
-  k = s .k;
-  l = s .l;
-  w = s .w;
-  kappa = s .kappa;
-  kappa1 = s .kappa1;
-  kappa2 = s .kappa2;
-  b = s .b;
-  b1 = s .b1;
-  b2 = s .b2;
-  t1 = s .t1;
-  t2 = s .t2;
-  bound = s .bound;
-  target = s .target;
-}
+-- all that the header says
+abbrev pub sheetSizesOf : List ℤ → SheetSizes
+sheetSizesOf h = record { sizes = sizesOf h; nu = size (getD h 14 (pos 0)); mu = size (getD h 15 (pos 0)) }
 
 -- "The header's layout is read first (12), then 1 to 6"
 abbrev pub frontTests : List ℕ → List (ℕ × Bool)
@@ -110,29 +92,29 @@ numberCount text = cond (eqb (firstFailing (frontTests text)) 0) (total (sizesOf
 
 -- ---- the other lines
 
-unfoldable pub bodyLaid : SheetSizes → List ℕ → Bool
+unfoldable pub bodyLaid : Sizes → List ℕ → Bool
 bodyLaid s text =
     cond (laid (endsLine (sectionsOf s)) 289 text (total s)) (eqb (place (endsLine (sectionsOf s)) 289 (total s)) (length text)) false
 
-unfoldable pub bodyNumbers : SheetSizes → List ℕ → List ℤ
+unfoldable pub bodyNumbers : Sizes → List ℕ → List ℤ
 bodyNumbers s text = numbersFrom (endsLine (sectionsOf s)) 289 text 0 (total s)
 
 -- the projection rows and the challenges among the numbers after the header
-unfoldable pub projectionsIn : SheetSizes → List ℤ → List ℤ
+unfoldable pub projectionsIn : Sizes → List ℤ → List ℤ
 projectionsIn s xs = listAt (listLengths s) xs 7
 
-unfoldable pub challengesIn : SheetSizes → List ℤ → List ℤ
+unfoldable pub challengesIn : Sizes → List ℤ → List ℤ
 challengesIn s xs = listAt (listLengths s) xs 15
 
 -- rows 8 to 10
-unfoldable pub numberTests : SheetSizes → List ℤ → List (ℕ × Bool)
+unfoldable pub numberTests : Sizes → List ℤ → List (ℕ × Bool)
 numberTests s xs =
     (8, coefficients xs)
     ∷ (9, projectionEntries (projectionsIn s xs))
-    ∷ (10, challenges (s .d) (s .r) (challengesIn s xs))
+    ∷ (10, challenges (s .shape .d) (s .shape .r) (challengesIn s xs))
     ∷ []
 
-unfoldable pub bodyTests : ℕ → SheetSizes → List ℕ → List (ℕ × Bool)
+unfoldable pub bodyTests : ℕ → Sizes → List ℕ → List (ℕ × Bool)
 bodyTests room s text = (12, bodyLaid s text) ∷ (7, eqb room (total s)) ∷ numberTests s (bodyNumbers s text)
 
 -- ---- the answer, where the slice that takes the numbers has the length `room`
@@ -145,7 +127,7 @@ sheetIf zero s = Sheet s
 sheetIf (suc n) s = Refused (suc n)
 
 unfoldable pub reading : ℕ → List ℕ → SheetAnswer
-reading room text = sheetIf (firstFailing (readingTests room text)) (sizesOf (headerNumbers text))
+reading room text = sheetIf (firstFailing (readingTests room text)) (sheetSizesOf (headerNumbers text))
 
 -- ---- what the answer says
 
@@ -156,7 +138,7 @@ answerOf (Sheet s) = answer.Written
 
 -- the header without numbers: every size is 0
 unfoldable pub emptyHeader : SheetSizes
-emptyHeader = sizesOf []
+emptyHeader = sheetSizesOf []
 
 -- "the answer holds the number only": a refusal has no header
 abbrev pub headerOf : SheetAnswer → SheetSizes
@@ -176,5 +158,5 @@ readingRefusal text before = firstFailing (readingTests (length before) text)
 -- AnswerLaws.
 pub record SheetRead (text : List ℕ) (before : List ℤ) (read : SheetAnswer) (after : List ℤ) : Type 0 where
   pub answer-is : answerOf read ≡ answered (readingRefusal text before) answer.Written
-  pub header-is : headerOf read ≡ headerIf (readingRefusal text before) (sizesOf (headerNumbers text))
+  pub header-is : headerOf read ≡ headerIf (readingRefusal text before) (sheetSizesOf (headerNumbers text))
   pub numbers-are : after ≡ written (readingRefusal text before) (bodyNumbers (sizesOf (headerNumbers text)) text) before

@@ -7,15 +7,15 @@ use mathlib.Core.Bool.{Bool, true, cond}
 use Prim.Native.Nat.{ℕ, _+_, _*_, _-_, _%_, _≤_, _<_}
 use lib.Dec.{ltb, eqb}
 use Rattle.fold.specs.Sizes.{zCount, functionSize, tSize, garbageSize, openingSize}
-use Rattle.sheet.specs.declared.sizes.SheetSizes.{SheetSizes}
+use Rattle.fold.specs.declared.Sizes.{Sizes}
 use Rattle.sheet.specs.declared.sizes.Sections.{Sections}
 
 -- what the header's tests leave known of the sizes that count something
-pub record Bounded (s : SheetSizes) : Type 0 where
-  pub degree-positive : 0 < s .d
-  pub degree : s .d ≤ 64
-  pub rank : s .n ≤ 256
-  pub parts : s .r ≤ 16
+pub record Bounded (s : Sizes) : Type 0 where
+  pub degree-positive : 0 < s .shape .d
+  pub degree : s .shape .d ≤ 64
+  pub rank : s .shape .n ≤ 256
+  pub parts : s .shape .r ≤ 16
   pub whole : s .k ≤ 32
   pub constantTerms : s .l ≤ 32
   pub projections : s .w ≤ 256
@@ -25,52 +25,52 @@ pub record Bounded (s : SheetSizes) : Type 0 where
   pub t₁ : s .t1 ≤ 8
   pub t₂ : s .t2 ≤ 8
 
-module _ (s : SheetSizes) where
+module _ (s : Sizes) where
   unfoldable pub matrixCount : ℕ
   matrixCount =
-      s .kappa * s .n
-      + (s .kappa1 * tSize (s .r) (s .kappa) (s .t1)
-      + (s .kappa1 * garbageSize (s .r) (s .t2) + s .kappa2 * garbageSize (s .r) (s .t1)))
+      s .kappa * s .shape .n
+      + (s .kappa1 * tSize (s .shape .r) (s .kappa) (s .t1)
+      + (s .kappa1 * garbageSize (s .shape .r) (s .t2) + s .kappa2 * garbageSize (s .shape .r) (s .t1)))
 
   unfoldable pub wholeCount : ℕ
-  wholeCount = s .k * (functionSize (s .n) (s .r) + 1)
+  wholeCount = s .k * (functionSize (s .shape .n) (s .shape .r) + 1)
 
   unfoldable pub rowCount : ℕ
-  rowCount = s .kappa1 + s .w * (s .r * s .n)
+  rowCount = s .kappa1 + s .w * (s .shape .r * s .shape .n)
 
   unfoldable pub lastCount : ℕ
-  lastCount = 5 + (s .k + (5 + (s .kappa2 + (s .r + openingSize zCount (s .n) (s .r) (s .kappa) (s .t1) (s .t2)))))
+  lastCount = 5 + (s .k + (5 + (s .kappa2 + (s .shape .r + openingSize zCount (s .shape .n) (s .shape .r) (s .kappa) (s .t1) (s .t2)))))
 
   -- numbers of one constant-term constraint, and numbers on lines of their own
   unfoldable pub termSize : ℕ
-  termSize = functionSize (s .n) (s .r) * s .d + 1
+  termSize = functionSize (s .shape .n) (s .shape .r) * s .shape .d + 1
 
   unfoldable pub onesCount : ℕ
   onesCount = s .w + (5 * s .l + 5 * s .w)
 
   unfoldable pub sectionsOf : Sections
   sectionsOf = record {
-    d = s .d;
-    head = (matrixCount + wholeCount) * s .d;
+    d = s .shape .d;
+    head = (matrixCount + wholeCount) * s .shape .d;
     period = termSize;
     terms = s .l * termSize;
-    middle = rowCount * s .d;
+    middle = rowCount * s .shape .d;
     ones = onesCount;
   }
 
   unfoldable pub total : ℕ
-  total = (matrixCount + wholeCount) * s .d + (s .l * termSize + (rowCount * s .d + (onesCount + lastCount * s .d)))
+  total = (matrixCount + wholeCount) * s .shape .d + (s .l * termSize + (rowCount * s .shape .d + (onesCount + lastCount * s .shape .d)))
 
   unfoldable pub projectionsFrom : ℕ
-  projectionsFrom = (matrixCount + wholeCount) * s .d + (s .l * termSize + s .kappa1 * s .d)
+  projectionsFrom = (matrixCount + wholeCount) * s .shape .d + (s .l * termSize + s .kappa1 * s .shape .d)
 
   unfoldable pub challengesFrom : ℕ
   challengesFrom =
-      (matrixCount + wholeCount) * s .d
-      + (s .l * termSize + (rowCount * s .d + (onesCount + (5 + (s .k + (5 + s .kappa2))) * s .d)))
+      (matrixCount + wholeCount) * s .shape .d
+      + (s .l * termSize + (rowCount * s .shape .d + (onesCount + (5 + (s .k + (5 + s .kappa2))) * s .shape .d)))
 
 -- the parts, and that they are few numbers
-pub record Sectioned (s : SheetSizes) (q : Sections) : Type 0 where
+pub record Sectioned (s : Sizes) (q : Sections) : Type 0 where
   pub is : q ≡ sectionsOf s
   pub head : q .head ≤ 10438656
   pub terms : q .terms ≤ 8667168

@@ -2,14 +2,15 @@
 ghost use mathlib.Core.Path.{_≡_};
 ghost use Rattle.fold.specs.Answers.{firstFailing};
 ghost use Rattle.sheet.specs.Place.{numberAt};
-ghost use Rattle.sheet.specs.Reading.{headerLaid, headerNumbers, frontTests, size, sizesOf};
+ghost use Rattle.sheet.specs.Reading.{headerLaid, headerNumbers, frontTests, size, sheetSizesOf};
 ghost use Rattle.sheet.specs.Known.Reading.{hasEnd};
 use crate::sizes::Sections;
 use crate::sizes::SheetSizes;
-use crate::sizes::fold_sizes;
 use crate::walk::End;
 use crate::walk::laid_end;
 use crate::walk::number_at;
+use fold::Shape;
+use fold::Sizes;
 use fold::counts::Z_DIGITS;
 use limits::next::next_bounds;
 use limits::rows::first;
@@ -61,12 +62,15 @@ fn size_at(text: &[u8], at: usize) -> usize
 
 // The header's numbers as sizes.
 pub fn sheet_sizes(text: &[u8]) -> SheetSizes
-    ensures { λ r. ⌜ r ≡ sizesOf (headerNumbers (now (text .entry))) ⌝ }
+    ensures { λ r. ⌜ r ≡ sheetSizesOf (headerNumbers (now (text .entry))) ⌝ }
 {
-    SheetSizes {
+    let shape = Shape {
         d: size_at(text, 0),
         n: size_at(text, 16),
         r: size_at(text, 32),
+    };
+    let sizes = Sizes {
+        shape,
         k: size_at(text, 48),
         l: size_at(text, 64),
         w: size_at(text, 80),
@@ -78,10 +82,13 @@ pub fn sheet_sizes(text: &[u8]) -> SheetSizes
         b2: size_at(text, 176),
         t1: size_at(text, 192),
         t2: size_at(text, 208),
-        nu: size_at(text, 224),
-        mu: size_at(text, 240),
         bound: bound_at(text, 256),
         target: bound_at(text, 272),
+    };
+    SheetSizes {
+        sizes,
+        nu: size_at(text, 224),
+        mu: size_at(text, 240),
     }
 }
 
@@ -90,7 +97,6 @@ pub fn header_refusal(text: &[u8]) -> u8
     ensures { λ r. ⌜ r ≡ firstFailing (frontTests (now (text .entry))) ⌝ }
 {
     let s = sheet_sizes(text);
-    let sizes = fold_sizes(s);
-    let refusal = next_bounds(Z_DIGITS, sizes, s.nu, s.mu);
+    let refusal = next_bounds(Z_DIGITS, s.sizes, s.nu, s.mu);
     first(header_laid(text), 12, refusal)
 }

@@ -22,6 +22,7 @@ use crate::walk::are_challenges;
 use crate::walk::fill;
 use crate::walk::laid_end;
 use crate::walk::place_after;
+use fold::Sizes;
 use limits::rows::first;
 use limits::sizes::projection_length;
 
@@ -32,31 +33,31 @@ pub enum SheetAnswer {
 }
 
 // Row 9.
-fn projections_ok(s: SheetSizes, text: &[u8]) -> bool
+fn projections_ok(s: Sizes, text: &[u8]) -> bool
     requires { ⌜ Inside s (now text) ⌝ }
     ensures { λ r. ⌜ r ≡ projectionEntries (projectionsIn s (bodyNumbers s (now (text .entry)))) ⌝ }
 {
     let q = sections_of(s);
     let from = projections_from(s);
     let start = place_after(q, text, 0, 289, from);
-    let count = projection_length(s.d, s.n, s.r, s.w);
+    let count = projection_length(s.shape.d, s.shape.n, s.shape.r, s.w);
     all_within(q, text, from, start, count, 1)
 }
 
 // Row 10.
-fn challenges_ok(s: SheetSizes, text: &[u8]) -> bool
+fn challenges_ok(s: Sizes, text: &[u8]) -> bool
     requires { ⌜ Inside s (now text) ⌝ }
     requires { ⌜ coefficients (bodyNumbers s (now text)) ≡ true ⌝ }
-    ensures { λ r. ⌜ r ≡ challenges (s .d) (s .r) (challengesIn s (bodyNumbers s (now (text .entry)))) ⌝ }
+    ensures { λ r. ⌜ r ≡ challenges (s .shape .d) (s .shape .r) (challengesIn s (bodyNumbers s (now (text .entry)))) ⌝ }
 {
     let q = sections_of(s);
     let from = challenges_from(s);
     let start = place_after(q, text, 0, 289, from);
-    are_challenges(q, text, from, start, s.d, s.r)
+    are_challenges(q, text, from, start, s.shape.d, s.shape.r)
 }
 
 // Row 8.
-fn numbers_ok(s: SheetSizes, text: &[u8]) -> bool
+fn numbers_ok(s: Sizes, text: &[u8]) -> bool
     requires { ⌜ Inside s (now text) ⌝ }
     ensures { λ r. ⌜ r ≡ coefficients (bodyNumbers s (now (text .entry))) ⌝ }
 {
@@ -66,7 +67,7 @@ fn numbers_ok(s: SheetSizes, text: &[u8]) -> bool
 }
 
 // Rows 8 to 10; 0 where the numbers pass.
-fn number_refusal(s: SheetSizes, text: &[u8]) -> u8
+fn number_refusal(s: Sizes, text: &[u8]) -> u8
     requires { ⌜ Inside s (now text) ⌝ }
     ensures { λ r. ⌜ r ≡ firstFailing (numberTests s (bodyNumbers s (now (text .entry)))) ⌝ }
 {
@@ -89,7 +90,7 @@ fn ends_at(end: End, n: usize) -> bool
 }
 
 // The other lines, and the numbers on them; 0 where they pass.
-fn body_refusal(s: SheetSizes, text: &[u8], room: usize) -> u8
+fn body_refusal(s: Sizes, text: &[u8], room: usize) -> u8
     requires { ⌜ Bounded s ⌝ }
     ensures { λ r. ⌜ r ≡ firstFailing (bodyTests room s (now (text .entry))) ⌝ }
 {
@@ -115,7 +116,7 @@ fn sheet_refusal(text: &[u8], room: usize) -> u8
         return header;
     }
     let s = sheet_sizes(text);
-    body_refusal(s, text, room)
+    body_refusal(s.sizes, text, room)
 }
 
 // How many numbers the header's sizes give, which is the length of the slice that `read_sheet` takes; 0 where the header is refused.
@@ -127,11 +128,11 @@ pub fn sheet_numbers(text: &[u8]) -> usize
         return 0;
     }
     let s = sheet_sizes(text);
-    total_numbers(s)
+    total_numbers(s.sizes)
 }
 
 // The numbers after the header, in the sheet's order.
-fn store(s: SheetSizes, text: &[u8], numbers: &mut [i32])
+fn store(s: Sizes, text: &[u8], numbers: &mut [i32])
     requires { ⌜ Inside s (now text) ⌝ }
     requires { ⌜ coefficients (bodyNumbers s (now text)) ≡ true ⌝ }
     requires { ⌜ length (now numbers) ≡ total s ⌝ }
@@ -152,6 +153,6 @@ pub fn read_sheet(text: &[u8], numbers: &mut [i32]) -> SheetAnswer
         return SheetAnswer::Refused(refusal);
     }
     let s = sheet_sizes(text);
-    store(s, text, numbers);
+    store(s.sizes, text, numbers);
     SheetAnswer::Sheet(s)
 }

@@ -1,10 +1,8 @@
 // The sizes on a sheet's header, and how many numbers each part of the sheet has.
 ghost use mathlib.Core.Path.{_≡_};
 ghost use Prim.Native.Nat.{_+_, _*_, _≤_, _<_};
-ghost use Rattle.sheet.specs.Reading.{foldSizes};
 ghost use Rattle.sheet.specs.Sections.{Bounded, Sectioned, matrixCount, wholeCount, rowCount, lastCount, termSize};
 ghost use Rattle.sheet.specs.Sections.{total, projectionsFrom, challengesFrom, endsElement, endsTerm, endsLine};
-use fold::Shape;
 use fold::Sizes;
 use fold::counts::Z_DIGITS;
 use fold::counts::function_size;
@@ -12,53 +10,11 @@ use fold::counts::garbage_size;
 use fold::counts::opening_size;
 use fold::counts::t_size;
 
-// The header's numbers, in its order; `bound` is β² and `target` is β'².
-#[repr(C)]
+// The header's numbers: the fold's sizes, and into how many chunks z and the rest are cut, ν and μ.
 pub struct SheetSizes {
-    pub d: usize,
-    pub n: usize,
-    pub r: usize,
-    pub k: usize,
-    pub l: usize,
-    pub w: usize,
-    pub kappa: usize,
-    pub kappa1: usize,
-    pub kappa2: usize,
-    pub b: usize,
-    pub b1: usize,
-    pub b2: usize,
-    pub t1: usize,
-    pub t2: usize,
+    pub sizes: Sizes,
     pub nu: usize,
     pub mu: usize,
-    pub bound: u64,
-    pub target: u64,
-}
-
-// The sizes that the fold takes; ν and μ stand beside them.
-pub fn fold_sizes(s: SheetSizes) -> Sizes
-    ensures { λ r. ⌜ r ≡ foldSizes s ⌝ }
-{
-    Sizes {
-        shape: Shape {
-            d: s.d,
-            n: s.n,
-            r: s.r,
-        },
-        k: s.k,
-        l: s.l,
-        w: s.w,
-        kappa: s.kappa,
-        kappa1: s.kappa1,
-        kappa2: s.kappa2,
-        b: s.b,
-        b1: s.b1,
-        b2: s.b2,
-        t1: s.t1,
-        t2: s.t2,
-        bound: s.bound,
-        target: s.target,
-    }
 }
 
 // Where lines end: `head` numbers on lines of d, then `terms` numbers of constant-term constraints of `period` numbers each (lines of
@@ -73,14 +29,14 @@ pub struct Sections {
 }
 
 // Elements of A, B, C and D.
-fn matrix_count(s: SheetSizes) -> usize
+fn matrix_count(s: Sizes) -> usize
     requires { ⌜ Bounded s ⌝ }
     ensures { λ p. ⌜ (p ≡ matrixCount s) × (p ≤ 27648) ⌝ }
 {
-    let ts = t_size(s.r, s.kappa, s.t1);
-    let gs = garbage_size(s.r, s.t2);
-    let hs = garbage_size(s.r, s.t1);
-    let a = s.kappa * s.n;
+    let ts = t_size(s.shape.r, s.kappa, s.t1);
+    let gs = garbage_size(s.shape.r, s.t2);
+    let hs = garbage_size(s.shape.r, s.t1);
+    let a = s.kappa * s.shape.n;
     let b = s.kappa1 * ts;
     let c = s.kappa1 * gs;
     let d = s.kappa2 * hs;
@@ -88,62 +44,62 @@ fn matrix_count(s: SheetSizes) -> usize
 }
 
 // Elements of the whole constraints.
-fn whole_count(s: SheetSizes) -> usize
+fn whole_count(s: Sizes) -> usize
     requires { ⌜ Bounded s ⌝ }
     ensures { λ p. ⌜ (p ≡ wholeCount s) × (p ≤ 135456) ⌝ }
 {
-    let f = function_size(s.n, s.r);
+    let f = function_size(s.shape.n, s.shape.r);
     s.k * (f + 1)
 }
 
 // Elements of u1 and the projection rows.
-fn row_count(s: SheetSizes) -> usize
+fn row_count(s: Sizes) -> usize
     requires { ⌜ Bounded s ⌝ }
     ensures { λ p. ⌜ (p ≡ rowCount s) × (p ≤ 1048584) ⌝ }
 {
-    let a = s.r * s.n;
+    let a = s.shape.r * s.shape.n;
     s.kappa1 + s.w * a
 }
 
 // Elements of b'', α, δ, u2, c and the opening.
-fn last_count(s: SheetSizes) -> usize
+fn last_count(s: Sizes) -> usize
     requires { ⌜ Bounded s ⌝ }
     ensures { λ p. ⌜ (p ≡ lastCount s) × (p ≤ 3778) ⌝ }
 {
-    let opening = opening_size(Z_DIGITS, s.n, s.r, s.kappa, s.t1, s.t2);
-    5 + (s.k + (5 + (s.kappa2 + (s.r + opening))))
+    let opening = opening_size(Z_DIGITS, s.shape.n, s.shape.r, s.kappa, s.t1, s.t2);
+    5 + (s.k + (5 + (s.kappa2 + (s.shape.r + opening))))
 }
 
 // Numbers before the constant-term constraints.
-fn head_numbers(s: SheetSizes) -> usize
+fn head_numbers(s: Sizes) -> usize
     requires { ⌜ Bounded s ⌝ }
-    ensures { λ p. ⌜ (p ≡ (matrixCount s + wholeCount s) * s .d) × (p ≤ 10438656) ⌝ }
+    ensures { λ p. ⌜ (p ≡ (matrixCount s + wholeCount s) * s .shape .d) × (p ≤ 10438656) ⌝ }
 {
     let a = matrix_count(s);
     let b = whole_count(s);
-    (a + b) * s.d
+    (a + b) * s.shape.d
 }
 
 // Numbers of one constant-term constraint.
-fn term_size(s: SheetSizes) -> usize
+fn term_size(s: Sizes) -> usize
     requires { ⌜ Bounded s ⌝ }
     ensures { λ p. ⌜ (p ≡ termSize s) × (p ≤ 270849) ⌝ }
 {
-    let f = function_size(s.n, s.r);
-    f * s.d + 1
+    let f = function_size(s.shape.n, s.shape.r);
+    f * s.shape.d + 1
 }
 
 // Numbers of u1 and the projection rows.
-fn middle_numbers(s: SheetSizes) -> usize
+fn middle_numbers(s: Sizes) -> usize
     requires { ⌜ Bounded s ⌝ }
-    ensures { λ p. ⌜ (p ≡ rowCount s * s .d) × (p ≤ 67109376) ⌝ }
+    ensures { λ p. ⌜ (p ≡ rowCount s * s .shape .d) × (p ≤ 67109376) ⌝ }
 {
     let a = row_count(s);
-    a * s.d
+    a * s.shape.d
 }
 
 // The lines of the sheet after its header.
-pub fn sections_of(s: SheetSizes) -> Sections
+pub fn sections_of(s: Sizes) -> Sections
     requires { ⌜ Bounded s ⌝ }
     ensures { λ q. ⌜ Sectioned s q ⌝ }
 {
@@ -153,7 +109,7 @@ pub fn sections_of(s: SheetSizes) -> Sections
     let terms = s.l * period;
     let ones = s.w + (5 * s.l + 5 * s.w);
     Sections {
-        d: s.d,
+        d: s.shape.d,
         head: head,
         period: period,
         terms: terms,
@@ -163,34 +119,34 @@ pub fn sections_of(s: SheetSizes) -> Sections
 }
 
 // The numbers after the header.
-pub fn total_numbers(s: SheetSizes) -> usize
+pub fn total_numbers(s: Sizes) -> usize
     requires { ⌜ Bounded s ⌝ }
     ensures { λ p. ⌜ p ≡ total s ⌝ }
 {
     let q = sections_of(s);
     let a = last_count(s);
-    let tail = a * s.d;
+    let tail = a * s.shape.d;
     q.head + (q.terms + (q.middle + (q.ones + tail)))
 }
 
 // The numbers before the projection rows.
-pub fn projections_from(s: SheetSizes) -> usize
+pub fn projections_from(s: Sizes) -> usize
     requires { ⌜ Bounded s ⌝ }
     ensures { λ p. ⌜ p ≡ projectionsFrom s ⌝ }
 {
     let q = sections_of(s);
-    let own = s.kappa1 * s.d;
+    let own = s.kappa1 * s.shape.d;
     q.head + (q.terms + own)
 }
 
 // The numbers before the challenges c.
-pub fn challenges_from(s: SheetSizes) -> usize
+pub fn challenges_from(s: Sizes) -> usize
     requires { ⌜ Bounded s ⌝ }
     ensures { λ p. ⌜ p ≡ challengesFrom s ⌝ }
 {
     let q = sections_of(s);
     let a = 5 + (s.k + (5 + s.kappa2));
-    let own = a * s.d;
+    let own = a * s.shape.d;
     q.head + (q.terms + (q.middle + (q.ones + own)))
 }
 

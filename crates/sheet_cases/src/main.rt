@@ -7,10 +7,10 @@ ghost use Prim.Native.Nat.{_≤_, min, _-_};
 ghost use lib.ListN.{take};
 ghost use lib.IntN.{natAbs};
 ghost use Rattle.sheet.specs.Place.{numberAt};
+use capi::types::CHeader;
 use cases::printing::print_gap;
 use cases::printing::print_line_end;
 use cases::sums::print_shown;
-use sheet::sizes::SheetSizes;
 use sheet::walk::number_size;
 
 // Most cases.
@@ -94,7 +94,7 @@ fn print_answer(kind: u8, number: u8) -> u64
     print_number(number as u64)
 }
 
-fn print_header(h: SheetSizes) -> u64
+fn print_header(h: CHeader) -> u64
     ensures { λ r. ⌜ r ≡ h .target ⌝ }
 {
     print_number(h.d as u64);

@@ -11,7 +11,7 @@ use Rattle.fold.specs.declared.Answer.the-variants.{Judged}
 use Rattle.fold.specs.Sizes.{pairs, functionSize, tSize, garbageSize, restSize, openingSize}
 use Rattle.fold.specs.Refusals.{wholeLength, constantTermsLength, projectionLength}
 use Rattle.fold.specs.Cases.WholeCase.{whole-case}
-use Rattle.sheet.specs.Reading.{size, sizesOf, foldSizes}
+use Rattle.sheet.specs.Reading.{size, sizesOf}
 use Rattle.sheet.specs.Field.{fieldText, signedText, columns, columnByte, minusDue}
 use Rattle.sheet.specs.Layout.{copies, elements, matrixLines, wholeLines, termLines, rowLines, numberLines, lastLines, bodyLines}
 use Rattle.sheet.specs.Layout.{lineText, textOf, sheetText}
@@ -22,7 +22,7 @@ use Rattle.judge.specs.Theorems.JudgeTheorem.{sheetVerdict, sheet-judged
 
 -- the lists of the sheet are those of the case
 whole-verdict : sheetVerdict (sizesOf header) numbers ≡ Accepted
-unfolding size sizesOf foldSizes listAt listLengths pairs pairs-count start functionSize tSize garbageSize restSize openingSize
+unfolding size sizesOf listAt listLengths pairs pairs-count start functionSize tSize garbageSize restSize openingSize
     wholeLength constantTermsLength projectionLength
 whole-verdict = whole-case .accepted
 

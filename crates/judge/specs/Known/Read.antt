@@ -15,7 +15,7 @@ use Rattle.judge.specs.Judging.{judgedBy}
 -- the sizes that were read passed the header's tests
 abbrev pub ReadBounded : SheetAnswer → Type 0
 ReadBounded (Refused n) = Unit {0}
-ReadBounded (Sheet s) = Bounded s
+ReadBounded (Sheet s) = Bounded (s .sizes)
 
 -- the answer to a text and the numbers of the slice afterwards, where the slice holds `before`
 pub record Into (text : List ℕ) (before : List ℤ) (r : Answer) (after : List ℤ) : Type 0 where

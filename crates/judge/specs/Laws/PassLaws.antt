@@ -19,15 +19,15 @@ use Rattle.fold.specs.Laws.RefusalLaws.{Passes, _&_, passes-refusal, allOf-all,
 use Rattle.fold.specs.Laws.TestLaws.{passes-rows, after-passes}
 use Rattle.fold.specs.Sizes.{zCount}
 use Rattle.limits.specs.Stages.{nextBoundsOf}
-use Rattle.sheet.specs.declared.sizes.SheetSizes.{SheetSizes}
+use Rattle.fold.specs.declared.Sizes.{Sizes}
 use Rattle.sheet.specs.Lists.{listLengths, listAt}
 use Rattle.sheet.specs.Sections.{total}
 use Rattle.sheet.specs.Laws.ListLaws.{length-list, coefficients-list, list-coefficients, lengths-total}
 use Rattle.sheet.specs.Laws.HeaderLaws.{header-passes}
-use Rattle.sheet.specs.Reading.{headerTests, sizesOf, foldSizes, projectionsIn, challengesIn, numberTests}
+use Rattle.sheet.specs.Reading.{headerTests, sizesOf, sheetSizesOf, projectionsIn, challengesIn, numberTests}
 use Rattle.judge.specs.Judging.{sheetStatement, sheetDraws, sheetTranscript, sheetOpening}
 
-module _ (s : SheetSizes) (xs : List ℤ) where
+module _ (s : Sizes) (xs : List ℤ) where
   module _ (count : length xs ≡ total s) where
     sized-list : (k : ℕ) → k < 17 → sized (listAt (listLengths s) xs k) (getD (listLengths s) k 0) ≡ true
     unfolding listLengths
@@ -48,9 +48,9 @@ module _ (h xs : List ℤ) (header : Passes (headerTests h)) (count : length xs 
 
   -- rows 1 to 7 pass
   early : Passes (take 6 tests)
-  unfolding verifyTests foldSizes listLengths
+  unfolding verifyTests listLengths
   early =
-      let row = passes-rows (nextBoundsOf zCount (foldSizes (sizesOf h)) (sizesOf h .nu) (sizesOf h .mu)) (header-passes h header) in
+      let row = passes-rows (nextBoundsOf zCount (sizesOf h) (sheetSizesOf h .nu) (sheetSizesOf h .mu)) (header-passes h header) in
       let size : (k : ℕ) → k < 17 → sized (listAt (listLengths (sizesOf h)) xs k) (getD (listLengths (sizesOf h)) k 0) ≡ true =
       sized-list (sizesOf h) xs count in
       row 1
@@ -124,7 +124,7 @@ module _ (h xs : List ℤ) (header : Passes (headerTests h)) (count : length xs 
 
   -- the verifier refuses the numbers as the reader does
   pub same-refusal : firstFailing tests ≡ firstFailing (numberTests (sizesOf h) xs)
-  unfolding verifyTests numberTests projectionsIn challengesIn foldSizes
+  unfolding verifyTests numberTests projectionsIn challengesIn
   same-refusal =
       after-passes (take 6 tests) (drop 6 tests) early
       ∙ ap (λ (t : Bool). firstFailing ((8, t) ∷ drop 1 (numberTests (sizesOf h) xs))) same-range

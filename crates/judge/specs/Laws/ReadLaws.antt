@@ -11,7 +11,7 @@ use Rattle.fold.specs.declared.Answer.the-variants as answer
 use Rattle.fold.specs.Answers.{written}
 use Rattle.sheet.specs.declared.reader.SheetAnswer.{SheetAnswer}
 use Rattle.sheet.specs.declared.reader.SheetAnswer.the-variants.{Refused}
-use Rattle.sheet.specs.Reading.{headerNumbers, sizesOf, sheetIf, reading, readingRefusal, SheetRead}
+use Rattle.sheet.specs.Reading.{headerNumbers, sheetSizesOf, sheetIf, reading, readingRefusal, SheetRead}
 use Rattle.sheet.specs.Laws.AnswerLaws.{reading-passed, read-is}
 use Rattle.sheet.specs.Laws.HeaderLaws.{header-bounded}
 use Rattle.judge.specs.Judging.{judgedBy, judged, judgedText}
@@ -20,7 +20,7 @@ use Rattle.judge.specs.Laws.RoomLaws.{same-reading}
 use Rattle.judge.specs.Known.Read.{ReadBounded, Into}
 
 module _ (text : List ℕ) (before : List ℤ) {read : SheetAnswer} {after : List ℤ} (p : SheetRead text before read after) where
-  bounded-if : (n : ℕ) → readingRefusal text before ≡ n → ReadBounded (sheetIf n (sizesOf (headerNumbers text)))
+  bounded-if : (n : ℕ) → readingRefusal text before ≡ n → ReadBounded (sheetIf n (sheetSizesOf (headerNumbers text)))
   bounded-if zero e = header-bounded (headerNumbers text) (reading-passed (length before) text e .sizes)
   bounded-if (suc n) e = tt
 
@@ -30,7 +30,7 @@ module _ (text : List ℕ) (before : List ℤ) {read : SheetAnswer} {after : Lis
 
   -- on a refusal no number counts
   judged-if : (n : ℕ) (numbers : List ℤ)
-      → judgedBy (sheetIf n (sizesOf (headerNumbers text))) (written n numbers before) ≡ judgedBy (sheetIf n (sizesOf (headerNumbers text))) numbers
+      → judgedBy (sheetIf n (sheetSizesOf (headerNumbers text))) (written n numbers before) ≡ judgedBy (sheetIf n (sheetSizesOf (headerNumbers text))) numbers
   unfolding written
   judged-if zero numbers = refl
   judged-if (suc n) numbers = refl

@@ -12,11 +12,11 @@ use lib.Dec.{eqb}
 use lib.ListN.{length}
 use borrow.Author.Tests.{eq-eqb}
 use Rattle.fold.specs.Answers.{firstFailing}
-use Rattle.sheet.specs.declared.sizes.SheetSizes.{SheetSizes}
+use Rattle.fold.specs.declared.Sizes.{Sizes}
 use Rattle.sheet.specs.Sections.{sectionsOf, total, endsLine}
 use Rattle.sheet.specs.Place.{place}
 use Rattle.sheet.specs.Laws.PlaceLaws.{width-least}
-use Rattle.sheet.specs.Reading.{headerNumbers, sizesOf, bodyLaid, bodyNumbers, numberTests, bodyTests, readingTests}
+use Rattle.sheet.specs.Reading.{headerNumbers, sizesOf, sheetSizesOf, bodyLaid, bodyNumbers, numberTests, bodyTests, readingTests}
 use Rattle.sheet.specs.Reading.{frontTests, numberCount, sheetIf, reading}
 use Rattle.sheet.specs.Laws.ReadingLaws.{body-within}
 use Rattle.sheet.specs.Laws.AnswerLaws.{refusal-first}
@@ -28,7 +28,7 @@ unfolding place
 place-least ends at zero = omega arith
 place-least ends at (suc i) = omega (arith, place-least ends at i, width-least ends at (ends i))
 
-pub few-numbers : (s : SheetSizes) (text : List ℕ) → length text ≤ 65536 → bodyLaid s text ≡ true → total s ≤ 4096
+pub few-numbers : (s : Sizes) (text : List ℕ) → length text ≤ 65536 → bodyLaid s text ≡ true → total s ≤ 4096
 few-numbers s text h e = omega (arith, body-within s text e, place-least (endsLine (sectionsOf s)) 289 (total s))
 
 -- tests after others count by their own refusal
@@ -38,7 +38,7 @@ later-same [] ys zs e = e
 later-same (x ∷ xs) ys zs e = ap (λ (n : ℕ). cond (x .1) n (x .0)) (later-same xs ys zs e)
 
 module _ (text : List ℕ) (h : length text ≤ 65536) where
-  sizes : SheetSizes
+  sizes : Sizes
   sizes = sizesOf (headerNumbers text)
 
   body-same : numberCount text ≡ total sizes
@@ -75,4 +75,4 @@ module _ (text : List ℕ) (h : length text ≤ 65536) where
 
   pub same-reading : reading (lentCount text) text ≡ reading (total (sizesOf (headerNumbers text))) text
   unfolding reading
-  same-reading = ap (λ (n : ℕ). sheetIf n (sizesOf (headerNumbers text))) same-refusal
+  same-reading = ap (λ (n : ℕ). sheetIf n (sheetSizesOf (headerNumbers text))) same-refusal

@@ -10,19 +10,17 @@ use Rattle.fold.specs.Sizes.{zCount, tSize, garbageSize, openingSize}
 use Rattle.fold.specs.Refusals.{wholeLength, constantTermsLength, projectionLength}
 use Rattle.fold.specs.Arguments.{statementOf, drawsOf, transcriptOf}
 use Rattle.fold.specs.Verification.{verification}
-use Rattle.sheet.specs.declared.sizes.SheetSizes.{SheetSizes}
 use Rattle.sheet.specs.Lists.{listLengths, listAt}
-use Rattle.sheet.specs.Reading.{foldSizes}
 use Rattle.judge.specs.Judging.{judgedNumbers}
 use Rattle.judge.specs.Stages.{lastStage, numberStage, constraintStage}
 
-module _ (s : SheetSizes) where
+module _ (s : Sizes) where
   unfoldable pub matrixStage : List ℤ → Answer
   matrixStage xs =
-      let A = s .kappa * s .n * s .d in
-      let B = s .kappa1 * tSize (s .r) (s .kappa) (s .t1) * s .d in
-      let C = s .kappa1 * garbageSize (s .r) (s .t2) * s .d in
-      let D = s .kappa2 * garbageSize (s .r) (s .t1) * s .d in
+      let A = s .kappa * s .shape .n * s .shape .d in
+      let B = s .kappa1 * tSize (s .shape .r) (s .kappa) (s .t1) * s .shape .d in
+      let C = s .kappa1 * garbageSize (s .shape .r) (s .t2) * s .shape .d in
+      let D = s .kappa2 * garbageSize (s .shape .r) (s .t1) * s .shape .d in
       constraintStage s (take A xs) (take B (drop A xs)) (take C (drop B (drop A xs))) (take D (drop C (drop B (drop A xs))))
       (drop D (drop C (drop B (drop A xs))))
 
@@ -41,36 +39,35 @@ cut e f g = record { first = rw (← e) f; left = rw (← e) g }
 pub cut-last : {k m : ℕ} (xs : List ℤ) {l : List ℤ} → k ≡ m → l ≡ take k xs → l ≡ take m xs
 cut-last xs e f = rw (← e) f
 
-module _ (s : SheetSizes) {answer : Answer} (A B C D : List ℤ) where
+module _ (s : Sizes) {answer : Answer} (A B C D : List ℤ) where
   module _ (whole constantTerms u₁ projections : List ℤ) where
     pub last-stage : (p ψ ω b″ : List ℤ) {xs α δ u₂ c o y₁ y₂ y₃ y₄ : List ℤ}
-        → Cut (s .k * s .d) xs α y₁ → Cut (5 * s .d) y₁ δ y₂ → Cut (s .kappa2 * s .d) y₂ u₂ y₃ → Cut (s .r * s .d) y₃ c y₄
-        → o ≡ take (openingSize zCount (s .n) (s .r) (s .kappa) (s .t1) (s .t2) * s .d) y₄
-        → {sizes : Sizes} → sizes ≡ foldSizes s
-        → answer ≡ verification (statementOf sizes A B C D whole constantTerms) (drawsOf projections ψ ω α δ c) (transcriptOf u₁ p b″ u₂) o
+        → Cut (s .k * s .shape .d) xs α y₁ → Cut (5 * s .shape .d) y₁ δ y₂ → Cut (s .kappa2 * s .shape .d) y₂ u₂ y₃ → Cut (s .shape .r * s .shape .d) y₃ c y₄
+        → o ≡ take (openingSize zCount (s .shape .n) (s .shape .r) (s .kappa) (s .t1) (s .t2) * s .shape .d) y₄
+        → answer ≡ verification (statementOf s A B C D whole constantTerms) (drawsOf projections ψ ω α δ c) (transcriptOf u₁ p b″ u₂) o
         → answer ≡ lastStage s A B C D whole constantTerms u₁ projections p ψ ω b″ xs
     unfolding lastStage
-    last-stage p ψ ω b″ c₁ c₂ c₃ c₄ c₅ q e =
-        e ∙ rw (q, c₅, c₄ .first, c₄ .left, c₃ .first, c₃ .left, c₂ .first, c₂ .left, c₁ .first, c₁ .left) refl
+    last-stage p ψ ω b″ c₁ c₂ c₃ c₄ c₅ e =
+        e ∙ rw (c₅, c₄ .first, c₄ .left, c₃ .first, c₃ .left, c₂ .first, c₂ .left, c₁ .first, c₁ .left) refl
 
     pub number-stage : {xs p ψ ω b″ y₁ y₂ y₃ y₄ : List ℤ}
-        → Cut (s .w) xs p y₁ → Cut (5 * s .l) y₁ ψ y₂ → Cut (5 * s .w) y₂ ω y₃ → Cut (5 * s .d) y₃ b″ y₄
+        → Cut (s .w) xs p y₁ → Cut (5 * s .l) y₁ ψ y₂ → Cut (5 * s .w) y₂ ω y₃ → Cut (5 * s .shape .d) y₃ b″ y₄
         → answer ≡ lastStage s A B C D whole constantTerms u₁ projections p ψ ω b″ y₄ → answer ≡ numberStage s A B C D whole constantTerms u₁ projections xs
     unfolding numberStage
     number-stage c₁ c₂ c₃ c₄ e =
         e ∙ rw (c₄ .first, c₄ .left, c₃ .first, c₃ .left, c₂ .first, c₂ .left, c₁ .first, c₁ .left) refl
 
   pub constraint-stage : {xs whole constantTerms u₁ projections y₁ y₂ y₃ y₄ : List ℤ}
-      → Cut (wholeLength (s .d) (s .n) (s .r) (s .k)) xs whole y₁ → Cut (constantTermsLength (s .d) (s .n) (s .r) (s .l)) y₁ constantTerms y₂
-      → Cut (s .kappa1 * s .d) y₂ u₁ y₃ → Cut (projectionLength (s .d) (s .n) (s .r) (s .w)) y₃ projections y₄
+      → Cut (wholeLength (s .shape .d) (s .shape .n) (s .shape .r) (s .k)) xs whole y₁ → Cut (constantTermsLength (s .shape .d) (s .shape .n) (s .shape .r) (s .l)) y₁ constantTerms y₂
+      → Cut (s .kappa1 * s .shape .d) y₂ u₁ y₃ → Cut (projectionLength (s .shape .d) (s .shape .n) (s .shape .r) (s .w)) y₃ projections y₄
       → answer ≡ numberStage s A B C D whole constantTerms u₁ projections y₄ → answer ≡ constraintStage s A B C D xs
   unfolding constraintStage
   constraint-stage c₁ c₂ c₃ c₄ e =
       e ∙ rw (c₄ .first, c₄ .left, c₃ .first, c₃ .left, c₂ .first, c₂ .left, c₁ .first, c₁ .left) refl
 
   pub matrix-stage : {xs y₁ y₂ y₃ y₄ : List ℤ}
-      → Cut (s .kappa * s .n * s .d) xs A y₁ → Cut (s .kappa1 * tSize (s .r) (s .kappa) (s .t1) * s .d) y₁ B y₂
-      → Cut (s .kappa1 * garbageSize (s .r) (s .t2) * s .d) y₂ C y₃ → Cut (s .kappa2 * garbageSize (s .r) (s .t1) * s .d) y₃ D y₄
+      → Cut (s .kappa * s .shape .n * s .shape .d) xs A y₁ → Cut (s .kappa1 * tSize (s .shape .r) (s .kappa) (s .t1) * s .shape .d) y₁ B y₂
+      → Cut (s .kappa1 * garbageSize (s .shape .r) (s .t2) * s .shape .d) y₂ C y₃ → Cut (s .kappa2 * garbageSize (s .shape .r) (s .t1) * s .shape .d) y₃ D y₄
       → answer ≡ constraintStage s A B C D y₄ → answer ≡ judgedNumbers s xs
   unfolding matrixStage
   matrix-stage {xs} c₁ c₂ c₃ c₄ e =

@@ -22,10 +22,11 @@ use Rattle.fold.specs.declared.Answer.the-variants.{Refused, Judged, Written}
 use Rattle.fold.specs.Verdict.{verdict}
 use Rattle.fold.specs.Answers.{kindOf, numberOf, firstFailing, answered}
 use Rattle.fold.specs.Laws.RefusalLaws.{refusal-passes}
+use Rattle.fold.specs.declared.Sizes.{Sizes}
 use Rattle.sheet.specs.declared.sizes.SheetSizes.{SheetSizes}
 use Rattle.sheet.specs.declared.reader.SheetAnswer as reader
 use Rattle.sheet.specs.Sections.{total}
-use Rattle.sheet.specs.Reading.{headerNumbers, headerTests, sizesOf, bodyNumbers, numberTests, bodyTests}
+use Rattle.sheet.specs.Reading.{headerNumbers, headerTests, sizesOf, sheetSizesOf, bodyNumbers, numberTests, bodyTests}
 use Rattle.sheet.specs.Reading.{readingTests, sheetIf, reading}
 use Rattle.sheet.specs.Laws.PlaceLaws.{contradiction}
 use Rattle.sheet.specs.Laws.AnswerLaws.{reading-passed}
@@ -38,7 +39,7 @@ use Rattle.judge.specs.Judging.{sheetStatement, sheetDraws, sheetTranscr
 use Rattle.judge.specs.Laws.PassLaws.{same-refusal, unrefused}
 
 -- the verdict on the numbers of a sheet
-abbrev pub sheetVerdict : SheetSizes → List ℤ → Verdict
+abbrev pub sheetVerdict : Sizes → List ℤ → Verdict
 sheetVerdict s xs = verdict (sheetStatement s xs) (sheetDraws s xs) (sheetTranscript s xs) (sheetOpening s xs)
 
 -- how many numbers the header's sizes give
@@ -73,7 +74,7 @@ taken text e =
     rw (unrefused h (bodyNumbers s text) (passed .sizes) (length-body s positive text ∙ body-total s) (passed .numbers)) refl
 
 by-refusal : (text : List ℕ) (n : ℕ) → firstFailing (readingTests (roomOf text) text) ≡ n
-    → judgedBy (sheetIf n (sizesOf (headerNumbers text))) (bodyNumbers (sizesOf (headerNumbers text)) text)
+    → judgedBy (sheetIf n (sheetSizesOf (headerNumbers text))) (bodyNumbers (sizesOf (headerNumbers text)) text)
     ≡ answered n (Judged (sheetVerdict (sizesOf (headerNumbers text)) (bodyNumbers (sizesOf (headerNumbers text)) text)))
 unfolding answered
 by-refusal text zero e = taken text e
@@ -105,7 +106,7 @@ none-if (suc k) s t e = let f : _≡_ {A = ℕ} 0 1 = cc in absurd (omega arith)
 no-refusal : (room : ℕ) (text : List ℕ) (s : SheetSizes) → reading room text ≡ reader.the-variants.Sheet s
     → firstFailing (readingTests room text) ≡ 0
 unfolding reading
-no-refusal room text s e = none-if (firstFailing (readingTests room text)) (sizesOf (headerNumbers text)) s e
+no-refusal room text s e = none-if (firstFailing (readingTests room text)) (sheetSizesOf (headerNumbers text)) s e
 
 pub sheet-judged : (h xs : List ℤ) → SheetNumbers h xs → length (sheetText h xs) ≤ 65536
     → judgedText (sheetText h xs) ≡ Judged (sheetVerdict (sizesOf h) xs)
@@ -115,7 +116,7 @@ sheet-judged h xs n fits =
     let first = sheet-exactly (length xs) text h xs .1 (refl, n, refl) in
     let room : roomOf text ≡ length xs =
     ap (λ (l : List ℤ). total (sizesOf l)) (first .header) ∙ sym (body-total (sizesOf h)) ∙ sym (n .count) in
-    let none : firstFailing (readingTests (roomOf text) text) ≡ 0 = rw room (no-refusal (length xs) text (sizesOf h) (first .answer)) in
+    let none : firstFailing (readingTests (roomOf text) text) ≡ 0 = rw room (no-refusal (length xs) text (sheetSizesOf h) (first .answer)) in
     text-answer text fits ∙ rw (none, first .header, first .numbers) refl
 
 -- ---- what no text is answered
@@ -161,7 +162,7 @@ judged-sheet text v = by-length (λ (a : Answer). a ≡ Judged v → Sheet text 
         → Sheet text v
     within h e =
         let (none, same) = judgement-of (firstFailing (readingTests (roomOf text) text)) v _ e in
-        let answer : reading (roomOf text) text ≡ reader.the-variants.Sheet (sizesOf (headerNumbers text)) = rw none refl in
+        let answer : reading (roomOf text) text ≡ reader.the-variants.Sheet (sheetSizesOf (headerNumbers text)) = rw none refl in
         let exactly = sheet-exactly (roomOf text) text (headerNumbers text) (bodyNumbers (sizesOf (headerNumbers text)) text) .0
         (record { answer = answer; header = refl; numbers = refl }) in
         record { text-is = exactly .0; numbers = exactly .1; verdict-is = same }

@@ -12,7 +12,7 @@ use Rattle.fold.specs.Answers.{firstFailing}
 use Rattle.fold.specs.Sizes.{pairs, functionSize, tSize, garbageSize, restSize, openingSize}
 use Rattle.fold.specs.Refusals.{allOf, anyOf, between, degree, rank, parts, constraintCount, projectionCount, commitmentRank, base, digitCount}
 use Rattle.fold.specs.Refusals.{chunks, lengthBound, challenges, wholeLength, constantTermsLength, projectionLength}
-use Rattle.sheet.specs.declared.sizes.SheetSizes.{SheetSizes}
+use Rattle.fold.specs.declared.Sizes.{Sizes}
 use Rattle.sheet.specs.Lists.{listLengths, listAt}
 use Rattle.sheet.specs.Reading.{headerTests, size, sizesOf, projectionsIn, challengesIn, numberTests}
 use Rattle.sheet.specs.Layout.{copies, elements, fields, matrixLines, wholeLines, termLines, rowLines, numberLines, lastLines, bodyLines}
@@ -76,11 +76,9 @@ whole-read = sheet-exactly 64 (sheetText header numbers) header numbers .1 (refl
 
 -- lines for sizes that differ, with two constant-term constraints, one projection row and three g digits; the second implementation
 -- gives the same
-abbrev pub second : SheetSizes
+abbrev pub second : Sizes
 second = record {
-  d = 2;
-  n = 2;
-  r = 2;
+  shape = record { d = 2; n = 2; r = 2 };
   k = 1;
   l = 2;
   w = 1;
@@ -92,8 +90,6 @@ second = record {
   b2 = 4;
   t1 = 2;
   t2 = 3;
-  nu = 1;
-  mu = 1;
   bound = 5;
   target = 13;
 }

@@ -4,7 +4,7 @@ use mathlib.Core.List.{List}
 use Prim.Native.Nat.{ℕ, _≤_}
 use lib.Dec.{eqb}
 use lib.ListN.{length}
-use Rattle.sheet.specs.declared.sizes.SheetSizes.{SheetSizes}
+use Rattle.fold.specs.declared.Sizes.{Sizes}
 use Rattle.sheet.specs.declared.walk.End.{End}
 use Rattle.sheet.specs.declared.walk.End.the-variants.{At, Broken}
 use Rattle.sheet.specs.Sections.{Bounded, sectionsOf, total, endsLine}
@@ -21,6 +21,6 @@ hasEnd (At at) = true
 hasEnd Broken = false
 
 -- sizes whose lines lie within the text
-pub record Inside (s : SheetSizes) (text : List ℕ) : Type 0 where
+pub record Inside (s : Sizes) (text : List ℕ) : Type 0 where
   pub bounded : Bounded s
   pub inside : place (endsLine (sectionsOf s)) 289 (total s) ≤ length text

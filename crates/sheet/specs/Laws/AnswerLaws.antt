@@ -18,6 +18,7 @@ use Rattle.residues.specs.Range.{coefficients, projectionEntries}
 use Rattle.fold.specs.declared.Answer.the-variants as answer
 use Rattle.fold.specs.Answers.{kindOf, numberOf, firstFailing, answered, written}
 use Rattle.fold.specs.Laws.RefusalLaws.{Passes, refusal-passes, passes-refusal, passes-front, passes-back, passes-join}
+use Rattle.fold.specs.declared.Sizes.{Sizes}
 use Rattle.sheet.specs.declared.sizes.SheetSizes.{SheetSizes}
 use Rattle.sheet.specs.declared.reader.SheetAnswer.{SheetAnswer}
 use Rattle.sheet.specs.declared.reader.SheetAnswer.the-variants.{Sheet, Refused}
@@ -25,7 +26,7 @@ use Rattle.sheet.specs.declared.sizes.Sections.{Sections}
 use Rattle.sheet.specs.Sections.{Bounded, Sectioned, total, endsLine}
 use Rattle.sheet.specs.Place.{numbersFrom}
 use Rattle.sheet.specs.Laws.HeaderLaws.{header-bounded}
-use Rattle.sheet.specs.Reading.{headerLaid, headerNumbers, headerTests, sizesOf, bodyLaid, bodyNumbers, frontTests, numberCount, numberTests, bodyTests}
+use Rattle.sheet.specs.Reading.{headerLaid, headerNumbers, headerTests, sizesOf, sheetSizesOf, bodyLaid, bodyNumbers, frontTests, numberCount, numberTests, bodyTests}
 use Rattle.sheet.specs.Reading.{readingTests, sheetIf, reading, answerOf, headerOf, headerIf, readingRefusal, SheetRead}
 use Rattle.sheet.specs.Known.Reading.{Inside}
 use Rattle.sheet.specs.Laws.ReadingLaws.{body-within, all-numbers}
@@ -60,17 +61,17 @@ module _ (room : ℕ) (text : List ℕ) {header : ℕ} (e : header ≡ firstFail
   unfolding readingTests
   refused-header h = e ∙ refusal-first (frontTests text) (bodyTests room (sizesOf (headerNumbers text)) text) (rw e at h)
 
-  pub good-header : header ≤ 0 → {s : SheetSizes} → s ≡ sizesOf (headerNumbers text) → Bounded s
+  pub good-header : header ≤ 0 → {s : SheetSizes} → s ≡ sheetSizesOf (headerNumbers text) → Bounded (s .sizes)
   good-header h q =
       let none : firstFailing (frontTests text) ≡ 0 = omega (arith, e) in
       rw q (header-bounded (headerNumbers text) (front-passes text none .1))
 
-  pub rest-refusal : header ≤ 0 → {s : SheetSizes} → s ≡ sizesOf (headerNumbers text) → {r : ℕ} → r ≡ firstFailing (bodyTests room s text)
-      → r ≡ firstFailing (readingTests room text)
+  pub rest-refusal : header ≤ 0 → {s : SheetSizes} → s ≡ sheetSizesOf (headerNumbers text) → {r : ℕ}
+      → r ≡ firstFailing (bodyTests room (s .sizes) text) → r ≡ firstFailing (readingTests room text)
   unfolding readingTests
   rest-refusal h q f =
       let none : firstFailing (frontTests text) ≡ 0 = omega (arith, e) in
-      f ∙ ap (λ (s : SheetSizes). firstFailing (bodyTests room s text)) q
+      f ∙ ap (λ (s : SheetSizes). firstFailing (bodyTests room (s .sizes) text)) q
       ∙ sym (refusal-rest (frontTests text) (bodyTests room (sizesOf (headerNumbers text)) text) (front-passes text none))
 
 -- what a text that is not refused is known to be
@@ -109,14 +110,14 @@ module _ (text : List ℕ) {header : ℕ} (e : header ≡ firstFailing (frontTes
   unfolding numberCount
   count-refused h = rw (← e, ne-eqb header 0 (λ f. omega arith)) refl
 
-  pub count-good : header ≤ 0 → {s : SheetSizes} {m : ℕ} → s ≡ sizesOf (headerNumbers text) → m ≡ total s → m ≡ numberCount text
+  pub count-good : header ≤ 0 → {s : SheetSizes} {m : ℕ} → s ≡ sheetSizesOf (headerNumbers text) → m ≡ total (s .sizes) → m ≡ numberCount text
   unfolding numberCount
   count-good h q f = let none : header ≡ 0 = omega arith in f ∙ rw (← e, eq-eqb header 0 none, q) refl
 
 -- ---- the reader's promise
 
 -- numbers written over all of the slice
-pub stored : (s : SheetSizes) (text : List ℕ) (q : Sections) (i : Inside s text) (e : Sectioned s q) {count : ℕ} (c : count ≡ total s)
+pub stored : (s : Sizes) (text : List ℕ) (q : Sections) (i : Inside s text) (e : Sectioned s q) {count : ℕ} (c : count ≡ total s)
     (before : List ℤ) {after : List ℤ} → length before ≡ total s
     → after ≡ over before 0 (numbersFrom (endsLine q) 289 text 0 count) → after ≡ bodyNumbers s text
 stored s text q i e c before fits f =
@@ -126,7 +127,7 @@ stored s text q i e c before fits f =
 
 module _ (text : List ℕ) (before : List ℤ) where
   promised : (n : ℕ) → readingRefusal text before ≡ n → {read : SheetAnswer} {after : List ℤ}
-      → answerOf read ≡ answered n answer.Written → headerOf read ≡ headerIf n (sizesOf (headerNumbers text))
+      → answerOf read ≡ answered n answer.Written → headerOf read ≡ headerIf n (sheetSizesOf (headerNumbers text))
       → after ≡ written n (bodyNumbers (sizesOf (headerNumbers text)) text) before → SheetRead text before read after
   promised n q a h w = record { answer-is = rw q a; header-is = rw q h; numbers-are = rw q w }
 
@@ -139,18 +140,18 @@ module _ (text : List ℕ) (before : List ℤ) where
         step zero h q = let never : ⊥ = omega arith in absurd never
         step (suc n) h q = promised (suc n) q refl refl refl
 
-    module _ (h : r ≤ 0) {s : SheetSizes} (q : s ≡ sizesOf (headerNumbers text)) where
+    module _ (h : r ≤ 0) {s : SheetSizes} (q : s ≡ sheetSizesOf (headerNumbers text)) where
       none : readingRefusal text before ≡ 0
       none = omega (arith, e)
 
       passed : Passed (length before) text
       passed = reading-passed (length before) text none
 
-      pub read-sheet : {after : List ℤ} → after ≡ bodyNumbers s text → SheetRead text before (Sheet s) after
+      pub read-sheet : {after : List ℤ} → after ≡ bodyNumbers (s .sizes) text → SheetRead text before (Sheet s) after
       unfolding answered written
-      read-sheet w = promised 0 none refl q (w ∙ ap (λ (s : SheetSizes). bodyNumbers s text) q)
+      read-sheet w = promised 0 none refl q (w ∙ ap (λ (s : SheetSizes). bodyNumbers (s .sizes) text) q)
 
-      pub sheet-inside : Inside s text
+      pub sheet-inside : Inside (s .sizes) text
       sheet-inside =
           rw q (record {
             bounded = header-bounded (headerNumbers text) (passed .sizes);
@@ -158,11 +159,11 @@ module _ (text : List ℕ) (before : List ℤ) where
                 (sizesOf (headerNumbers text)) text (passed .lines);
           })
 
-      pub sheet-coefficients : coefficients (bodyNumbers s text) ≡ true
+      pub sheet-coefficients : coefficients (bodyNumbers (s .sizes) text) ≡ true
       unfolding numberTests
       sheet-coefficients = rw q (passed .numbers .0)
 
-      pub sheet-fits : length before ≡ total s
+      pub sheet-fits : length before ≡ total (s .sizes)
       sheet-fits = rw q (passed .fits)
 
 pub read-is : (text : List ℕ) (before : List ℤ) {read : SheetAnswer} {after : List ℤ} → SheetRead text before read after
@@ -171,7 +172,7 @@ unfolding reading answered
 read-is text before {read} p = step (readingRefusal text before) read (p .answer-is) (p .header-is)
   where
     step : (n : ℕ) (read : SheetAnswer) → answerOf read ≡ answered n answer.Written
-        → headerOf read ≡ headerIf n (sizesOf (headerNumbers text)) → read ≡ sheetIf n (sizesOf (headerNumbers text))
+        → headerOf read ≡ headerIf n (sheetSizesOf (headerNumbers text)) → read ≡ sheetIf n (sheetSizesOf (headerNumbers text))
     step zero (Sheet s) a h = ap Sheet h
     step zero (Refused m) a h = let f : _≡_ {A = ℕ} 2 3 = ap kindOf a in absurd (omega arith)
     step (suc n) (Refused m) a h = ap Refused (ap numberOf a)

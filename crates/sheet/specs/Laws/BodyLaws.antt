@@ -7,7 +7,7 @@ use Prim.Native.Nat.{ℕ, zero, suc, _+_, _*_, _<_}
 use native.Mathlib.Nat.{zero-mul, suc-mul, zero-add, add-assoc}
 use native.Mathlib.Omega.{arith}
 use Rattle.fold.specs.Sizes.{pairs, functionSize}
-use Rattle.sheet.specs.declared.sizes.SheetSizes.{SheetSizes}
+use Rattle.fold.specs.declared.Sizes.{Sizes}
 use Rattle.sheet.specs.Sections.{matrixCount, wholeCount, rowCount, lastCount, termSize, onesCount, total}
 use Rattle.sheet.specs.Layout.{copies, elements, fields, matrixLines, wholeLines, termLines, rowLines, numberLines, lastLines, bodyLines}
 use Rattle.sheet.specs.Laws.LayoutLaws.{Positive, fields-append, fields-copies, fields-elements, positive-append, positive-copies, positive-elements}
@@ -45,52 +45,52 @@ copies-elements (suc c) d m =
     sum : (c m : ℕ) → m + c * m ≡ suc c * m
     sum c m = omega (arith, suc-mul c m)
 
-module _ (s : SheetSizes) where
-  matrix-merged : matrixLines s ≡ elements (s .d) (matrixCount s)
+module _ (s : Sizes) where
+  matrix-merged : matrixLines s ≡ elements (s .shape .d) (matrixCount s)
   unfolding matrixLines matrixCount
   matrix-merged = simp join
 
-  whole-merged : wholeLines s ≡ elements (s .d) (wholeCount s)
+  whole-merged : wholeLines s ≡ elements (s .shape .d) (wholeCount s)
   unfolding wholeLines wholeCount functionSize
-  whole-merged = simp (join, copies-elements) (ap (λ (x : ℕ). elements (s .d) (s .k * x)) (sym (add-assoc (pairs (s .r)) (s .r * s .n) 1)))
+  whole-merged = simp (join, copies-elements) (ap (λ (x : ℕ). elements (s .shape .d) (s .k * x)) (sym (add-assoc (pairs (s .shape .r)) (s .shape .r * s .shape .n) 1)))
 
-  term-merged : termLines s ≡ copies (s .l) (elements (s .d) (functionSize (s .n) (s .r)) ++ elements 1 1)
+  term-merged : termLines s ≡ copies (s .l) (elements (s .shape .d) (functionSize (s .shape .n) (s .shape .r)) ++ elements 1 1)
   unfolding termLines functionSize
-  term-merged = ap (copies (s .l)) (join-rest (s .d) (pairs (s .r)) (s .r * s .n) (elements 1 1))
+  term-merged = ap (copies (s .l)) (join-rest (s .shape .d) (pairs (s .shape .r)) (s .shape .r * s .shape .n) (elements 1 1))
 
-  rows-merged : rowLines s ≡ elements (s .d) (rowCount s)
+  rows-merged : rowLines s ≡ elements (s .shape .d) (rowCount s)
   unfolding rowLines rowCount
-  rows-merged = join (s .d) (s .kappa1) (s .w * (s .r * s .n))
+  rows-merged = join (s .shape .d) (s .kappa1) (s .w * (s .shape .r * s .shape .n))
 
   numbers-merged : numberLines s ≡ elements 1 (onesCount s)
   unfolding numberLines onesCount
   numbers-merged = simp join
 
-  last-merged : lastLines s ≡ elements (s .d) (lastCount s)
+  last-merged : lastLines s ≡ elements (s .shape .d) (lastCount s)
   unfolding lastLines lastCount
   last-merged = simp join
 
   -- the five parts
   unfoldable pub middlePart : List ℕ
-  middlePart = elements (s .d) (rowCount s) ++ (elements 1 (onesCount s) ++ elements (s .d) (lastCount s))
+  middlePart = elements (s .shape .d) (rowCount s) ++ (elements 1 (onesCount s) ++ elements (s .shape .d) (lastCount s))
 
   unfoldable pub termPart : List ℕ
-  termPart = copies (s .l) (elements (s .d) (functionSize (s .n) (s .r)) ++ elements 1 1)
+  termPart = copies (s .l) (elements (s .shape .d) (functionSize (s .shape .n) (s .shape .r)) ++ elements 1 1)
 
-  pub body-merged : bodyLines s ≡ elements (s .d) (matrixCount s + wholeCount s) ++ (termPart ++ middlePart)
+  pub body-merged : bodyLines s ≡ elements (s .shape .d) (matrixCount s + wholeCount s) ++ (termPart ++ middlePart)
   unfolding bodyLines middlePart termPart
   body-merged =
       rw (matrix-merged, whole-merged, term-merged, rows-merged, numbers-merged, last-merged)
-      (join-rest (s .d) (matrixCount s) (wholeCount s) _)
+      (join-rest (s .shape .d) (matrixCount s) (wholeCount s) _)
 
   term-fields : fields termPart ≡ s .l * termSize s
   unfolding termPart termSize
   term-fields =
-      fields-copies (s .l) (elements (s .d) (functionSize (s .n) (s .r)) ++ elements 1 1)
-      ∙ ap (λ (x : ℕ). s .l * x) (fields-append (elements (s .d) (functionSize (s .n) (s .r))) (elements 1 1)
-      ∙ ap₂ _+_ (fields-elements (s .d) (functionSize (s .n) (s .r))) (fields-elements 1 1))
+      fields-copies (s .l) (elements (s .shape .d) (functionSize (s .shape .n) (s .shape .r)) ++ elements 1 1)
+      ∙ ap (λ (x : ℕ). s .l * x) (fields-append (elements (s .shape .d) (functionSize (s .shape .n) (s .shape .r))) (elements 1 1)
+      ∙ ap₂ _+_ (fields-elements (s .shape .d) (functionSize (s .shape .n) (s .shape .r))) (fields-elements 1 1))
 
-  middle-fields : fields middlePart ≡ rowCount s * s .d + (onesCount s + lastCount s * s .d)
+  middle-fields : fields middlePart ≡ rowCount s * s .shape .d + (onesCount s + lastCount s * s .shape .d)
   unfolding middlePart
   middle-fields =
       simp (fields-append, fields-elements) (omega arith)
@@ -100,24 +100,24 @@ module _ (s : SheetSizes) where
   body-total =
       rw (
         body-merged,
-        fields-append (elements (s .d) (matrixCount s + wholeCount s)) (termPart ++ middlePart),
+        fields-append (elements (s .shape .d) (matrixCount s + wholeCount s)) (termPart ++ middlePart),
         fields-append termPart middlePart,
-        fields-elements (s .d) (matrixCount s + wholeCount s),
+        fields-elements (s .shape .d) (matrixCount s + wholeCount s),
         term-fields,
         middle-fields,
       )
       refl
 
-  pub body-positive : 0 < s .d → Positive (bodyLines s)
+  pub body-positive : 0 < s .shape .d → Positive (bodyLines s)
   unfolding middlePart termPart
   body-positive h =
-      let e = positive-elements (s .d) in
+      let e = positive-elements (s .shape .d) in
       rw body-merged
-      (positive-append (elements (s .d) (matrixCount s + wholeCount s)) _ (e (matrixCount s + wholeCount s) h)
-      (positive-append (copies (s .l) (elements (s .d) (functionSize (s .n) (s .r)) ++ elements 1 1)) _
+      (positive-append (elements (s .shape .d) (matrixCount s + wholeCount s)) _ (e (matrixCount s + wholeCount s) h)
+      (positive-append (copies (s .l) (elements (s .shape .d) (functionSize (s .shape .n) (s .shape .r)) ++ elements 1 1)) _
       (positive-copies (s .l) _
-      (positive-append (elements (s .d) (functionSize (s .n) (s .r))) (elements 1 1) (e (functionSize (s .n) (s .r)) h)
+      (positive-append (elements (s .shape .d) (functionSize (s .shape .n) (s .shape .r))) (elements 1 1) (e (functionSize (s .shape .n) (s .shape .r)) h)
       (positive-elements 1 1 (omega arith))))
-      (positive-append (elements (s .d) (rowCount s)) _ (e (rowCount s) h)
-      (positive-append (elements 1 (onesCount s)) (elements (s .d) (lastCount s)) (positive-elements 1 (onesCount s) (omega arith))
+      (positive-append (elements (s .shape .d) (rowCount s)) _ (e (rowCount s) h)
+      (positive-append (elements 1 (onesCount s)) (elements (s .shape .d) (lastCount s)) (positive-elements 1 (onesCount s) (omega arith))
       (e (lastCount s) h)))))

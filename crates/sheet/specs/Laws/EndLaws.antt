@@ -12,7 +12,7 @@ use native.Mathlib.Omega.{arith}
 use lib.Dec.{ltb, eqb}
 use borrow.Author.Tests.{ltb-true, ltb-false, ne-eqb}
 use Rattle.fold.specs.Sizes.{functionSize}
-use Rattle.sheet.specs.declared.sizes.SheetSizes.{SheetSizes}
+use Rattle.fold.specs.declared.Sizes.{Sizes}
 use Rattle.sheet.specs.declared.sizes.Sections.{Sections}
 use Rattle.sheet.specs.Sections.{matrixCount, wholeCount, rowCount, lastCount, termSize, onesCount, sectionsOf, total, endsElement, endsLine}
 use Rattle.sheet.specs.Laws.SectionLaws.{line-head, line-terms, line-middle, line-ones, line-tail}
@@ -119,11 +119,11 @@ module _ (d f H L R O T : ℕ) (p : 0 < d) where
             line-head sections i small (before (elements d H) terms (H * d) i (fields-elements d H) small ∙ ends-elements d H i p small)
         first false e = second (ltb (i - H * d) (L * (f * d + 1))) refl (ltb-false i (H * d) e)
 
-pub body-ends : (s : SheetSizes) (i : ℕ) → 0 < s .d → i < total s → endsOf (bodyLines s) i ≡ endsLine (sectionsOf s) i
+pub body-ends : (s : Sizes) (i : ℕ) → 0 < s .shape .d → i < total s → endsOf (bodyLines s) i ≡ endsLine (sectionsOf s) i
 unfolding total sectionsOf termSize middlePart termPart sections terms rows numbers block
 body-ends s i p h =
     rw (body-merged s)
-    (five-ends (s .d) (functionSize (s .n) (s .r)) (matrixCount s + wholeCount s) (s .l) (rowCount s) (onesCount s) (lastCount s) p i h)
+    (five-ends (s .shape .d) (functionSize (s .shape .n) (s .shape .r)) (matrixCount s + wholeCount s) (s .l) (rowCount s) (onesCount s) (lastCount s) p i h)
 
 -- ---- the header
 

@@ -24,7 +24,7 @@ use Rattle.limits.specs.Known.StageLimits.{next-sized}
 use Rattle.sheet.specs.Sections.{Bounded}
 use Rattle.sheet.specs.Place.{endIf}
 use Rattle.sheet.specs.Laws.PlaceLaws.{contradiction}
-use Rattle.sheet.specs.Reading.{headerTests, size, sizesOf, foldSizes}
+use Rattle.sheet.specs.Reading.{headerTests, size, sizesOf, sheetSizesOf}
 use Rattle.sheet.specs.Known.Reading.{hasEnd}
 
 -- ---- a number as the reader forms its size
@@ -97,8 +97,8 @@ module _ (h : List ℤ) where
   at : ℕ → ℤ
   at k = getD h k (pos 0)
 
-  pub header-sizes : nextBoundsOf zCount (foldSizes (sizesOf h)) (sizesOf h .nu) (sizesOf h .mu) ≡ headerTests h
-  unfolding headerTests sizesOf foldSizes at
+  pub header-sizes : nextBoundsOf zCount (sizesOf h) (sheetSizesOf h .nu) (sheetSizesOf h .mu) ≡ headerTests h
+  unfolding headerTests sizesOf at
   header-sizes =
       rw (
         degree-size (at 0),
@@ -124,14 +124,13 @@ module _ (h : List ℤ) where
   -- ---- a header that is not refused
 
   module _ (p : Passes (headerTests h)) where
-    pub header-passes : Passes (nextBoundsOf zCount (foldSizes (sizesOf h)) (sizesOf h .nu) (sizesOf h .mu))
+    pub header-passes : Passes (nextBoundsOf zCount (sizesOf h) (sheetSizesOf h .nu) (sheetSizesOf h .mu))
     header-passes = subst Passes (sym header-sizes) p
 
-    header-known : VerifySized (foldSizes (sizesOf h))
-    header-known = next-sized zCount (foldSizes (sizesOf h)) (sizesOf h .nu) (sizesOf h .mu) refl (passes-refusal _ header-passes)
+    header-known : VerifySized (sizesOf h)
+    header-known = next-sized zCount (sizesOf h) (sheetSizesOf h .nu) (sheetSizesOf h .mu) refl (passes-refusal _ header-passes)
 
     pub header-bounded : Bounded (sizesOf h)
-    unfolding foldSizes
     header-bounded = let limits = header-known in search limits
 
 -- ---- the layout

@@ -14,7 +14,7 @@ use lib.IntN.{ℤ}
 use Rattle.residues.specs.Range.{coefficients}
 use Rattle.residues.specs.Laws.RangeLaws.{coefficients-of, coefficients-join, coefficients-part}
 use Rattle.fold.specs.Refusals.{wholeLength, constantTermsLength, projectionLength}
-use Rattle.sheet.specs.declared.sizes.SheetSizes.{SheetSizes}
+use Rattle.fold.specs.declared.Sizes.{Sizes}
 use Rattle.sheet.specs.Lists.{listLengths, listAt}
 use Rattle.sheet.specs.Sections.{matrixCount, wholeCount, rowCount, lastCount, termSize, onesCount, total, projectionsFrom, challengesFrom}
 use Rattle.sheet.specs.Reading.{projectionsIn, challengesIn}
@@ -63,7 +63,7 @@ list-coefficients (m ∷ ms) xs fits h =
 
 -- ---- the lists of a sheet
 
-module _ (s : SheetSizes) where
+module _ (s : Sizes) where
   pub lengths-total : together (listLengths s) ≡ total s
   unfolding together listLengths total matrixCount wholeCount rowCount lastCount termSize onesCount wholeLength constantTermsLength projectionLength
   lengths-total = omega arith
@@ -76,11 +76,11 @@ module _ (s : SheetSizes) where
   unfolding before listLengths challengesFrom matrixCount wholeCount rowCount termSize onesCount wholeLength constantTermsLength projectionLength
   challenges-start = omega arith
 
-  pub rows-part : (xs : List ℤ) → projectionsIn s xs ≡ take (projectionLength (s .d) (s .n) (s .r) (s .w)) (drop (projectionsFrom s) xs)
+  pub rows-part : (xs : List ℤ) → projectionsIn s xs ≡ take (projectionLength (s .shape .d) (s .shape .n) (s .shape .r) (s .w)) (drop (projectionsFrom s) xs)
   unfolding projectionsIn listLengths
   rows-part xs =
-      list-part (listLengths s) xs 7 ∙ ap (λ (m : ℕ). take (projectionLength (s .d) (s .n) (s .r) (s .w)) (drop m xs)) rows-start
+      list-part (listLengths s) xs 7 ∙ ap (λ (m : ℕ). take (projectionLength (s .shape .d) (s .shape .n) (s .shape .r) (s .w)) (drop m xs)) rows-start
 
-  pub challenges-part : (xs : List ℤ) → challengesIn s xs ≡ take (s .r * s .d) (drop (challengesFrom s) xs)
+  pub challenges-part : (xs : List ℤ) → challengesIn s xs ≡ take (s .shape .r * s .shape .d) (drop (challengesFrom s) xs)
   unfolding challengesIn listLengths
-  challenges-part xs = list-part (listLengths s) xs 15 ∙ ap (λ (m : ℕ). take (s .r * s .d) (drop m xs)) challenges-start
+  challenges-part xs = list-part (listLengths s) xs 15 ∙ ap (λ (m : ℕ). take (s .shape .r * s .shape .d) (drop m xs)) challenges-start

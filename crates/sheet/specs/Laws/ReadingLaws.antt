@@ -14,7 +14,7 @@ use Rattle.residues.specs.Laws.RangeLaws.{coefficients-part}
 use Rattle.residues.specs.Range.{coefficients, projectionEntries}
 use Rattle.fold.specs.Answers.{firstFailing}
 use Rattle.fold.specs.Refusals.{challenges, projectionLength}
-use Rattle.sheet.specs.declared.sizes.SheetSizes.{SheetSizes}
+use Rattle.fold.specs.declared.Sizes.{Sizes}
 use Rattle.sheet.specs.declared.sizes.Sections.{Sections}
 use Rattle.sheet.specs.declared.walk.End.{End}
 use Rattle.sheet.specs.Sections.{Bounded, Sectioned, sectionsOf, termSize, rowCount, lastCount, total, projectionsFrom, challengesFrom, endsLine}
@@ -24,11 +24,11 @@ use Rattle.sheet.specs.Laws.ChallengeLaws.{numbers-part}
 use Rattle.sheet.specs.Reading.{bodyLaid, bodyNumbers, projectionsIn, challengesIn, numberTests, bodyTests}
 use Rattle.sheet.specs.Known.Reading.{endsAt, Inside}
 
-pub lines-positive : {s : SheetSizes} {q : Sections} → Bounded s → Sectioned s q → (0 < q .d) × (0 < q .period)
+pub lines-positive : {s : Sizes} {q : Sections} → Bounded s → Sectioned s q → (0 < q .d) × (0 < q .period)
 unfolding sectionsOf termSize
 lines-positive b e = (rw (e .is) (b .degree-positive), rw (e .is) (omega arith))
 
-module _ {s : SheetSizes} {text : List ℕ} {q : Sections} (i : Inside s text) (e : Sectioned s q) where
+module _ {s : Sizes} {text : List ℕ} {q : Sections} (i : Inside s text) (e : Sectioned s q) where
   -- the first m numbers
   pub front-span : (m : ℕ) → m ≤ total s → Span (endsLine q) text 0 289 m
   unfolding place
@@ -58,27 +58,27 @@ module _ {s : SheetSizes} {text : List ℕ} {q : Sections} (i : Inside s text) (
   unfolding bodyNumbers
   all-numbers c = rw (e .is, c) refl
 
-pub projections-end : (s : SheetSizes) → projectionsFrom s + projectionLength (s .d) (s .n) (s .r) (s .w) ≤ total s
+pub projections-end : (s : Sizes) → projectionsFrom s + projectionLength (s .shape .d) (s .shape .n) (s .shape .r) (s .w) ≤ total s
 unfolding projectionsFrom total projectionLength rowCount
 projections-end s = omega arith
 
-pub challenges-end : (s : SheetSizes) → challengesFrom s + s .r * s .d ≤ total s
+pub challenges-end : (s : Sizes) → challengesFrom s + s .shape .r * s .shape .d ≤ total s
 unfolding challengesFrom total lastCount
 challenges-end s = omega arith
 
-module _ (s : SheetSizes) (xs : List ℤ) where
+module _ (s : Sizes) (xs : List ℤ) where
   pub eight : {good : Bool} → good ≡ coefficients xs → not good ≡ true → 8 ≡ firstFailing (numberTests s xs)
   unfolding firstFailing numberTests
   eight {good} e t = rw (← e, not-true good t) refl
 
   pub nine-ten : {good projections ok : Bool} {r₉ r₁₀ : ℕ} → good ≡ coefficients xs → not good ≡ false
       → r₉ ≡ cond projections r₁₀ 9 → projections ≡ projectionEntries (projectionsIn s xs)
-      → r₁₀ ≡ cond ok 0 10 → ok ≡ challenges (s .d) (s .r) (challengesIn s xs)
+      → r₁₀ ≡ cond ok 0 10 → ok ≡ challenges (s .shape .d) (s .shape .r) (challengesIn s xs)
       → r₉ ≡ firstFailing (numberTests s xs)
   unfolding firstFailing numberTests
   nine-ten {good} e t e₉ f₉ e₁₀ f₁₀ = rw (← e, not-false good t, e₉, f₉, e₁₀, f₁₀) refl
 
-pub body-within : (s : SheetSizes) (text : List ℕ) → bodyLaid s text ≡ true → place (endsLine (sectionsOf s)) 289 (total s) ≤ length text
+pub body-within : (s : Sizes) (text : List ℕ) → bodyLaid s text ≡ true → place (endsLine (sectionsOf s)) 289 (total s) ≤ length text
 unfolding bodyLaid
 body-within s text e = step (laid (endsLine (sectionsOf s)) 289 text (total s)) e
   where
@@ -87,7 +87,7 @@ body-within s text e = step (laid (endsLine (sectionsOf s)) 289 text (total s)) 
     step true q = omega (arith, eqb-true (place (endsLine (sectionsOf s)) 289 (total s)) (length text) q)
     step false q = contradiction q refl
 
-module _ (s : SheetSizes) (text : List ℕ) (q : Sections) (e : Sectioned s q) {count : ℕ} (c : count ≡ total s) {end : End}
+module _ (s : Sizes) (text : List ℕ) (q : Sections) (e : Sectioned s q) {count : ℕ} (c : count ≡ total s) {end : End}
     (l : end ≡ endIf (laid (endsLine q) 289 text count) (place (endsLine q) 289 count)) {good : Bool}
     (g : good ≡ endsAt end (length text)) where
   ends-is : (t : Bool) (p n : ℕ) → endsAt (endIf t p) n ≡ cond t (eqb p n) false

@@ -7,7 +7,7 @@ use native.Mathlib.Omega.{arith}
 use borrow.Author.Tests.{eq-eqb, ne-eqb, lt-ltb, le-ltb}
 use Rattle.fold.specs.Sizes.{zCount, functionSize, tSize, garbageSize, openingSize}
 use Rattle.fold.specs.Laws.SizeBounds.{functionSize-bound, tSize-bound, garbageSize-bound, openingSize-bound}
-use Rattle.sheet.specs.declared.sizes.SheetSizes.{SheetSizes}
+use Rattle.fold.specs.declared.Sizes.{Sizes}
 use Rattle.sheet.specs.declared.sizes.Sections.{Sections}
 use Rattle.sheet.specs.Sections.{Bounded, lastCount, sectionsOf, total, projectionsFrom, challengesFrom, endsElement, endsTerm, endsLine}
 
@@ -22,14 +22,14 @@ before-challenges h l = omega arith
 
 -- ---- numbers of elements that code has computed
 
-module _ {s : SheetSizes} (b : Bounded s) where
-  pub function-few : {x : ℕ} → x ≡ functionSize (s .n) (s .r) → x ≤ 4232
+module _ {s : Sizes} (b : Bounded s) where
+  pub function-few : {x : ℕ} → x ≡ functionSize (s .shape .n) (s .shape .r) → x ≤ 4232
   function-few e = rw e (functionSize-bound _ _ (b .rank) (b .parts))
 
-  pub opening-few : {x : ℕ} → x ≡ openingSize zCount (s .n) (s .r) (s .kappa) (s .t1) (s .t2) → x ≤ 3712
+  pub opening-few : {x : ℕ} → x ≡ openingSize zCount (s .shape .n) (s .shape .r) (s .kappa) (s .t1) (s .t2) → x ≤ 3712
   opening-few e = rw e (openingSize-bound _ _ _ _ _ _ (omega arith) (b .rank) (b .parts) (b .κ) (b .t₁) (b .t₂))
 
-  module _ {t g h : ℕ} (e : t ≡ tSize (s .r) (s .kappa) (s .t1)) (f : g ≡ garbageSize (s .r) (s .t2)) (k : h ≡ garbageSize (s .r) (s .t1)) where
+  module _ {t g h : ℕ} (e : t ≡ tSize (s .shape .r) (s .kappa) (s .t1)) (f : g ≡ garbageSize (s .shape .r) (s .t2)) (k : h ≡ garbageSize (s .shape .r) (s .t1)) where
     t-few : t ≤ 1024
     t-few = rw e (tSize-bound _ _ _ (b .parts) (b .κ) (b .t₁))
 
@@ -39,23 +39,23 @@ module _ {s : SheetSizes} (b : Bounded s) where
     h-few : h ≤ 1088
     h-few = rw k (garbageSize-bound _ _ (b .parts) (b .t₁))
 
-    pub matrices-few : s .kappa * s .n + (s .kappa1 * t + (s .kappa1 * g + s .kappa2 * h)) ≤ 27648
+    pub matrices-few : s .kappa * s .shape .n + (s .kappa1 * t + (s .kappa1 * g + s .kappa2 * h)) ≤ 27648
     matrices-few =
         omega (arith, mul-le-mul (b .κ) (b .rank), mul-le-mul (b .κ₁) t-few, mul-le-mul (b .κ₁) g-few, mul-le-mul (b .κ₂) h-few)
 
 -- ---- sums of the parts
 
-pub total-is : (s : SheetSizes) (q : Sections) {last : ℕ} → q ≡ sectionsOf s → last ≡ lastCount s
-    → q .head + (q .terms + (q .middle + (q .ones + last * s .d))) ≡ total s
+pub total-is : (s : Sizes) (q : Sections) {last : ℕ} → q ≡ sectionsOf s → last ≡ lastCount s
+    → q .head + (q .terms + (q .middle + (q .ones + last * s .shape .d))) ≡ total s
 unfolding total sectionsOf
 total-is s q e l = rw (e, l) refl
 
-pub projections-is : (s : SheetSizes) (q : Sections) → q ≡ sectionsOf s → q .head + (q .terms + s .kappa1 * s .d) ≡ projectionsFrom s
+pub projections-is : (s : Sizes) (q : Sections) → q ≡ sectionsOf s → q .head + (q .terms + s .kappa1 * s .shape .d) ≡ projectionsFrom s
 unfolding projectionsFrom sectionsOf
 projections-is s q e = rw e refl
 
-pub challenges-is : (s : SheetSizes) (q : Sections) → q ≡ sectionsOf s
-    → q .head + (q .terms + (q .middle + (q .ones + (5 + (s .k + (5 + s .kappa2))) * s .d))) ≡ challengesFrom s
+pub challenges-is : (s : Sizes) (q : Sections) → q ≡ sectionsOf s
+    → q .head + (q .terms + (q .middle + (q .ones + (5 + (s .k + (5 + s .kappa2))) * s .shape .d))) ≡ challengesFrom s
 unfolding challengesFrom sectionsOf
 challenges-is s q e = rw e refl
 

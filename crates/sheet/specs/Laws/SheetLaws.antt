@@ -19,7 +19,7 @@ use Rattle.residues.specs.Range.{coefficients}
 use Rattle.residues.specs.Laws.RangeLaws.{coefficients-at}
 use Rattle.sheet.specs.declared.field.Field.{Field}
 use Rattle.sheet.specs.declared.field.Field.the-variants.{Number, Broken}
-use Rattle.sheet.specs.declared.sizes.SheetSizes.{SheetSizes}
+use Rattle.fold.specs.declared.Sizes.{Sizes}
 use Rattle.sheet.specs.Field.{Fits16}
 use Rattle.sheet.specs.Fields.{readField, fieldAt, isNumber, numberIn}
 use Rattle.sheet.specs.Laws.FieldLaws.{read-fits}
@@ -119,7 +119,7 @@ header-read text h rest e fit t =
 
 -- ---- the lines after the header
 
-module _ (s : SheetSizes) (p : 0 < s .d) where
+module _ (s : Sizes) (p : 0 < s .shape .d) where
   body-fields : (xs : List ℤ) → length xs ≡ fields (bodyLines s)
       → textOf (bodyLines s) xs ≡ lineFields (endsLine (sectionsOf s)) (λ i. getD xs i (pos 0)) (total s)
   body-fields xs e =

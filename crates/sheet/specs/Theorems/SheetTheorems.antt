@@ -16,10 +16,11 @@ use lib.IntN.{ℤ}
 use borrow.Author.Tests.{eq-eqb, ne-eqb}
 use Rattle.fold.specs.Answers.{firstFailing}
 use Rattle.fold.specs.Laws.RefusalLaws.{refusal-passes, passes-refusal}
+use Rattle.fold.specs.declared.Sizes.{Sizes}
 use Rattle.sheet.specs.declared.sizes.SheetSizes.{SheetSizes}
 use Rattle.sheet.specs.declared.reader.SheetAnswer.the-variants.{Sheet, Refused}
 use Rattle.sheet.specs.Sections.{total}
-use Rattle.sheet.specs.Reading.{headerLaid, headerNumbers, headerTests, sizesOf, bodyLaid, bodyNumbers, numberTests, bodyTests}
+use Rattle.sheet.specs.Reading.{headerLaid, headerNumbers, headerTests, sizesOf, sheetSizesOf, bodyLaid, bodyNumbers, numberTests, bodyTests}
 use Rattle.sheet.specs.Reading.{frontTests, numberCount, readingTests, sheetIf, reading}
 use Rattle.sheet.specs.Laws.AnswerLaws.{front-passes, refusal-first, refusal-rest}
 use Rattle.sheet.specs.Laws.HeaderLaws.{header-bounded}
@@ -46,13 +47,13 @@ header-line text = (
 )
 
 -- what follows the header is the text of as many numbers as the sizes give
-pub record OtherLines (s : SheetSizes) (rest : List ℕ) : Type 0 where
+pub record OtherLines (s : Sizes) (rest : List ℕ) : Type 0 where
   pub xs : List ℤ
   pub count : length xs ≡ fields (bodyLines s)
   pub fit : AllFit xs
   pub is : rest ≡ textOf (bodyLines s) xs
 
-pub other-lines : (s : SheetSizes) (text : List ℕ) → 0 < s .d → 289 ≤ length text → (bodyLaid s text ≡ true) ↔ OtherLines s (drop 289 text)
+pub other-lines : (s : Sizes) (text : List ℕ) → 0 < s .shape .d → 289 ≤ length text → (bodyLaid s text ≡ true) ↔ OtherLines s (drop 289 text)
 other-lines s text p inside = (
   λ e. record { xs = bodyNumbers s text; count = length-body s p text; fit = body-fit s p text e; is = body-text s p text e },
   λ l. body-read s p text (l .xs) inside (l .count) (l .fit) (l .is) .0,
@@ -62,11 +63,11 @@ other-lines s text p inside = (
 
 -- the answer is a sheet with these numbers
 pub record Read (room : ℕ) (text : List ℕ) (h xs : List ℤ) : Type 0 where
-  pub answer : reading room text ≡ Sheet (sizesOf h)
+  pub answer : reading room text ≡ Sheet (sheetSizesOf h)
   pub header : headerNumbers text ≡ h
   pub numbers : bodyNumbers (sizesOf h) text ≡ xs
 
-positive : (h : List ℤ) → firstFailing (headerTests h) ≡ 0 → 0 < sizesOf h .d
+positive : (h : List ℤ) → firstFailing (headerTests h) ≡ 0 → 0 < sizesOf h .shape .d
 unfolding headerTests
 positive h e = header-bounded h (refusal-passes (headerTests h) refl e) .degree-positive
 
@@ -212,4 +213,4 @@ sheet-count h xs n =
     let text = sheetText h xs in
     let head = header-read text h (textOf (bodyLines (sizesOf h)) xs) (n .header) (n .fit) refl in
     let none = front 0 text h (textOf (bodyLines (sizesOf h)) xs) (n .header) (n .fit) refl ∙ n .sizes in
-    sym (count-good text (sym none) (omega arith) (ap sizesOf (sym (head .numbers))) (n .count ∙ body-total (sizesOf h)))
+    sym (count-good text (sym none) (omega arith) (ap sheetSizesOf (sym (head .numbers))) (n .count ∙ body-total (sizesOf h)))

@@ -24,7 +24,7 @@ returns c =
     let s = c13 .args .s in
     matrix-stage s _ _ _ _
     (cut (c12 .a-matrix-length .ensures) (c4 .front .ensures) (c8 .rest .ensures))
-    (cut {m = s .kappa1 * tSize (s .r) (s .kappa) (s .t1) * s .d} (c11 .b-matrix-length .ensures) (c3 .front2 .ensures) (c7 .rest2 .ensures))
+    (cut {m = s .kappa1 * tSize (s .shape .r) (s .kappa) (s .t1) * s .shape .d} (c11 .b-matrix-length .ensures) (c3 .front2 .ensures) (c7 .rest2 .ensures))
     (cut (c10 .c-matrix-length .ensures) (c2 .front3 .ensures) (c6 .rest3 .ensures))
     (cut (c9 .d-matrix-length .ensures) (c1 .front4 .ensures) (c5 .rest4 .ensures))
     (c .judge-constraints .ensures)

@@ -4,7 +4,6 @@ use Rattle.fold.specs.Answers.{firstFailing}
 use Rattle.limits.specs.Stages.{nextBoundsOf}
 use Rattle.limits.specs.Laws.StageLaws.{single}
 use Rattle.sheet.specs.declared.sizes.SheetSizes.{SheetSizes}
-use Rattle.sheet.specs.Reading.{foldSizes}
 use Rattle.sheet.specs.Laws.HeaderLaws.{header-sizes}
 use borrow.Author.Needs.{needs}
 use Rattle.sheet.proofs.header.header_refusal.Statement.{statement}
@@ -15,15 +14,13 @@ returns c =
     let c1 = c .before in
     let c2 = c1 .before in
     let c3 = c2 .before in
-    let c4 = c3 .before in
-    let projections = (rw (c3 .fold-sizes .ensures, c4 .sheet-sizes .ensures) at (c2 .next-bounds .ensures)) ∙ ap firstFailing (header-sizes _) in
+    let projections = (rw (c3 .sheet-sizes .ensures) at (c2 .next-bounds .ensures)) ∙ ap firstFailing (header-sizes _) in
     single 12 _ (c1 .header-laid .ensures) (c .first .ensures) projections
 
 pub header-refusal-spec : {M : Type 1} → statement M
 header-refusal-spec =
     tie.close
     (tie.spec
-    (λ c κs. search needs)
     (λ c κs. search needs)
     (λ c κs. search needs)
     (λ c κs. search needs)

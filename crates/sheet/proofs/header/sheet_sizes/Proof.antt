@@ -27,10 +27,10 @@ returns c =
       c .before .before .before .before .before .before .size-at12 .ensures,
       c .before .before .before .before .before .size-at13 .ensures,
       c .before .before .before .before .size-at14 .ensures,
-      c .before .before .before .size-at15 .ensures,
-      c .before .before .size-at16 .ensures,
-      c .before .bound-at .ensures,
-      c .bound-at2 .ensures,
+      c .before .before .before .bound-at .ensures,
+      c .before .before .bound-at2 .ensures,
+      c .before .size-at15 .ensures,
+      c .size-at16 .ensures,
     )
     refl
 

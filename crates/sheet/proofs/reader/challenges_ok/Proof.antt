@@ -24,7 +24,7 @@ are-challenges-requires c κs =
     let lines = c .before .before .sections-of .ensures in
     let positive = lines-positive (start .pre .0 .bounded) lines in
     let from = c .before .challenges-from in
-    let inside : from .result + s .r * s .d ≤ total s = omega (arith, from .ensures, challenges-end s) in (
+    let inside : from .result + s .shape .r * s .shape .d ≤ total s = omega (arith, from .ensures, challenges-end s) in (
       (positive .0, positive .1, start .pre .0 .bounded .degree, start .pre .0 .bounded .parts),
       (
         later-span (start .pre .0) lines _ _ inside (c .place-after .ensures),
@@ -37,7 +37,7 @@ returns c =
     let from = c .before .before in
     let start = from .before .before .before in
     c .are-challenges .ensures
-    ∙ ap (challenges (start .args .s .d) (start .args .s .r))
+    ∙ ap (challenges (start .args .s .shape .d) (start .args .s .shape .r))
     (rw (from .challenges-from .ensures)
     (sym (challenges-part (start .args .s) _ ∙ body-part (start .pre .0) (from .before .sections-of .ensures) _ _ (challenges-end (start .args .s)))))
 
