@@ -8,21 +8,22 @@ use lib.ListN.{length}
 use Rattle.ring.specs.Element.{el}
 use Rattle.fold.specs.declared.Sizes.{Sizes}
 use Rattle.fold.specs.Verdict.{messageChecks, outerChecks, openingChecks}
-use Rattle.fold.specs.Arguments.{statementOf, drawsOf, transcriptOf}
+use Rattle.fold.specs.Arguments.{statementOf, statementWith, drawsOf, transcriptOf}
 use Rattle.verifier.specs.Known.Facts.{zValue}
 
 abbrev pub messageChecksOf : Sizes → (constantTerms p ψ ω b″ : List ℤ) → List (ℕ × Bool)
 messageChecksOf s constantTerms p ψ ω b″ =
     messageChecks (statementOf s [] [] [] [] [] constantTerms) (drawsOf [] ψ ω [] [] []) (transcriptOf [] p b″ [])
 
-abbrev pub outerChecksOf : Sizes → (B C D u₁ u₂ o : List ℤ) → List (ℕ × Bool)
-outerChecksOf s B C D u₁ u₂ o = outerChecks (statementOf s [] B C D [] []) (drawsOf [] [] [] [] [] []) (transcriptOf u₁ [] [] u₂) o
+-- the others depend on the number tz of z digits
+abbrev pub outerChecksOf : (tz : ℕ) → Sizes → (B C D u₁ u₂ o : List ℤ) → List (ℕ × Bool)
+outerChecksOf tz s B C D u₁ u₂ o = outerChecks (statementWith tz s [] B C D [] []) (drawsOf [] [] [] [] [] []) (transcriptOf u₁ [] [] u₂) o
 
-abbrev pub openingChecksOf : Sizes → (A whole constantTerms projections ψ ω b″ α δ c o : List ℤ) → List (ℕ × Bool)
-openingChecksOf s A whole constantTerms projections ψ ω b″ α δ c o =
-    openingChecks (statementOf s A [] [] [] whole constantTerms) (drawsOf projections ψ ω α δ c) (transcriptOf [] [] b″ []) o
+abbrev pub openingChecksOf : (tz : ℕ) → Sizes → (A whole constantTerms projections ψ ω b″ α δ c o : List ℤ) → List (ℕ × Bool)
+openingChecksOf tz s A whole constantTerms projections ψ ω b″ α δ c o =
+    openingChecks (statementWith tz s A [] [] [] whole constantTerms) (drawsOf projections ψ ω α δ c) (transcriptOf [] [] b″ []) o
 
 -- z stands at the start of a list
-pub record Recomposed (s : Sizes) (o z : List ℤ) : Type 0 where
+pub record Recomposed (tz : ℕ) (s : Sizes) (o z : List ℤ) : Type 0 where
   pub room : s .shape .n * s .shape .d ≤ length z
-  pub agree : (i : ℕ) → i < s .shape .n → el (s .shape .d) z i ≡ zValue s o i
+  pub agree : (i : ℕ) → i < s .shape .n → el (s .shape .d) z i ≡ zValue tz s o i

@@ -1,4 +1,4 @@
-// Checks 5 and 6: the amortized opening z against t and g.
+// Checks 5 and 6: the amortized opening z, of tz digits, against t and g.
 ghost use mathlib.Core.Path.{_≡_};
 ghost use Prim.Native.Nat.{_+_, _-_, _*_, _<_, _≤_};
 ghost use lib.ListN.{length};
@@ -15,40 +15,48 @@ ghost use Rattle.verifier.specs.Mixed.{Garbage, mixedSummand, mixedRow};
 use crate::outer;
 use crate::recomposed;
 use fold::Sizes;
-use fold::counts::Z_DIGITS;
 use fold::places;
 use ring::element::Element;
 use ring::product;
 
 // c_i times row k of t_i.
-fn folded_summand(sizes: Sizes, c: &[i32], opening: &[i32], i: usize, k: usize) -> Element
-    requires { ⌜ FoldedFacts 2 sizes (now c) (now opening) ⌝ }
+fn folded_summand(
+    tz: usize,
+    sizes: Sizes,
+    c: &[i32],
+    opening: &[i32],
+    i: usize,
+    k: usize,
+) -> Element
+    requires { ⌜ tz ≤ 2 ⌝ }
+    requires { ⌜ FoldedFacts tz sizes (now c) (now opening) ⌝ }
     requires { ⌜ (i < sizes .shape .r) × (k < sizes .kappa) ⌝ }
     ensures { λ x.
         ⌜ x .coefficients ≡ array (sizes .shape .d) (R (sizes .shape .d) .mul (el (sizes .shape .d) (now (c .entry)) i)
-        (tValue sizes (now (opening .entry)) i k)) ⌝ }
+        (tValue tz sizes (now (opening .entry)) i k)) ⌝ }
 {
     let d = sizes.shape.d;
-    let start = places::t_place(Z_DIGITS, sizes);
+    let start = places::t_place(tz, sizes);
     let t = recomposed::t_of(d, sizes.kappa, sizes.b1, sizes.t1, opening, start, i, k);
     let challenge = Element::from_slice(d, c, i);
     challenge.product(d, t)
 }
 
 // Row k of Σ c_i t_i.
-fn folded_row(sizes: Sizes, c: &[i32], opening: &[i32], k: usize) -> Element
-    requires { ⌜ FoldedFacts 2 sizes (now c) (now opening) ⌝ }
+fn folded_row(tz: usize, sizes: Sizes, c: &[i32], opening: &[i32], k: usize) -> Element
+    requires { ⌜ tz ≤ 2 ⌝ }
+    requires { ⌜ FoldedFacts tz sizes (now c) (now opening) ⌝ }
     requires { ⌜ k < sizes .kappa ⌝ }
     ensures { λ x.
         ⌜ x .coefficients ≡ array (sizes .shape .d) (sum (R (sizes .shape .d)) (sizes .shape .r)
-        (λ i. R (sizes .shape .d) .mul (el (sizes .shape .d) (now (c .entry)) i) (tValue sizes (now (opening .entry)) i k))) ⌝ }
+        (λ i. R (sizes .shape .d) .mul (el (sizes .shape .d) (now (c .entry)) i) (tValue tz sizes (now (opening .entry)) i k))) ⌝ }
 {
     let d = sizes.shape.d;
     let count = sizes.shape.r;
     let mut acc = Element::additive_identity();
     let mut i = 0;
     while i < count {
-        let summand = folded_summand(sizes, c, opening, i, k);
+        let summand = folded_summand(tz, sizes, c, opening, i, k);
         acc = acc.sum(d, summand);
         i += 1;
     }
@@ -57,6 +65,7 @@ fn folded_row(sizes: Sizes, c: &[i32], opening: &[i32], k: usize) -> Element
 
 // Row k of A z is that of Σ c_i t_i.
 fn amortized_row(
+    tz: usize,
     sizes: Sizes,
     a_matrix: &[i32],
     c: &[i32],
@@ -64,33 +73,42 @@ fn amortized_row(
     opening: &[i32],
     k: usize,
 ) -> bool
-    requires { ⌜ AmortizedFacts 2 sizes (now «a_matrix») (now c) (now opening) ⌝ }
+    requires { ⌜ tz ≤ 2 ⌝ }
+    requires { ⌜ AmortizedFacts tz sizes (now «a_matrix») (now c) (now opening) ⌝ }
     requires { ⌜ sizes .shape .n * sizes .shape .d ≤ length (now z) ⌝ }
     requires { ⌜ k < sizes .kappa ⌝ }
     ensures { λ r.
         ⌜ r ≡ same (sizes .shape .d) (times (sizes .shape .d) (sizes .shape .n) (now («a_matrix» .entry)) k (el (sizes .shape .d) (now (z .entry))))
         (sum (R (sizes .shape .d)) (sizes .shape .r) (λ i. R (sizes .shape .d) .mul (el (sizes .shape .d) (now (c .entry)) i)
-        (tValue sizes (now (opening .entry)) i k))) ⌝ }
+        (tValue tz sizes (now (opening .entry)) i k))) ⌝ }
 {
     let d = sizes.shape.d;
     let left = outer::row_times(d, sizes.shape.n, a_matrix, k, z, 0);
-    let right = folded_row(sizes, c, opening, k);
+    let right = folded_row(tz, sizes, c, opening, k);
     left.equals(d, right)
 }
 
 // Check 5: every row of A z, with z read from the start of a slice.
-pub fn amortized(sizes: Sizes, a_matrix: &[i32], c: &[i32], z: &[i32], opening: &[i32]) -> bool
-    requires { ⌜ AmortizedFacts 2 sizes (now «a_matrix») (now c) (now opening) ⌝ }
+pub fn amortized(
+    tz: usize,
+    sizes: Sizes,
+    a_matrix: &[i32],
+    c: &[i32],
+    z: &[i32],
+    opening: &[i32],
+) -> bool
+    requires { ⌜ tz ≤ 2 ⌝ }
+    requires { ⌜ AmortizedFacts tz sizes (now «a_matrix») (now c) (now opening) ⌝ }
     requires { ⌜ sizes .shape .n * sizes .shape .d ≤ length (now z) ⌝ }
     ensures { λ r.
         ⌜ r ≡ check₅ (sizes .shape .d) (sizes .shape .n) (sizes .shape .r) (sizes .kappa) (now («a_matrix» .entry)) (now (c .entry))
-        (el (sizes .shape .d) (now (z .entry))) (tValue sizes (now (opening .entry))) ⌝ }
+        (el (sizes .shape .d) (now (z .entry))) (tValue tz sizes (now (opening .entry))) ⌝ }
 {
     let rows = sizes.kappa;
     let mut all = true;
     let mut k = 0;
     while k < rows {
-        let row = amortized_row(sizes, a_matrix, c, z, opening, k);
+        let row = amortized_row(tz, sizes, a_matrix, c, z, opening, k);
         all = all & row;
         k += 1;
     }
@@ -183,18 +201,19 @@ pub fn mixed_sum(
 }
 
 // Check 6: <z,z> is the mixed sum of g, with z read from the start of a slice.
-pub fn self_product(sizes: Sizes, c: &[i32], z: &[i32], opening: &[i32]) -> bool
-    requires { ⌜ FoldedFacts 2 sizes (now c) (now opening) ⌝ }
+pub fn self_product(tz: usize, sizes: Sizes, c: &[i32], z: &[i32], opening: &[i32]) -> bool
+    requires { ⌜ tz ≤ 2 ⌝ }
+    requires { ⌜ FoldedFacts tz sizes (now c) (now opening) ⌝ }
     requires { ⌜ sizes .shape .n * sizes .shape .d ≤ length (now z) ⌝ }
     ensures { λ r.
         ⌜ r ≡ check₆ (sizes .shape .d) (sizes .shape .n) (sizes .shape .r) (now (c .entry)) (el (sizes .shape .d) (now (z .entry)))
-        (gValue sizes (now (opening .entry))) ⌝ }
+        (gValue tz sizes (now (opening .entry))) ⌝ }
 {
     let d = sizes.shape.d;
     let left = Element {
         coefficients: product::inner(d, sizes.shape.n, z, 0, z, 0),
     };
-    let start = places::g_place(Z_DIGITS, sizes);
+    let start = places::g_place(tz, sizes);
     let right = mixed_sum(d, sizes.shape.r, sizes.b2, sizes.t2, opening, start, c);
     left.equals(d, right)
 }

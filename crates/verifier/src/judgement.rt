@@ -1,5 +1,6 @@
 // The number of the first check that fails, 0 where none does. A check is asked only where those before it pass.
 ghost use mathlib.Core.Path.{_≡_};
+ghost use Prim.Native.Nat.{_<_, _≤_};
 ghost use Rattle.fold.specs.Answers.{firstFailing, judged};
 ghost use Rattle.fold.specs.Verdict.{checks};
 ghost use Rattle.fold.specs.Arguments.{statementOf, drawsOf, transcriptOf};
@@ -15,6 +16,7 @@ use crate::relation;
 use crate::terms;
 use fold::Sizes;
 use fold::Verdict;
+use fold::counts::Z_DIGITS;
 use limits::rows::first;
 
 // Checks 1 and 2, which need no opening.
@@ -41,6 +43,7 @@ pub fn message_checks(
 
 // Checks 3 and 4.
 fn outer_checks(
+    tz: usize,
     sizes: Sizes,
     b_matrix: &[i32],
     c_matrix: &[i32],
@@ -49,21 +52,23 @@ fn outer_checks(
     u2: &[i32],
     opening: &[i32],
 ) -> u8
-    requires { ⌜ OuterFacts 2 sizes (now «b_matrix») (now «c_matrix») (now «d_matrix») (now u1) (now u2) (now opening) ⌝ }
+    requires { ⌜ tz ≤ 2 ⌝ }
+    requires { ⌜ OuterFacts tz sizes (now «b_matrix») (now «c_matrix») (now «d_matrix») (now u1) (now u2) (now opening) ⌝ }
     ensures { λ x.
-        ⌜ x ≡ firstFailing (outerChecksOf sizes (now («b_matrix» .entry)) (now («c_matrix» .entry)) (now («d_matrix» .entry))
+        ⌜ x ≡ firstFailing (outerChecksOf tz sizes (now («b_matrix» .entry)) (now («c_matrix» .entry)) (now («d_matrix» .entry))
         (now (u1 .entry)) (now (u2 .entry)) (now (opening .entry))) ⌝ }
 {
-    let three = outer::first_outer(sizes, b_matrix, c_matrix, u1, opening);
+    let three = outer::first_outer(tz, sizes, b_matrix, c_matrix, u1, opening);
     if !three {
         return 3;
     }
-    let four = outer::second_outer(sizes, d_matrix, u2, opening);
+    let four = outer::second_outer(tz, sizes, d_matrix, u2, opening);
     first(four, 4, 0)
 }
 
 // Checks 5 to 9, with the recomposed z at the start of a slice.
 fn recomposed_checks(
+    tz: usize,
     sizes: Sizes,
     a_matrix: &[i32],
     whole: &[i32],
@@ -78,23 +83,25 @@ fn recomposed_checks(
     opening: &[i32],
     z: &[i32],
 ) -> u8
-    requires { ⌜ OpeningFacts 2 sizes (now «a_matrix») (now whole) (now «constant_terms») (now projections) (now psi) (now omega) (now «second_b») (now alpha) (now delta)
+    requires { ⌜ tz ≤ 2 ⌝ }
+    requires { ⌜ OpeningFacts tz sizes (now «a_matrix») (now whole) (now «constant_terms») (now projections) (now psi) (now omega) (now «second_b») (now alpha) (now delta)
         (now c) (now opening) ⌝ }
-    requires { ⌜ Recomposed sizes (now opening) (now z) ⌝ }
+    requires { ⌜ Recomposed tz sizes (now opening) (now z) ⌝ }
     ensures { λ x.
-        ⌜ x ≡ firstFailing (openingChecksOf sizes (now («a_matrix» .entry)) (now (whole .entry)) (now («constant_terms» .entry)) (now (projections .entry))
+        ⌜ x ≡ firstFailing (openingChecksOf tz sizes (now («a_matrix» .entry)) (now (whole .entry)) (now («constant_terms» .entry)) (now (projections .entry))
         (now (psi .entry)) (now (omega .entry)) (now («second_b» .entry)) (now (alpha .entry)) (now (delta .entry)) (now (c .entry))
         (now (opening .entry))) ⌝ }
 {
-    let five = amortized::amortized(sizes, a_matrix, c, z, opening);
+    let five = amortized::amortized(tz, sizes, a_matrix, c, z, opening);
     if !five {
         return 5;
     }
-    let six = amortized::self_product(sizes, c, z, opening);
+    let six = amortized::self_product(tz, sizes, c, z, opening);
     if !six {
         return 6;
     }
     let seven = linear::linear_part(
+        tz,
         sizes,
         whole,
         constant_terms,
@@ -111,6 +118,7 @@ fn recomposed_checks(
         return 7;
     }
     let eight = relation::relation_holds(
+        tz,
         sizes,
         whole,
         constant_terms,
@@ -123,12 +131,13 @@ fn recomposed_checks(
     if !eight {
         return 8;
     }
-    let nine = norms::short_opening(sizes, opening);
+    let nine = norms::short_opening(tz, sizes, opening);
     first(nine, 9, 0)
 }
 
 // The same, with z recomposed here.
 fn opening_checks(
+    tz: usize,
     sizes: Sizes,
     a_matrix: &[i32],
     whole: &[i32],
@@ -142,16 +151,18 @@ fn opening_checks(
     c: &[i32],
     opening: &[i32],
 ) -> u8
-    requires { ⌜ OpeningFacts 2 sizes (now «a_matrix») (now whole) (now «constant_terms») (now projections) (now psi) (now omega) (now «second_b») (now alpha) (now delta)
+    requires { ⌜ (0 < tz) × (tz ≤ 2) ⌝ }
+    requires { ⌜ OpeningFacts tz sizes (now «a_matrix») (now whole) (now «constant_terms») (now projections) (now psi) (now omega) (now «second_b») (now alpha) (now delta)
         (now c) (now opening) ⌝ }
     ensures { λ x.
-        ⌜ x ≡ firstFailing (openingChecksOf sizes (now («a_matrix» .entry)) (now (whole .entry)) (now («constant_terms» .entry)) (now (projections .entry))
+        ⌜ x ≡ firstFailing (openingChecksOf tz sizes (now («a_matrix» .entry)) (now (whole .entry)) (now («constant_terms» .entry)) (now (projections .entry))
         (now (psi .entry)) (now (omega .entry)) (now («second_b» .entry)) (now (alpha .entry)) (now (delta .entry)) (now (c .entry))
         (now (opening .entry))) ⌝ }
 {
     let mut z = [0i32; 16384];
-    recomposed::write_z(sizes.shape.d, sizes.shape.n, sizes.b, opening, &mut z);
+    recomposed::write_z(tz, sizes.shape.d, sizes.shape.n, sizes.b, opening, &mut z);
     recomposed_checks(
+        tz,
         sizes,
         a_matrix,
         whole,
@@ -201,11 +212,21 @@ pub fn first_failing(
     if message != 0 {
         return message;
     }
-    let outer = outer_checks(sizes, b_matrix, c_matrix, d_matrix, u1, u2, opening);
+    let outer = outer_checks(
+        Z_DIGITS,
+        sizes,
+        b_matrix,
+        c_matrix,
+        d_matrix,
+        u1,
+        u2,
+        opening,
+    );
     if outer != 0 {
         return outer;
     }
     opening_checks(
+        Z_DIGITS,
         sizes,
         a_matrix,
         whole,

@@ -14,7 +14,6 @@ use constraints::ConstraintSizes;
 use constraints::phi::write_phi_part;
 use constraints::row_groups;
 use fold::Sizes;
-use fold::counts::Z_DIGITS;
 use fold::places;
 use ring::element::Element;
 use ring::product::inner;
@@ -75,6 +74,7 @@ fn linear_sum(
 
 // Check 7: Σ <φ_i, z> c_i is the mixed sum of h, with z read from the start of a slice.
 pub fn linear_part(
+    tz: usize,
     sizes: Sizes,
     whole: &[i32],
     constant_terms: &[i32],
@@ -87,17 +87,18 @@ pub fn linear_part(
     z: &[i32],
     opening: &[i32],
 ) -> bool
+    requires { ⌜ tz ≤ 2 ⌝ }
     requires { ⌜ Fits sizes ⌝ }
     requires { ⌜ AggregateFacts (sizes .shape .d) (sizes .shape .n) (sizes .shape .r) (sizes .k) (sizes .l) (sizes .w) (now whole) (now «constant_terms») (now projections)
         (now psi) (now omega) (now alpha) (now delta) ⌝ }
     requires { ⌜ Holds (sizes .shape .d) (sizes .shape .r) (now c) ⌝ }
     requires { ⌜ sizes .shape .n * sizes .shape .d ≤ length (now z) ⌝ }
-    requires { ⌜ Opening sizes (now opening) ⌝ }
+    requires { ⌜ Opening tz sizes (now opening) ⌝ }
     ensures { λ r.
         ⌜ r ≡ check₇ (sizes .shape .d) (sizes .shape .n) (sizes .shape .r) (now (c .entry))
         (aggregate (sizes .shape .d) (sizes .shape .n) (sizes .shape .r) (sizes .k) (sizes .l) (sizes .w) (now (whole .entry)) (now («constant_terms» .entry))
         (now (projections .entry)) (now (psi .entry)) (now (omega .entry)) (now (alpha .entry)) (now (delta .entry)) .φ)
-        (el (sizes .shape .d) (now (z .entry))) (hValue sizes (now (opening .entry))) ⌝ }
+        (el (sizes .shape .d) (now (z .entry))) (hValue tz sizes (now (opening .entry))) ⌝ }
 {
     let shape = sizes.shape;
     let d = shape.d;
@@ -119,7 +120,7 @@ pub fn linear_part(
         c,
         z,
     );
-    let start = places::h_place(Z_DIGITS, sizes);
+    let start = places::h_place(tz, sizes);
     let right = amortized::mixed_sum(d, shape.r, sizes.b1, sizes.t1, opening, start, c);
     left.equals(d, right)
 }

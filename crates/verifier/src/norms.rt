@@ -6,7 +6,6 @@ ghost use Rattle.fold.specs.Verdict.{check₁, check₉};
 ghost use Rattle.verifier.specs.Known.Facts.{Fits, Opening};
 ghost use Rattle.verifier.specs.Norms.{withinThree};
 use fold::Sizes;
-use fold::counts::Z_DIGITS;
 use fold::places;
 use residues::length;
 
@@ -32,16 +31,17 @@ fn short_parts(target: u64, first: usize, second: usize, xs: &[i32]) -> bool
     length::is_within(high)
 }
 
-// Check 9: the squared length of all digits is at most β'².
-pub fn short_opening(sizes: Sizes, opening: &[i32]) -> bool
+// Check 9: the squared length of all digits, tz of them of z, is at most β'².
+pub fn short_opening(tz: usize, sizes: Sizes, opening: &[i32]) -> bool
+    requires { ⌜ tz ≤ 2 ⌝ }
     requires { ⌜ Fits sizes ⌝ }
-    requires { ⌜ Opening sizes (now opening) ⌝ }
+    requires { ⌜ Opening tz sizes (now opening) ⌝ }
     ensures { λ r.
-        ⌜ r ≡ check₉ (sizes .shape .d) (sizes .shape .n) (sizes .shape .r) 2 (sizes .kappa) (sizes .t1) (sizes .t2) (sizes .target)
+        ⌜ r ≡ check₉ (sizes .shape .d) (sizes .shape .n) (sizes .shape .r) tz (sizes .kappa) (sizes .t1) (sizes .t2) (sizes .target)
         (now (opening .entry)) ⌝ }
 {
     let d = sizes.shape.d;
-    let t_start = places::t_place(Z_DIGITS, sizes) * d;
-    let h_start = places::h_place(Z_DIGITS, sizes) * d;
+    let t_start = places::t_place(tz, sizes) * d;
+    let h_start = places::h_place(tz, sizes) * d;
     short_parts(sizes.target, t_start, h_start, opening)
 }

@@ -43,16 +43,17 @@ pub fn garbage_of(d: usize, b: usize, t: usize, opening: &[i32], place: usize, q
     Element::recompose(d, b, t, opening, first, 1)
 }
 
-// The n elements of z, of two digits each, at the start of z.
-pub fn write_z(d: usize, n: usize, b: usize, opening: &[i32], z: &mut [i32])
+// The n elements of z, of tz digits each, at the start of z.
+pub fn write_z(tz: usize, d: usize, n: usize, b: usize, opening: &[i32], z: &mut [i32])
     requires { ⌜ Degree d ⌝ }
     requires { ⌜ Base b ⌝ }
-    requires { ⌜ (2 * n * d ≤ length (now opening)) × (n * d ≤ length (now z)) ⌝ }
-    ensures { λ _. ⌜ now (z .exit) ≡ over (now (z .entry)) 0 (elements d n (zOf d n 2 b (el d (now (opening .entry))))) ⌝ }
+    requires { ⌜ 0 < tz ⌝ }
+    requires { ⌜ (tz * n * d ≤ length (now opening)) × (n * d ≤ length (now z)) ⌝ }
+    ensures { λ _. ⌜ now (z .exit) ≡ over (now (z .entry)) 0 (elements d n (zOf d n tz b (el d (now (opening .entry))))) ⌝ }
 {
     let mut k = 0;
     while k < n {
-        let element = Element::recompose(d, b, 2, opening, k, n);
+        let element = Element::recompose(d, b, tz, opening, k, n);
         element.store(d, z, k);
         k += 1;
     }

@@ -1,7 +1,7 @@
 // Check 8: the aggregated function's a and b against g and h. Its entries are formed as they are used.
 ghost use mathlib.Core.Path.{_≡_};
 ghost use mathlib.Core.List.{List};
-ghost use Prim.Native.Nat.{ℕ, _<_};
+ghost use Prim.Native.Nat.{ℕ, _<_, _≤_};
 ghost use lib.IntN.{ℤ};
 ghost use Rattle.algebra.specs.Sum.{sum};
 ghost use Rattle.ring.specs.Element.{R, array};
@@ -17,7 +17,6 @@ use crate::recomposed;
 use constraints::ConstraintSizes;
 use constraints::aggregated;
 use fold::Sizes;
-use fold::counts::Z_DIGITS;
 use fold::counts::pair_count;
 use fold::places;
 use ring::element::Element;
@@ -125,6 +124,7 @@ fn diagonal_sum(d: usize, r: usize, b: usize, t: usize, opening: &[i32], place: 
 
 // Check 8: Σ a_ij g_ij + Σ h_ii is the aggregate's b.
 pub fn relation_holds(
+    tz: usize,
     sizes: Sizes,
     whole: &[i32],
     constant_terms: &[i32],
@@ -134,16 +134,17 @@ pub fn relation_holds(
     second_b: &[i32],
     opening: &[i32],
 ) -> bool
-    requires { ⌜ RelationFacts 2 sizes (now whole) (now «constant_terms») (now psi) (now alpha) (now delta) (now «second_b») (now opening) ⌝ }
+    requires { ⌜ tz ≤ 2 ⌝ }
+    requires { ⌜ RelationFacts tz sizes (now whole) (now «constant_terms») (now psi) (now alpha) (now delta) (now «second_b») (now opening) ⌝ }
     ensures { λ r.
         ⌜ ((w : ℕ) (projections omega : List ℤ) → r ≡ check₈ (sizes .shape .d) (sizes .shape .r)
         (aggregate (sizes .shape .d) (sizes .shape .n) (sizes .shape .r) (sizes .k) (sizes .l) w (now (whole .entry)) (now («constant_terms» .entry)) projections
         (now (psi .entry)) omega (now (alpha .entry)) (now (delta .entry)) .a)
         (aggregateConstant (sizes .shape .d) (sizes .shape .n) (sizes .shape .r) (sizes .k) (now (whole .entry)) (now (alpha .entry))
-        (now (delta .entry)) (now («second_b» .entry))) (gValue sizes (now (opening .entry))) (hValue sizes (now (opening .entry)))) ⌝ }
+        (now (delta .entry)) (now («second_b» .entry))) (gValue tz sizes (now (opening .entry))) (hValue tz sizes (now (opening .entry)))) ⌝ }
 {
     let d = sizes.shape.d;
-    let g_start = places::g_place(Z_DIGITS, sizes);
+    let g_start = places::g_place(tz, sizes);
     let g_sum = relation_sum(
         sizes,
         whole,
@@ -154,7 +155,7 @@ pub fn relation_holds(
         opening,
         g_start,
     );
-    let h_start = places::h_place(Z_DIGITS, sizes);
+    let h_start = places::h_place(tz, sizes);
     let h_sum = diagonal_sum(d, sizes.shape.r, sizes.b1, sizes.t1, opening, h_start);
     let left = g_sum.sum(d, h_sum);
     let right = aggregated::aggregate_constant(sizes.shape, sizes.k, whole, alpha, delta, second_b);

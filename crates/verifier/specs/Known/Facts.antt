@@ -18,22 +18,22 @@ Fits s = VerifySized s
 abbrev pub Holds : (d m : ℕ) (xs : List ℤ) → Type 0
 Holds d m xs = length xs ≡ m * d
 
--- the verifier's opening
-abbrev pub Opening : Sizes → List ℤ → Type 0
-Opening s o = Holds (s .shape .d) (openingSize 2 (s .shape .n) (s .shape .r) (s .kappa) (s .t1) (s .t2)) o
+-- the verifier's opening, whose z has tz digits
+abbrev pub Opening : (tz : ℕ) → Sizes → List ℤ → Type 0
+Opening tz s o = Holds (s .shape .d) (openingSize tz (s .shape .n) (s .shape .r) (s .kappa) (s .t1) (s .t2)) o
 
-module _ (s : Sizes) (o : List ℤ) where
+module _ (tz : ℕ) (s : Sizes) (o : List ℤ) where
   abbrev pub tBlockOf : ℕ → R (s .shape .d) .Carrier
-  tBlockOf = block (s .shape .d) o (tPlace 2 (s .shape .n))
+  tBlockOf = block (s .shape .d) o (tPlace tz (s .shape .n))
 
   abbrev pub gBlockOf : ℕ → R (s .shape .d) .Carrier
-  gBlockOf = block (s .shape .d) o (gPlace 2 (s .shape .n) (s .shape .r) (s .kappa) (s .t1))
+  gBlockOf = block (s .shape .d) o (gPlace tz (s .shape .n) (s .shape .r) (s .kappa) (s .t1))
 
   abbrev pub hBlockOf : ℕ → R (s .shape .d) .Carrier
-  hBlockOf = block (s .shape .d) o (hPlace 2 (s .shape .n) (s .shape .r) (s .kappa) (s .t1) (s .t2))
+  hBlockOf = block (s .shape .d) o (hPlace tz (s .shape .n) (s .shape .r) (s .kappa) (s .t1) (s .t2))
 
   abbrev pub zValue : ℕ → R (s .shape .d) .Carrier
-  zValue = zOf (s .shape .d) (s .shape .n) 2 (s .b) (el (s .shape .d) o)
+  zValue = zOf (s .shape .d) (s .shape .n) tz (s .b) (el (s .shape .d) o)
 
   abbrev pub tValue : ℕ → ℕ → R (s .shape .d) .Carrier
   tValue = tOf (s .shape .d) (s .kappa) (s .b1) (s .t1) tBlockOf

@@ -14,24 +14,24 @@ use Rattle.fold.specs.declared.Sizes.{Sizes}
 use Rattle.fold.specs.Answers.{firstFailing, judged, answered}
 use Rattle.fold.specs.Messages.{elements}
 use Rattle.fold.specs.Verdict.{checks}
-use Rattle.fold.specs.Arguments.{statementOf, drawsOf, transcriptOf}
+use Rattle.fold.specs.Arguments.{statementWith, drawsOf, transcriptOf}
 use Rattle.verifier.specs.Known.Facts.{Fits, zValue}
 use Rattle.fold.specs.Laws.WriterLaws.{el-written}
 use Rattle.verifier.specs.Judgement.{Recomposed, messageChecksOf, outerChecksOf, openingChecksOf}
 
-pub recomposed : (s : Sizes) → Fits s → (o old z : List ℤ) → length z ≡ 16384 → z ≡ over old 0 (elements (s .shape .d) (s .shape .n)
-    (zValue s o)) → Recomposed s o z
-recomposed s fits o old z room e = record {
+pub recomposed : (tz : ℕ) (s : Sizes) → Fits s → (o old z : List ℤ) → length z ≡ 16384 → z ≡ over old 0 (elements (s .shape .d) (s .shape .n)
+    (zValue tz s o)) → Recomposed tz s o z
+recomposed tz s fits o old z room e = record {
   room = omega (arith, mul-le-mul (fits .shaped .rank-small) (fits .shaped .degree .small));
-  agree = λ i h. el-written (s .shape .d) (s .shape .n) (zValue s o) old e i h;
+  agree = λ i h. el-written (s .shape .d) (s .shape .n) (zValue tz s o) old e i h;
 }
 
-module _ (s : Sizes) (A B C D whole constantTerms projections ψ ω α δ c u₁ p b″ u₂ o : List ℤ) where
+module _ (tz : ℕ) (s : Sizes) (A B C D whole constantTerms projections ψ ω α δ c u₁ p b″ u₂ o : List ℤ) where
   -- the three parts are the checks
   pub parts : firstFailing
       (messageChecksOf s constantTerms p ψ ω b″
-      ++ (outerChecksOf s B C D u₁ u₂ o ++ openingChecksOf s A whole constantTerms projections ψ ω b″ α δ c o))
-      ≡ firstFailing (checks (statementOf s A B C D whole constantTerms) (drawsOf projections ψ ω α δ c) (transcriptOf u₁ p b″ u₂) o)
+      ++ (outerChecksOf tz s B C D u₁ u₂ o ++ openingChecksOf tz s A whole constantTerms projections ψ ω b″ α δ c o))
+      ≡ firstFailing (checks (statementWith tz s A B C D whole constantTerms) (drawsOf projections ψ ω α δ c) (transcriptOf u₁ p b″ u₂) o)
   parts = refl
 
 pub refused : (k n : ℕ) (a : Answer) → k ≡ n → 0 < k → Refused k ≡ answered n a

@@ -115,25 +115,25 @@ unfolding pairs
 pair-small r i q small h e = omega (arith, e, pair-bound r i i (omega arith) h, pairs-bound r small)
 
 -- g and h of an opening
-module _ (s : Sizes) (fits : Fits s) (o : List ℤ) (whole : Opening s o) where
-  pub g-garbage : (place : ℕ) → place ≡ gPlace 2 (s .shape .n) (s .shape .r) (s .kappa) (s .t1) → Garbage (s .shape .d) (s .shape .r) (s .b2) (s .t2) place o
+module _ (tz : ℕ) (s : Sizes) (fits : Fits s) (o : List ℤ) (whole : Opening tz s o) where
+  pub g-garbage : (place : ℕ) → place ≡ gPlace tz (s .shape .n) (s .shape .r) (s .kappa) (s .t1) → Garbage (s .shape .d) (s .shape .r) (s .b2) (s .t2) place o
   unfolding garbageSize
   g-garbage place e = record {
     degree = fits .shaped .degree;
     base = fits .base₂;
     parts = fits .shaped .parts-small;
     digits = omega (arith, fits .t₂-least);
-    inside = rw e (g-within s (length o) whole);
+    inside = rw e (g-within tz s (length o) whole);
   }
 
-  pub h-garbage : (place : ℕ) → place ≡ hPlace 2 (s .shape .n) (s .shape .r) (s .kappa) (s .t1) (s .t2) → Garbage (s .shape .d) (s .shape .r) (s .b1) (s .t1) place o
+  pub h-garbage : (place : ℕ) → place ≡ hPlace tz (s .shape .n) (s .shape .r) (s .kappa) (s .t1) (s .t2) → Garbage (s .shape .d) (s .shape .r) (s .b1) (s .t1) place o
   unfolding garbageSize
   h-garbage place e = record {
     degree = fits .shaped .degree;
     base = fits .base₁;
     parts = fits .shaped .parts-small;
     digits = omega (arith, fits .t₁-least);
-    inside = rw e (h-within s (length o) whole);
+    inside = rw e (h-within tz s (length o) whole);
   }
 
 pub garbage-below : (d r t place q l : ℕ) → q < pairs r → (place + pairs r * t) * d ≤ l → (place + (q * t + t)) * d ≤ l

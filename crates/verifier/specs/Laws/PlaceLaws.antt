@@ -38,9 +38,9 @@ module _ (d b t : ℕ) (o : List ℤ) (a : ℕ) where
       place : (e : ℕ) → first + e * 1 ≡ a + (q * t + e)
       place e = omega arith
 
-pub z-recomposed : (d n b : ℕ) (o : List ℤ) (k : ℕ) → joined d b 2 (λ e. el d o (k + e * n)) ≡ zOf d n 2 b (el d o) k
+pub z-recomposed : (d n tz b : ℕ) (o : List ℤ) (k : ℕ) → joined d b tz (λ e. el d o (k + e * n)) ≡ zOf d n tz b (el d o) k
 unfolding zOf
-z-recomposed d n b o k = joined-cong d b 2 _ _ (λ e _. ap (el d o) (place e))
+z-recomposed d n tz b o k = joined-cong d b tz _ _ (λ e _. ap (el d o) (place e))
   where
     place : (e : ℕ) → k + e * n ≡ e * n + k
     place e = omega arith
@@ -57,9 +57,10 @@ garbage-digit-fits d t a q l above fits =
     let below : suc (a + q * t + (t - 1) * 1) ≤ a + (q * t + t) = omega arith in
     omega (arith, mul-le-mul-right d below)
 
-pub z-digit-fits : (d n k l : ℕ) → k < n → 2 * n * d ≤ l → (k + (2 - 1) * n) * d + d ≤ l
-z-digit-fits d n k l h fits =
-    let below : suc (k + 1 * n) ≤ 2 * n = omega arith in
+pub z-digit-fits : (d n tz k l : ℕ) → k < n → 0 < tz → tz * n * d ≤ l → (k + (tz - 1) * n) * d + d ≤ l
+z-digit-fits d n tz k l h above fits =
+    let last : (tz - 1) * n + n ≡ tz * n = let one : tz ≡ suc (tz - 1) = omega arith in omega (arith, ap (λ x. x * n) one) in
+    let below : suc (k + (tz - 1) * n) ≤ tz * n = omega arith in
     omega (arith, mul-le-mul-right d below)
 
 -- ---- rows of a matrix

@@ -39,12 +39,12 @@ linear-summand d n φ c z i old small written is by product =
     held-product _ _ small
     (is ∙ ap (array d) (sum-cong (R d) n _ _ (λ y h. rw (zero-add y) (ap (λ u. R d .mul u (el d z y)) (el-written d n (φ i) old written y h))))) by product
 
-pub check-seven : (s : Sizes) (φ : ℕ → ℕ → R (s .shape .d) .Carrier) (c z o : List ℤ) {place : ℕ} {left right : List ℤ} {t : Bool} → s .shape .d ≤ 64
-    → left ≡ array (s .shape .d) (sum (R (s .shape .d)) (s .shape .r) (linearSummand (s .shape .d) (s .shape .n) φ c z)) → place ≡ hPlace 2 (s .shape .n) (s .shape .r) (s .kappa) (s .t1) (s .t2)
+pub check-seven : (tz : ℕ) (s : Sizes) (φ : ℕ → ℕ → R (s .shape .d) .Carrier) (c z o : List ℤ) {place : ℕ} {left right : List ℤ} {t : Bool} → s .shape .d ≤ 64
+    → left ≡ array (s .shape .d) (sum (R (s .shape .d)) (s .shape .r) (linearSummand (s .shape .d) (s .shape .n) φ c z)) → place ≡ hPlace tz (s .shape .n) (s .shape .r) (s .kappa) (s .t1) (s .t2)
     → right ≡ array (s .shape .d) (mixed (R (s .shape .d)) (s .shape .r) (garbageOf (s .shape .d) (s .shape .r) (s .b1) (s .t1) (block (s .shape .d) o place)) (el (s .shape .d) c))
-    → t ≡ same (s .shape .d) (lift (s .shape .d) left) (lift (s .shape .d) right) → t ≡ check₇ (s .shape .d) (s .shape .n) (s .shape .r) c φ (el (s .shape .d) z) (hValue s o)
+    → t ≡ same (s .shape .d) (lift (s .shape .d) left) (lift (s .shape .d) right) → t ≡ check₇ (s .shape .d) (s .shape .n) (s .shape .r) c φ (el (s .shape .d) z) (hValue tz s o)
 unfolding check₇ linearSummand
-check-seven s φ c z o small el ep er result = result ∙ ap₂ (same (s .shape .d)) (held small el) (held small er ∙ rw ep refl)
+check-seven tz s φ c z o small el ep er result = result ∙ ap₂ (same (s .shape .d)) (held small el) (held small er ∙ rw ep refl)
 
 -- ---- check 8
 
@@ -56,26 +56,26 @@ module _ (s : Sizes) (whole constantTerms ψ α δ o : List ℤ) where
   unfolding relationSummand
   relation-summand place q a g r small ea eg er = er ∙ ap (array (s .shape .d)) (ap₂ (R (s .shape .d) .mul) (held small ea) (held small eg))
 
-  module _ (w : ℕ) (projections ω : List ℤ) where
-    relation-sum : sum (R (s .shape .d)) (pairs (s .shape .r)) (relationSummand s whole constantTerms ψ α δ o (gPlace 2 (s .shape .n) (s .shape .r) (s .kappa) (s .t1)))
+  module _ (tz w : ℕ) (projections ω : List ℤ) where
+    relation-sum : sum (R (s .shape .d)) (pairs (s .shape .r)) (relationSummand s whole constantTerms ψ α δ o (gPlace tz (s .shape .n) (s .shape .r) (s .kappa) (s .t1)))
         ≡ rows (R (s .shape .d)) (s .shape .r) (λ i j. R (s .shape .d) .mul (aggregate (s .shape .d) (s .shape .n) (s .shape .r) (s .k)
-        (s .l) w whole constantTerms projections ψ ω α δ .a i j) (gValue s o i j))
+        (s .l) w whole constantTerms projections ψ ω α δ .a i j) (gValue tz s o i j))
     unfolding relationSummand pairs
     relation-sum =
-        sum-pairs (R (s .shape .d)) (s .shape .r) (relationSummand s whole constantTerms ψ α δ o (gPlace 2 (s .shape .n) (s .shape .r) (s .kappa) (s .t1)))
+        sum-pairs (R (s .shape .d)) (s .shape .r) (relationSummand s whole constantTerms ψ α δ o (gPlace tz (s .shape .n) (s .shape .r) (s .kappa) (s .t1)))
         ∙ rows-cong (R (s .shape .d)) (s .shape .r) _ _ (λ i j _ _. ap₂ (R (s .shape .d) .mul)
         (sym (aggregate-a (s .shape .d) (s .shape .n) (s .shape .r) (s .l) w constantTerms projections ψ ω (s .k) whole α δ i j))
-        (garbage-at (s .shape .d) (s .shape .r) (s .b2) (s .t2) (gBlockOf s o) i j (pair (s .shape .r) i j) refl))
+        (garbage-at (s .shape .d) (s .shape .r) (s .b2) (s .t2) (gBlockOf tz s o) i j (pair (s .shape .r) i j) refl))
 
     pub check-eight : (b″ : List ℤ) (gplace hplace : ℕ) (gsum hsum left right : List ℤ) (t : Bool) → s .shape .d ≤ 64
-        → gplace ≡ gPlace 2 (s .shape .n) (s .shape .r) (s .kappa) (s .t1) → gsum ≡ array (s .shape .d) (sum (R (s .shape .d)) (pairs (s .shape .r)) (relationSummand s whole constantTerms ψ α δ o gplace))
-        → hplace ≡ hPlace 2 (s .shape .n) (s .shape .r) (s .kappa) (s .t1) (s .t2)
+        → gplace ≡ gPlace tz (s .shape .n) (s .shape .r) (s .kappa) (s .t1) → gsum ≡ array (s .shape .d) (sum (R (s .shape .d)) (pairs (s .shape .r)) (relationSummand s whole constantTerms ψ α δ o gplace))
+        → hplace ≡ hPlace tz (s .shape .n) (s .shape .r) (s .kappa) (s .t1) (s .t2)
         → hsum ≡ array (s .shape .d) (sum (R (s .shape .d)) (s .shape .r) (λ i. garbageOf (s .shape .d) (s .shape .r) (s .b1) (s .t1) (block (s .shape .d) o hplace) i i))
         → left ≡ array (s .shape .d) (R (s .shape .d) .add (lift (s .shape .d) gsum) (lift (s .shape .d) hsum))
         → right ≡ array (s .shape .d) (aggregateConstant (s .shape .d) (s .shape .n) (s .shape .r) (s .k) whole α δ b″)
         → t ≡ same (s .shape .d) (lift (s .shape .d) left) (lift (s .shape .d) right)
         → t ≡ check₈ (s .shape .d) (s .shape .r) (aggregate (s .shape .d) (s .shape .n) (s .shape .r) (s .k) (s .l) w whole constantTerms projections ψ ω α δ .a)
-        (aggregateConstant (s .shape .d) (s .shape .n) (s .shape .r) (s .k) whole α δ b″) (gValue s o) (hValue s o)
+        (aggregateConstant (s .shape .d) (s .shape .n) (s .shape .r) (s .k) whole α δ b″) (gValue tz s o) (hValue tz s o)
     unfolding check₈
     check-eight b″ gplace hplace gsum hsum left right t small eg egs eh ehs el er result =
         result ∙ ap₂ (same (s .shape .d)) (held small el

@@ -18,26 +18,26 @@ use Rattle.fold.specs.Verdict.{check₅, check₆, check₇}
 use Rattle.ring.specs.Laws.Loops.{held}
 use Rattle.verifier.specs.Known.Facts.{tBlockOf, gBlockOf, hBlockOf}
 
-module _ (s : Sizes) (small : s .shape .d ≤ 64) (o U : List ℤ) (k : ℕ) where
+module _ (tz : ℕ) (s : Sizes) (small : s .shape .d ≤ 64) (o U : List ℤ) (k : ℕ) where
   -- t digits and g digits, of the given numbers of elements, from the given places on
   pub first-row : (B C : List ℤ) (tcount tstart gcount gstart : ℕ) (tpart gpart row u : List ℤ) (r : Bool)
-      → tcount ≡ tSize (s .shape .r) (s .kappa) (s .t1) → tstart ≡ tPlace 2 (s .shape .n)
+      → tcount ≡ tSize (s .shape .r) (s .kappa) (s .t1) → tstart ≡ tPlace tz (s .shape .n)
       → tpart ≡ array (s .shape .d) (times (s .shape .d) tcount B k (block (s .shape .d) o tstart))
-      → gcount ≡ garbageSize (s .shape .r) (s .t2) → gstart ≡ gPlace 2 (s .shape .n) (s .shape .r) (s .kappa) (s .t1)
+      → gcount ≡ garbageSize (s .shape .r) (s .t2) → gstart ≡ gPlace tz (s .shape .n) (s .shape .r) (s .kappa) (s .t1)
       → gpart ≡ array (s .shape .d) (times (s .shape .d) gcount C k (block (s .shape .d) o gstart))
       → row ≡ array (s .shape .d) (R (s .shape .d) .add (lift (s .shape .d) tpart) (lift (s .shape .d) gpart))
       → u ≡ array (s .shape .d) (el (s .shape .d) U k) → r ≡ same (s .shape .d) (lift (s .shape .d) u) (lift (s .shape .d) row)
-      → r ≡ same (s .shape .d) (el (s .shape .d) U k) (outer₁ (s .shape .d) (s .shape .r) (s .kappa) (s .t1) (s .t2) B C k (tBlockOf s o) (gBlockOf s o))
+      → r ≡ same (s .shape .d) (el (s .shape .d) U k) (outer₁ (s .shape .d) (s .shape .r) (s .kappa) (s .t1) (s .t2) B C k (tBlockOf tz s o) (gBlockOf tz s o))
   unfolding outer₁
   first-row B C tcount tstart gcount gstart tpart gpart row u r tc tp tx gc gp gx sums ux result =
       result ∙ ap₂ (same (s .shape .d)) (held small ux) (held small sums
       ∙ ap₂ (R (s .shape .d) .add) (held small tx ∙ rw (tc, tp) refl) (held small gx ∙ rw (gc, gp) refl))
 
   pub second-row : (D : List ℤ) (count start : ℕ) (row u : List ℤ) (r : Bool) → count ≡ garbageSize (s .shape .r) (s .t1)
-      → start ≡ hPlace 2 (s .shape .n) (s .shape .r) (s .kappa) (s .t1) (s .t2)
+      → start ≡ hPlace tz (s .shape .n) (s .shape .r) (s .kappa) (s .t1) (s .t2)
       → row ≡ array (s .shape .d) (times (s .shape .d) count D k (block (s .shape .d) o start))
       → u ≡ array (s .shape .d) (el (s .shape .d) U k) → r ≡ same (s .shape .d) (lift (s .shape .d) u) (lift (s .shape .d) row)
-      → r ≡ same (s .shape .d) (el (s .shape .d) U k) (outer₂ (s .shape .d) (s .shape .r) (s .t1) D k (hBlockOf s o))
+      → r ≡ same (s .shape .d) (el (s .shape .d) U k) (outer₂ (s .shape .d) (s .shape .r) (s .t1) D k (hBlockOf tz s o))
   unfolding outer₂
   second-row D count start row u r hc hp hx ux result =
       result ∙ ap₂ (same (s .shape .d)) (held small ux) (held small hx ∙ rw (hc, hp) refl)

@@ -11,17 +11,17 @@ use Rattle.verifier.proofs.amortized.amortized.Statement.{statement}
 use Rattle.verifier.proofs.amortized.amortized.Tie as tie
 
 abbrev Inv-loop : tie.InvT-loop
-Inv-loop sizes a-matrix c z opening rows all₀ k₀ all k = Tested rows (λ k. same (sizes .shape .d) (times (sizes .shape .d) (sizes .shape .n) a-matrix k (el (sizes .shape .d) z))
-    (sum (R (sizes .shape .d)) (sizes .shape .r) (λ i. R (sizes .shape .d) .mul (el (sizes .shape .d) c i) (tValue sizes opening i k)))) k all
+Inv-loop tz sizes a-matrix c z opening rows all₀ k₀ all k = Tested rows (λ k. same (sizes .shape .d) (times (sizes .shape .d) (sizes .shape .n) a-matrix k (el (sizes .shape .d) z))
+    (sum (R (sizes .shape .d)) (sizes .shape .r) (λ i. R (sizes .shape .d) .mul (el (sizes .shape .d) c i) (tValue tz sizes opening i k)))) k all
 
 abbrev μ-loop : tie.MeasureT-loop
-μ-loop sizes a-matrix c z opening rows all₀ k₀ all k = rows - k
+μ-loop tz sizes a-matrix c z opening rows all₀ k₀ all k = rows - k
 
 amortized-row-requires : tie.Need-amortized-row-requires Inv-loop μ-loop
 amortized-row-requires c κs =
     let s = c .before .before in
     let p = s .pre in
-    (p .0, (p .1, c .loop-test .taken))
+    (p .0, (p .1 .0, (p .1 .1, c .loop-test .taken)))
 
 returns : tie.Need-returns Inv-loop μ-loop
 unfolding check₅

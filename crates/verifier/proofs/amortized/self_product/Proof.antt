@@ -19,7 +19,7 @@ g-place-requires c κs = search needs
 mixed-sum-requires : tie.Need-mixed-sum-requires
 mixed-sum-requires c κs =
     let s = c .before .before in
-    (g-garbage (s .args .sizes) (s .pre .0 .limits) _ (s .pre .0 .o-length) _ (c .g-place .ensures), s .pre .0 .c-length)
+    (g-garbage (s .args .tz) (s .args .sizes) (s .pre .1 .0 .limits) _ (s .pre .1 .0 .o-length) _ (c .g-place .ensures), s .pre .1 .0 .c-length)
 
 equals-requires : tie.Need-equals-requires
 equals-requires c κs = search needs
@@ -30,7 +30,7 @@ returns c =
     let z = s .args .sizes in
     let right = c .before .mixed-sum .ensures ∙ ap (λ (p : ℕ). array (z .shape .d) (mixed (R (z .shape .d)) (z .shape .r) (garbageOf (z .shape .d) (z .shape .r) (z .b2)
     (z .t2) (block (z .shape .d) (s .args .opening .now) p)) (el (z .shape .d) (s .args .c .now)))) (c .before .before .g-place .ensures) in
-    self-product (z .shape .d) (z .shape .n) (z .shape .r) _ _ _ _ _ _ (s .pre .0 .limits .shaped .degree .small) (c .before .before .before .inner .ensures) right
+    self-product (z .shape .d) (z .shape .n) (z .shape .r) _ _ _ _ _ _ (s .pre .1 .0 .limits .shaped .degree .small) (c .before .before .before .inner .ensures) right
     (c .equals .ensures)
 
 pub self-product-spec : {M : Type 1} → statement M

@@ -9,14 +9,17 @@ use Rattle.verifier.proofs.judgement.opening_checks.Tie as tie
 write-z-requires : tie.Need-write-z-requires
 write-z-requires c κs =
     let s = c .before in
-    let f = s .pre .relation .limits in (
+    let f = s .pre .1 .relation .limits in (
       f .shaped .degree,
       (
         f .base,
         (
-          z-within (s .args .sizes) _ (s .pre .relation .o-length),
-          mul-le-mul (f .shaped .rank-small)
-              (f .shaped .degree .small),
+          s .pre .0 .0,
+          (
+            z-within (s .args .tz) (s .args .sizes) _ (s .pre .1 .relation .o-length),
+            mul-le-mul (f .shaped .rank-small)
+                (f .shaped .degree .small),
+          ),
         ),
       ),
     )
@@ -24,7 +27,7 @@ write-z-requires c κs =
 recomposed-checks-requires : tie.Need-recomposed-checks-requires
 recomposed-checks-requires c κs =
     let s = c .before .before .before .before in
-    (s .pre, recomposed (s .args .sizes) (s .pre .relation .limits) _ _ _ (search needs) (c .before .before .write-z .ensures))
+    (s .pre .0 .1, (s .pre .1, recomposed (s .args .tz) (s .args .sizes) (s .pre .1 .relation .limits) _ _ _ (search needs) (c .before .before .write-z .ensures)))
 
 pub opening-checks-spec : {M : Type 1} → statement M
 opening-checks-spec =

@@ -6,13 +6,13 @@ use Rattle.verifier.proofs.judgement.outer_checks.Statement.{statement}
 use Rattle.verifier.proofs.judgement.outer_checks.Tie as tie
 
 first-outer-requires : tie.Need-first-outer-requires
-first-outer-requires c κs = c .pre .first
+first-outer-requires c κs = (c .pre .0, c .pre .1 .first)
 
 returns : tie.Need-returns
 returns c = fails 3 _ (c .before .first-outer .ensures) (c .if1 .taken)
 
 second-outer-requires : tie.Need-second-outer-requires
-second-outer-requires c κs = c .before .before .pre .second
+second-outer-requires c κs = let s = c .before .before in (s .pre .0, s .pre .1 .second)
 
 returns-2 : tie.Need-returns-2
 returns-2 c =

@@ -10,7 +10,7 @@ use Rattle.verifier.proofs.judgement.recomposed_checks.Tie as tie
 returns : tie.Need-returns
 returns c =
     let s = c .before .before in
-    let agree = s .pre .1 .agree in
+    let agree = s .pre .1 .1 .agree in
     fails 5 _ (c .before .amortized .ensures ∙ check-five-cong _ _ _ _ _ _ agree _ _ _) (c .if1 .taken)
 
 returns-2 : tie.Need-returns-2
@@ -18,15 +18,15 @@ returns-2 c =
     let e1 = c .before .before in
     let a1 = e1 .before in
     let s = a1 .before in
-    let agree = s .pre .1 .agree in
+    let agree = s .pre .1 .1 .agree in
     passes 5 _ (a1 .amortized .ensures ∙ check-five-cong _ _ _ _ _ _ agree _ _ _) (e1 .if1 .left)
     (fails 6 _ (c .before .self-product .ensures ∙ check-six-cong _ _ _ _ _ _ agree _) (c .if2 .taken))
 
 linear-part-requires : tie.Need-linear-part-requires
 linear-part-requires c κs =
     let s = c .before .before .before .before in
-    let f = s .pre .0 in
-    (f .relation .limits, (f .aggregated, (f .amortized .folded .c-length, (s .pre .1 .room, f .relation .o-length))))
+    let f = s .pre .1 .0 in
+    (s .pre .0, (f .relation .limits, (f .aggregated, (f .amortized .folded .c-length, (s .pre .1 .1 .room, f .relation .o-length)))))
 
 returns-3 : tie.Need-returns-3
 returns-3 c =
@@ -35,14 +35,15 @@ returns-3 c =
     let e1 = a2 .before in
     let a1 = e1 .before in
     let s = a1 .before in
-    let agree = s .pre .1 .agree in
+    let agree = s .pre .1 .1 .agree in
     passes 5 _ (a1 .amortized .ensures ∙ check-five-cong _ _ _ _ _ _ agree _ _ _) (e1 .if1 .left)
     (passes 6 _ (a2 .self-product .ensures ∙ check-six-cong _ _ _ _ _ _ agree _) (e2 .if2 .left)
     (fails 7 _ (c .before .linear-part .ensures ∙ check-seven-cong _ _ _ _ _ _ agree _ _) (c .if3 .taken)))
 
 relation-holds-requires : tie.Need-relation-holds-requires
 relation-holds-requires c κs =
-    c .before .before .before .before .before .before .pre .0 .relation
+    let s = c .before .before .before .before .before .before in
+    (s .pre .0, s .pre .1 .0 .relation)
 
 returns-4 : tie.Need-returns-4
 returns-4 c =
@@ -53,7 +54,7 @@ returns-4 c =
     let e1 = a2 .before in
     let a1 = e1 .before in
     let s = a1 .before in
-    let agree = s .pre .1 .agree in
+    let agree = s .pre .1 .1 .agree in
     passes 5 _ (a1 .amortized .ensures ∙ check-five-cong _ _ _ _ _ _ agree _ _ _) (e1 .if1 .left)
     (passes 6 _ (a2 .self-product .ensures ∙ check-six-cong _ _ _ _ _ _ agree _) (e2 .if2 .left)
     (passes 7 _ (a3 .linear-part .ensures ∙ check-seven-cong _ _ _ _ _ _ agree _ _) (e3 .if3 .left)
@@ -71,7 +72,7 @@ returns-5 c =
     let e1 = a2 .before in
     let a1 = e1 .before in
     let s = a1 .before in
-    let agree = s .pre .1 .agree in
+    let agree = s .pre .1 .1 .agree in
     passes 5 _ (a1 .amortized .ensures ∙ check-five-cong _ _ _ _ _ _ agree _ _ _) (e1 .if1 .left)
     (passes 6 _ (a2 .self-product .ensures ∙ check-six-cong _ _ _ _ _ _ agree _) (e2 .if2 .left)
     (passes 7 _ (a3 .linear-part .ensures ∙ check-seven-cong _ _ _ _ _ _ agree _ _) (e3 .if3 .left)
@@ -82,14 +83,14 @@ pub recomposed-checks-spec : {M : Type 1} → statement M
 recomposed-checks-spec =
     tie.close
     (tie.spec
-    (λ c κs. (c .pre .0 .amortized, c .pre .1 .room))
+    (λ c κs. (c .pre .0, (c .pre .1 .0 .amortized, c .pre .1 .1 .room)))
     returns
-    (λ c κs. let s = c .before .before in (s .pre .0 .amortized .folded, s .pre .1 .room))
+    (λ c κs. let s = c .before .before in (s .pre .0, (s .pre .1 .0 .amortized .folded, s .pre .1 .1 .room)))
     returns-2
     linear-part-requires
     returns-3
     relation-holds-requires
     returns-4
-    (λ c κs. let f = c .before .before .before .before .before .before .before .before .pre .0 .relation in (f .limits, f .o-length))
+    (λ c κs. let s = c .before .before .before .before .before .before .before .before in (s .pre .0, (s .pre .1 .0 .relation .limits, s .pre .1 .0 .relation .o-length)))
     (λ c κs. search needs)
     returns-5)

@@ -10,15 +10,16 @@ use Rattle.verifier.proofs.outer.first_outer.Statement.{statement}
 use Rattle.verifier.proofs.outer.first_outer.Tie as tie
 
 abbrev Inv-loop : tie.InvT-loop
-Inv-loop sizes b-matrix c-matrix u1 opening rows all₀ k₀ all k = Tested rows (λ k. same (sizes .shape .d) (el (sizes .shape .d) u1 k) (outer₁ (sizes .shape .d) (sizes .shape .r)
-    (sizes .kappa) (sizes .t1) (sizes .t2) b-matrix c-matrix k (tBlockOf sizes opening) (gBlockOf sizes opening))) k all
+Inv-loop tz sizes b-matrix c-matrix u1 opening rows all₀ k₀ all k = Tested rows (λ k. same (sizes .shape .d) (el (sizes .shape .d) u1 k) (outer₁ (sizes .shape .d) (sizes .shape .r)
+    (sizes .kappa) (sizes .t1) (sizes .t2) b-matrix c-matrix k (tBlockOf tz sizes opening) (gBlockOf tz sizes opening))) k all
 
 abbrev μ-loop : tie.MeasureT-loop
-μ-loop sizes b-matrix c-matrix u1 opening rows all₀ k₀ all k = rows - k
+μ-loop tz sizes b-matrix c-matrix u1 opening rows all₀ k₀ all k = rows - k
 
 first-row-requires : tie.Need-first-row-requires Inv-loop μ-loop
 first-row-requires c κs =
-    (c .before .before .pre, c .loop-test .taken)
+    let s = c .before .before in
+    (s .pre .0, (s .pre .1, c .loop-test .taken))
 
 returns : tie.Need-returns Inv-loop μ-loop
 unfolding check₃
