@@ -12,6 +12,14 @@ use Prim.Native.Nat.{ℕ, _+_, _*_, _/_, _%_, _≤_, _<_}
 use lib.ListN.{length, getD}
 use lib.IntN.{ℤ, pos, natAbs, _+ℤ_, _-ℤ_, _*ℤ_}
 
+-- codes of an element: a group of four rows and a coefficient have one
+abbrev pub codeCount : ℕ
+codeCount = 4096
+
+-- numbers of the table: a group of four rows, a code of four entries and a second function have one
+abbrev pub omegaSumCount : ℕ
+omegaSumCount = 25920
+
 unfoldable pub decode : ℕ → ℤ
 decode c = pos (c % 3) -ℤ pos 1
 
@@ -24,7 +32,7 @@ pub record Coded (c : ℕ) (x₀ x₁ x₂ x₃ : ℤ) : Type 0 where
 
 -- the first m codes of entries of four rows, from place `from` on
 pub record Codes (projections : List ℤ) (at step from : ℕ) (old : List ℕ) (m : ℕ) (new : List ℕ) : Type 0 where
-  pub size : length new ≡ 4096
+  pub size : length new ≡ codeCount
   pub code : (y : ℕ) → y < m
       → Coded (getD new (from + y) 0) (getD projections (at + y) (pos 0)) (getD projections (at + y + step) (pos 0)) (getD projections (at + y + step + step) (pos 0))
       (getD projections (at + y + step + step + step) (pos 0))
@@ -32,7 +40,7 @@ pub record Codes (projections : List ℤ) (at step from : ℕ) (old : List ℕ) 
 
 -- the codes of the first groups at element e
 pub record CodesOf (d m : ℕ) (projections : List ℤ) (e groups : ℕ) (codes : List ℕ) : Type 0 where
-  pub size : length codes ≡ 4096
+  pub size : length codes ≡ codeCount
   pub code : (g y : ℕ) → g < groups → y < d
       → Coded (getD codes (g * 64 + y) 0) (getD projections ((g * 4 * m + e) * d + y) (pos 0)) (getD projections ((g * 4 * m + e) * d + y + m * d) (pos 0))
       (getD projections ((g * 4 * m + e) * d + y + m * d + m * d) (pos 0)) (getD projections ((g * 4 * m + e) * d + y + m * d + m * d + m * d) (pos 0))

@@ -9,7 +9,7 @@ ghost use Rattle.residues.specs.Modulus.{centred};
 ghost use Rattle.ring.specs.Element.{Degree, array};
 ghost use Rattle.fold.specs.Entries.{projectionEntry};
 ghost use Rattle.constraints.specs.Known.Facts.{ProjectionFacts};
-ghost use Rattle.constraints.specs.RowGroups.{CodesOf, OmegaSums};
+ghost use Rattle.constraints.specs.RowGroups.{CodesOf, OmegaSums, omegaSumCount};
 ghost use Rattle.constraints.specs.Accumulator.{FiveRoom, SmallFive, AddedFive};
 ghost use Rattle.constraints.specs.ProjectedRows.{Summed};
 ghost use Rattle.fold.specs.Limits.{mostProjections};
@@ -44,7 +44,7 @@ fn signed(c: i32, x: i32) -> i64
 // Adds five neighbouring numbers of the table.
 fn add_five(acc: &mut [i64; 320], at: usize, omega_sums: &[i64; OMEGA_SUMS], from: usize)
     requires { ⌜ FiveRoom (now acc) at ⌝ }
-    requires { ⌜ (from + 5 ≤ 25920) × SmallFive 8589934592 (now «omega_sums») from ⌝ }
+    requires { ⌜ (from + 5 ≤ omegaSumCount) × SmallFive 8589934592 (now «omega_sums») from ⌝ }
     ensures { λ _. ⌜ AddedFive 8589934592 (λ k. getD (now («omega_sums» .entry)) (from + k) (pos 0)) at (now (acc .entry)) 5 (now (acc .exit)) ⌝ }
 {
     let mut k = 0;

@@ -7,7 +7,7 @@ ghost use lib.ListN.{length, getD};
 ghost use lib.IntN.{pos, natAbs, _+ℤ_, _-ℤ_, _*ℤ_};
 ghost use Rattle.residues.specs.Range.{projectionEntries};
 ghost use Rattle.constraints.specs.Known.Facts.{ProjectionFacts};
-ghost use Rattle.constraints.specs.RowGroups.{decode, Coded, Codes, CodesOf, Summand, WeightedSum, OmegaSums};
+ghost use Rattle.constraints.specs.RowGroups.{decode, Coded, Codes, CodesOf, Summand, WeightedSum, OmegaSums, omegaSumCount, codeCount};
 ghost use Rattle.fold.specs.Limits.{mostProjections};
 use fold::Shape;
 
@@ -67,7 +67,7 @@ fn write_codes(
 )
     requires { ⌜ projectionEntries (now projections) ≡ true ⌝ }
     requires { ⌜ at + d + step + step + step ≤ length (now projections) ⌝ }
-    requires { ⌜ (from + d ≤ 4096) × (length (now codes) ≡ 4096) ⌝ }
+    requires { ⌜ (from + d ≤ codeCount) × (length (now codes) ≡ codeCount) ⌝ }
     ensures { λ _. ⌜ Codes (now (projections .entry)) at step from (now (codes .entry)) d (now (codes .exit)) ⌝ }
 {
     let mut y = 0;
@@ -89,7 +89,7 @@ pub fn group_codes(
     codes: &mut [u32; CODES],
 )
     requires { ⌜ ProjectionFacts (shape .d) (shape .n) (shape .r) w (now projections) (now omega) ⌝ }
-    requires { ⌜ (e < shape .r * shape .n) × (length (now codes) ≡ 4096) ⌝ }
+    requires { ⌜ (e < shape .r * shape .n) × (length (now codes) ≡ codeCount) ⌝ }
     ensures { λ _. ⌜ CodesOf (shape .d) (shape .r * shape .n) (now (projections .entry)) e (w / 4) (now (codes .exit)) ⌝ }
 {
     let d = shape.d;
@@ -150,7 +150,7 @@ fn weighted_sum(omega: &[i32], at: usize, c: usize) -> i64
 
 // The table: number (g * 81 + c) * 5 + k is the sum of the entries of code c, weighted by the numbers ω_k of group g.
 pub fn write_omega_sums(w: usize, omega: &[i32], omega_sums: &mut [i64; OMEGA_SUMS])
-    requires { ⌜ (w ≤ mostProjections) × (length (now omega) ≡ 5 * w) × (length (now «omega_sums») ≡ 25920) ⌝ }
+    requires { ⌜ (w ≤ mostProjections) × (length (now omega) ≡ 5 * w) × (length (now «omega_sums») ≡ omegaSumCount) ⌝ }
     ensures { λ _. ⌜ OmegaSums w (now (omega .entry)) (now («omega_sums» .exit)) ⌝ }
 {
     let groups = w / 4;

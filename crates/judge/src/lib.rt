@@ -6,6 +6,9 @@ ghost use Rattle.judge.specs.Room.{lentCount};
 use fold::Answer;
 use sheet::reader::SheetAnswer;
 
+// The numbers that a text of 65536 bytes can hold: each takes 16 columns.
+const MOST_NUMBERS: usize = 4096;
+
 mod lengths;
 pub mod line;
 mod lists;
@@ -35,8 +38,8 @@ fn lent_count(text: &[u8]) -> usize
     ensures { λ m. ⌜ m ≡ lentCount (now (text .entry)) ⌝ }
 {
     let count = sheet::reader::sheet_numbers(text);
-    if 4096 < count {
-        return 4096;
+    if MOST_NUMBERS < count {
+        return MOST_NUMBERS;
     }
     count
 }
@@ -49,7 +52,7 @@ pub fn judge_sheet(text: &[u8]) -> Answer
     if 65536 < text.len() {
         return Answer::Refused(12);
     }
-    let mut numbers = [0i32; 4096];
+    let mut numbers = [0i32; MOST_NUMBERS];
     let count = lent_count(text);
     judge_into(text, &mut numbers[..count])
 }

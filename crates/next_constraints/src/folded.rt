@@ -11,6 +11,8 @@ use crate::blocks::write_zeros;
 use constraints::ConstraintSizes;
 use constraints::phi::write_phi_part;
 use constraints::row_groups;
+use constraints::row_groups::OMEGA_SUMS;
+use fold::limits::PART_ROOM;
 use ring::element::Element;
 
 // Adds the first n elements of a list, times a weight, to those of `out`.
@@ -52,13 +54,13 @@ pub fn write_folded(
         (sizes .w) (now (whole .entry)) (now («constant_terms» .entry)) (now (projections .entry)) (now (psi .entry)) (now (omega .entry))
         (now (alpha .entry)) (now (delta .entry)) .φ) (now (c .entry)))) ⌝ }
 {
-    let mut omega_sums = [0i64; 25920];
+    let mut omega_sums = [0i64; OMEGA_SUMS];
     row_groups::write_omega_sums(sizes.w, omega, &mut omega_sums);
     let d = sizes.shape.d;
     let rank = sizes.shape.n;
     let parts = sizes.shape.r;
     write_zeros(d, rank, out, 0);
-    let mut phi = [0i32; 16384];
+    let mut phi = [0i32; PART_ROOM];
     let mut i = 0;
     while i < parts {
         write_phi_part(

@@ -13,6 +13,7 @@ ghost use Rattle.fold.specs.Sizes.{pairs};
 ghost use Rattle.fold.specs.Messages.{elements};
 ghost use Rattle.fold.specs.PairElements.{pairElements};
 ghost use Rattle.fold.specs.NextInstance.{squares};
+ghost use Rattle.fold.specs.Limits.{mostParts};
 use crate::blocks::power;
 use residues::modulus;
 use ring::element::Element;
@@ -68,7 +69,7 @@ fn write_square_row(
 )
     requires { ⌜ Degree d ⌝ }
     requires { ⌜ Base b ⌝ }
-    requires { ⌜ (0 < nu) × (tz * nu ≤ 16) × (parts ≤ 16) × (s ≤ parts) ⌝ }
+    requires { ⌜ (0 < nu) × (tz * nu ≤ 16) × (parts ≤ mostParts) × (s ≤ parts) ⌝ }
     requires { ⌜ (at + (parts - s)) * d ≤ length (now out) ⌝ }
     ensures { λ _. ⌜ now (out .exit) ≡ over (now (out .entry)) (at * d) (elements d (parts - s) (λ k. squares d tz nu b s (s + k))) ⌝ }
 {
@@ -85,7 +86,7 @@ fn write_square_row(
 pub fn write_squares(d: usize, tz: usize, nu: usize, b: usize, parts: usize, out: &mut [i32])
     requires { ⌜ Degree d ⌝ }
     requires { ⌜ Base b ⌝ }
-    requires { ⌜ (0 < nu) × (tz * nu ≤ 16) × (parts ≤ 16) ⌝ }
+    requires { ⌜ (0 < nu) × (tz * nu ≤ 16) × (parts ≤ mostParts) ⌝ }
     requires { ⌜ pairs parts * d ≤ length (now out) ⌝ }
     ensures { λ _. ⌜ now (out .exit) ≡ over (now (out .entry)) 0 (pairElements d parts (squares d tz nu b)) ⌝ }
 {

@@ -16,6 +16,8 @@ ghost use Rattle.next_checks.specs.Checks.{laid, check5, check6, check7, check8
 use constraints::aggregated;
 use fold::Sizes;
 use fold::counts::Z_DIGITS;
+use fold::limits::PAIR_ROOM;
+use fold::limits::PART_ROOM;
 use next_checks::checks;
 use next_checks::cut::Cut;
 use next_checks::cut::cut_of;
@@ -157,10 +159,10 @@ pub fn write_instance(
     let cut = cut_of(sizes, Z_DIGITS, nu, mu);
     let size = cut.size + 1;
     let mut minus = [0i32; 1024];
-    let mut folded = [0i32; 16384];
-    let mut products = [0i32; 8704];
-    let mut aggregate_a = [0i32; 8704];
-    let mut diagonal = [0i32; 8704];
+    let mut folded = [0i32; PART_ROOM];
+    let mut products = [0i32; PAIR_ROOM];
+    let mut aggregate_a = [0i32; PAIR_ROOM];
+    let mut diagonal = [0i32; PAIR_ROOM];
     write_row(sizes.shape.d, sizes.shape.r, -1, c, 0, &mut minus, 0);
     write_tables(
         sizes,

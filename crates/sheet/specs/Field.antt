@@ -1,6 +1,7 @@
 -- SPECIFICATION 10.1: "Each number is decimal, right-justified with blanks in 16 columns, no leading zeros, no plus, no minus zero".
 --     fieldText z     the 16 bytes of a number
 --     Fits16 z        the numbers that 16 columns hold
+--     headerBytes     the length of a header
 use mathlib.Core.Bool.{Bool, true, false, cond}
 use mathlib.Core.List.{List, [], _∷_, _++_}
 use Prim.Native.Nat.{ℕ, zero, suc, _+_, _/_, _%_}
@@ -35,3 +36,7 @@ fieldText z = signedText (negative z) (natAbs z)
 pub record Fits16 (z : ℤ) : Type 0 where
   pub least : negsuc 999999999999998 ≤ℤ z
   pub most : z ≤ℤ pos 9999999999999999
+
+-- the bytes of a header: eighteen fields and a line feed
+abbrev pub headerBytes : ℕ
+headerBytes = 289

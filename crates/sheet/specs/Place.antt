@@ -15,6 +15,7 @@ use Rattle.ring.specs.Element.{every}
 use Rattle.sheet.specs.declared.walk.End.{End}
 use Rattle.sheet.specs.declared.walk.End.the-variants.{At, Broken}
 use Rattle.sheet.specs.Fields.{fieldAt, isNumber, numberIn}
+use Rattle.sheet.specs.Field.{headerBytes}
 
 -- "each line ends with one line feed"
 unfoldable pub fieldWidth : Bool → ℕ
@@ -43,5 +44,5 @@ numbersFrom ends at text from count = tab count (λ j. numberAt text (place ends
 
 -- number `from` of those after the header, which is 289 bytes long, stands at `start`, and the text holds `count` numbers from there on
 pub record Span (ends : ℕ → Bool) (text : List ℕ) (from start count : ℕ) : Type 0 where
-  pub is : start ≡ place ends 289 from
-  pub inside : place ends 289 (from + count) ≤ length text
+  pub is : start ≡ place ends headerBytes from
+  pub inside : place ends headerBytes (from + count) ≤ length text

@@ -30,6 +30,7 @@ use Rattle.sheet.specs.declared.reader.SheetAnswer.the-variants.{Sheet, 
 use Rattle.sheet.specs.Lists.{listLengths, listAt}
 use Rattle.sheet.specs.Sections.{sectionsOf, total, endsLine}
 use Rattle.sheet.specs.Place.{place, laid, numberAt, numbersFrom}
+use Rattle.sheet.specs.Field.{headerBytes}
 
 -- ---- the header: "d n r K L w κ κ1 κ2 b b1 b2 t1 t2 ν μ β² β'²", one line of 18 fields
 
@@ -94,10 +95,10 @@ numberCount text = cond (eqb (firstFailing (frontTests text)) 0) (total (sizesOf
 
 unfoldable pub bodyLaid : Sizes → List ℕ → Bool
 bodyLaid s text =
-    cond (laid (endsLine (sectionsOf s)) 289 text (total s)) (eqb (place (endsLine (sectionsOf s)) 289 (total s)) (length text)) false
+    cond (laid (endsLine (sectionsOf s)) headerBytes text (total s)) (eqb (place (endsLine (sectionsOf s)) headerBytes (total s)) (length text)) false
 
 unfoldable pub bodyNumbers : Sizes → List ℕ → List ℤ
-bodyNumbers s text = numbersFrom (endsLine (sectionsOf s)) 289 text 0 (total s)
+bodyNumbers s text = numbersFrom (endsLine (sectionsOf s)) headerBytes text 0 (total s)
 
 -- the projection rows and the challenges among the numbers after the header
 unfoldable pub projectionsIn : Sizes → List ℤ → List ℤ

@@ -9,21 +9,22 @@ use lib.Dec.{ltb, eqb}
 use Rattle.fold.specs.Sizes.{zCount, functionSize, tSize, garbageSize, openingSize}
 use Rattle.fold.specs.declared.Sizes.{Sizes}
 use Rattle.sheet.specs.declared.sizes.Sections.{Sections}
+use Rattle.fold.specs.Limits.{mostCommitmentRank, mostConstraints, mostDigits, mostParts, mostProjections, mostRank}
 
 -- what the header's tests leave known of the sizes that count something
 pub record Bounded (s : Sizes) : Type 0 where
   pub degree-positive : 0 < s .shape .d
   pub degree : s .shape .d ≤ 64
-  pub rank : s .shape .n ≤ 256
-  pub parts : s .shape .r ≤ 16
-  pub whole : s .k ≤ 32
-  pub constantTerms : s .l ≤ 32
-  pub projections : s .w ≤ 256
-  pub κ : s .kappa ≤ 8
-  pub κ₁ : s .kappa1 ≤ 8
-  pub κ₂ : s .kappa2 ≤ 8
-  pub t₁ : s .t1 ≤ 8
-  pub t₂ : s .t2 ≤ 8
+  pub rank : s .shape .n ≤ mostRank
+  pub parts : s .shape .r ≤ mostParts
+  pub whole : s .k ≤ mostConstraints
+  pub constantTerms : s .l ≤ mostConstraints
+  pub projections : s .w ≤ mostProjections
+  pub κ : s .kappa ≤ mostCommitmentRank
+  pub κ₁ : s .kappa1 ≤ mostCommitmentRank
+  pub κ₂ : s .kappa2 ≤ mostCommitmentRank
+  pub t₁ : s .t1 ≤ mostDigits
+  pub t₂ : s .t2 ≤ mostDigits
 
 module _ (s : Sizes) where
   unfoldable pub matrixCount : ℕ

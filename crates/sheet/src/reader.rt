@@ -11,6 +11,7 @@ ghost use Rattle.sheet.specs.Reading.{numberCount, bodyNumbers, projecti
 ghost use Rattle.sheet.specs.Known.Reading.{endsAt, Inside};
 use crate::header::header_refusal;
 use crate::header::sheet_sizes;
+use crate::sizes::HEADER_BYTES;
 use crate::sizes::SheetSizes;
 use crate::sizes::challenges_from;
 use crate::sizes::projections_from;
@@ -39,7 +40,7 @@ fn projections_ok(s: Sizes, text: &[u8]) -> bool
 {
     let q = sections_of(s);
     let from = projections_from(s);
-    let start = place_after(q, text, 0, 289, from);
+    let start = place_after(q, text, 0, HEADER_BYTES, from);
     let count = projection_length(s.shape.d, s.shape.n, s.shape.r, s.w);
     all_within(q, text, from, start, count, 1)
 }
@@ -52,7 +53,7 @@ fn challenges_ok(s: Sizes, text: &[u8]) -> bool
 {
     let q = sections_of(s);
     let from = challenges_from(s);
-    let start = place_after(q, text, 0, 289, from);
+    let start = place_after(q, text, 0, HEADER_BYTES, from);
     are_challenges(q, text, from, start, s.shape.d, s.shape.r)
 }
 
@@ -63,7 +64,7 @@ fn numbers_ok(s: Sizes, text: &[u8]) -> bool
 {
     let q = sections_of(s);
     let count = total_numbers(s);
-    all_within(q, text, 0, 289, count, 2147483598)
+    all_within(q, text, 0, HEADER_BYTES, count, 2147483598)
 }
 
 // Rows 8 to 10; 0 where the numbers pass.
@@ -96,7 +97,7 @@ fn body_refusal(s: Sizes, text: &[u8], room: usize) -> u8
 {
     let q = sections_of(s);
     let count = total_numbers(s);
-    let end = laid_end(q, text, 289, count);
+    let end = laid_end(q, text, HEADER_BYTES, count);
     let size = text.len();
     if !ends_at(end, size) {
         return 12;
@@ -140,7 +141,7 @@ fn store(s: Sizes, text: &[u8], numbers: &mut [i32])
 {
     let q = sections_of(s);
     let count = total_numbers(s);
-    fill(q, text, 0, 289, count, numbers);
+    fill(q, text, 0, HEADER_BYTES, count, numbers);
 }
 
 // Reads a sheet: the sizes, and in `numbers` all numbers after the header, which it must have room for exactly. On a refusal they are

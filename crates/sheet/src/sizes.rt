@@ -10,6 +10,9 @@ use fold::counts::garbage_size;
 use fold::counts::opening_size;
 use fold::counts::t_size;
 
+// The bytes of a header: eighteen fields and a line feed.
+pub const HEADER_BYTES: usize = 289;
+
 // The header's numbers: the fold's sizes, and into how many chunks z and the rest are cut, ν and μ.
 pub struct SheetSizes {
     pub sizes: Sizes,

@@ -11,6 +11,8 @@ ghost use Rattle.fold.specs.Refusals.{challenges};
 ghost use Rattle.sheet.specs.Fields.{fieldAt, isNumber, numberIn};
 ghost use Rattle.sheet.specs.Sections.{endsLine};
 ghost use Rattle.sheet.specs.Place.{fieldWidth, place, laidField, laid, endIf, numberAt, numbersFrom, Span};
+ghost use Rattle.sheet.specs.Field.{headerBytes};
+ghost use Rattle.fold.specs.Limits.{mostParts};
 use crate::field::Field;
 use crate::field::read_field;
 use crate::sizes::Sections;
@@ -102,7 +104,7 @@ pub fn laid_end(s: Sections, text: &[u8], at: usize, n: usize) -> End
 pub fn place_after(s: Sections, text: &[u8], from: usize, start: usize, count: usize) -> usize
     requires { ⌜ (0 < s .d) × (0 < s .period) ⌝ }
     requires { ⌜ Span (endsLine s) (now text) from start count ⌝ }
-    ensures { λ r. ⌜ r ≡ place (endsLine s) 289 (from + count) ⌝ }
+    ensures { λ r. ⌜ r ≡ place (endsLine s) headerBytes (from + count) ⌝ }
 {
     let mut here = start;
     let mut j = 0;
@@ -151,7 +153,7 @@ pub fn all_within(
 ) -> bool
     requires { ⌜ (0 < s .d) × (0 < s .period) ⌝ }
     requires { ⌜ Span (endsLine s) (now text) from start count ⌝ }
-    ensures { λ r. ⌜ r ≡ allWithin bound (numbersFrom (endsLine s) 289 (now (text .entry)) from count) ⌝ }
+    ensures { λ r. ⌜ r ≡ allWithin bound (numbersFrom (endsLine s) headerBytes (now (text .entry)) from count) ⌝ }
 {
     let mut here = start;
     let mut j = 0;
@@ -177,9 +179,9 @@ fn narrow(x: i64) -> i32
 pub fn fill(s: Sections, text: &[u8], from: usize, start: usize, count: usize, out: &mut [i32])
     requires { ⌜ (0 < s .d) × (0 < s .period) ⌝ }
     requires { ⌜ Span (endsLine s) (now text) from start count ⌝ }
-    requires { ⌜ coefficients (numbersFrom (endsLine s) 289 (now text) from count) ≡ true ⌝ }
+    requires { ⌜ coefficients (numbersFrom (endsLine s) headerBytes (now text) from count) ≡ true ⌝ }
     requires { ⌜ count ≤ length (now out) ⌝ }
-    ensures { λ r. ⌜ now (out .exit) ≡ over (now (out .entry)) 0 (numbersFrom (endsLine s) 289 (now (text .entry)) from count) ⌝ }
+    ensures { λ r. ⌜ now (out .exit) ≡ over (now (out .entry)) 0 (numbersFrom (endsLine s) headerBytes (now (text .entry)) from count) ⌝ }
 {
     let mut here = start;
     let mut j = 0;
@@ -196,8 +198,8 @@ pub fn fill(s: Sections, text: &[u8], from: usize, start: usize, count: usize, o
 fn challenge_at(s: Sections, text: &[u8], from: usize, start: usize, d: usize) -> bool
     requires { ⌜ (0 < s .d) × (0 < s .period) × (d ≤ 64) ⌝ }
     requires { ⌜ Span (endsLine s) (now text) from start d ⌝ }
-    requires { ⌜ coefficients (numbersFrom (endsLine s) 289 (now text) from d) ≡ true ⌝ }
-    ensures { λ r. ⌜ r ≡ challenge (numbersFrom (endsLine s) 289 (now (text .entry)) from d) ⌝ }
+    requires { ⌜ coefficients (numbersFrom (endsLine s) headerBytes (now text) from d) ≡ true ⌝ }
+    ensures { λ r. ⌜ r ≡ challenge (numbersFrom (endsLine s) headerBytes (now (text .entry)) from d) ⌝ }
 {
     let mut numbers = [0i32; 64];
     fill(s, text, from, start, d, &mut numbers);
@@ -213,10 +215,10 @@ pub fn are_challenges(
     d: usize,
     r: usize,
 ) -> bool
-    requires { ⌜ (0 < s .d) × (0 < s .period) × (d ≤ 64) × (r ≤ 16) ⌝ }
+    requires { ⌜ (0 < s .d) × (0 < s .period) × (d ≤ 64) × (r ≤ mostParts) ⌝ }
     requires { ⌜ Span (endsLine s) (now text) from start (r * d) ⌝ }
-    requires { ⌜ coefficients (numbersFrom (endsLine s) 289 (now text) from (r * d)) ≡ true ⌝ }
-    ensures { λ t. ⌜ t ≡ challenges d r (numbersFrom (endsLine s) 289 (now (text .entry)) from (r * d)) ⌝ }
+    requires { ⌜ coefficients (numbersFrom (endsLine s) headerBytes (now text) from (r * d)) ≡ true ⌝ }
+    ensures { λ t. ⌜ t ≡ challenges d r (numbersFrom (endsLine s) headerBytes (now (text .entry)) from (r * d)) ⌝ }
 {
     let mut here = start;
     let mut at = from;

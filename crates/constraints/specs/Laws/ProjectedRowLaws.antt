@@ -29,7 +29,7 @@ use Rattle.constraints.specs.Known.Facts.{ProjectionFacts}
 use Rattle.constraints.specs.Laws.SizeLaws.{witness-small}
 use Rattle.constraints.specs.Accumulator.{SmallFive, AddedFive}
 use Rattle.constraints.specs.Laws.AccumulatorLaws.{Turning, turning-step}
-use Rattle.constraints.specs.RowGroups.{Coded, fourSum, WeightedSum, OmegaSums}
+use Rattle.constraints.specs.RowGroups.{Coded, fourSum, WeightedSum, OmegaSums, omegaSumCount}
 use Rattle.constraints.specs.ProjectedRows.{partial, Summed}
 use Rattle.fold.specs.Limits.{mostProjections}
 
@@ -182,7 +182,7 @@ pub weight-place : (w k j : ℕ) → k < 5 → j < w → w ≤ mostProjections �
 weight-place w k j h l small = (omega (arith, mul-le-mul-right w h, small), omega (arith, mul-le-mul-right w h, l))
 
 pub table-place : {w : ℕ} {ω omegaSums : List ℤ} → OmegaSums w ω omegaSums → w ≤ mostProjections → {g c : ℕ} → g < w / 4 → c < 81
-    → ((g * 81 + c) * 5 + 5 ≤ 25920) × SmallFive 8589934592 omegaSums ((g * 81 + c) * 5)
+    → ((g * 81 + c) * 5 + 5 ≤ omegaSumCount) × SmallFive 8589934592 omegaSums ((g * 81 + c) * 5)
 table-place table small {g} {c} h l =
     (omega (arith, small, h, l), record { small = λ k b. table .entry g c k h l b .small })
 

@@ -20,7 +20,7 @@ use Rattle.residues.specs.Laws.Centring.{held}
 use Rattle.residues.specs.Range.{projectionEntries}
 use Rattle.residues.specs.Laws.RangeLaws.{allWithin-at}
 use Rattle.residues.specs.Laws.Words.{word}
-use Rattle.constraints.specs.RowGroups.{decode, Coded, Codes, CodesOf, fourSum, Summand, WeightedSum, OmegaSums}
+use Rattle.constraints.specs.RowGroups.{decode, Coded, Codes, CodesOf, fourSum, Summand, WeightedSum, OmegaSums, omegaSumCount, codeCount}
 use Rattle.fold.specs.Limits.{mostProjections}
 
 pub decode-small : (c : ℕ) → natAbs (decode c) ≤ 1
@@ -51,11 +51,11 @@ coded-by t₀ t₁ t₂ t₃ c (h₀, e₀) (h₁, e₁) (h₂, e₂) (h₃, e�
       fourth = rw g (sym e₃);
     }
 
-pub codes-start : (projections : List ℤ) (at step from : ℕ) (codes : List ℕ) → length codes ≡ 4096 → Codes projections at step from codes 0 codes
+pub codes-start : (projections : List ℤ) (at step from : ℕ) (codes : List ℕ) → length codes ≡ codeCount → Codes projections at step from codes 0 codes
 codes-start projections at step from codes e =
     record { size = e; code = λ y h. let no : ⊥ = omega arith in absurd no; before = λ i h. refl }
 
-pub codes-step : {projections : List ℤ} {at step from : ℕ} {old : List ℕ} {m : ℕ} {new : List ℕ} {c : ℕ} → Codes projections at step from old m new → from + m < 4096
+pub codes-step : {projections : List ℤ} {at step from : ℕ} {old : List ℕ} {m : ℕ} {new : List ℕ} {c : ℕ} → Codes projections at step from old m new → from + m < codeCount
     → Coded c (getD projections (at + m) (pos 0)) (getD projections (at + m + step) (pos 0)) (getD projections (at + m + step + step) (pos 0))
     (getD projections (at + m + step + step + step) (pos 0))
     → Codes projections at step from old (m + 1) (set new (from + m) c)
@@ -76,7 +76,7 @@ codes-step {projections} {at} {step} {from} {m} {new} {c} sofar inside coded =
         let same : y ≡ m = omega (arith, h, ltb-false y m e) in
         rw (same, getD-set-same new (from + m) c 0 (omega (arith, inside, sofar .size))) coded
 
-pub groups-start : (d m : ℕ) (projections : List ℤ) (e : ℕ) (codes : List ℕ) → length codes ≡ 4096 → CodesOf d m projections e 0 codes
+pub groups-start : (d m : ℕ) (projections : List ℤ) (e : ℕ) (codes : List ℕ) → length codes ≡ codeCount → CodesOf d m projections e 0 codes
 groups-start d m projections e codes h = record { size = h; code = λ g y l b. let no : ⊥ = omega arith in absurd no }
 
 pub groups-step : {d m : ℕ} {projections : List ℤ} {e g : ℕ} {codes new : List ℕ} → d ≤ 64 → CodesOf d m projections e g codes
@@ -165,10 +165,10 @@ four-summands ω at c {s₀} {s₁} {s₂} {s₃} f₀ f₁ f₂ a₀ a₁ a₂ 
 
 pub record Tabled (w : ℕ) (ω : List ℤ) (i : ℕ) (omegaSums : List ℤ) : Type 0 where
   pub within : i ≤ w / 4 * 405
-  pub size : length omegaSums ≡ 25920
+  pub size : length omegaSums ≡ omegaSumCount
   pub entry : (j : ℕ) → j < i → WeightedSum ω (j % 5 * w + j / 5 / 81 * 4) (j / 5 % 81) (getD omegaSums j (pos 0))
 
-pub tabled-start : (w : ℕ) (ω omegaSums : List ℤ) → length omegaSums ≡ 25920 → Tabled w ω 0 omegaSums
+pub tabled-start : (w : ℕ) (ω omegaSums : List ℤ) → length omegaSums ≡ omegaSumCount → Tabled w ω 0 omegaSums
 tabled-start w ω omegaSums e = record { within = omega arith; size = e; entry = λ j h. let no : ⊥ = omega arith in absurd no }
 
 module _ {w : ℕ} {ω omegaSums : List ℤ} {i : ℕ} (tabled : Tabled w ω i omegaSums) where

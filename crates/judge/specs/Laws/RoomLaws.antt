@@ -21,6 +21,7 @@ use Rattle.sheet.specs.Reading.{frontTests, numberCount, sheetIf, reading}
 use Rattle.sheet.specs.Laws.ReadingLaws.{body-within}
 use Rattle.sheet.specs.Laws.AnswerLaws.{refusal-first}
 use Rattle.judge.specs.Room.{lentCount}
+use Rattle.sheet.specs.Field.{headerBytes}
 
 -- i numbers have at least 16·i bytes
 place-least : (ends : ℕ → Bool) (at i : ℕ) → at + 16 * i ≤ place ends at i
@@ -29,7 +30,7 @@ place-least ends at zero = omega arith
 place-least ends at (suc i) = omega (arith, place-least ends at i, width-least ends at (ends i))
 
 pub few-numbers : (s : Sizes) (text : List ℕ) → length text ≤ 65536 → bodyLaid s text ≡ true → total s ≤ 4096
-few-numbers s text h e = omega (arith, body-within s text e, place-least (endsLine (sectionsOf s)) 289 (total s))
+few-numbers s text h e = omega (arith, body-within s text e, place-least (endsLine (sectionsOf s)) headerBytes (total s))
 
 -- tests after others count by their own refusal
 later-same : (xs ys zs : List (ℕ × Bool)) → firstFailing ys ≡ firstFailing zs → firstFailing (xs ++ ys) ≡ firstFailing (xs ++ zs)

@@ -5,6 +5,7 @@ use Prim.Native.Nat.{_+_, _*_, _<_, _≤_}
 use Rattle.fold.specs.declared.Sizes.{Sizes}
 use Rattle.fold.specs.Sizes.{pairs, functionSize, tSize, garbageSize, restSize, nextRank, nextParts}
 use Rattle.next_checks.specs.declared.cut.Cut.{Cut}
+use Rattle.fold.specs.Limits.{mostRank}
 
 pub record CutFacts (s : Sizes) (cut : Cut) : Type 0 where
   pub tz-positive : 0 < cut .tz
@@ -14,7 +15,7 @@ pub record CutFacts (s : Sizes) (cut : Cut) : Type 0 where
   pub parts-small : cut .tz * cut .nu + cut .mu ≤ 16
   pub rest-is : cut .m ≡ restSize (s .shape .r) (s .kappa) (s .t1) (s .t2)
   pub rank-is : cut .rank ≡ nextRank (s .shape .n) (cut .nu) (cut .m) (cut .mu)
-  pub rank-small : cut .rank ≤ 256
+  pub rank-small : cut .rank ≤ mostRank
   pub parts-is : cut .parts ≡ nextParts (cut .tz) (cut .nu) (cut .mu)
   pub pairs-is : cut .pairs ≡ pairs (cut .parts)
   pub size-is : cut .size ≡ functionSize (cut .rank) (cut .parts)

@@ -19,6 +19,7 @@ use Rattle.fold.specs.Known.CutSizes.{CutSizes, restSize-bound}
 use Rattle.next_checks.specs.declared.cut.Cut.{Cut}
 use Rattle.next_checks.specs.Known.Facts.{CutFacts}
 use Rattle.next_checks.specs.Spread.{widths}
+use Rattle.fold.specs.Limits.{mostDigits, mostParts}
 
 pub rest-small : (s : Sizes) → VerifySized s → restSize (s .shape .r) (s .kappa) (s .t1) (s .t2) ≤ 3200
 rest-small s fits = restSize-bound _ _ _ _ (fits .shaped .parts-small) (fits .κ-small) (fits .t₁-most) (fits .t₂-most)
@@ -52,7 +53,7 @@ room-of n {tz} {ν} {μ} {m} limits small m-is rank-is size-is =
     )
 
 module _ (s : Sizes) (cut : Cut) (facts : CutFacts s cut) where
-  pub parts-few : cut .parts ≤ 16
+  pub parts-few : cut .parts ≤ mostParts
   unfolding nextParts
   parts-few = omega (arith, facts .parts-is, facts .parts-small)
 
@@ -168,13 +169,13 @@ module _ (s : Sizes) (cut : Cut) (limits : VerifySized s) (facts : CutFacts s cu
   z-asked first room = (limits .shaped .degree, (limits .base, (room, block-fits (s .shape .d) at (cut .size) (cut .z) fits _ (z-block s cut facts))))
 
   pub g-asked : {read : ℕ} → pairs (s .shape .r) * s .shape .d ≤ read
-      → Degree (s .shape .d) × (Base (s .b2) × (((s .shape .r ≤ 16) × (s .t2 ≤ 8))
+      → Degree (s .shape .d) × (Base (s .b2) × (((s .shape .r ≤ mostParts) × (s .t2 ≤ mostDigits))
       × ((pairs (s .shape .r) * s .shape .d ≤ read) × ((at + cut .g + garbageSize (s .shape .r) (s .t2)) * s .shape .d ≤ len))))
   g-asked room =
       (limits .shaped .degree, (limits .base₂, ((limits .shaped .parts-small, limits .t₂-most), (room, block-fits (s .shape .d) at (cut .size) (cut .g) fits _ (g-block s cut facts)))))
 
   pub h-asked : {read : ℕ} → pairs (s .shape .r) * s .shape .d ≤ read
-      → Degree (s .shape .d) × (Base (s .b1) × (((s .shape .r ≤ 16) × (s .t1 ≤ 8))
+      → Degree (s .shape .d) × (Base (s .b1) × (((s .shape .r ≤ mostParts) × (s .t1 ≤ mostDigits))
       × ((pairs (s .shape .r) * s .shape .d ≤ read) × ((at + cut .h + garbageSize (s .shape .r) (s .t1)) * s .shape .d ≤ len))))
   h-asked room =
       (limits .shaped .degree, (limits .base₁, ((limits .shaped .parts-small, limits .t₁-most), (room, block-fits (s .shape .d) at (cut .size) (cut .h) fits _ (h-block s cut facts)))))

@@ -9,6 +9,7 @@ use Rattle.sheet.specs.declared.walk.End.{End}
 use Rattle.sheet.specs.declared.walk.End.the-variants.{At, Broken}
 use Rattle.sheet.specs.Sections.{Bounded, sectionsOf, total, endsLine}
 use Rattle.sheet.specs.Place.{place}
+use Rattle.sheet.specs.Field.{headerBytes}
 
 -- fields end at a place
 abbrev pub endsAt : End → ℕ → Bool
@@ -23,4 +24,4 @@ hasEnd Broken = false
 -- sizes whose lines lie within the text
 pub record Inside (s : Sizes) (text : List ℕ) : Type 0 where
   pub bounded : Bounded s
-  pub inside : place (endsLine (sectionsOf s)) 289 (total s) ≤ length text
+  pub inside : place (endsLine (sectionsOf s)) headerBytes (total s) ≤ length text

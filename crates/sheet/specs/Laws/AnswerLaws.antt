@@ -32,6 +32,7 @@ use Rattle.sheet.specs.Known.Reading.{Inside}
 use Rattle.sheet.specs.Laws.ReadingLaws.{body-within, all-numbers}
 use Rattle.sheet.specs.Laws.BodyLaws.{body-total}
 use Rattle.sheet.specs.Laws.SheetLaws.{length-body}
+use Rattle.sheet.specs.Field.{headerBytes}
 
 -- ---- two lists of tests, one after the other
 
@@ -119,7 +120,7 @@ module _ (text : List ℕ) {header : ℕ} (e : header ≡ firstFailing (frontTes
 -- numbers written over all of the slice
 pub stored : (s : Sizes) (text : List ℕ) (q : Sections) (i : Inside s text) (e : Sectioned s q) {count : ℕ} (c : count ≡ total s)
     (before : List ℤ) {after : List ℤ} → length before ≡ total s
-    → after ≡ over before 0 (numbersFrom (endsLine q) 289 text 0 count) → after ≡ bodyNumbers s text
+    → after ≡ over before 0 (numbersFrom (endsLine q) headerBytes text 0 count) → after ≡ bodyNumbers s text
 stored s text q i e c before fits f =
     let numbers = all-numbers i e c in
     let size : length (bodyNumbers s text) ≡ length before = length-body s (i .bounded .degree-positive) text ∙ body-total s ∙ sym fits in

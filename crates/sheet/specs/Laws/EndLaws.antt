@@ -21,6 +21,7 @@ use Rattle.sheet.specs.Layout.{copies, elements, fields, bodyLines}
 use Rattle.sheet.specs.Laws.LayoutLaws.{endsOf, fields-append, fields-copies, fields-elements, ends-front, ends-back, ends-elements, ends-term}
 use Rattle.sheet.specs.Laws.BodyLaws.{middlePart, termPart, body-merged}
 use Rattle.sheet.specs.Reading.{headerSections}
+use Rattle.sheet.specs.Field.{headerBytes}
 
 -- ---- past some lines, or among them
 
@@ -138,6 +139,6 @@ header-place (suc k) h =
     let small : k < 18 = omega arith in
     rw (← header-ends k small, ne-eqb (suc k) 18 (λ e. omega arith)) (omega (arith, header-place k (omega arith)))
 
-pub header-end : place (endsLine headerSections) 0 18 ≡ 289
+pub header-end : place (endsLine headerSections) 0 18 ≡ headerBytes
 unfolding place fieldWidth
 header-end = rw (header-place 17 (omega arith), ← header-ends 17 (omega arith)) refl

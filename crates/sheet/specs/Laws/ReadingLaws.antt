@@ -23,6 +23,7 @@ use Rattle.sheet.specs.Laws.PlaceLaws.{contradiction, place-mono}
 use Rattle.sheet.specs.Laws.ChallengeLaws.{numbers-part}
 use Rattle.sheet.specs.Reading.{bodyLaid, bodyNumbers, projectionsIn, challengesIn, numberTests, bodyTests}
 use Rattle.sheet.specs.Known.Reading.{endsAt, Inside}
+use Rattle.sheet.specs.Field.{headerBytes}
 
 pub lines-positive : {s : Sizes} {q : Sections} → Bounded s → Sectioned s q → (0 < q .d) × (0 < q .period)
 unfolding sectionsOf termSize
@@ -30,31 +31,31 @@ lines-positive b e = (rw (e .is) (b .degree-positive), rw (e .is) (omega arith))
 
 module _ {s : Sizes} {text : List ℕ} {q : Sections} (i : Inside s text) (e : Sectioned s q) where
   -- the first m numbers
-  pub front-span : (m : ℕ) → m ≤ total s → Span (endsLine q) text 0 289 m
+  pub front-span : (m : ℕ) → m ≤ total s → Span (endsLine q) text 0 headerBytes m
   unfolding place
   front-span m h = record {
     is = refl;
-    inside = rw (e .is, zero-add m) (omega (arith, i .inside, place-mono (endsLine (sectionsOf s)) 289 m (total s) h));
+    inside = rw (e .is, zero-add m) (omega (arith, i .inside, place-mono (endsLine (sectionsOf s)) headerBytes m (total s) h));
   }
 
   -- c numbers after them
-  pub later-span : (m c : ℕ) {start : ℕ} → m + c ≤ total s → start ≡ place (endsLine q) 289 (0 + m) → Span (endsLine q) text m start c
+  pub later-span : (m c : ℕ) {start : ℕ} → m + c ≤ total s → start ≡ place (endsLine q) headerBytes (0 + m) → Span (endsLine q) text m start c
   later-span m c h p = record {
-    is = p ∙ ap (place (endsLine q) 289) (zero-add m);
-    inside = rw (e .is) (omega (arith, i .inside, place-mono (endsLine (sectionsOf s)) 289 (m + c) (total s) h));
+    is = p ∙ ap (place (endsLine q) headerBytes) (zero-add m);
+    inside = rw (e .is) (omega (arith, i .inside, place-mono (endsLine (sectionsOf s)) headerBytes (m + c) (total s) h));
   }
 
-  pub body-part : (m c : ℕ) → m + c ≤ total s → take c (drop m (bodyNumbers s text)) ≡ numbersFrom (endsLine q) 289 text m c
+  pub body-part : (m c : ℕ) → m + c ≤ total s → take c (drop m (bodyNumbers s text)) ≡ numbersFrom (endsLine q) headerBytes text m c
   unfolding bodyNumbers
   body-part m c h =
       rw (e .is) (numbers-part (endsLine (sectionsOf s)) text 0 (total s) m c h
-      ∙ ap (λ (x : ℕ). numbersFrom (endsLine (sectionsOf s)) 289 text x c) (zero-add m))
+      ∙ ap (λ (x : ℕ). numbersFrom (endsLine (sectionsOf s)) headerBytes text x c) (zero-add m))
 
   pub body-coefficients : (m c : ℕ) → m + c ≤ total s → coefficients (bodyNumbers s text) ≡ true
-      → coefficients (numbersFrom (endsLine q) 289 text m c) ≡ true
+      → coefficients (numbersFrom (endsLine q) headerBytes text m c) ≡ true
   body-coefficients m c h t = rw (← body-part m c h) (coefficients-part m c (bodyNumbers s text) t)
 
-  pub all-numbers : {count : ℕ} → count ≡ total s → numbersFrom (endsLine q) 289 text 0 count ≡ bodyNumbers s text
+  pub all-numbers : {count : ℕ} → count ≡ total s → numbersFrom (endsLine q) headerBytes text 0 count ≡ bodyNumbers s text
   unfolding bodyNumbers
   all-numbers c = rw (e .is, c) refl
 
@@ -78,17 +79,17 @@ module _ (s : Sizes) (xs : List ℤ) where
   unfolding firstFailing numberTests
   nine-ten {good} e t e₉ f₉ e₁₀ f₁₀ = rw (← e, not-false good t, e₉, f₉, e₁₀, f₁₀) refl
 
-pub body-within : (s : Sizes) (text : List ℕ) → bodyLaid s text ≡ true → place (endsLine (sectionsOf s)) 289 (total s) ≤ length text
+pub body-within : (s : Sizes) (text : List ℕ) → bodyLaid s text ≡ true → place (endsLine (sectionsOf s)) headerBytes (total s) ≤ length text
 unfolding bodyLaid
-body-within s text e = step (laid (endsLine (sectionsOf s)) 289 text (total s)) e
+body-within s text e = step (laid (endsLine (sectionsOf s)) headerBytes text (total s)) e
   where
-    step : (t : Bool) → cond t (eqb (place (endsLine (sectionsOf s)) 289 (total s)) (length text)) false ≡ true
-        → place (endsLine (sectionsOf s)) 289 (total s) ≤ length text
-    step true q = omega (arith, eqb-true (place (endsLine (sectionsOf s)) 289 (total s)) (length text) q)
+    step : (t : Bool) → cond t (eqb (place (endsLine (sectionsOf s)) headerBytes (total s)) (length text)) false ≡ true
+        → place (endsLine (sectionsOf s)) headerBytes (total s) ≤ length text
+    step true q = omega (arith, eqb-true (place (endsLine (sectionsOf s)) headerBytes (total s)) (length text) q)
     step false q = contradiction q refl
 
 module _ (s : Sizes) (text : List ℕ) (q : Sections) (e : Sectioned s q) {count : ℕ} (c : count ≡ total s) {end : End}
-    (l : end ≡ endIf (laid (endsLine q) 289 text count) (place (endsLine q) 289 count)) {good : Bool}
+    (l : end ≡ endIf (laid (endsLine q) headerBytes text count) (place (endsLine q) headerBytes count)) {good : Bool}
     (g : good ≡ endsAt end (length text)) where
   ends-is : (t : Bool) (p n : ℕ) → endsAt (endIf t p) n ≡ cond t (eqb p n) false
   ends-is true p n = refl
@@ -96,7 +97,7 @@ module _ (s : Sizes) (text : List ℕ) (q : Sections) (e : Sectioned s q) {count
 
   laid-is : good ≡ bodyLaid s text
   unfolding bodyLaid
-  laid-is = g ∙ rw (l, ends-is (laid (endsLine q) 289 text count) (place (endsLine q) 289 count) (length text), e .is, c) refl
+  laid-is = g ∙ rw (l, ends-is (laid (endsLine q) headerBytes text count) (place (endsLine q) headerBytes count) (length text), e .is, c) refl
 
   pub twelve : (room : ℕ) → not good ≡ true → 12 ≡ firstFailing (bodyTests room s text)
   unfolding firstFailing bodyTests

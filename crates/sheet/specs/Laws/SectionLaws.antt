@@ -10,6 +10,7 @@ use Rattle.fold.specs.Laws.SizeBounds.{functionSize-bound, tSize-bound, garbage
 use Rattle.fold.specs.declared.Sizes.{Sizes}
 use Rattle.sheet.specs.declared.sizes.Sections.{Sections}
 use Rattle.sheet.specs.Sections.{Bounded, lastCount, sectionsOf, total, projectionsFrom, challengesFrom, endsElement, endsTerm, endsLine}
+use Rattle.fold.specs.Limits.{mostCommitmentRank, mostConstraints}
 
 pub le-one : {a b : ℕ} → a ≤ b → a + 1 ≤ b + 1
 le-one h = omega arith
@@ -17,7 +18,7 @@ le-one h = omega arith
 pub sum-le : {a b x y : ℕ} → a ≤ x → b ≤ y → a + b ≤ x + y
 sum-le h k = omega arith
 
-pub before-challenges : {k κ₂ : ℕ} → k ≤ 32 → κ₂ ≤ 8 → 5 + (k + (5 + κ₂)) ≤ 50
+pub before-challenges : {k κ₂ : ℕ} → k ≤ mostConstraints → κ₂ ≤ mostCommitmentRank → 5 + (k + (5 + κ₂)) ≤ 50
 before-challenges h l = omega arith
 
 -- ---- numbers of elements that code has computed

@@ -20,7 +20,7 @@ use Rattle.residues.specs.Laws.RangeLaws.{coefficients-at}
 use Rattle.sheet.specs.declared.field.Field.{Field}
 use Rattle.sheet.specs.declared.field.Field.the-variants.{Number, Broken}
 use Rattle.fold.specs.declared.Sizes.{Sizes}
-use Rattle.sheet.specs.Field.{Fits16}
+use Rattle.sheet.specs.Field.{Fits16, headerBytes}
 use Rattle.sheet.specs.Fields.{readField, fieldAt, isNumber, numberIn}
 use Rattle.sheet.specs.Laws.FieldLaws.{read-fits}
 use Rattle.sheet.specs.Sections.{sectionsOf, total, endsLine}
@@ -77,7 +77,7 @@ header-fields h e =
     line-fields h 17 e
     ∙ fields-cong (λ i. eqb (suc i) 18) (endsLine headerSections) (λ i. getD h i (pos 0)) (λ i. getD h i (pos 0)) 18 header-ends (λ i k. refl)
 
-pub header-text : (text : List ℕ) → headerLaid text ≡ true → text ≡ lineText (headerNumbers text) ++ drop 289 text
+pub header-text : (text : List ℕ) → headerLaid text ≡ true → text ≡ lineText (headerNumbers text) ++ drop headerBytes text
 unfolding headerLaid
 header-text text e =
     laid-text (endsLine headerSections) 0 text 18 e
@@ -102,8 +102,8 @@ same-numbers text h e i k = let small : i < 18 = omega (arith, length-header tex
 pub record HeaderRead (text : List ℕ) (h : List ℤ) (rest : List ℕ) : Type 0 where
   pub is-laid : headerLaid text ≡ true
   pub numbers : headerNumbers text ≡ h
-  pub after : drop 289 text ≡ rest
-  pub inside : 289 ≤ length text
+  pub after : drop headerBytes text ≡ rest
+  pub inside : headerBytes ≤ length text
 
 pub header-read : (text : List ℕ) (h : List ℤ) (rest : List ℕ) → length h ≡ 18 → AllFit h → text ≡ lineText h ++ rest → HeaderRead text h rest
 unfolding headerLaid
@@ -133,24 +133,24 @@ module _ (s : Sizes) (p : 0 < s .shape .d) where
     unfolding bodyNumbers
     length-body = length-numbers (endsLine (sectionsOf s)) text 0 (total s) ∙ sym (body-total s)
 
-    body-number : (i : ℕ) → i < total s → getD (bodyNumbers s text) i (pos 0) ≡ numberAt text (place (endsLine (sectionsOf s)) 289 i)
+    body-number : (i : ℕ) → i < total s → getD (bodyNumbers s text) i (pos 0) ≡ numberAt text (place (endsLine (sectionsOf s)) headerBytes i)
     unfolding bodyNumbers
     body-number i h =
         number-of (endsLine (sectionsOf s)) text 0 (total s) i h
-        ∙ ap (λ (k : ℕ). numberAt text (place (endsLine (sectionsOf s)) 289 k)) (zero-add i)
+        ∙ ap (λ (k : ℕ). numberAt text (place (endsLine (sectionsOf s)) headerBytes k)) (zero-add i)
 
     body-parts : bodyLaid s text ≡ true
-        → (laid (endsLine (sectionsOf s)) 289 text (total s) ≡ true) × (place (endsLine (sectionsOf s)) 289 (total s) ≡ length text)
+        → (laid (endsLine (sectionsOf s)) headerBytes text (total s) ≡ true) × (place (endsLine (sectionsOf s)) headerBytes (total s) ≡ length text)
     unfolding bodyLaid
     body-parts e =
-        let lines = laid (endsLine (sectionsOf s)) 289 text (total s) in
-        let end = eqb (place (endsLine (sectionsOf s)) 289 (total s)) (length text) in
-        (both-left lines end e, eqb-true (place (endsLine (sectionsOf s)) 289 (total s)) (length text) (both-right lines end e))
+        let lines = laid (endsLine (sectionsOf s)) headerBytes text (total s) in
+        let end = eqb (place (endsLine (sectionsOf s)) headerBytes (total s)) (length text) in
+        (both-left lines end e, eqb-true (place (endsLine (sectionsOf s)) headerBytes (total s)) (length text) (both-right lines end e))
 
-    pub body-text : bodyLaid s text ≡ true → drop 289 text ≡ textOf (bodyLines s) (bodyNumbers s text)
+    pub body-text : bodyLaid s text ≡ true → drop headerBytes text ≡ textOf (bodyLines s) (bodyNumbers s text)
     body-text e =
         let both = body-parts e in
-        laid-text (endsLine (sectionsOf s)) 289 text (total s) (both .0)
+        laid-text (endsLine (sectionsOf s)) headerBytes text (total s) (both .0)
         ∙ ap₂ _++_
         (fields-cong (endsLine (sectionsOf s)) (endsLine (sectionsOf s)) _ (λ i. getD (bodyNumbers s text) i (pos 0)) (total s) (λ i h. refl)
         (λ i h. sym (body-number i h))
@@ -161,27 +161,27 @@ module _ (s : Sizes) (p : 0 < s .shape .d) where
     pub body-fit : bodyLaid s text ≡ true → AllFit (bodyNumbers s text)
     body-fit e i h =
         let small : i < total s = omega (arith, length-body, body-total s) in
-        rw (body-number i small) (laid-fits (endsLine (sectionsOf s)) 289 text (total s) (body-parts e .0) i small)
+        rw (body-number i small) (laid-fits (endsLine (sectionsOf s)) headerBytes text (total s) (body-parts e .0) i small)
 
-    same-body : (xs : List ℤ) → ((i : ℕ) → i < total s → numberAt text (place (endsLine (sectionsOf s)) 289 i) ≡ getD xs i (pos 0))
+    same-body : (xs : List ℤ) → ((i : ℕ) → i < total s → numberAt text (place (endsLine (sectionsOf s)) headerBytes i) ≡ getD xs i (pos 0))
         → (i : ℕ) → i < length (bodyNumbers s text) → getD (bodyNumbers s text) i (pos 0) ≡ getD xs i (pos 0)
     same-body xs e i k = let small : i < total s = omega (arith, length-body, body-total s) in body-number i small ∙ e i small
 
-    pub body-read : (xs : List ℤ) → 289 ≤ length text → length xs ≡ fields (bodyLines s) → AllFit xs → drop 289 text ≡ textOf (bodyLines s) xs
+    pub body-read : (xs : List ℤ) → headerBytes ≤ length text → length xs ≡ fields (bodyLines s) → AllFit xs → drop headerBytes text ≡ textOf (bodyLines s) xs
         → (bodyLaid s text ≡ true) × (bodyNumbers s text ≡ xs)
     unfolding bodyLaid
     body-read xs inside e fit t =
-        let held = text-held (endsLine (sectionsOf s)) 289 text (λ i. getD xs i (pos 0)) (total s) []
+        let held = text-held (endsLine (sectionsOf s)) headerBytes text (λ i. getD xs i (pos 0)) (total s) []
         (λ i k. fit i (omega (arith, e, body-total s)))
         (t ∙ body-fields xs e ∙ sym (append-nil (lineFields (endsLine (sectionsOf s)) (λ i. getD xs i (pos 0)) (total s)))) in
-        let end : place (endsLine (sectionsOf s)) 289 (total s) ≡ length text =
+        let end : place (endsLine (sectionsOf s)) headerBytes (total s) ≡ length text =
         omega (
           arith,
-          place-inside (endsLine (sectionsOf s)) 289 text (total s) (held .is-laid) inside,
+          place-inside (endsLine (sectionsOf s)) headerBytes text (total s) (held .is-laid) inside,
           ap length (held .after),
-          length-drop (place (endsLine (sectionsOf s)) 289 (total s)) text,
+          length-drop (place (endsLine (sectionsOf s)) headerBytes (total s)) text,
         ) in (
-          rw (held .is-laid) (eq-eqb (place (endsLine (sectionsOf s)) 289 (total s)) (length text) end),
+          rw (held .is-laid) (eq-eqb (place (endsLine (sectionsOf s)) headerBytes (total s)) (length text) end),
           ext-getD (pos 0) (bodyNumbers s text) xs (length-body ∙ sym e) (same-body xs (held .number)),
         )
 

@@ -21,48 +21,49 @@ use Rattle.residues.specs.Range.{allWithin, coefficients}
 use Rattle.residues.specs.Laws.RangeLaws.{allWithin-join, allWithin-false, coefficients-at}
 use Rattle.sheet.specs.Place.{fieldWidth, place, numberAt, numbersFrom, Span}
 use Rattle.sheet.specs.Laws.PlaceLaws.{place-next, place-mono}
+use Rattle.sheet.specs.Field.{headerBytes}
 
 module _ (ends : ℕ → Bool) (text : List ℕ) (from : ℕ) where
   pub number-of : (count j : ℕ) → j < count
-      → getD (numbersFrom ends 289 text from count) j (pos 0) ≡ numberAt text (place ends 289 (from + j))
+      → getD (numbersFrom ends headerBytes text from count) j (pos 0) ≡ numberAt text (place ends headerBytes (from + j))
   unfolding numbersFrom
-  number-of count j h = getD-tab count (λ k. numberAt text (place ends 289 (from + k))) j (pos 0) h
+  number-of count j h = getD-tab count (λ k. numberAt text (place ends headerBytes (from + k))) j (pos 0) h
 
-  pub length-numbers : (count : ℕ) → length (numbersFrom ends 289 text from count) ≡ count
+  pub length-numbers : (count : ℕ) → length (numbersFrom ends headerBytes text from count) ≡ count
   unfolding numbersFrom
-  length-numbers count = length-tab count (λ k. numberAt text (place ends 289 (from + k)))
+  length-numbers count = length-tab count (λ k. numberAt text (place ends headerBytes (from + k)))
 
-pub place-index : (ends : ℕ → Bool) (i : ℕ) → i + 289 ≤ place ends 289 i
+pub place-index : (ends : ℕ → Bool) (i : ℕ) → i + headerBytes ≤ place ends headerBytes i
 unfolding place
-place-index ends i = omega (arith, place-mono ends 289 0 i (omega arith))
+place-index ends i = omega (arith, place-mono ends headerBytes 0 i (omega arith))
 
 pub record Walked (ends : ℕ → Bool) (text : List ℕ) (from start count here j : ℕ) : Type 0 where
   pub span : Span ends text from start count
   pub below : j ≤ count
-  pub is : here ≡ place ends 289 (from + j)
+  pub is : here ≡ place ends headerBytes (from + j)
 
 module _ {ends : ℕ → Bool} {text : List ℕ} {from start count : ℕ} where
   pub walked-start : Span ends text from start count → Walked ends text from start count start 0
-  walked-start span = record { span = span; below = omega arith; is = span .is ∙ ap (place ends 289) (sym (add-zero from)) }
+  walked-start span = record { span = span; below = omega arith; is = span .is ∙ ap (place ends headerBytes) (sym (add-zero from)) }
 
   module _ {here j : ℕ} (inv : Walked ends text from start count here j) where
     -- the place is no smaller than the number's index
     pub walked-index : j < count → from + j < length text
     walked-index more =
-        omega (arith, inv .span .inside, place-index ends (from + j), place-mono ends 289 (from + j) (from + count) (omega arith))
+        omega (arith, inv .span .inside, place-index ends (from + j), place-mono ends headerBytes (from + j) (from + count) (omega arith))
 
     module _ (more : j < count) {last : Bool} {width : ℕ} (told : last ≡ ends (from + j)) (wide : width ≡ fieldWidth last) where
-      walked-next : here + width ≡ place ends 289 (from + j + 1)
-      walked-next = rw (inv .is, wide, told) (sym (place-next ends 289 (from + j)))
+      walked-next : here + width ≡ place ends headerBytes (from + j + 1)
+      walked-next = rw (inv .is, wide, told) (sym (place-next ends headerBytes (from + j)))
 
       pub walked-fits : here + width ≤ length text
-      walked-fits = omega (arith, walked-next, inv .span .inside, place-mono ends 289 (from + j + 1) (from + count) (omega arith))
+      walked-fits = omega (arith, walked-next, inv .span .inside, place-mono ends headerBytes (from + j + 1) (from + count) (omega arith))
 
       pub walked-step : Walked ends text from start count (here + width) (j + 1)
-      walked-step = record { span = inv .span; below = omega arith; is = walked-next ∙ ap (place ends 289) (add-assoc from j 1) }
+      walked-step = record { span = inv .span; below = omega arith; is = walked-next ∙ ap (place ends headerBytes) (add-assoc from j 1) }
 
-    pub walked-end : count ≤ j → here ≡ place ends 289 (from + count)
-    walked-end h = let e : j ≡ count = omega (arith, inv .below) in inv .is ∙ ap (λ (k : ℕ). place ends 289 (from + k)) e
+    pub walked-end : count ≤ j → here ≡ place ends headerBytes (from + count)
+    walked-end h = let e : j ≡ count = omega (arith, inv .below) in inv .is ∙ ap (λ (k : ℕ). place ends headerBytes (from + k)) e
 
 -- ---- the loop of `all_within`
 
@@ -72,7 +73,7 @@ single b x h = rw (le-leb (natAbs x) b h) refl
 
 pub record Ranged (ends : ℕ → Bool) (text : List ℕ) (from start count bound here j : ℕ) : Type 0 where
   pub walk : Walked ends text from start count here j
-  pub passed : allWithin bound (numbersFrom ends 289 text from j) ≡ true
+  pub passed : allWithin bound (numbersFrom ends headerBytes text from j) ≡ true
 
 module _ {ends : ℕ → Bool} {text : List ℕ} {from start count bound : ℕ} where
   pub ranged-start : Span ends text from start count → Ranged ends text from start count bound start 0
@@ -81,13 +82,13 @@ module _ {ends : ℕ → Bool} {text : List ℕ} {from start count bound : ℕ} 
 
   module _ {here j : ℕ} (inv : Ranged ends text from start count bound here j) (more : j < count) {good : Bool}
       (tested : good ≡ leb (natAbs (numberAt text here)) bound) where
-    here-number : natAbs (numberAt text here) ≡ natAbs (numberAt text (place ends 289 (from + j)))
+    here-number : natAbs (numberAt text here) ≡ natAbs (numberAt text (place ends headerBytes (from + j)))
     here-number = ap (λ (p : ℕ). natAbs (numberAt text p)) (inv .walk .is)
 
-    pub ranged-false : not good ≡ true → false ≡ allWithin bound (numbersFrom ends 289 text from count)
+    pub ranged-false : not good ≡ true → false ≡ allWithin bound (numbersFrom ends headerBytes text from count)
     ranged-false t =
         let above = leb-false (natAbs (numberAt text here)) bound (sym tested ∙ not-true good t) in
-        sym (allWithin-false bound (numbersFrom ends 289 text from count) j
+        sym (allWithin-false bound (numbersFrom ends headerBytes text from count) j
         (rw (number-of ends text from count j more) (omega (arith, above, here-number))))
 
     pub ranged-step : not good ≡ false → {last : Bool} {width : ℕ} → last ≡ ends (from + j) → width ≡ fieldWidth last
@@ -95,7 +96,7 @@ module _ {ends : ℕ → Bool} {text : List ℕ} {from start count bound : ℕ} 
     unfolding numbersFrom
     ranged-step t told wide =
         let within = leb-true (natAbs (numberAt text here)) bound (sym tested ∙ not-false good t) in
-        let f : ℕ → ℤ = λ k. numberAt text (place ends 289 (from + k)) in
+        let f : ℕ → ℤ = λ k. numberAt text (place ends headerBytes (from + k)) in
         record {
           walk = walked-step (inv .walk) more told wide;
           passed =
@@ -104,7 +105,7 @@ module _ {ends : ℕ → Bool} {text : List ℕ} {from start count bound : ℕ} 
         }
 
   pub ranged-end : {here j : ℕ} → Ranged ends text from start count bound here j → count ≤ j
-      → true ≡ allWithin bound (numbersFrom ends 289 text from count)
+      → true ≡ allWithin bound (numbersFrom ends headerBytes text from count)
   ranged-end {j} inv h =
       let e : j ≡ count = omega (arith, inv .walk .below) in
       sym (rw e at (inv .passed))
@@ -113,7 +114,7 @@ module _ {ends : ℕ → Bool} {text : List ℕ} {from start count bound : ℕ} 
 
 pub record Filled (ends : ℕ → Bool) (text : List ℕ) (from start count : ℕ) (out₀ out : List ℤ) (here j : ℕ) : Type 0 where
   pub walk : Walked ends text from start count here j
-  pub written : out ≡ over out₀ 0 (numbersFrom ends 289 text from j)
+  pub written : out ≡ over out₀ 0 (numbersFrom ends headerBytes text from j)
   pub size : length out ≡ length out₀
 
 module _ {ends : ℕ → Bool} {text : List ℕ} {from start count : ℕ} where
@@ -122,19 +123,19 @@ module _ {ends : ℕ → Bool} {text : List ℕ} {from start count : ℕ} where
   filled-start {out} span = record { walk = walked-start span; written = sym (over-nil out 0); size = refl }
 
   module _ {out₀ out : List ℤ} {here j : ℕ} (inv : Filled ends text from start count out₀ out here j) (more : j < count) where
-    pub filled-small : coefficients (numbersFrom ends 289 text from count) ≡ true → natAbs (numberAt text here) ≤ 2147483598
+    pub filled-small : coefficients (numbersFrom ends headerBytes text from count) ≡ true → natAbs (numberAt text here) ≤ 2147483598
     filled-small e =
         omega (
           arith,
           ap (λ (p : ℕ). natAbs (numberAt text p)) (inv .walk .is),
-          rw (number-of ends text from count j more) at (coefficients-at (numbersFrom ends 289 text from count) e j),
+          rw (number-of ends text from count j more) at (coefficients-at (numbersFrom ends headerBytes text from count) e j),
         )
 
     pub filled-step : count ≤ length out₀ → {x : ℤ} {last : Bool} {width : ℕ} → x ≡ numberAt text here → last ≡ ends (from + j)
         → width ≡ fieldWidth last → Filled ends text from start count out₀ (set out j x) (here + width) (j + 1)
     unfolding numbersFrom
     filled-step room {x} read told wide =
-        let f : ℕ → ℤ = λ k. numberAt text (place ends 289 (from + k)) in
+        let f : ℕ → ℤ = λ k. numberAt text (place ends headerBytes (from + k)) in
         let inside : 0 + j < length out₀ = omega arith in
         let place-j : 0 + j ≡ j = omega arith in
         record {
@@ -145,7 +146,7 @@ module _ {ends : ℕ → Bool} {text : List ℕ} {from start count : ℕ} where
         }
 
   pub filled-end : {out₀ out : List ℤ} {here j : ℕ} → Filled ends text from start count out₀ out here j → count ≤ j
-      → out ≡ over out₀ 0 (numbersFrom ends 289 text from count)
+      → out ≡ over out₀ 0 (numbersFrom ends headerBytes text from count)
   filled-end {j} inv h =
       let e : j ≡ count = omega (arith, inv .walk .below) in
       rw e at (inv .written)

@@ -29,6 +29,7 @@ use Rattle.sheet.specs.Layout.{fields, bodyLines, lineText, textOf, shee
 use Rattle.sheet.specs.Laws.BodyLaws.{body-total}
 use Rattle.sheet.specs.Laws.SheetLaws.{length-header, header-text, header-fit, HeaderRead, header-read, length-body, body-text, body-fit, body-read}
 use Rattle.sheet.specs.Laws.SheetLaws.{coefficients-fit}
+use Rattle.sheet.specs.Field.{headerBytes}
 
 -- ---- the lines
 
@@ -42,7 +43,7 @@ pub record HeaderLine (text : List ℕ) : Type 0 where
 
 pub header-line : (text : List ℕ) → (headerLaid text ≡ true) ↔ HeaderLine text
 header-line text = (
-  λ e. record { h = headerNumbers text; rest = drop 289 text; count = length-header text; fit = header-fit text e; is = header-text text e },
+  λ e. record { h = headerNumbers text; rest = drop headerBytes text; count = length-header text; fit = header-fit text e; is = header-text text e },
   λ l. header-read text (l .h) (l .rest) (l .count) (l .fit) (l .is) .is-laid,
 )
 
@@ -53,7 +54,7 @@ pub record OtherLines (s : Sizes) (rest : List ℕ) : Type 0 where
   pub fit : AllFit xs
   pub is : rest ≡ textOf (bodyLines s) xs
 
-pub other-lines : (s : Sizes) (text : List ℕ) → 0 < s .shape .d → 289 ≤ length text → (bodyLaid s text ≡ true) ↔ OtherLines s (drop 289 text)
+pub other-lines : (s : Sizes) (text : List ℕ) → 0 < s .shape .d → headerBytes ≤ length text → (bodyLaid s text ≡ true) ↔ OtherLines s (drop headerBytes text)
 other-lines s text p inside = (
   λ e. record { xs = bodyNumbers s text; count = length-body s p text; fit = body-fit s p text e; is = body-text s p text e },
   λ l. body-read s p text (l .xs) inside (l .count) (l .fit) (l .is) .0,
