@@ -2,7 +2,7 @@
 use Prim.Native.Nat.{_-_}
 use native.Mathlib.Omega.{arith}
 use Rattle.ring.specs.Laws.ElementPlaces.{place-below}
-use Rattle.next_checks.specs.Laws.CutLaws.{cut-sizes, parts-few, chunk-within, part-within, pairs-room}
+use Rattle.next_checks.specs.Laws.CutLaws.{cut-sizes, parts-few, short, chunk-within, part-within, pairs-room}
 use Rattle.next_checks.specs.Laws.SpreadLaws.{Spreading, spreading-start, spreading-order, spreading-chunk, spreading-part, spreading-below, spreading-turn, spreading-end}
 use Rattle.next_checks.proofs.spread.spread.Statement.{statement}
 use Rattle.next_checks.proofs.spread.spread.Tie as tie
@@ -60,6 +60,8 @@ add-place-2 c =
       spreading-below (a .sizes) (a .cut) cut (l .loop .inv) (s .pre .0 .shaped .degree),
       part-within (a .sizes) (a .cut) cut (l .loop .s) (c .before .before .before .before .loop-test .taken),
       l .loop .inv .place-is,
+      short (a .sizes) (a .cut) cut (l .loop .s),
+      c .before .before .before .chunk-width .ensures,
     )
 
 loop-again : tie.Need-loop-again Inv-loop μ-loop
