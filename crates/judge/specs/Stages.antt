@@ -13,34 +13,38 @@ use Rattle.fold.specs.Sizes.{five, zCount, openingSize}
 use Rattle.fold.specs.Refusals.{wholeLength, constantTermsLength, projectionLength}
 use Rattle.fold.specs.Arguments.{statementOf, drawsOf, transcriptOf}
 use Rattle.fold.specs.Verification.{verification}
+use Rattle.fold.specs.declared.Shape.{Shape}
 use Rattle.fold.specs.declared.Sizes.{Sizes}
 
 module _ (s : Sizes) where
+  open Sizes s using (shape, k, l, w, kappa, kappa1, kappa2, t1, t2)
+  open Shape shape using (d, n, r)
+
   unfoldable pub lastStage : (A B C D whole constantTerms u₁ projections p ψ ω b″ xs : List ℤ) → Answer
   lastStage A B C D whole constantTerms u₁ projections p ψ ω b″ xs =
-      let α = s .k * s .shape .d in
-      let δ = five * s .shape .d in
-      let u₂ = s .kappa2 * s .shape .d in
-      let c = s .shape .r * s .shape .d in
-      let o = openingSize zCount (s .shape .n) (s .shape .r) (s .kappa) (s .t1) (s .t2) * s .shape .d in
+      let α = k * d in
+      let δ = five * d in
+      let u₂ = kappa2 * d in
+      let c = r * d in
+      let o = openingSize zCount n r kappa t1 t2 * d in
       verification (statementOf s A B C D whole constantTerms)
       (drawsOf projections ψ ω (take α xs) (take δ (drop α xs)) (take c (drop u₂ (drop δ (drop α xs)))))
       (transcriptOf u₁ p b″ (take u₂ (drop δ (drop α xs)))) (take o (drop c (drop u₂ (drop δ (drop α xs)))))
 
   unfoldable pub numberStage : (A B C D whole constantTerms u₁ projections xs : List ℤ) → Answer
   numberStage A B C D whole constantTerms u₁ projections xs =
-      let p = s .w in
-      let ψ = five * s .l in
-      let ω = five * s .w in
-      let b″ = five * s .shape .d in
+      let p = w in
+      let ψ = five * l in
+      let ω = five * w in
+      let b″ = five * d in
       lastStage A B C D whole constantTerms u₁ projections (take p xs) (take ψ (drop p xs)) (take ω (drop ψ (drop p xs)))
       (take b″ (drop ω (drop ψ (drop p xs)))) (drop b″ (drop ω (drop ψ (drop p xs))))
 
   unfoldable pub constraintStage : (A B C D xs : List ℤ) → Answer
   constraintStage A B C D xs =
-      let whole = wholeLength (s .shape .d) (s .shape .n) (s .shape .r) (s .k) in
-      let constantTerms = constantTermsLength (s .shape .d) (s .shape .n) (s .shape .r) (s .l) in
-      let u₁ = s .kappa1 * s .shape .d in
-      let projections = projectionLength (s .shape .d) (s .shape .n) (s .shape .r) (s .w) in
+      let whole = wholeLength d n r k in
+      let constantTerms = constantTermsLength d n r l in
+      let u₁ = kappa1 * d in
+      let projections = projectionLength d n r w in
       numberStage A B C D (take whole xs) (take constantTerms (drop whole xs)) (take u₁ (drop constantTerms (drop whole xs)))
       (take projections (drop u₁ (drop constantTerms (drop whole xs)))) (drop projections (drop u₁ (drop constantTerms (drop whole xs))))

@@ -11,6 +11,7 @@ use lib.IntN.{ℤ, pos}
 use Rattle.integers.specs.Flat.{flat}
 use Rattle.fold.specs.Answers.{firstFailing}
 use Rattle.fold.specs.Sizes.{zCount, pairs, tSize, garbageSize, openingSize}
+use Rattle.fold.specs.declared.Shape.{Shape}
 use Rattle.fold.specs.declared.Sizes.{Sizes}
 use Rattle.sheet.specs.Field.{fieldText, Fits16}
 use Rattle.sheet.specs.Reading.{headerTests, sizesOf, numberTests}
@@ -32,37 +33,40 @@ fields [] = 0
 fields (w ∷ ws) = w + fields ws
 
 module _ (s : Sizes) where
+  open Sizes s using (shape, k, l, w, kappa, kappa1, kappa2, t1, t2)
+  open Shape shape using (d, n, r)
+
   -- "A, B, C, D by rows"
   unfoldable pub matrixLines : List ℕ
   matrixLines =
-      elements (s .shape .d) (s .kappa * s .shape .n)
-      ++ (elements (s .shape .d) (s .kappa1 * tSize (s .shape .r) (s .kappa) (s .t1))
-      ++ (elements (s .shape .d) (s .kappa1 * garbageSize (s .shape .r) (s .t2)) ++ elements (s .shape .d) (s .kappa2 * garbageSize (s .shape .r) (s .t1))))
+      elements d (kappa * n)
+      ++ (elements d (kappa1 * tSize r kappa t1)
+      ++ (elements d (kappa1 * garbageSize r t2) ++ elements d (kappa2 * garbageSize r t1)))
 
   -- "each whole constraint as a (by i, then j), φ (by part), b"
   unfoldable pub wholeLines : List ℕ
-  wholeLines = copies (s .k) (elements (s .shape .d) (pairs (s .shape .r)) ++ (elements (s .shape .d) (s .shape .r * s .shape .n) ++ elements (s .shape .d) 1))
+  wholeLines = copies k (elements d (pairs r) ++ (elements d (r * n) ++ elements d 1))
 
   -- "each constant-term one likewise, its b a line of one field"
   unfoldable pub termLines : List ℕ
-  termLines = copies (s .l) (elements (s .shape .d) (pairs (s .shape .r)) ++ (elements (s .shape .d) (s .shape .r * s .shape .n) ++ elements 1 1))
+  termLines = copies l (elements d (pairs r) ++ (elements d (r * n) ++ elements 1 1))
 
   -- "u1; projection rows (by row, then part)"
   unfoldable pub rowLines : List ℕ
-  rowLines = elements (s .shape .d) (s .kappa1) ++ elements (s .shape .d) (s .w * (s .shape .r * s .shape .n))
+  rowLines = elements d kappa1 ++ elements d (w * (r * n))
 
   -- "p, ψ, ω (one number a line, ψ and ω by k)"
   unfoldable pub numberLines : List ℕ
-  numberLines = elements 1 (s .w) ++ (elements 1 (5 * s .l) ++ elements 1 (5 * s .w))
+  numberLines = elements 1 w ++ (elements 1 (5 * l) ++ elements 1 (5 * w))
 
   -- "b''; α; δ; u2; c; the opening."
   unfoldable pub lastLines : List ℕ
   lastLines =
-      elements (s .shape .d) 5
-      ++ (elements (s .shape .d) (s .k)
-      ++ (elements (s .shape .d) 5
-      ++ (elements (s .shape .d) (s .kappa2)
-      ++ (elements (s .shape .d) (s .shape .r) ++ elements (s .shape .d) (openingSize zCount (s .shape .n) (s .shape .r) (s .kappa) (s .t1) (s .t2))))))
+      elements d 5
+      ++ (elements d k
+      ++ (elements d 5
+      ++ (elements d kappa2
+      ++ (elements d r ++ elements d (openingSize zCount n r kappa t1 t2)))))
 
   unfoldable pub bodyLines : List ℕ
   bodyLines = matrixLines ++ (wholeLines ++ (termLines ++ (rowLines ++ (numberLines ++ lastLines))))

@@ -7,30 +7,35 @@ use lib.ListN.{take, drop}
 use lib.IntN.{ℤ}
 use Rattle.fold.specs.Sizes.{five, zCount, tSize, garbageSize, openingSize}
 use Rattle.fold.specs.Refusals.{wholeLength, constantTermsLength, projectionLength}
+use Rattle.fold.specs.declared.Shape.{Shape}
 use Rattle.fold.specs.declared.Sizes.{Sizes}
 
--- "A, B, C, D by rows; each whole constraint ..; each constant-term one ..; u1; projection rows ..; p, ψ, ω ..; b''; α; δ; u2; c; the opening":
--- how many numbers each has
-unfoldable pub listLengths : Sizes → List ℕ
-listLengths s =
-    s .kappa * s .shape .n * s .shape .d
-    ∷ s .kappa1 * tSize (s .shape .r) (s .kappa) (s .t1) * s .shape .d
-    ∷ s .kappa1 * garbageSize (s .shape .r) (s .t2) * s .shape .d
-    ∷ s .kappa2 * garbageSize (s .shape .r) (s .t1) * s .shape .d
-    ∷ wholeLength (s .shape .d) (s .shape .n) (s .shape .r) (s .k)
-    ∷ constantTermsLength (s .shape .d) (s .shape .n) (s .shape .r) (s .l)
-    ∷ s .kappa1 * s .shape .d
-    ∷ projectionLength (s .shape .d) (s .shape .n) (s .shape .r) (s .w)
-    ∷ s .w
-    ∷ five * s .l
-    ∷ five * s .w
-    ∷ five * s .shape .d
-    ∷ s .k * s .shape .d
-    ∷ five * s .shape .d
-    ∷ s .kappa2 * s .shape .d
-    ∷ s .shape .r * s .shape .d
-    ∷ openingSize zCount (s .shape .n) (s .shape .r) (s .kappa) (s .t1) (s .t2) * s .shape .d
-    ∷ []
+module _ (s : Sizes) where
+  open Sizes s using (shape, k, l, w, kappa, kappa1, kappa2, t1, t2)
+  open Shape shape using (d, n, r)
+
+  -- "A, B, C, D by rows; each whole constraint ..; each constant-term one ..; u1; projection rows ..; p, ψ, ω ..; b''; α; δ; u2; c; the opening":
+  -- how many numbers each has
+  unfoldable pub listLengths : List ℕ
+  listLengths =
+      kappa * n * d
+      ∷ kappa1 * tSize r kappa t1 * d
+      ∷ kappa1 * garbageSize r t2 * d
+      ∷ kappa2 * garbageSize r t1 * d
+      ∷ wholeLength d n r k
+      ∷ constantTermsLength d n r l
+      ∷ kappa1 * d
+      ∷ projectionLength d n r w
+      ∷ w
+      ∷ five * l
+      ∷ five * w
+      ∷ five * d
+      ∷ k * d
+      ∷ five * d
+      ∷ kappa2 * d
+      ∷ r * d
+      ∷ openingSize zCount n r kappa t1 t2 * d
+      ∷ []
 
 -- list k, where lists of these lengths stand one after another
 unfoldable pub listAt : List ℕ → List ℤ → ℕ → List ℤ

@@ -7,6 +7,7 @@ use mathlib.Core.Bool.{Bool, true, cond}
 use Prim.Native.Nat.{ℕ, _+_, _*_, _-_, _%_, _≤_, _<_}
 use lib.Dec.{ltb, eqb}
 use Rattle.fold.specs.Sizes.{zCount, functionSize, tSize, garbageSize, openingSize}
+use Rattle.fold.specs.declared.Shape.{Shape}
 use Rattle.fold.specs.declared.Sizes.{Sizes}
 use Rattle.sheet.specs.declared.sizes.Sections.{Sections}
 use Rattle.fold.specs.Limits.{mostCommitmentRank, mostConstraints, mostDigits, mostParts, mostProjections, mostRank}
@@ -27,48 +28,51 @@ pub record Bounded (s : Sizes) : Type 0 where
   pub t₂ : s .t2 ≤ mostDigits
 
 module _ (s : Sizes) where
+  open Sizes s using (shape, k, l, w, kappa, kappa1, kappa2, t1, t2)
+  open Shape shape using (d, n, r)
+
   unfoldable pub matrixCount : ℕ
   matrixCount =
-      s .kappa * s .shape .n
-      + (s .kappa1 * tSize (s .shape .r) (s .kappa) (s .t1)
-      + (s .kappa1 * garbageSize (s .shape .r) (s .t2) + s .kappa2 * garbageSize (s .shape .r) (s .t1)))
+      kappa * n
+      + (kappa1 * tSize r kappa t1
+      + (kappa1 * garbageSize r t2 + kappa2 * garbageSize r t1))
 
   unfoldable pub wholeCount : ℕ
-  wholeCount = s .k * (functionSize (s .shape .n) (s .shape .r) + 1)
+  wholeCount = k * (functionSize n r + 1)
 
   unfoldable pub rowCount : ℕ
-  rowCount = s .kappa1 + s .w * (s .shape .r * s .shape .n)
+  rowCount = kappa1 + w * (r * n)
 
   unfoldable pub lastCount : ℕ
-  lastCount = 5 + (s .k + (5 + (s .kappa2 + (s .shape .r + openingSize zCount (s .shape .n) (s .shape .r) (s .kappa) (s .t1) (s .t2)))))
+  lastCount = 5 + (k + (5 + (kappa2 + (r + openingSize zCount n r kappa t1 t2))))
 
   -- numbers of one constant-term constraint, and numbers on lines of their own
   unfoldable pub termSize : ℕ
-  termSize = functionSize (s .shape .n) (s .shape .r) * s .shape .d + 1
+  termSize = functionSize n r * d + 1
 
   unfoldable pub onesCount : ℕ
-  onesCount = s .w + (5 * s .l + 5 * s .w)
+  onesCount = w + (5 * l + 5 * w)
 
   unfoldable pub sectionsOf : Sections
   sectionsOf = record {
-    d = s .shape .d;
-    head = (matrixCount + wholeCount) * s .shape .d;
+    d = d;
+    head = (matrixCount + wholeCount) * d;
     period = termSize;
-    terms = s .l * termSize;
-    middle = rowCount * s .shape .d;
+    terms = l * termSize;
+    middle = rowCount * d;
     ones = onesCount;
   }
 
   unfoldable pub total : ℕ
-  total = (matrixCount + wholeCount) * s .shape .d + (s .l * termSize + (rowCount * s .shape .d + (onesCount + lastCount * s .shape .d)))
+  total = (matrixCount + wholeCount) * d + (l * termSize + (rowCount * d + (onesCount + lastCount * d)))
 
   unfoldable pub projectionsFrom : ℕ
-  projectionsFrom = (matrixCount + wholeCount) * s .shape .d + (s .l * termSize + s .kappa1 * s .shape .d)
+  projectionsFrom = (matrixCount + wholeCount) * d + (l * termSize + kappa1 * d)
 
   unfoldable pub challengesFrom : ℕ
   challengesFrom =
-      (matrixCount + wholeCount) * s .shape .d
-      + (s .l * termSize + (rowCount * s .shape .d + (onesCount + (5 + (s .k + (5 + s .kappa2))) * s .shape .d)))
+      (matrixCount + wholeCount) * d
+      + (l * termSize + (rowCount * d + (onesCount + (5 + (k + (5 + kappa2))) * d)))
 
 -- the parts, and that they are few numbers
 pub record Sectioned (s : Sizes) (q : Sections) : Type 0 where

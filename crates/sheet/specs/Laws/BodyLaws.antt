@@ -7,6 +7,7 @@ use Prim.Native.Nat.{ℕ, zero, suc, _+_, _*_, _<_}
 use native.Mathlib.Nat.{zero-mul, suc-mul, zero-add, add-assoc}
 use native.Mathlib.Omega.{arith}
 use Rattle.fold.specs.Sizes.{pairs, functionSize}
+use Rattle.fold.specs.declared.Shape.{Shape}
 use Rattle.fold.specs.declared.Sizes.{Sizes}
 use Rattle.sheet.specs.Sections.{matrixCount, wholeCount, rowCount, lastCount, termSize, onesCount, total}
 use Rattle.sheet.specs.Layout.{copies, elements, fields, matrixLines, wholeLines, termLines, rowLines, numberLines, lastLines, bodyLines}
@@ -46,51 +47,54 @@ copies-elements (suc c) d m =
     sum c m = omega (arith, suc-mul c m)
 
 module _ (s : Sizes) where
-  matrix-merged : matrixLines s ≡ elements (s .shape .d) (matrixCount s)
+  open Sizes s using (shape, k, l, w, kappa1)
+  open Shape shape using (d, n, r)
+
+  matrix-merged : matrixLines s ≡ elements d (matrixCount s)
   unfolding matrixLines matrixCount
   matrix-merged = simp join
 
-  whole-merged : wholeLines s ≡ elements (s .shape .d) (wholeCount s)
+  whole-merged : wholeLines s ≡ elements d (wholeCount s)
   unfolding wholeLines wholeCount functionSize
-  whole-merged = simp (join, copies-elements) (ap (λ (x : ℕ). elements (s .shape .d) (s .k * x)) (sym (add-assoc (pairs (s .shape .r)) (s .shape .r * s .shape .n) 1)))
+  whole-merged = simp (join, copies-elements) (ap (λ (x : ℕ). elements d (k * x)) (sym (add-assoc (pairs r) (r * n) 1)))
 
-  term-merged : termLines s ≡ copies (s .l) (elements (s .shape .d) (functionSize (s .shape .n) (s .shape .r)) ++ elements 1 1)
+  term-merged : termLines s ≡ copies l (elements d (functionSize n r) ++ elements 1 1)
   unfolding termLines functionSize
-  term-merged = ap (copies (s .l)) (join-rest (s .shape .d) (pairs (s .shape .r)) (s .shape .r * s .shape .n) (elements 1 1))
+  term-merged = ap (copies l) (join-rest d (pairs r) (r * n) (elements 1 1))
 
-  rows-merged : rowLines s ≡ elements (s .shape .d) (rowCount s)
+  rows-merged : rowLines s ≡ elements d (rowCount s)
   unfolding rowLines rowCount
-  rows-merged = join (s .shape .d) (s .kappa1) (s .w * (s .shape .r * s .shape .n))
+  rows-merged = join d kappa1 (w * (r * n))
 
   numbers-merged : numberLines s ≡ elements 1 (onesCount s)
   unfolding numberLines onesCount
   numbers-merged = simp join
 
-  last-merged : lastLines s ≡ elements (s .shape .d) (lastCount s)
+  last-merged : lastLines s ≡ elements d (lastCount s)
   unfolding lastLines lastCount
   last-merged = simp join
 
   -- the five parts
   unfoldable pub middlePart : List ℕ
-  middlePart = elements (s .shape .d) (rowCount s) ++ (elements 1 (onesCount s) ++ elements (s .shape .d) (lastCount s))
+  middlePart = elements d (rowCount s) ++ (elements 1 (onesCount s) ++ elements d (lastCount s))
 
   unfoldable pub termPart : List ℕ
-  termPart = copies (s .l) (elements (s .shape .d) (functionSize (s .shape .n) (s .shape .r)) ++ elements 1 1)
+  termPart = copies l (elements d (functionSize n r) ++ elements 1 1)
 
-  pub body-merged : bodyLines s ≡ elements (s .shape .d) (matrixCount s + wholeCount s) ++ (termPart ++ middlePart)
+  pub body-merged : bodyLines s ≡ elements d (matrixCount s + wholeCount s) ++ (termPart ++ middlePart)
   unfolding bodyLines middlePart termPart
   body-merged =
       rw (matrix-merged, whole-merged, term-merged, rows-merged, numbers-merged, last-merged)
-      (join-rest (s .shape .d) (matrixCount s) (wholeCount s) _)
+      (join-rest d (matrixCount s) (wholeCount s) _)
 
-  term-fields : fields termPart ≡ s .l * termSize s
+  term-fields : fields termPart ≡ l * termSize s
   unfolding termPart termSize
   term-fields =
-      fields-copies (s .l) (elements (s .shape .d) (functionSize (s .shape .n) (s .shape .r)) ++ elements 1 1)
-      ∙ ap (λ (x : ℕ). s .l * x) (fields-append (elements (s .shape .d) (functionSize (s .shape .n) (s .shape .r))) (elements 1 1)
-      ∙ ap₂ _+_ (fields-elements (s .shape .d) (functionSize (s .shape .n) (s .shape .r))) (fields-elements 1 1))
+      fields-copies l (elements d (functionSize n r) ++ elements 1 1)
+      ∙ ap (λ (x : ℕ). l * x) (fields-append (elements d (functionSize n r)) (elements 1 1)
+      ∙ ap₂ _+_ (fields-elements d (functionSize n r)) (fields-elements 1 1))
 
-  middle-fields : fields middlePart ≡ rowCount s * s .shape .d + (onesCount s + lastCount s * s .shape .d)
+  middle-fields : fields middlePart ≡ rowCount s * d + (onesCount s + lastCount s * d)
   unfolding middlePart
   middle-fields =
       simp (fields-append, fields-elements) (omega arith)
@@ -100,24 +104,24 @@ module _ (s : Sizes) where
   body-total =
       rw (
         body-merged,
-        fields-append (elements (s .shape .d) (matrixCount s + wholeCount s)) (termPart ++ middlePart),
+        fields-append (elements d (matrixCount s + wholeCount s)) (termPart ++ middlePart),
         fields-append termPart middlePart,
-        fields-elements (s .shape .d) (matrixCount s + wholeCount s),
+        fields-elements d (matrixCount s + wholeCount s),
         term-fields,
         middle-fields,
       )
       refl
 
-  pub body-positive : 0 < s .shape .d → Positive (bodyLines s)
+  pub body-positive : 0 < d → Positive (bodyLines s)
   unfolding middlePart termPart
   body-positive h =
-      let e = positive-elements (s .shape .d) in
+      let e = positive-elements d in
       rw body-merged
-      (positive-append (elements (s .shape .d) (matrixCount s + wholeCount s)) _ (e (matrixCount s + wholeCount s) h)
-      (positive-append (copies (s .l) (elements (s .shape .d) (functionSize (s .shape .n) (s .shape .r)) ++ elements 1 1)) _
-      (positive-copies (s .l) _
-      (positive-append (elements (s .shape .d) (functionSize (s .shape .n) (s .shape .r))) (elements 1 1) (e (functionSize (s .shape .n) (s .shape .r)) h)
+      (positive-append (elements d (matrixCount s + wholeCount s)) _ (e (matrixCount s + wholeCount s) h)
+      (positive-append (copies l (elements d (functionSize n r) ++ elements 1 1)) _
+      (positive-copies l _
+      (positive-append (elements d (functionSize n r)) (elements 1 1) (e (functionSize n r) h)
       (positive-elements 1 1 (omega arith))))
-      (positive-append (elements (s .shape .d) (rowCount s)) _ (e (rowCount s) h)
-      (positive-append (elements 1 (onesCount s)) (elements (s .shape .d) (lastCount s)) (positive-elements 1 (onesCount s) (omega arith))
+      (positive-append (elements d (rowCount s)) _ (e (rowCount s) h)
+      (positive-append (elements 1 (onesCount s)) (elements d (lastCount s)) (positive-elements 1 (onesCount s) (omega arith))
       (e (lastCount s) h)))))
