@@ -1,11 +1,9 @@
 // The number of the first check that fails, 0 where none does. A check is asked only where those before it pass.
 ghost use mathlib.Core.Path.{_≡_};
+ghost use mathlib.Core.List.{_++_};
 ghost use Prim.Native.Nat.{_<_, _≤_};
 ghost use Rattle.fold.specs.Answers.{firstFailing, judged};
-ghost use Rattle.fold.specs.Verdict.{checks};
-ghost use Rattle.fold.specs.Arguments.{statementOf, drawsOf, transcriptOf};
 ghost use Rattle.fold.specs.Known.WorkFacts.{MessageFacts, OuterFacts, OpeningFacts};
-ghost use Rattle.fold.specs.Known.CallFacts.{VerifyFacts};
 ghost use Rattle.verifier.specs.Judgement.{messageChecksOf, outerChecksOf, openingChecksOf, Recomposed};
 use crate::amortized;
 use crate::linear;
@@ -16,7 +14,6 @@ use crate::relation;
 use crate::terms;
 use fold::Sizes;
 use fold::Verdict;
-use fold::counts::Z_DIGITS;
 use limits::rows::first;
 
 // Checks 1 and 2, which need no opening.
@@ -179,8 +176,9 @@ fn opening_checks(
     )
 }
 
-// Checks 1 to 9, for a call that is not refused.
-pub fn first_failing(
+// Checks 3 to 9, of an opening whose z has tz digits.
+pub fn later_checks(
+    tz: usize,
     sizes: Sizes,
     a_matrix: &[i32],
     b_matrix: &[i32],
@@ -190,7 +188,6 @@ pub fn first_failing(
     constant_terms: &[i32],
     u1: &[i32],
     projections: &[i32],
-    p: &[i32],
     psi: &[i32],
     omega: &[i32],
     second_b: &[i32],
@@ -200,33 +197,23 @@ pub fn first_failing(
     c: &[i32],
     opening: &[i32],
 ) -> u8
-    requires { ⌜ VerifyFacts sizes (now «a_matrix») (now «b_matrix») (now «c_matrix») (now «d_matrix») (now whole) (now «constant_terms»)
-        (now projections) (now psi) (now omega) (now alpha) (now delta) (now c) (now u1) (now p) (now «second_b») (now u2) (now opening) ⌝ }
+    requires { ⌜ (0 < tz) × (tz ≤ 2) ⌝ }
+    requires { ⌜ OuterFacts tz sizes (now «b_matrix») (now «c_matrix») (now «d_matrix») (now u1) (now u2) (now opening) ⌝ }
+    requires { ⌜ OpeningFacts tz sizes (now «a_matrix») (now whole) (now «constant_terms») (now projections) (now psi) (now omega) (now «second_b») (now alpha) (now delta)
+        (now c) (now opening) ⌝ }
     ensures { λ x.
-        ⌜ x ≡ firstFailing (checks (statementOf sizes (now («a_matrix» .entry)) (now («b_matrix» .entry)) (now («c_matrix» .entry))
-        (now («d_matrix» .entry)) (now (whole .entry)) (now («constant_terms» .entry))) (drawsOf (now (projections .entry)) (now (psi .entry))
-        (now (omega .entry)) (now (alpha .entry)) (now (delta .entry)) (now (c .entry))) (transcriptOf (now (u1 .entry))
-        (now (p .entry)) (now («second_b» .entry)) (now (u2 .entry))) (now (opening .entry))) ⌝ }
+        ⌜ x ≡ firstFailing (outerChecksOf tz sizes (now («b_matrix» .entry)) (now («c_matrix» .entry)) (now («d_matrix» .entry))
+        (now (u1 .entry)) (now (u2 .entry)) (now (opening .entry))
+        ++ openingChecksOf tz sizes (now («a_matrix» .entry)) (now (whole .entry)) (now («constant_terms» .entry)) (now (projections .entry))
+        (now (psi .entry)) (now (omega .entry)) (now («second_b» .entry)) (now (alpha .entry)) (now (delta .entry)) (now (c .entry))
+        (now (opening .entry))) ⌝ }
 {
-    let message = message_checks(sizes, constant_terms, p, psi, omega, second_b);
-    if message != 0 {
-        return message;
-    }
-    let outer = outer_checks(
-        Z_DIGITS,
-        sizes,
-        b_matrix,
-        c_matrix,
-        d_matrix,
-        u1,
-        u2,
-        opening,
-    );
+    let outer = outer_checks(tz, sizes, b_matrix, c_matrix, d_matrix, u1, u2, opening);
     if outer != 0 {
         return outer;
     }
     opening_checks(
-        Z_DIGITS,
+        tz,
         sizes,
         a_matrix,
         whole,

@@ -4,6 +4,7 @@ ghost use Rattle.fold.specs.Arguments.{statementOf, drawsOf, transcriptOf};
 ghost use Rattle.fold.specs.Verification.{verification};
 use fold::Answer;
 use fold::Sizes;
+use fold::counts::Z_DIGITS;
 use limits::verify_refusal;
 
 pub mod amortized;
@@ -66,7 +67,12 @@ pub fn verify(
     if 0 < refusal {
         return Answer::Refused(refusal);
     }
-    let number = judgement::first_failing(
+    let message = judgement::message_checks(sizes, constant_terms, p, psi, omega, second_b);
+    if message != 0 {
+        return Answer::Judged(judgement::verdict(message));
+    }
+    let number = judgement::later_checks(
+        Z_DIGITS,
         sizes,
         a_matrix,
         b_matrix,
@@ -76,7 +82,6 @@ pub fn verify(
         constant_terms,
         u1,
         projections,
-        p,
         psi,
         omega,
         second_b,

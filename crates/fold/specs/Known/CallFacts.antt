@@ -19,7 +19,7 @@ use Rattle.fold.specs.Answers.{firstFailing}
 use Rattle.fold.specs.Refusals.{projectionLength, sizeTests}
 use Rattle.fold.specs.Refusals.{commitBounds, projectBounds, aggregateBounds, garbageBounds, amortizeBounds}
 use Rattle.fold.specs.Refusals.{commitTests, projectTests, aggregateTests, garbageTests, amortizeTests, verifyTests}
-use Rattle.fold.specs.Arguments.{statementOf, drawsOf, transcriptOf}
+use Rattle.fold.specs.Arguments.{statementWith, drawsOf, transcriptOf}
 use Rattle.fold.specs.Arguments.{commitRefusal, projectRefusal, aggregateRefusal, garbageRefusal, verifyRefusal}
 use Rattle.fold.specs.Laws.RefusalLaws.{allOf-all, tested}
 use Rattle.fold.specs.Laws.TestLaws.{holds, early-holds}
@@ -128,14 +128,14 @@ module _ (sizes : GarbageSizes) where
   written-h long facts =
       record { limits = facts .limits; D-length = facts .D-length; hs-length = long ∙ facts .hs-length; u₂-length = facts .u₂-length }
 
--- ---- the verifier, with the opening o
+-- ---- the verifier, with the opening o, whose z has tz digits
 
-module _ (sizes : Sizes) (A B C D whole constantTerms projections ψ ω α δ c u₁ p b″ u₂ o : List ℤ) where
+module _ (tz : ℕ) (sizes : Sizes) (A B C D whole constantTerms projections ψ ω α δ c u₁ p b″ u₂ o : List ℤ) where
   open Sizes sizes using (shape, k, l, w, kappa, kappa1, kappa2, b, b1, b2, t1, t2, bound, target)
   open Shape shape using (d, n, r)
 
   abbrev 𝓢 : Statement
-  𝓢 = statementOf sizes A B C D whole constantTerms
+  𝓢 = statementWith tz sizes A B C D whole constantTerms
 
   abbrev 𝓓 : Draws
   𝓓 = drawsOf projections ψ ω α δ c
@@ -145,8 +145,8 @@ module _ (sizes : Sizes) (A B C D whole constantTerms projections ψ ω α δ c 
 
   pub record VerifyFacts : Type 0 where
     pub message : MessageFacts sizes constantTerms ψ ω p b″
-    pub outer : OuterFacts 2 sizes B C D u₁ u₂ o
-    pub opening : OpeningFacts 2 sizes A whole constantTerms projections ψ ω b″ α δ c o
+    pub outer : OuterFacts tz sizes B C D u₁ u₂ o
+    pub opening : OpeningFacts tz sizes A whole constantTerms projections ψ ω b″ α δ c o
 
   pub verify-facts : verifyRefusal 𝓢 𝓓 𝓣 o ≡ 0 → VerifyFacts
   unfolding verifyTests

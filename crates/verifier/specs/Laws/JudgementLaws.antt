@@ -1,5 +1,5 @@
 -- Laws of what Judgement.antt defines.
-use mathlib.Core.Path.{_≡_, refl, ap}
+use mathlib.Core.Path.{_≡_, refl, sym, ap, _∙_}
 use mathlib.Core.List.{List, _++_}
 use Prim.Native.Nat.{ℕ, zero, suc, _≤_, _<_}
 use native.Mathlib.Nat.{mul-le-mul}
@@ -14,7 +14,10 @@ use Rattle.fold.specs.declared.Sizes.{Sizes}
 use Rattle.fold.specs.Answers.{firstFailing, judged, answered}
 use Rattle.fold.specs.Messages.{elements}
 use Rattle.fold.specs.Verdict.{checks}
-use Rattle.fold.specs.Arguments.{statementWith, drawsOf, transcriptOf}
+use Rattle.fold.specs.Statement.{Statement, Draws, Transcript}
+use Rattle.fold.specs.Arguments.{statementWith, drawsOf, transcriptOf, verifyRefusal}
+use Rattle.fold.specs.Laws.TestLaws.{stops, goes-on}
+use Rattle.fold.specs.Known.CallFacts.{VerifyFacts, verify-facts}
 use Rattle.verifier.specs.Known.Facts.{Fits, zValue}
 use Rattle.fold.specs.Laws.WriterLaws.{el-written}
 use Rattle.verifier.specs.Judgement.{Recomposed, messageChecksOf, outerChecksOf, openingChecksOf}
@@ -27,12 +30,29 @@ recomposed tz s fits o old z room e = record {
 }
 
 module _ (tz : ℕ) (s : Sizes) (A B C D whole constantTerms projections ψ ω α δ c u₁ p b″ u₂ o : List ℤ) where
-  -- the three parts are the checks
-  pub parts : firstFailing
-      (messageChecksOf s constantTerms p ψ ω b″
-      ++ (outerChecksOf tz s B C D u₁ u₂ o ++ openingChecksOf tz s A whole constantTerms projections ψ ω b″ α δ c o))
-      ≡ firstFailing (checks (statementWith tz s A B C D whole constantTerms) (drawsOf projections ψ ω α δ c) (transcriptOf u₁ p b″ u₂) o)
-  parts = refl
+  abbrev 𝓢 : Statement
+  𝓢 = statementWith tz s A B C D whole constantTerms
+
+  abbrev 𝓓 : Draws
+  𝓓 = drawsOf projections ψ ω α δ c
+
+  abbrev 𝓣 : Transcript
+  𝓣 = transcriptOf u₁ p b″ u₂
+
+  -- what a call that is not refused knows
+  pub call-facts : {x : ℕ} → x ≡ verifyRefusal 𝓢 𝓓 𝓣 o → x ≤ 0 → VerifyFacts tz s A B C D whole constantTerms projections ψ ω α δ c u₁ p b″ u₂ o
+  call-facts {x} e none =
+      let unrefused : x ≡ 0 = omega arith in
+      verify-facts tz s A B C D whole constantTerms projections ψ ω α δ c u₁ p b″ u₂ o (sym e ∙ unrefused)
+
+  -- the three parts are the checks: one of the first part fails, or the later parts say
+  pub message-fails : {x : ℕ} → x ≡ firstFailing (messageChecksOf s constantTerms p ψ ω b″) → (x ≡ 0 → ⊥) → x ≡ firstFailing (checks 𝓢 𝓓 𝓣 o)
+  message-fails e some = stops _ _ e some
+
+  pub message-passes : {x y : ℕ} → x ≡ firstFailing (messageChecksOf s constantTerms p ψ ω b″) → x ≡ 0
+      → y ≡ firstFailing (outerChecksOf tz s B C D u₁ u₂ o ++ openingChecksOf tz s A whole constantTerms projections ψ ω b″ α δ c o)
+      → y ≡ firstFailing (checks 𝓢 𝓓 𝓣 o)
+  message-passes e none later = goes-on _ _ refl e none later
 
 pub refused : (k n : ℕ) (a : Answer) → k ≡ n → 0 < k → Refused k ≡ answered n a
 unfolding answered
