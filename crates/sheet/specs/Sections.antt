@@ -4,27 +4,12 @@
 --     total, projectionsFrom, challengesFrom    numbers in all, and before the projection rows and before c
 use mathlib.Core.Path.{_≡_}
 use mathlib.Core.Bool.{Bool, true, cond}
-use Prim.Native.Nat.{ℕ, _+_, _*_, _-_, _%_, _≤_, _<_}
+use Prim.Native.Nat.{ℕ, _+_, _*_, _-_, _%_, _≤_}
 use lib.Dec.{ltb, eqb}
 use Rattle.fold.specs.Sizes.{zCount, functionSize, tSize, garbageSize, openingSize}
 use Rattle.fold.specs.declared.Shape.{Shape}
 use Rattle.fold.specs.declared.Sizes.{Sizes}
 use Rattle.sheet.specs.declared.sizes.Sections.{Sections}
-
--- what the header's tests leave known of the sizes that count something
-pub record Bounded (s : Sizes) : Type 0 where
-  pub degree-positive : 0 < s .shape .d
-  pub degree : s .shape .d ≤ 64
-  pub rank : s .shape .n ≤ 256
-  pub parts : s .shape .r ≤ 16
-  pub whole : s .k ≤ 32
-  pub constantTerms : s .l ≤ 32
-  pub projections : s .w ≤ 256
-  pub κ : s .kappa ≤ 8
-  pub κ₁ : s .kappa1 ≤ 8
-  pub κ₂ : s .kappa2 ≤ 8
-  pub t₁ : s .t1 ≤ 8
-  pub t₂ : s .t2 ≤ 8
 
 module _ (s : Sizes) where
   open Sizes s using (shape, k, l, w, kappa, kappa1, kappa2, t1, t2)
