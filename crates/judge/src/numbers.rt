@@ -1,7 +1,7 @@
 // The numbers of a sheet, cut into the lists that the verifier takes, in four stages: the check of a function grows with the parts that it
 // cuts, and seventeen in one are too many. Each stage is handed the lists cut so far and the numbers that are left.
 ghost use mathlib.Core.Path.{_≡_};
-ghost use Rattle.sheet.specs.Sections.{Bounded};
+ghost use Rattle.fold.specs.Arguments.{VerifySized};
 ghost use Rattle.judge.specs.Judging.{judgedNumbers};
 ghost use Rattle.judge.specs.Stages.{lastStage, numberStage, constraintStage};
 use crate::lengths;
@@ -28,7 +28,7 @@ fn judge_last(
     second_b: &[i32],
     xs: &[i32],
 ) -> Answer
-    requires { ⌜ Bounded s ⌝ }
+    requires { ⌜ VerifySized s ⌝ }
     ensures { λ r.
         ⌜ r ≡ lastStage s (now («a_matrix» .entry)) (now («b_matrix» .entry)) (now («c_matrix» .entry)) (now («d_matrix» .entry))
         (now (whole .entry)) (now («constant_terms» .entry)) (now (u1 .entry)) (now (projections .entry)) (now (p .entry)) (now (psi .entry))
@@ -78,7 +78,7 @@ fn judge_numbers(
     projections: &[i32],
     xs: &[i32],
 ) -> Answer
-    requires { ⌜ Bounded s ⌝ }
+    requires { ⌜ VerifySized s ⌝ }
     ensures { λ r.
         ⌜ r ≡ numberStage s (now («a_matrix» .entry)) (now («b_matrix» .entry)) (now («c_matrix» .entry)) (now («d_matrix» .entry))
         (now (whole .entry)) (now («constant_terms» .entry)) (now (u1 .entry)) (now (projections .entry)) (now (xs .entry)) ⌝ }
@@ -118,7 +118,7 @@ fn judge_constraints(
     d_matrix: &[i32],
     xs: &[i32],
 ) -> Answer
-    requires { ⌜ Bounded s ⌝ }
+    requires { ⌜ VerifySized s ⌝ }
     ensures { λ r.
         ⌜ r ≡ constraintStage s (now («a_matrix» .entry)) (now («b_matrix» .entry)) (now («c_matrix» .entry)) (now («d_matrix» .entry))
         (now (xs .entry)) ⌝ }
@@ -147,7 +147,7 @@ fn judge_constraints(
 
 // A, B, C and D. The answer to all numbers of a sheet.
 pub fn judge_sheet_numbers(s: Sizes, xs: &[i32]) -> Answer
-    requires { ⌜ Bounded s ⌝ }
+    requires { ⌜ VerifySized s ⌝ }
     ensures { λ r. ⌜ r ≡ judgedNumbers s (now (xs .entry)) ⌝ }
 {
     let a_matrix_length = lengths::a_matrix_length(s);

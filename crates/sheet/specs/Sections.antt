@@ -4,28 +4,12 @@
 --     total, projectionsFrom, challengesFrom    numbers in all, and before the projection rows and before c
 use mathlib.Core.Path.{_≡_}
 use mathlib.Core.Bool.{Bool, true, cond}
-use Prim.Native.Nat.{ℕ, _+_, _*_, _-_, _%_, _≤_, _<_}
+use Prim.Native.Nat.{ℕ, _+_, _*_, _-_, _%_, _≤_}
 use lib.Dec.{ltb, eqb}
 use Rattle.fold.specs.Sizes.{zCount, functionSize, tSize, garbageSize, openingSize}
 use Rattle.fold.specs.declared.Shape.{Shape}
 use Rattle.fold.specs.declared.Sizes.{Sizes}
 use Rattle.sheet.specs.declared.sizes.Sections.{Sections}
-use Rattle.fold.specs.Limits.{mostCommitmentRank, mostConstraints, mostDigits, mostParts, mostProjections, mostRank}
-
--- what the header's tests leave known of the sizes that count something
-pub record Bounded (s : Sizes) : Type 0 where
-  pub degree-positive : 0 < s .shape .d
-  pub degree : s .shape .d ≤ 64
-  pub rank : s .shape .n ≤ mostRank
-  pub parts : s .shape .r ≤ mostParts
-  pub whole : s .k ≤ mostConstraints
-  pub constantTerms : s .l ≤ mostConstraints
-  pub projections : s .w ≤ mostProjections
-  pub κ : s .kappa ≤ mostCommitmentRank
-  pub κ₁ : s .kappa1 ≤ mostCommitmentRank
-  pub κ₂ : s .kappa2 ≤ mostCommitmentRank
-  pub t₁ : s .t1 ≤ mostDigits
-  pub t₂ : s .t2 ≤ mostDigits
 
 module _ (s : Sizes) where
   open Sizes s using (shape, k, l, w, kappa, kappa1, kappa2, t1, t2)

@@ -4,9 +4,9 @@ ghost use mathlib.Core.Bool.{true};
 ghost use lib.ListN.{length};
 ghost use Rattle.residues.specs.Range.{coefficients, projectionEntries};
 ghost use Rattle.fold.specs.Answers.{firstFailing};
+ghost use Rattle.fold.specs.Arguments.{VerifySized};
 ghost use Rattle.fold.specs.Refusals.{challenges};
-ghost use Rattle.sheet.specs.Sections.{Bounded, sectionsOf, total, endsLine};
-ghost use Rattle.sheet.specs.Place.{place};
+ghost use Rattle.sheet.specs.Sections.{total};
 ghost use Rattle.sheet.specs.Reading.{numberCount, bodyNumbers, projectionsIn, challengesIn, numberTests, bodyTests, readingTests, SheetRead};
 ghost use Rattle.sheet.specs.Known.Reading.{endsAt, Inside};
 use crate::header::header_refusal;
@@ -92,7 +92,7 @@ fn ends_at(end: End, n: usize) -> bool
 
 // The other lines, and the numbers on them; 0 where they pass.
 fn body_refusal(s: Sizes, text: &[u8], room: usize) -> u8
-    requires { ⌜ Bounded s ⌝ }
+    requires { ⌜ VerifySized s ⌝ }
     ensures { λ r. ⌜ r ≡ firstFailing (bodyTests room s (now (text .entry))) ⌝ }
 {
     let q = sections_of(s);

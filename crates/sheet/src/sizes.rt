@@ -1,7 +1,8 @@
 // The sizes on a sheet's header, and how many numbers each part of the sheet has.
 ghost use mathlib.Core.Path.{_≡_};
 ghost use Prim.Native.Nat.{_+_, _*_, _≤_, _<_};
-ghost use Rattle.sheet.specs.Sections.{Bounded, Sectioned, matrixCount, wholeCount, rowCount, lastCount, termSize};
+ghost use Rattle.fold.specs.Arguments.{VerifySized};
+ghost use Rattle.sheet.specs.Sections.{Sectioned, matrixCount, wholeCount, rowCount, lastCount, termSize};
 ghost use Rattle.sheet.specs.Sections.{total, projectionsFrom, challengesFrom, endsElement, endsTerm, endsLine};
 use fold::Sizes;
 use fold::counts::Z_DIGITS;
@@ -33,7 +34,7 @@ pub struct Sections {
 
 // Elements of A, B, C and D.
 fn matrix_count(s: Sizes) -> usize
-    requires { ⌜ Bounded s ⌝ }
+    requires { ⌜ VerifySized s ⌝ }
     ensures { λ p. ⌜ (p ≡ matrixCount s) × (p ≤ 27648) ⌝ }
 {
     let ts = t_size(s.shape.r, s.kappa, s.t1);
@@ -48,7 +49,7 @@ fn matrix_count(s: Sizes) -> usize
 
 // Elements of the whole constraints.
 fn whole_count(s: Sizes) -> usize
-    requires { ⌜ Bounded s ⌝ }
+    requires { ⌜ VerifySized s ⌝ }
     ensures { λ p. ⌜ (p ≡ wholeCount s) × (p ≤ 135456) ⌝ }
 {
     let f = function_size(s.shape.n, s.shape.r);
@@ -57,7 +58,7 @@ fn whole_count(s: Sizes) -> usize
 
 // Elements of u1 and the projection rows.
 fn row_count(s: Sizes) -> usize
-    requires { ⌜ Bounded s ⌝ }
+    requires { ⌜ VerifySized s ⌝ }
     ensures { λ p. ⌜ (p ≡ rowCount s) × (p ≤ 1048584) ⌝ }
 {
     let a = s.shape.r * s.shape.n;
@@ -66,7 +67,7 @@ fn row_count(s: Sizes) -> usize
 
 // Elements of b'', α, δ, u2, c and the opening.
 fn last_count(s: Sizes) -> usize
-    requires { ⌜ Bounded s ⌝ }
+    requires { ⌜ VerifySized s ⌝ }
     ensures { λ p. ⌜ (p ≡ lastCount s) × (p ≤ 3778) ⌝ }
 {
     let opening = opening_size(Z_DIGITS, s.shape.n, s.shape.r, s.kappa, s.t1, s.t2);
@@ -75,7 +76,7 @@ fn last_count(s: Sizes) -> usize
 
 // Numbers before the constant-term constraints.
 fn head_numbers(s: Sizes) -> usize
-    requires { ⌜ Bounded s ⌝ }
+    requires { ⌜ VerifySized s ⌝ }
     ensures { λ p. ⌜ (p ≡ (matrixCount s + wholeCount s) * s .shape .d) × (p ≤ 10438656) ⌝ }
 {
     let a = matrix_count(s);
@@ -85,7 +86,7 @@ fn head_numbers(s: Sizes) -> usize
 
 // Numbers of one constant-term constraint.
 fn term_size(s: Sizes) -> usize
-    requires { ⌜ Bounded s ⌝ }
+    requires { ⌜ VerifySized s ⌝ }
     ensures { λ p. ⌜ (p ≡ termSize s) × (p ≤ 270849) ⌝ }
 {
     let f = function_size(s.shape.n, s.shape.r);
@@ -94,7 +95,7 @@ fn term_size(s: Sizes) -> usize
 
 // Numbers of u1 and the projection rows.
 fn middle_numbers(s: Sizes) -> usize
-    requires { ⌜ Bounded s ⌝ }
+    requires { ⌜ VerifySized s ⌝ }
     ensures { λ p. ⌜ (p ≡ rowCount s * s .shape .d) × (p ≤ 67109376) ⌝ }
 {
     let a = row_count(s);
@@ -103,7 +104,7 @@ fn middle_numbers(s: Sizes) -> usize
 
 // The lines of the sheet after its header.
 pub fn sections_of(s: Sizes) -> Sections
-    requires { ⌜ Bounded s ⌝ }
+    requires { ⌜ VerifySized s ⌝ }
     ensures { λ q. ⌜ Sectioned s q ⌝ }
 {
     let head = head_numbers(s);
@@ -123,7 +124,7 @@ pub fn sections_of(s: Sizes) -> Sections
 
 // The numbers after the header.
 pub fn total_numbers(s: Sizes) -> usize
-    requires { ⌜ Bounded s ⌝ }
+    requires { ⌜ VerifySized s ⌝ }
     ensures { λ p. ⌜ p ≡ total s ⌝ }
 {
     let q = sections_of(s);
@@ -134,7 +135,7 @@ pub fn total_numbers(s: Sizes) -> usize
 
 // The numbers before the projection rows.
 pub fn projections_from(s: Sizes) -> usize
-    requires { ⌜ Bounded s ⌝ }
+    requires { ⌜ VerifySized s ⌝ }
     ensures { λ p. ⌜ p ≡ projectionsFrom s ⌝ }
 {
     let q = sections_of(s);
@@ -144,7 +145,7 @@ pub fn projections_from(s: Sizes) -> usize
 
 // The numbers before the challenges c.
 pub fn challenges_from(s: Sizes) -> usize
-    requires { ⌜ Bounded s ⌝ }
+    requires { ⌜ VerifySized s ⌝ }
     ensures { λ p. ⌜ p ≡ challengesFrom s ⌝ }
 {
     let q = sections_of(s);

@@ -9,6 +9,7 @@ use Rattle.ring.specs.Element.{R, Degree, el}
 use Rattle.residues.specs.Digits.{Base}
 use Rattle.fold.specs.Sizes.{pairs}
 use Rattle.fold.specs.Opening.{block, garbageOf}
+use Rattle.fold.specs.Limits.{mostParts}
 
 module _ (𝓡 : CommRing) where
   infixl 65 _⊕_
@@ -23,7 +24,7 @@ module _ (𝓡 : CommRing) where
 pub record Garbage (d r b t place : ℕ) (o : List ℤ) : Type 0 where
   pub degree : Degree d
   pub base : Base b
-  pub parts : r ≤ 16
+  pub parts : r ≤ mostParts
   pub digits : 0 < t
   pub inside : (place + pairs r * t) * d ≤ length o
 

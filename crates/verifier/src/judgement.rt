@@ -14,6 +14,7 @@ use crate::relation;
 use crate::terms;
 use fold::Sizes;
 use fold::Verdict;
+use fold::limits::PART_ROOM;
 use limits::rows::first;
 
 // Checks 1 and 2, which need no opening.
@@ -156,7 +157,7 @@ fn opening_checks(
         (now (psi .entry)) (now (omega .entry)) (now («second_b» .entry)) (now (alpha .entry)) (now (delta .entry)) (now (c .entry))
         (now (opening .entry))) ⌝ }
 {
-    let mut z = [0i32; 16384];
+    let mut z = [0i32; PART_ROOM];
     recomposed::write_z(tz, sizes.shape.d, sizes.shape.n, sizes.b, opening, &mut z);
     recomposed_checks(
         tz,

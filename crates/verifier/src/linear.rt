@@ -13,7 +13,9 @@ use crate::amortized;
 use constraints::ConstraintSizes;
 use constraints::phi::write_phi_part;
 use constraints::row_groups;
+use constraints::row_groups::OMEGA_SUMS;
 use fold::Sizes;
+use fold::limits::PART_ROOM;
 use fold::places;
 use ring::element::Element;
 use ring::product::inner;
@@ -40,12 +42,12 @@ fn linear_sum(
         (sizes .l) (sizes .w) (now (whole .entry)) (now («constant_terms» .entry)) (now (projections .entry)) (now (psi .entry))
         (now (omega .entry)) (now (alpha .entry)) (now (delta .entry)) .φ) (now (c .entry)) (now (z .entry)))) ⌝ }
 {
-    let mut omega_sums = [0i64; 25920];
+    let mut omega_sums = [0i64; OMEGA_SUMS];
     row_groups::write_omega_sums(sizes.w, omega, &mut omega_sums);
     let d = sizes.shape.d;
     let rank = sizes.shape.n;
     let parts = sizes.shape.r;
-    let mut phi = [0i32; 16384];
+    let mut phi = [0i32; PART_ROOM];
     let mut acc = Element::additive_identity();
     let mut i = 0;
     while i < parts {

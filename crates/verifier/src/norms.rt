@@ -5,13 +5,14 @@ ghost use lib.ListN.{length};
 ghost use Rattle.fold.specs.Verdict.{check₁, check₉};
 ghost use Rattle.verifier.specs.Known.Facts.{Fits, Opening};
 ghost use Rattle.verifier.specs.Norms.{withinThree};
+ghost use Rattle.fold.specs.Limits.{mostBound, mostProjections};
 use fold::Sizes;
 use fold::places;
 use residues::length;
 
 // Check 1: 2·|p|² is at most w·β².
 pub fn short_projection(w: usize, bound: u64, p: &[i32]) -> bool
-    requires { ⌜ (w ≤ 256) × (bound ≤ 999999999999999) ⌝ }
+    requires { ⌜ (w ≤ mostProjections) × (bound ≤ mostBound) ⌝ }
     ensures { λ r. ⌜ r ≡ check₁ w bound (now (p .entry)) ⌝ }
 {
     let budget = w as u64 * bound;

@@ -70,7 +70,7 @@ taken text e =
     let h = headerNumbers text in
     let s = sizesOf h in
     let passed = reading-passed (roomOf text) text e in
-    let positive = header-bounded h (passed .sizes) .degree-positive in
+    let positive = header-bounded h (passed .sizes) .shaped .degree .positive in
     rw (unrefused h (bodyNumbers s text) (passed .sizes) (length-body s positive text ∙ body-total s) (passed .numbers)) refl
 
 by-refusal : (text : List ℕ) (n : ℕ) → firstFailing (readingTests (roomOf text) text) ≡ n

@@ -4,10 +4,11 @@ use mathlib.Core.List.{List}
 use Prim.Native.Nat.{ℕ, _≤_}
 use lib.Dec.{eqb}
 use lib.ListN.{length}
+use Rattle.fold.specs.Arguments.{VerifySized}
 use Rattle.fold.specs.declared.Sizes.{Sizes}
 use Rattle.sheet.specs.declared.walk.End.{End}
 use Rattle.sheet.specs.declared.walk.End.the-variants.{At, Broken}
-use Rattle.sheet.specs.Sections.{Bounded, sectionsOf, total, endsLine}
+use Rattle.sheet.specs.Sections.{sectionsOf, total, endsLine}
 use Rattle.sheet.specs.Place.{place}
 use Rattle.sheet.specs.Field.{headerBytes}
 
@@ -23,5 +24,5 @@ hasEnd Broken = false
 
 -- sizes whose lines lie within the text
 pub record Inside (s : Sizes) (text : List ℕ) : Type 0 where
-  pub bounded : Bounded s
+  pub bounded : VerifySized s
   pub inside : place (endsLine (sectionsOf s)) headerBytes (total s) ≤ length text

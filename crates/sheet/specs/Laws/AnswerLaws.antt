@@ -14,7 +14,8 @@ use lib.IntN.{ℤ}
 use borrow.Author.Tests.{eqb-true, eq-eqb, ne-eqb}
 use Rattle.integers.specs.Over.{over}
 use Rattle.integers.specs.Laws.OverLaws.{over-all}
-use Rattle.residues.specs.Range.{coefficients, projectionEntries}
+use Rattle.residues.specs.Range.{coefficients}
+use Rattle.fold.specs.Arguments.{VerifySized}
 use Rattle.fold.specs.declared.Answer.the-variants as answer
 use Rattle.fold.specs.Answers.{kindOf, numberOf, firstFailing, answered, written}
 use Rattle.fold.specs.Laws.RefusalLaws.{Passes, refusal-passes, passes-refusal, passes-front, passes-back, passes-join}
@@ -23,7 +24,7 @@ use Rattle.sheet.specs.declared.sizes.SheetSizes.{SheetSizes}
 use Rattle.sheet.specs.declared.reader.SheetAnswer.{SheetAnswer}
 use Rattle.sheet.specs.declared.reader.SheetAnswer.the-variants.{Sheet, Refused}
 use Rattle.sheet.specs.declared.sizes.Sections.{Sections}
-use Rattle.sheet.specs.Sections.{Bounded, Sectioned, total, endsLine}
+use Rattle.sheet.specs.Sections.{Sectioned, total, endsLine}
 use Rattle.sheet.specs.Place.{numbersFrom}
 use Rattle.sheet.specs.Laws.HeaderLaws.{header-bounded}
 use Rattle.sheet.specs.Reading.{headerLaid, headerNumbers, headerTests, sizesOf, sheetSizesOf, bodyLaid, bodyNumbers, frontTests, numberCount, numberTests, bodyTests}
@@ -62,7 +63,7 @@ module _ (room : ℕ) (text : List ℕ) {header : ℕ} (e : header ≡ firstFail
   unfolding readingTests
   refused-header h = e ∙ refusal-first (frontTests text) (bodyTests room (sizesOf (headerNumbers text)) text) (rw e at h)
 
-  pub good-header : header ≤ 0 → {s : SheetSizes} → s ≡ sheetSizesOf (headerNumbers text) → Bounded (s .sizes)
+  pub good-header : header ≤ 0 → {s : SheetSizes} → s ≡ sheetSizesOf (headerNumbers text) → VerifySized (s .sizes)
   good-header h q =
       let none : firstFailing (frontTests text) ≡ 0 = omega (arith, e) in
       rw q (header-bounded (headerNumbers text) (front-passes text none .1))
@@ -123,7 +124,7 @@ pub stored : (s : Sizes) (text : List ℕ) (q : Sections) (i : Inside s text) (e
     → after ≡ over before 0 (numbersFrom (endsLine q) headerBytes text 0 count) → after ≡ bodyNumbers s text
 stored s text q i e c before fits f =
     let numbers = all-numbers i e c in
-    let size : length (bodyNumbers s text) ≡ length before = length-body s (i .bounded .degree-positive) text ∙ body-total s ∙ sym fits in
+    let size : length (bodyNumbers s text) ≡ length before = length-body s (i .bounded .shaped .degree .positive) text ∙ body-total s ∙ sym fits in
     f ∙ rw numbers (over-all before (bodyNumbers s text) size)
 
 module _ (text : List ℕ) (before : List ℤ) where

@@ -2,7 +2,7 @@
 -- so does the size that it is read as.
 --     size-test, chunks-size       one test of one number, and of ν and μ
 --     header-sizes                 all tests
---     header-passes, header-known, header-bounded     what a header that is not refused says of its sizes
+--     header-passes, header-bounded     what a header that is not refused says of its sizes
 use mathlib.Core.Path.{_≡_, refl, sym, subst, _∙_}
 use mathlib.Core.Bool.{Bool, true, false}
 use mathlib.Core.List.{List}
@@ -21,7 +21,6 @@ use Rattle.fold.specs.Laws.RefusalLaws.{Passes, passes-refusal}
 use Rattle.limits.specs.Stages.{nextBoundsOf}
 use Rattle.limits.specs.Laws.CountLaws.{many-ν, many-μ}
 use Rattle.limits.specs.Known.StageLimits.{next-sized}
-use Rattle.sheet.specs.Sections.{Bounded}
 use Rattle.sheet.specs.Place.{endIf}
 use Rattle.sheet.specs.Laws.PlaceLaws.{contradiction}
 use Rattle.sheet.specs.Reading.{headerTests, size, sizesOf, sheetSizesOf}
@@ -127,11 +126,8 @@ module _ (h : List ℤ) where
     pub header-passes : Passes (nextBoundsOf zCount (sizesOf h) (sheetSizesOf h .nu) (sheetSizesOf h .mu))
     header-passes = subst Passes (sym header-sizes) p
 
-    header-known : VerifySized (sizesOf h)
-    header-known = next-sized zCount (sizesOf h) (sheetSizesOf h .nu) (sheetSizesOf h .mu) refl (passes-refusal _ header-passes)
-
-    pub header-bounded : Bounded (sizesOf h)
-    header-bounded = let limits = header-known in search limits
+    pub header-bounded : VerifySized (sizesOf h)
+    header-bounded = next-sized zCount (sizesOf h) (sheetSizesOf h .nu) (sheetSizesOf h .mu) refl (passes-refusal _ header-passes)
 
 -- ---- the layout
 

@@ -12,12 +12,13 @@ use lib.IntN.{ℤ}
 use borrow.Author.Tests.{eqb-true, eq-eqb, ne-eqb, not-true, not-false}
 use Rattle.residues.specs.Laws.RangeLaws.{coefficients-part}
 use Rattle.residues.specs.Range.{coefficients, projectionEntries}
+use Rattle.fold.specs.Arguments.{VerifySized}
 use Rattle.fold.specs.Answers.{firstFailing}
 use Rattle.fold.specs.Refusals.{challenges, projectionLength}
 use Rattle.fold.specs.declared.Sizes.{Sizes}
 use Rattle.sheet.specs.declared.sizes.Sections.{Sections}
 use Rattle.sheet.specs.declared.walk.End.{End}
-use Rattle.sheet.specs.Sections.{Bounded, Sectioned, sectionsOf, termSize, rowCount, lastCount, total, projectionsFrom, challengesFrom, endsLine}
+use Rattle.sheet.specs.Sections.{Sectioned, sectionsOf, termSize, rowCount, lastCount, total, projectionsFrom, challengesFrom, endsLine}
 use Rattle.sheet.specs.Place.{place, laid, endIf, numbersFrom, Span}
 use Rattle.sheet.specs.Laws.PlaceLaws.{contradiction, place-mono}
 use Rattle.sheet.specs.Laws.ChallengeLaws.{numbers-part}
@@ -25,9 +26,9 @@ use Rattle.sheet.specs.Reading.{bodyLaid, bodyNumbers, projectionsIn, ch
 use Rattle.sheet.specs.Known.Reading.{endsAt, Inside}
 use Rattle.sheet.specs.Field.{headerBytes}
 
-pub lines-positive : {s : Sizes} {q : Sections} → Bounded s → Sectioned s q → (0 < q .d) × (0 < q .period)
+pub lines-positive : {s : Sizes} {q : Sections} → VerifySized s → Sectioned s q → (0 < q .d) × (0 < q .period)
 unfolding sectionsOf termSize
-lines-positive b e = (rw (e .is) (b .degree-positive), rw (e .is) (omega arith))
+lines-positive b e = (rw (e .is) (b .shaped .degree .positive), rw (e .is) (omega arith))
 
 module _ {s : Sizes} {text : List ℕ} {q : Sections} (i : Inside s text) (e : Sectioned s q) where
   -- the first m numbers
@@ -112,5 +113,5 @@ module _ (s : Sizes) (text : List ℕ) (q : Sections) (e : Sectioned s q) {count
   unfolding firstFailing bodyTests
   later room t h n = rw (← laid-is, not-false good t, eq-eqb room (total s) (h ∙ c)) n
 
-  pub laid-inside : Bounded s → not good ≡ false → Inside s text
+  pub laid-inside : VerifySized s → not good ≡ false → Inside s text
   laid-inside b t = record { bounded = b; inside = body-within s text (sym laid-is ∙ not-false good t) }

@@ -5,11 +5,12 @@ use Prim.Native.Nat.{ℕ, _+_, _*_, _-_, _%_, _≤_, _<_}
 use native.Mathlib.Nat.{mul-le-mul}
 use native.Mathlib.Omega.{arith}
 use borrow.Author.Tests.{eq-eqb, ne-eqb, lt-ltb, le-ltb}
+use Rattle.fold.specs.Arguments.{VerifySized}
 use Rattle.fold.specs.Sizes.{zCount, functionSize, tSize, garbageSize, openingSize}
 use Rattle.fold.specs.Laws.SizeBounds.{functionSize-bound, tSize-bound, garbageSize-bound, openingSize-bound}
 use Rattle.fold.specs.declared.Sizes.{Sizes}
 use Rattle.sheet.specs.declared.sizes.Sections.{Sections}
-use Rattle.sheet.specs.Sections.{Bounded, lastCount, sectionsOf, total, projectionsFrom, challengesFrom, endsElement, endsTerm, endsLine}
+use Rattle.sheet.specs.Sections.{lastCount, sectionsOf, total, projectionsFrom, challengesFrom, endsElement, endsTerm, endsLine}
 use Rattle.fold.specs.Limits.{mostCommitmentRank, mostConstraints}
 
 pub le-one : {a b : ℕ} → a ≤ b → a + 1 ≤ b + 1
@@ -23,26 +24,26 @@ before-challenges h l = omega arith
 
 -- ---- numbers of elements that code has computed
 
-module _ {s : Sizes} (b : Bounded s) where
+module _ (s : Sizes) (b : VerifySized s) where
   pub function-few : {x : ℕ} → x ≡ functionSize (s .shape .n) (s .shape .r) → x ≤ 4232
-  function-few e = rw e (functionSize-bound _ _ (b .rank) (b .parts))
+  function-few e = rw e (functionSize-bound _ _ (b .shaped .rank-small) (b .shaped .parts-small))
 
   pub opening-few : {x : ℕ} → x ≡ openingSize zCount (s .shape .n) (s .shape .r) (s .kappa) (s .t1) (s .t2) → x ≤ 3712
-  opening-few e = rw e (openingSize-bound _ _ _ _ _ _ (omega arith) (b .rank) (b .parts) (b .κ) (b .t₁) (b .t₂))
+  opening-few e = rw e (openingSize-bound _ _ _ _ _ _ (omega arith) (b .shaped .rank-small) (b .shaped .parts-small) (b .κ-small) (b .t₁-most) (b .t₂-most))
 
   module _ {t g h : ℕ} (e : t ≡ tSize (s .shape .r) (s .kappa) (s .t1)) (f : g ≡ garbageSize (s .shape .r) (s .t2)) (k : h ≡ garbageSize (s .shape .r) (s .t1)) where
     t-few : t ≤ 1024
-    t-few = rw e (tSize-bound _ _ _ (b .parts) (b .κ) (b .t₁))
+    t-few = rw e (tSize-bound _ _ _ (b .shaped .parts-small) (b .κ-small) (b .t₁-most))
 
     g-few : g ≤ 1088
-    g-few = rw f (garbageSize-bound _ _ (b .parts) (b .t₂))
+    g-few = rw f (garbageSize-bound _ _ (b .shaped .parts-small) (b .t₂-most))
 
     h-few : h ≤ 1088
-    h-few = rw k (garbageSize-bound _ _ (b .parts) (b .t₁))
+    h-few = rw k (garbageSize-bound _ _ (b .shaped .parts-small) (b .t₁-most))
 
     pub matrices-few : s .kappa * s .shape .n + (s .kappa1 * t + (s .kappa1 * g + s .kappa2 * h)) ≤ 27648
     matrices-few =
-        omega (arith, mul-le-mul (b .κ) (b .rank), mul-le-mul (b .κ₁) t-few, mul-le-mul (b .κ₁) g-few, mul-le-mul (b .κ₂) h-few)
+        omega (arith, mul-le-mul (b .κ-small) (b .shaped .rank-small), mul-le-mul (b .κ₁-small) t-few, mul-le-mul (b .κ₁-small) g-few, mul-le-mul (b .κ₂-small) h-few)
 
 -- ---- sums of the parts
 

@@ -70,7 +70,7 @@ pub record Read (room : ℕ) (text : List ℕ) (h xs : List ℤ) : Type 0 where
 
 positive : (h : List ℤ) → firstFailing (headerTests h) ≡ 0 → 0 < sizesOf h .shape .d
 unfolding headerTests
-positive h e = header-bounded h (refusal-passes (headerTests h) refl e) .degree-positive
+positive h e = header-bounded h (refusal-passes (headerTests h) refl e) .shaped .degree .positive
 
 no-refusal : (n : ℕ) (s t : SheetSizes) → sheetIf n s ≡ Sheet t → n ≡ 0
 no-refusal zero s t e = refl
@@ -84,7 +84,7 @@ unfolding sheetText headerTests numberTests
 sound room text p =
     let h = headerNumbers text in
     let s = sizesOf h in
-    let d = header-bounded h (p .sizes) .degree-positive in (
+    let d = header-bounded h (p .sizes) .shaped .degree .positive in (
       header-text text (p .header) ∙ ap (λ (l : List ℕ). lineText h ++ l) (body-text s d text (p .lines)),
       record {
         header = length-header text;

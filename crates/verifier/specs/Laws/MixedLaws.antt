@@ -25,6 +25,7 @@ use Rattle.verifier.specs.Laws.PlaceLaws.{garbage-at}
 use Rattle.verifier.specs.Places.{garbageAt}
 use Rattle.verifier.specs.Laws.SizeLaws.{g-within, h-within}
 use Rattle.verifier.specs.Mixed.{weighed, Garbage, mixedSummand, mixedRow}
+use Rattle.fold.specs.Limits.{mostParts}
 
 module _ (𝓡 : CommRing) where
   infixl 65 _⊕_
@@ -110,7 +111,7 @@ garbage-fits d r t place i j q l h k e fits =
     let inside : place + (q * t + t) ≤ place + pairs-count r * t = omega (arith, mul-le-mul-right t below) in
     omega (arith, mul-le-mul-right d inside)
 
-pub pair-small : (r i : ℕ) (q : ℕ) → r ≤ 16 → i < r → q ≡ pair r i i → q ≤ 136
+pub pair-small : (r i : ℕ) (q : ℕ) → r ≤ mostParts → i < r → q ≡ pair r i i → q ≤ 136
 unfolding pairs
 pair-small r i q small h e = omega (arith, e, pair-bound r i i (omega arith) h, pairs-bound r small)
 

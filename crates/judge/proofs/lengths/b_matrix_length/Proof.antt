@@ -12,7 +12,7 @@ t-size-requires c κs = search needs
 flat-length-requires : tie.Need-flat-length-requires
 flat-length-requires c κs =
     let b = c .before .pre in
-    (omega arith, t-within _ _ _ (c .t-size .ensures) (b .parts) (b .κ) (b .t₁), omega arith)
+    (omega arith, t-within _ _ _ (c .t-size .ensures) (b .shaped .parts-small) (b .κ-small) (b .t₁-most), omega arith)
 
 returns : tie.Need-returns
 returns c = c .flat-length .ensures ∙ rw (c .before .t-size .ensures) refl

@@ -12,7 +12,7 @@ garbage-size-requires c κs = search needs
 flat-length-requires : tie.Need-flat-length-requires
 flat-length-requires c κs =
     let b = c .before .pre in
-    (omega arith, garbage-within _ _ (c .garbage-size .ensures) (b .parts) (b .t₁), omega arith)
+    (omega arith, garbage-within _ _ (c .garbage-size .ensures) (b .shaped .parts-small) (b .t₁-most), omega arith)
 
 returns : tie.Need-returns
 returns c = c .flat-length .ensures ∙ rw (c .before .garbage-size .ensures) refl

@@ -12,7 +12,7 @@ opening-size-requires c κs = search needs
 list-length-requires : tie.Need-list-length-requires
 list-length-requires c κs =
     let b = c .before .pre in
-    (opening-within _ _ _ _ _ _ (c .opening-size .ensures) (omega arith) (b .rank) (b .parts) (b .κ) (b .t₁) (b .t₂), omega arith)
+    (opening-within _ _ _ _ _ _ (c .opening-size .ensures) (omega arith) (b .shaped .rank-small) (b .shaped .parts-small) (b .κ-small) (b .t₁-most) (b .t₂-most), omega arith)
 
 returns : tie.Need-returns
 returns c = c .list-length .ensures ∙ rw (c .before .opening-size .ensures) refl

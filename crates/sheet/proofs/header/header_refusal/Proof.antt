@@ -1,9 +1,7 @@
 -- `sheet::header::header_refusal` meets its contract: the layout, then rows 1 to 6 of the sizes. Assumes nothing.
-use mathlib.Core.Path.{ap, ap₂, _∙_}
+use mathlib.Core.Path.{ap, _∙_}
 use Rattle.fold.specs.Answers.{firstFailing}
-use Rattle.limits.specs.Stages.{nextBoundsOf}
 use Rattle.limits.specs.Laws.StageLaws.{single}
-use Rattle.sheet.specs.declared.sizes.SheetSizes.{SheetSizes}
 use Rattle.sheet.specs.Laws.HeaderLaws.{header-sizes}
 use borrow.Author.Needs.{needs}
 use Rattle.sheet.proofs.header.header_refusal.Statement.{statement}

@@ -25,7 +25,7 @@ are-challenges-requires c κs =
     let positive = lines-positive (start .pre .0 .bounded) lines in
     let from = c .before .challenges-from in
     let inside : from .result + s .shape .r * s .shape .d ≤ total s = omega (arith, from .ensures, challenges-end s) in (
-      (positive .0, positive .1, start .pre .0 .bounded .degree, start .pre .0 .bounded .parts),
+      (positive .0, positive .1, start .pre .0 .bounded .shaped .degree .small, start .pre .0 .bounded .shaped .parts-small),
       (
         later-span (start .pre .0) lines _ _ inside (c .place-after .ensures),
         body-coefficients (start .pre .0) lines _ _ inside (start .pre .1),

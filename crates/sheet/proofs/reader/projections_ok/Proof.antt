@@ -17,7 +17,7 @@ place-after-requires c κs =
 
 projection-length-requires : tie.Need-projection-length-requires
 projection-length-requires c κs =
-    let b = c .before .before .before .before .pre .bounded in (b .degree, b .rank, b .parts, b .projections)
+    let b = c .before .before .before .before .pre .bounded in (b .shaped .degree .small, b .shaped .rank-small, b .shaped .parts-small, b .w-small)
 
 all-within-requires : tie.Need-all-within-requires
 all-within-requires c κs =

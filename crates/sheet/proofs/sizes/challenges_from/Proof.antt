@@ -9,27 +9,27 @@ use Rattle.sheet.proofs.sizes.challenges_from.Tie as tie
 mul-own : tie.Need-mul-own
 mul-own c =
     let start = c .before .before .before .before in
-    omega (arith, mul-le-mul (before-challenges (start .pre .whole) (start .pre .κ₂)) (start .pre .degree))
+    omega (arith, mul-le-mul (before-challenges (start .pre .K-small) (start .pre .κ₂-small)) (start .pre .shaped .degree .small))
 
 add-result : tie.Need-add-result
 add-result c =
     let start = c .before .before .before .before .before in
-    omega (arith, mul-le-mul (before-challenges (start .pre .whole) (start .pre .κ₂)) (start .pre .degree))
+    omega (arith, mul-le-mul (before-challenges (start .pre .K-small) (start .pre .κ₂-small)) (start .pre .shaped .degree .small))
 
 add-result-2 : tie.Need-add-result-2
 add-result-2 c =
     let start = c .before .before .before .before .before .before in
-    omega (arith, mul-le-mul (before-challenges (start .pre .whole) (start .pre .κ₂)) (start .pre .degree))
+    omega (arith, mul-le-mul (before-challenges (start .pre .K-small) (start .pre .κ₂-small)) (start .pre .shaped .degree .small))
 
 add-result-3 : tie.Need-add-result-3
 add-result-3 c =
     let start = c .before .before .before .before .before .before .before in
-    omega (arith, mul-le-mul (before-challenges (start .pre .whole) (start .pre .κ₂)) (start .pre .degree))
+    omega (arith, mul-le-mul (before-challenges (start .pre .K-small) (start .pre .κ₂-small)) (start .pre .shaped .degree .small))
 
 add-result-4 : tie.Need-add-result-4
 add-result-4 c =
     let start = c .before .before .before .before .before .before .before .before in
-    omega (arith, mul-le-mul (before-challenges (start .pre .whole) (start .pre .κ₂)) (start .pre .degree))
+    omega (arith, mul-le-mul (before-challenges (start .pre .K-small) (start .pre .κ₂-small)) (start .pre .shaped .degree .small))
 
 returns : tie.Need-returns
 returns c = challenges-is _ _ (c .before .before .before .before .before .before .before .sections-of .ensures .is)

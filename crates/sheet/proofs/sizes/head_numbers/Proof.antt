@@ -21,7 +21,7 @@ mul-result c =
     omega (
       arith,
       mul-le-mul (sum-le (c .before .before .matrix-count .ensures .1) (c .before .whole-count .ensures .1))
-          (c .before .before .before .pre .degree),
+          (c .before .before .before .pre .shaped .degree .small),
     )
 
 returns : tie.Need-returns
@@ -30,7 +30,7 @@ returns c = (
   omega (
     arith,
     mul-le-mul (sum-le (c .before .before .matrix-count .ensures .1) (c .before .whole-count .ensures .1))
-        (c .before .before .before .pre .degree),
+        (c .before .before .before .pre .shaped .degree .small),
   ),
 )
 

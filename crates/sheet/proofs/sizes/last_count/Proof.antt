@@ -9,7 +9,7 @@ use Rattle.sheet.proofs.sizes.last_count.Statement.{statement}
 use Rattle.sheet.proofs.sizes.last_count.Tie as tie
 
 few : (h : tie.After-opening-size) → h .opening-size .result ≤ 3712
-few h = opening-few (h .before .pre) (h .opening-size .ensures)
+few h = opening-few (h .before .args .s) (h .before .pre) (h .opening-size .ensures)
 
 returns : tie.Need-returns
 unfolding lastCount

@@ -13,7 +13,7 @@ few : (h : tie.After-garbage-size2)
     let t = h .before .before .t-size .result in
     let g = h .before .garbage-size .result in
     s .kappa * s .shape .n + (s .kappa1 * t + (s .kappa1 * g + s .kappa2 * h .garbage-size2 .result)) ≤ 27648
-few h = matrices-few (h .before .before .before .pre) (h .before .before .t-size .ensures) (h .before .garbage-size .ensures) (h .garbage-size2 .ensures)
+few h = matrices-few (h .before .before .before .args .s) (h .before .before .before .pre) (h .before .before .t-size .ensures) (h .before .garbage-size .ensures) (h .garbage-size2 .ensures)
 
 returns : tie.Need-returns
 unfolding matrixCount

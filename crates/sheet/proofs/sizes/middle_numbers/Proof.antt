@@ -10,13 +10,13 @@ row-count-requires : tie.Need-row-count-requires
 row-count-requires c κs = search needs
 
 mul-result : tie.Need-mul-result
-mul-result c = omega (arith, mul-le-mul (c .before .row-count .ensures .1) (c .before .before .pre .degree))
+mul-result c = omega (arith, mul-le-mul (c .before .row-count .ensures .1) (c .before .before .pre .shaped .degree .small))
 
 returns : tie.Need-returns
 returns c = (
   rw (c .before .row-count .ensures .0) refl,
   omega
-      (arith, mul-le-mul (c .before .row-count .ensures .1) (c .before .before .pre .degree)),
+      (arith, mul-le-mul (c .before .row-count .ensures .1) (c .before .before .pre .shaped .degree .small)),
 )
 
 pub middle-numbers-spec : {M : Type 1} → statement M

@@ -10,13 +10,13 @@ sections-of-requires : tie.Need-sections-of-requires
 sections-of-requires c κs = search needs
 
 mul-own : tie.Need-mul-own
-mul-own c = omega (arith, mul-le-mul (c .before .before .pre .κ₁) (c .before .before .pre .degree))
+mul-own c = omega (arith, mul-le-mul (c .before .before .pre .κ₁-small) (c .before .before .pre .shaped .degree .small))
 
 add-result : tie.Need-add-result
-add-result c = omega (arith, mul-le-mul (c .before .before .before .pre .κ₁) (c .before .before .before .pre .degree))
+add-result c = omega (arith, mul-le-mul (c .before .before .before .pre .κ₁-small) (c .before .before .before .pre .shaped .degree .small))
 
 add-result-2 : tie.Need-add-result-2
-add-result-2 c = omega (arith, mul-le-mul (c .before .before .before .before .pre .κ₁) (c .before .before .before .before .pre .degree))
+add-result-2 c = omega (arith, mul-le-mul (c .before .before .before .before .pre .κ₁-small) (c .before .before .before .before .pre .shaped .degree .small))
 
 returns : tie.Need-returns
 returns c = projections-is _ _ (c .before .before .before .sections-of .ensures .is)

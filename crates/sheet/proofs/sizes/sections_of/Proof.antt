@@ -8,7 +8,7 @@ use Rattle.sheet.proofs.sizes.sections_of.Statement.{statement}
 use Rattle.sheet.proofs.sizes.sections_of.Tie as tie
 
 mul-terms : tie.Need-mul-terms
-mul-terms c = omega (arith, mul-le-mul (c .before .before .before .before .pre .constantTerms) (c .before .before .term-size .ensures .1))
+mul-terms c = omega (arith, mul-le-mul (c .before .before .before .before .pre .L-small) (c .before .before .term-size .ensures .1))
 
 returns : tie.Need-returns
 unfolding sectionsOf onesCount
@@ -24,15 +24,15 @@ returns c =
       terms =
           omega (
             arith,
-            mul-le-mul (c .before .before .before .before .before .before .before .pre .constantTerms)
+            mul-le-mul (c .before .before .before .before .before .before .before .pre .L-small)
                 (c .before .before .before .before .before .term-size .ensures .1),
           );
       middle = c .before .before .before .before .middle-numbers .ensures .1;
       ones =
           omega (
             arith,
-            c .before .before .before .before .before .before .before .pre .constantTerms,
-            c .before .before .before .before .before .before .before .pre .projections,
+            c .before .before .before .before .before .before .before .pre .L-small,
+            c .before .before .before .before .before .before .before .pre .w-small,
           );
     }
 

@@ -13,19 +13,22 @@ function-size-requires c κs = search needs
 
 mul-result : tie.Need-mul-result
 mul-result c =
+    let s = c .before .before .args .s in
     let b = c .before .before .pre in
-    omega (arith, mul-le-mul (function-few b (c .before .function-size .ensures)) (b .degree))
+    omega (arith, mul-le-mul (function-few s b (c .before .function-size .ensures)) (b .shaped .degree .small))
 
 add-result : tie.Need-add-result
 add-result c =
+    let s = c .before .before .args .s in
     let b = c .before .before .pre in
-    omega (arith, mul-le-mul (function-few b (c .before .function-size .ensures)) (b .degree))
+    omega (arith, mul-le-mul (function-few s b (c .before .function-size .ensures)) (b .shaped .degree .small))
 
 returns : tie.Need-returns
 unfolding termSize
 returns c =
+    let s = c .before .before .args .s in
     let b = c .before .before .pre in
-    (rw (c .before .function-size .ensures) refl, le-one (mul-le-mul (function-few b (c .before .function-size .ensures)) (b .degree)))
+    (rw (c .before .function-size .ensures) refl, le-one (mul-le-mul (function-few s b (c .before .function-size .ensures)) (b .shaped .degree .small)))
 
 pub term-size-spec : {M : Type 1} → statement M
 term-size-spec = tie.close (tie.spec function-size-requires mul-result add-result returns)

@@ -7,21 +7,21 @@ use Rattle.sheet.proofs.sizes.total_numbers.Statement.{statement}
 use Rattle.sheet.proofs.sizes.total_numbers.Tie as tie
 
 mul-tail : tie.Need-mul-tail
-mul-tail c = omega (arith, mul-le-mul (c .before .last-count .ensures .1) (c .before .before .before .pre .degree))
+mul-tail c = omega (arith, mul-le-mul (c .before .last-count .ensures .1) (c .before .before .before .pre .shaped .degree .small))
 
 add-result : tie.Need-add-result
-add-result c = omega (arith, mul-le-mul (c .before .before .last-count .ensures .1) (c .before .before .before .before .pre .degree))
+add-result c = omega (arith, mul-le-mul (c .before .before .last-count .ensures .1) (c .before .before .before .before .pre .shaped .degree .small))
 
 add-result-2 : tie.Need-add-result-2
 add-result-2 c =
-    omega (arith, mul-le-mul (c .before .before .before .last-count .ensures .1) (c .before .before .before .before .before .pre .degree))
+    omega (arith, mul-le-mul (c .before .before .before .last-count .ensures .1) (c .before .before .before .before .before .pre .shaped .degree .small))
 
 add-result-3 : tie.Need-add-result-3
 add-result-3 c =
     omega (
       arith,
       mul-le-mul (c .before .before .before .before .last-count .ensures .1)
-          (c .before .before .before .before .before .before .pre .degree),
+          (c .before .before .before .before .before .before .pre .shaped .degree .small),
     )
 
 add-result-4 : tie.Need-add-result-4
@@ -29,7 +29,7 @@ add-result-4 c =
     omega (
       arith,
       mul-le-mul (c .before .before .before .before .before .last-count .ensures .1)
-          (c .before .before .before .before .before .before .before .pre .degree),
+          (c .before .before .before .before .before .before .before .pre .shaped .degree .small),
     )
 
 returns : tie.Need-returns
