@@ -32,16 +32,13 @@ message-lengths-requires c κs =
 
 matrix-lengths-requires : tie.Need-matrix-lengths-requires
 matrix-lengths-requires c κs =
-    let c1 = c .before in
-    let c2 = c1 .before in
+    let c2 = c .before .before in
     let c3 = c2 .before in
     verify-sized (c3 .before .args .sizes) (c3 .verify-bounds .ensures) (c2 .if1 .left)
 
 draw-lengths-requires : tie.Need-draw-lengths-requires
 draw-lengths-requires c κs =
-    let c1 = c .before in
-    let c2 = c1 .before in
-    let c3 = c2 .before in
+    let c3 = c .before .before .before in
     let c4 = c3 .before in
     verify-sized (c4 .before .args .sizes) (c4 .verify-bounds .ensures) (c3 .if1 .left)
 
@@ -65,11 +62,7 @@ constraint-ranges-requires c κs = c .before .before .are-projection-entries .en
 
 challenges-requires : tie.Need-challenges-requires
 challenges-requires c κs =
-    let c1 = c .before in
-    let c2 = c1 .before in
-    let c3 = c2 .before in
-    let c4 = c3 .before in
-    let c5 = c4 .before in
+    let c5 = c .before .before .before .before .before in
     let c6 = c5 .before in
     let c7 = c6 .before in
     let c8 = c7 .before in

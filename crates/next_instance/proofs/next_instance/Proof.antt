@@ -33,8 +33,7 @@ write-instance-requires c κs =
 returns-3 : tie.Need-returns-3
 returns-3 c =
     let c1 = c .before in
-    let c2 = c1 .before in
-    let c3 = c2 .before in
+    let c3 = c1 .before .before in
     let c4 = c3 .before in
     let c5 = c4 .before in
     let c6 = c5 .before in

@@ -21,8 +21,7 @@ chunk-width-requires c κs =
 
 add-at : tie.Need-add-at Inv-loop μ-loop
 add-at c =
-    let c1 = c .before in
-    let c2 = c1 .before in
+    let c2 = c .before .before in
     let a = c2 .before in
     omega (
       arith,

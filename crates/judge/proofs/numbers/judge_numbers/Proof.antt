@@ -15,10 +15,7 @@ returns c =
     let c6 = c5 .before in
     let c7 = c6 .before in
     let c8 = c7 .before in
-    let c9 = c8 .before in
-    let c10 = c9 .before in
-    let c11 = c10 .before in
-    let c12 = c11 .before in
+    let c12 = c8 .before .before .before .before in
     let x = c12 .args in
     number-stage (x .s) (x .a-matrix .now) (x .b-matrix .now) (x .c-matrix .now) (x .d-matrix .now) (x .whole .now) (x .constant-terms .now) (x .u1 .now) (x .projections .now)
     (cut refl (c4 .front .ensures) (c8 .rest .ensures))

@@ -15,33 +15,22 @@ matrix-fits-requires-2 c κs =
 
 matrix-fits-requires-3 : tie.Need-matrix-fits-requires-3
 matrix-fits-requires-3 c κs =
-    let c1 = c .before in
-    let c2 = c1 .before in
-    let c3 = c2 .before in
-    let c4 = c3 .before in
+    let c2 = c .before .before in
+    let c4 = c2 .before .before in
     let l = c4 .pre in
     (omega arith, garbage-within _ _ (c2 .garbage-size .ensures) (l .shaped .parts-small) (l .t₂-most), omega arith)
 
 list-fits-requires : tie.Need-list-fits-requires
 list-fits-requires c κs =
-    let c1 = c .before in
-    let c2 = c1 .before in
-    let c3 = c2 .before in
-    let c4 = c3 .before in
-    let c5 = c4 .before in
+    let c5 = c .before .before .before .before .before in
     let c6 = c5 .before in
     let l = c6 .pre in
     (t-within _ _ _ (c5 .t-size .ensures) (l .shaped .parts-small) (l .κ-small) (l .t₁-most), omega arith)
 
 list-fits-requires-2 : tie.Need-list-fits-requires-2
 list-fits-requires-2 c κs =
-    let c1 = c .before in
-    let c2 = c1 .before in
-    let c3 = c2 .before in
-    let c4 = c3 .before in
-    let c5 = c4 .before in
-    let c6 = c5 .before in
-    let c7 = c6 .before in
+    let c5 = c .before .before .before .before .before in
+    let c7 = c5 .before .before in
     let l = c7 .pre in
     (garbage-within _ _ (c5 .garbage-size .ensures) (l .shaped .parts-small) (l .t₂-most), omega arith)
 

@@ -10,31 +10,22 @@ use Rattle.limits.proofs.lengths.matrix_lengths.Tie as tie
 
 matrix-fits-requires-2 : tie.Need-matrix-fits-requires-2
 matrix-fits-requires-2 c κs =
-    let c1 = c .before in
-    let c2 = c1 .before in
-    let c3 = c2 .before in
+    let c3 = c .before .before .before in
     let c4 = c3 .before in
     let l = c4 .pre in
     (omega arith, t-within _ _ _ (c3 .t-size .ensures) (l .shaped .parts-small) (l .κ-small) (l .t₁-most), omega arith)
 
 matrix-fits-requires-3 : tie.Need-matrix-fits-requires-3
 matrix-fits-requires-3 c κs =
-    let c1 = c .before in
-    let c2 = c1 .before in
-    let c3 = c2 .before in
-    let c4 = c3 .before in
-    let c5 = c4 .before in
+    let c3 = c .before .before .before in
+    let c5 = c3 .before .before in
     let l = c5 .pre in
     (omega arith, garbage-within _ _ (c3 .garbage-size .ensures) (l .shaped .parts-small) (l .t₂-most), omega arith)
 
 matrix-fits-requires-4 : tie.Need-matrix-fits-requires-4
 matrix-fits-requires-4 c κs =
-    let c1 = c .before in
-    let c2 = c1 .before in
-    let c3 = c2 .before in
-    let c4 = c3 .before in
-    let c5 = c4 .before in
-    let c6 = c5 .before in
+    let c3 = c .before .before .before in
+    let c6 = c3 .before .before .before in
     let l = c6 .pre in
     (omega arith, garbage-within _ _ (c3 .garbage-size2 .ensures) (l .shaped .parts-small) (l .t₁-most), omega arith)
 

@@ -35,25 +35,19 @@ out-fits-requires c κs =
 
 message-lengths-requires : tie.Need-message-lengths-requires
 message-lengths-requires c κs =
-    let c1 = c .before in
-    let c2 = c1 .before in
+    let c2 = c .before .before in
     let a = c2 .before .before .args in
     next-sized zCount (a .sizes) (a .nu) (a .mu) (c2 .before .next-bounds .ensures) (c2 .if1 .left)
 
 matrix-lengths-requires : tie.Need-matrix-lengths-requires
 matrix-lengths-requires c κs =
-    let c1 = c .before in
-    let c2 = c1 .before in
-    let c3 = c2 .before in
+    let c3 = c .before .before .before in
     let a = c3 .before .before .args in
     next-sized zCount (a .sizes) (a .nu) (a .mu) (c3 .before .next-bounds .ensures) (c3 .if1 .left)
 
 draw-lengths-requires : tie.Need-draw-lengths-requires
 draw-lengths-requires c κs =
-    let c1 = c .before in
-    let c2 = c1 .before in
-    let c3 = c2 .before in
-    let c4 = c3 .before in
+    let c4 = c .before .before .before .before in
     let a = c4 .before .before .args in
     next-sized zCount (a .sizes) (a .nu) (a .mu) (c4 .before .next-bounds .ensures) (c4 .if1 .left)
 
@@ -64,8 +58,7 @@ returns-2 c =
     let c2 = c1 .before in
     let c3 = c2 .before in
     let c4 = c3 .before in
-    let c5 = c4 .before in
-    let c6 = c5 .before in
+    let c6 = c4 .before .before in
     let c7 = c6 .before in
     let c8 = c7 .before in
     let a = c8 .args in
@@ -79,10 +72,7 @@ constraint-ranges-requires c κs = c .before .are-projection-entries .ensures
 
 challenges-requires : tie.Need-challenges-requires
 challenges-requires c κs =
-    let c1 = c .before in
-    let c2 = c1 .before in
-    let c3 = c2 .before in
-    let c4 = c3 .before in
+    let c4 = c .before .before .before .before in
     let c5 = c4 .before in
     let c6 = c5 .before in
     let c7 = c6 .before in
