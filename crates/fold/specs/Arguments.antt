@@ -1,5 +1,5 @@
 -- The arguments of the calls as the definitions take them: sizes stand in a struct, each slice is the list of its numbers. What depends on the
--- number tz of z digits is defined `With` it, and again for the zCount digits of today's calls. Below, the number with which each call refuses, 0 where it does not.
+-- number tz of z digits is defined `With` it, and again for the zCount digits of the calls. Below, the number with which each call refuses, 0 where it does not.
 use mathlib.Core.List.{List}
 use Prim.Native.Nat.{ℕ}
 use lib.IntN.{ℤ}

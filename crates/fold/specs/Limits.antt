@@ -1,4 +1,5 @@
--- SPECIFICATION 7.2 to 7.6 and 7.11: the largest number of each kind that a call takes. Every limit of these rows is written here alone.
+-- SPECIFICATION 7.2 to 7.6 and 7.11: the largest number of each kind that a call takes. The tests and what follows from
+-- them name these; the bases stand in crates/residues/specs/Digits.antt.
 use Prim.Native.Nat.{ℕ}
 
 -- "n not 1..256, r not 1..16, K or L not 0..32, w not 0..256"

@@ -6,7 +6,7 @@ use Rattle.algebra.specs.Triangle.{pairs-count}
 abbrev pub five : ℕ
 five = 5
 
--- message 5: "z = Σ c_i s_i in two digits to base b". Definitions take the number of digits of z as tz; this is tz at today's calls.
+-- message 5: "z = Σ c_i s_i in two digits to base b". Definitions take the number of digits of z as tz; this is tz at the calls.
 abbrev pub zCount : ℕ
 zCount = 2
 

@@ -6,7 +6,7 @@ ghost use Rattle.algebra.specs.Triangle.{start};
 ghost use Rattle.fold.specs.Sizes as spec;
 ghost use Rattle.fold.specs.Chunks as cuts;
 ghost use Rattle.fold.specs.Known.CutSizes.{CutSizes};
-ghost use Rattle.fold.specs.Limits.{mostCommitmentRank, mostDigits, mostParts};
+ghost use Rattle.fold.specs.Limits.{mostCommitmentRank, mostDigits, mostParts, mostChunks};
 use crate::counts::garbage_size;
 use crate::counts::t_size;
 
@@ -23,7 +23,7 @@ pub fn rest_size(r: usize, kappa: usize, t1: usize, t2: usize) -> usize
 
 // a / b rounded up.
 pub fn ceiling(a: usize, b: usize) -> usize
-    requires { ⌜ (a ≤ 8192) × (0 < b) × (b ≤ 16) ⌝ }
+    requires { ⌜ (a ≤ 8192) × (0 < b) × (b ≤ mostChunks) ⌝ }
     ensures { λ x. ⌜ x ≡ spec.ceiling a b ⌝ }
 {
     (a + (b - 1)) / b
@@ -41,7 +41,7 @@ pub fn next_rank(n: usize, nu: usize, m: usize, mu: usize) -> usize
 
 // Elements of chunk i where `whole` elements are cut into `count` chunks.
 pub fn chunk(whole: usize, count: usize, i: usize) -> usize
-    requires { ⌜ (whole ≤ 8192) × (0 < count) × (count ≤ 16) × (i ≤ 16) ⌝ }
+    requires { ⌜ (whole ≤ 8192) × (0 < count) × (count ≤ mostChunks) × (i ≤ mostChunks) ⌝ }
     ensures { λ x. ⌜ x ≡ cuts.chunk whole count i ⌝ }
 {
     let size = ceiling(whole, count);
@@ -57,7 +57,7 @@ pub fn chunk(whole: usize, count: usize, i: usize) -> usize
 pub fn chunk_width(tz: usize, n: usize, nu: usize, m: usize, mu: usize, s: usize) -> usize
     requires { ⌜ tz ≤ 2 ⌝ }
     requires { ⌜ CutSizes n nu m mu ⌝ }
-    requires { ⌜ s ≤ 16 ⌝ }
+    requires { ⌜ s ≤ mostChunks ⌝ }
     ensures { λ x. ⌜ x ≡ cuts.width tz n nu m mu s ⌝ }
 {
     let of_z = tz * nu;
@@ -71,7 +71,7 @@ pub fn chunk_width(tz: usize, n: usize, nu: usize, m: usize, mu: usize, s: usize
 pub fn chunk_start(tz: usize, n: usize, nu: usize, m: usize, mu: usize, s: usize) -> usize
     requires { ⌜ tz ≤ 2 ⌝ }
     requires { ⌜ CutSizes n nu m mu ⌝ }
-    requires { ⌜ s ≤ 16 ⌝ }
+    requires { ⌜ s ≤ mostChunks ⌝ }
     ensures { λ x. ⌜ x ≡ start (cuts.width tz n nu m mu) s ⌝ }
 {
     let mut at = 0;

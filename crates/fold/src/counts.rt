@@ -4,7 +4,7 @@ ghost use Prim.Native.Nat.{_≤_};
 ghost use Rattle.fold.specs.Sizes.{pairs, functionSize, tSize, garbageSize, openingSize};
 ghost use Rattle.fold.specs.Limits.{mostCommitmentRank, mostDigits, mostParts, mostRank};
 
-// The number of digits of z at today's entries: "z = Σ c_i s_i in two digits to base b". Functions take it as tz.
+// The number of digits of z at the calls: "z = Σ c_i s_i in two digits to base b". Functions take it as tz.
 pub const Z_DIGITS: usize = 2;
 
 // The number of pairs i ≤ j of r parts.
@@ -33,7 +33,7 @@ pub fn t_size(r: usize, kappa: usize, t1: usize) -> usize
 
 // Elements of the g or h digits.
 pub fn garbage_size(r: usize, t: usize) -> usize
-    requires { ⌜ (r ≤ mostParts) × (t ≤ 8) ⌝ }
+    requires { ⌜ (r ≤ mostParts) × (t ≤ mostDigits) ⌝ }
     ensures { λ x. ⌜ x ≡ garbageSize r t ⌝ }
 {
     pair_count(r) * t

@@ -1,5 +1,4 @@
-// The largest number of each kind that a call takes: SPECIFICATION 7.2 to 7.6 and 7.11. Every limit of these rows is written here alone, as in
-// specs/Limits.antt.
+// The largest number of each kind that a call takes: SPECIFICATION 7.2 to 7.6 and 7.11, as in specs/Limits.antt.
 pub const MOST_RANK: usize = 256;
 
 pub const MOST_PARTS: usize = 16;

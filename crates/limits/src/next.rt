@@ -9,7 +9,7 @@ ghost use Rattle.fold.specs.Sizes.{restSize};
 ghost use Rattle.fold.specs.Known.CallLimits.{ChunkLimits};
 ghost use Rattle.fold.specs.Known.CutSizes.{CutSizes};
 ghost use Rattle.limits.specs.Stages as spec;
-ghost use Rattle.fold.specs.Limits.{mostParts};
+ghost use Rattle.fold.specs.Limits.{mostChunks};
 use crate::bounds::size_rows;
 use crate::draws::draw_lengths;
 use crate::groups::length_bounds;
@@ -52,7 +52,7 @@ pub fn rank_of(sizes: Sizes, nu: usize, mu: usize) -> usize
 
 // Row 7: numbers of `count` whole constraints on `parts` parts of `rank` elements. The rank may be above 256 here, which row 11 tells.
 pub fn next_fits(out: &[i32], d: usize, rank: usize, parts: usize, count: usize) -> bool
-    requires { ⌜ (d ≤ 64) × (rank ≤ 8192) × (parts ≤ mostParts) × (count ≤ 32) ⌝ }
+    requires { ⌜ (d ≤ 64) × (rank ≤ 8192) × (parts ≤ mostChunks) × (count ≤ 32) ⌝ }
     ensures { λ x. ⌜ x ≡ table.sized (now (out .entry)) (table.wholeLength d rank parts count) ⌝ }
 {
     let function = fold::counts::pair_count(parts) + parts * rank;

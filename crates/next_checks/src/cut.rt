@@ -5,6 +5,7 @@ ghost use Rattle.fold.specs.Arguments.{VerifySized};
 ghost use Rattle.fold.specs.Sizes.{restSize, nextRank};
 ghost use Rattle.fold.specs.Known.CallLimits.{ChunkLimits};
 ghost use Rattle.next_checks.specs.Known.Facts.{CutFacts};
+ghost use Rattle.fold.specs.Limits.{mostRank};
 use fold::Sizes;
 use fold::chunks::next_rank;
 use fold::chunks::rest_size;
@@ -36,7 +37,7 @@ pub fn cut_of(sizes: Sizes, tz: usize, nu: usize, mu: usize) -> Cut
     requires { ⌜ VerifySized sizes ⌝ }
     requires { ⌜ (0 < tz) × (tz ≤ 2) ⌝ }
     requires { ⌜ ChunkLimits tz nu mu ⌝ }
-    requires { ⌜ nextRank (sizes .shape .n) nu (restSize (sizes .shape .r) (sizes .kappa) (sizes .t1) (sizes .t2)) mu ≤ 256 ⌝ }
+    requires { ⌜ nextRank (sizes .shape .n) nu (restSize (sizes .shape .r) (sizes .kappa) (sizes .t1) (sizes .t2)) mu ≤ mostRank ⌝ }
     ensures { λ cut. ⌜ CutFacts sizes cut × (cut .tz ≡ tz) × (cut .nu ≡ nu) × (cut .mu ≡ mu) ⌝ }
 {
     let m = rest_size(sizes.shape.r, sizes.kappa, sizes.t1, sizes.t2);

@@ -14,7 +14,7 @@ ghost use Rattle.fold.specs.Sizes.{pairs, garbageSize};
 ghost use Rattle.fold.specs.Messages.{elements};
 ghost use Rattle.fold.specs.NextInstance.{zTable, tTable, garbageTable};
 ghost use Rattle.next_constraints.specs.Blocks.{numbers, digitRow};
-ghost use Rattle.fold.specs.Limits.{mostParts};
+ghost use Rattle.fold.specs.Limits.{mostParts, mostDigits};
 use fold::counts::pair_count;
 use residues::digits;
 use ring::element::Element;
@@ -195,7 +195,7 @@ pub fn write_garbage(
 )
     requires { ⌜ Degree d ⌝ }
     requires { ⌜ Base base ⌝ }
-    requires { ⌜ (r ≤ mostParts) × (t ≤ 8) ⌝ }
+    requires { ⌜ (r ≤ mostParts) × (t ≤ mostDigits) ⌝ }
     requires { ⌜ (pairs r * d ≤ length (now xs)) × ((at + garbageSize r t) * d ≤ length (now out)) ⌝ }
     ensures { λ _. ⌜ now (out .exit) ≡ over (now (out .entry)) (at * d)
         (numbers d (garbageTable d r base t (λ i j. el d (now (xs .entry)) (pair r i j)))) ⌝ }

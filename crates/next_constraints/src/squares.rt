@@ -13,7 +13,7 @@ ghost use Rattle.fold.specs.Sizes.{pairs};
 ghost use Rattle.fold.specs.Messages.{elements};
 ghost use Rattle.fold.specs.PairElements.{pairElements};
 ghost use Rattle.fold.specs.NextInstance.{squares};
-ghost use Rattle.fold.specs.Limits.{mostParts};
+ghost use Rattle.fold.specs.Limits.{mostChunks};
 use crate::blocks::power;
 use residues::modulus;
 use ring::element::Element;
@@ -21,7 +21,7 @@ use ring::element::Element;
 // b^(e + e') for parts s and s2 of digits e and e' of z, doubled where they differ.
 fn square_weight(nu: usize, b: usize, s: usize, s2: usize) -> i32
     requires { ⌜ Base b ⌝ }
-    requires { ⌜ (0 < nu) × (s < 16) × (s2 < 16) ⌝ }
+    requires { ⌜ (0 < nu) × (s < mostChunks) × (s2 < mostChunks) ⌝ }
     ensures { λ r. ⌜ r ≡ centred (cond (eqb s s2) (pos 1) (pos 2) *ℤ pos (b ^ (s / nu + s2 / nu))) ⌝ }
 {
     let e = s / nu + s2 / nu;
@@ -36,8 +36,8 @@ fn square_weight(nu: usize, b: usize, s: usize, s2: usize) -> i32
 fn square(d: usize, tz: usize, nu: usize, b: usize, s: usize, s2: usize) -> Element
     requires { ⌜ Degree d ⌝ }
     requires { ⌜ Base b ⌝ }
-    requires { ⌜ (0 < nu) × (tz * nu ≤ 16) ⌝ }
-    requires { ⌜ (s < 16) × (s2 < 16) ⌝ }
+    requires { ⌜ (0 < nu) × (tz * nu ≤ mostChunks) ⌝ }
+    requires { ⌜ (s < mostChunks) × (s2 < mostChunks) ⌝ }
     ensures { λ r. ⌜ r .coefficients ≡ array d (squares d tz nu b s s2) ⌝ }
 {
     let both = tz * nu;
@@ -69,7 +69,7 @@ fn write_square_row(
 )
     requires { ⌜ Degree d ⌝ }
     requires { ⌜ Base b ⌝ }
-    requires { ⌜ (0 < nu) × (tz * nu ≤ 16) × (parts ≤ mostParts) × (s ≤ parts) ⌝ }
+    requires { ⌜ (0 < nu) × (tz * nu ≤ mostChunks) × (parts ≤ mostChunks) × (s ≤ parts) ⌝ }
     requires { ⌜ (at + (parts - s)) * d ≤ length (now out) ⌝ }
     ensures { λ _. ⌜ now (out .exit) ≡ over (now (out .entry)) (at * d) (elements d (parts - s) (λ k. squares d tz nu b s (s + k))) ⌝ }
 {
@@ -86,7 +86,7 @@ fn write_square_row(
 pub fn write_squares(d: usize, tz: usize, nu: usize, b: usize, parts: usize, out: &mut [i32])
     requires { ⌜ Degree d ⌝ }
     requires { ⌜ Base b ⌝ }
-    requires { ⌜ (0 < nu) × (tz * nu ≤ 16) × (parts ≤ mostParts) ⌝ }
+    requires { ⌜ (0 < nu) × (tz * nu ≤ mostChunks) × (parts ≤ mostChunks) ⌝ }
     requires { ⌜ pairs parts * d ≤ length (now out) ⌝ }
     ensures { λ _. ⌜ now (out .exit) ≡ over (now (out .entry)) 0 (pairElements d parts (squares d tz nu b)) ⌝ }
 {

@@ -7,7 +7,7 @@ use lib.ListN.{length, take, drop}
 use lib.IntN.{ℤ}
 use Rattle.algebra.specs.Triangle.{start}
 use Rattle.fold.specs.declared.PartSizes.{PartSizes}
-use Rattle.fold.specs.Sizes.{restSize, nextRank}
+use Rattle.fold.specs.Sizes.{restSize, nextRank, zCount}
 use Rattle.fold.specs.Chunks.{width}
 use Rattle.fold.specs.Arguments.{partRefusalOf, nextPartOf}
 use Rattle.next_instance.specs.declared.part.Place.{Place}
@@ -21,7 +21,7 @@ rankOf m = nextRank (m .shape .n) (m .nu) (restOf m) (m .mu)
 
 -- how many elements each part has, the first being part 0 here
 abbrev pub widthOf : PartSizes → ℕ → ℕ
-widthOf m = width 2 (m .shape .n) (m .nu) (restOf m) (m .mu)
+widthOf m = width zCount (m .shape .n) (m .nu) (restOf m) (m .mu)
 
 -- refused: 0 and 0
 unfoldable pub placeIf : ℕ → (first count : ℕ) → Place

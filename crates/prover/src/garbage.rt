@@ -11,7 +11,7 @@ ghost use Rattle.residues.specs.Digits.{Base, split};
 ghost use Rattle.fold.specs.Sizes.{pairs, garbageSize};
 ghost use Rattle.fold.specs.Messages.{elements, g, garbageDigits};
 ghost use Rattle.fold.specs.PairElements.{pairElements};
-ghost use Rattle.fold.specs.Limits.{mostParts, mostRank};
+ghost use Rattle.fold.specs.Limits.{mostParts, mostRank, mostDigits};
 use fold::counts::pair_count;
 use residues::digits::split_digits;
 use ring::element::Element;
@@ -82,7 +82,7 @@ fn write_element_digits(
 pub fn write_digits(d: usize, base: usize, t: usize, count: usize, values: &[i32], out: &mut [i32])
     requires { ⌜ Degree d ⌝ }
     requires { ⌜ Base base ⌝ }
-    requires { ⌜ (0 < t) × (t ≤ 8) × (count * d ≤ length (now values)) × (length (now out) ≡ count * (t * d)) ⌝ }
+    requires { ⌜ (0 < t) × (t ≤ mostDigits) × (count * d ≤ length (now values)) × (length (now out) ≡ count * (t * d)) ⌝ }
     ensures { λ _. ⌜ now (out .exit) ≡ flat count (λ e. split base t (coeffs d (el d (now (values .entry)) e))) ⌝ }
 {
     let width = t * d;
@@ -107,7 +107,7 @@ pub fn write_garbage_digits(
 )
     requires { ⌜ Degree d ⌝ }
     requires { ⌜ Base base ⌝ }
-    requires { ⌜ (r ≤ mostParts) × (0 < t) × (t ≤ 8) × (pairs r * d ≤ length (now values)) × (length (now out) ≡ garbageSize r t * d) ⌝ }
+    requires { ⌜ (r ≤ mostParts) × (0 < t) × (t ≤ mostDigits) × (pairs r * d ≤ length (now values)) × (length (now out) ≡ garbageSize r t * d) ⌝ }
     ensures { λ _. ⌜ now (out .exit) ≡ garbageDigits d r base t (λ i j. el d (now (values .entry)) (pair r i j)) ⌝ }
 {
     let count = pair_count(r);

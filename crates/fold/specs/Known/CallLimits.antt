@@ -17,7 +17,7 @@ use Rattle.fold.specs.declared.CommitSizes.{CommitSizes}
 use Rattle.fold.specs.declared.GarbageSizes.{GarbageSizes}
 use Rattle.fold.specs.declared.Sizes.{Sizes}
 use Rattle.fold.specs.declared.PartSizes.{PartSizes}
-use Rattle.fold.specs.Limits.{mostBound, mostCommitmentRank, mostConstraints, mostDigits, mostProjections}
+use Rattle.fold.specs.Limits.{mostBound, mostCommitmentRank, mostConstraints, mostDigits, mostProjections, mostChunks}
 
 pub record CommitLimits (d n r κ κ₁ b₁ b₂ t₁ t₂ : ℕ) : Type 0 where
   pub shaped : Shaped d n r
@@ -81,7 +81,7 @@ pub record VerifyLimits (d n r K L w κ κ₁ κ₂ b b₁ b₂ t₁ t₂ bound 
 pub record ChunkLimits (tz ν μ : ℕ) : Type 0 where
   pub ν-positive : 0 < ν
   pub μ-positive : 0 < μ
-  pub parts-small : tz * ν + μ ≤ 16
+  pub parts-small : tz * ν + μ ≤ mostChunks
 
 -- the question for part i of the next witness
 pub record PartLimits (d n r κ t₁ t₂ tz ν μ i : ℕ) : Type 0 where

@@ -11,15 +11,15 @@ use Rattle.fold.specs.Chunks.{chunk, width}
 use Rattle.fold.specs.Laws.ChunkLaws.{width-bound}
 use Rattle.fold.specs.Laws.SizeBounds.{product-bound, tSize-bound, garbageSize-bound}
 use Rattle.fold.specs.Known.CallLimits.{ChunkLimits}
-use Rattle.fold.specs.Limits.{mostCommitmentRank, mostDigits, mostParts, mostRank}
+use Rattle.fold.specs.Limits.{mostCommitmentRank, mostDigits, mostParts, mostRank, mostChunks}
 
 pub record CutSizes (n ν m μ : ℕ) : Type 0 where
   pub n-small : n ≤ mostRank
   pub m-small : m ≤ 4096
   pub ν-positive : 0 < ν
   pub μ-positive : 0 < μ
-  pub ν-small : ν ≤ 16
-  pub μ-small : μ ≤ 16
+  pub ν-small : ν ≤ mostChunks
+  pub μ-small : μ ≤ mostChunks
 
 -- a number of elements that code has computed
 pub restSize-bound : (r κ t₁ t₂ : ℕ) → r ≤ mostParts → κ ≤ mostCommitmentRank → t₁ ≤ mostDigits → t₂ ≤ mostDigits → restSize r κ t₁ t₂ ≤ 3200

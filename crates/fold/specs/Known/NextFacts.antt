@@ -8,7 +8,7 @@ use borrow.Author.Tests.{leb-true}
 use lib.IntN.{ℤ}
 use Rattle.fold.specs.declared.Shape.{Shape}
 use Rattle.fold.specs.declared.Sizes.{Sizes}
-use Rattle.fold.specs.Sizes.{restSize, nextRank, nextParts, nextCount}
+use Rattle.fold.specs.Sizes.{restSize, nextRank, nextParts, nextCount, zCount}
 use Rattle.fold.specs.Statement.{Statement, Draws, Transcript}
 use Rattle.fold.specs.Answers.{firstFailing}
 use Rattle.fold.specs.Refusals.{wholeLength, sizeTests, nextTests}
@@ -17,6 +17,7 @@ use Rattle.fold.specs.Laws.RefusalLaws.{allOf-all, tested}
 use Rattle.fold.specs.Laws.TestLaws.{holds, early-holds}
 use Rattle.fold.specs.Known.CallLimits.{VerifySized, ChunkLimits, verify-limits, chunk-limits}
 use Rattle.fold.specs.Known.WorkFacts.{AggregateFacts, MessageFacts, EntryFacts, ConstantFacts}
+use Rattle.fold.specs.Limits.{mostRank}
 
 module _ (sizes : Sizes) (A B C D whole constantTerms projections ψ ω α δ c u₁ p b″ u₂ : List ℤ) (ν μ : ℕ) (out : List ℤ) where
   open Sizes sizes using (shape, k, l, w, kappa, kappa1, kappa2, b, b1, b2, t1, t2, bound, target)
@@ -36,9 +37,9 @@ module _ (sizes : Sizes) (A B C D whole constantTerms projections ψ ω α δ c 
     pub aggregated : AggregateFacts d n r k l w whole constantTerms projections ψ ω α δ
     pub entries : EntryFacts sizes A B C D c
     pub constants : ConstantFacts sizes whole α δ b″ u₁ u₂
-    pub cut : ChunkLimits 2 ν μ
-    pub rank-small : nextRank n ν (restSize r kappa t1 t2) μ ≤ 256
-    pub out-length : length out ≡ wholeLength d (nextRank n ν (restSize r kappa t1 t2) μ) (nextParts 2 ν μ) (nextCount kappa kappa1 kappa2)
+    pub cut : ChunkLimits zCount ν μ
+    pub rank-small : nextRank n ν (restSize r kappa t1 t2) μ ≤ mostRank
+    pub out-length : length out ≡ wholeLength d (nextRank n ν (restSize r kappa t1 t2) μ) (nextParts zCount ν μ) (nextCount kappa kappa1 kappa2)
 
   pub next-facts : firstFailing (nextTests 𝓢 𝓓 𝓣 ν μ out) ≡ 0 → NextFacts
   unfolding nextTests

@@ -1,4 +1,4 @@
--- Where z has one digit, that digit is z and nothing looks at the base b.
+-- Where z has one digit, that digit is z, and verdict, digits and next constraints do not depend on the base b.
 --     one-digit-z, one-digit-digits     z is neither recomposed nor split
 --     one-digit-verdict                 the verdict does not depend on b
 --     one-digit-next                    nor do the constraints of the next instance

@@ -16,13 +16,13 @@ use lib.IntN.{ℤ, pos}
 use borrow.Author.Tests.{le-leb, leb-true, eq-eqb, eqb-true}
 pub use Rattle.integers.specs.Laws.AllLaws.{both-left, both-right, both-true}
 use Rattle.ring.specs.Element.{Degree}
-use Rattle.residues.specs.Digits.{Base}
+use Rattle.residues.specs.Digits.{Base, leastBase, mostBase}
 use Rattle.fold.specs.Answers.{firstFailing}
 use Rattle.fold.specs.Refusals.{allOf, anyOf, between, degree, rank, parts, constraintCount, projectionCount, commitmentRank, base, challenges}
 use Rattle.fold.specs.Refusals.{digitCount, chunks, lengthBound, sized}
 use Rattle.ring.specs.Laws.ElementEquality.{every-true, true-every}
 use Rattle.residues.specs.Range.{challenge}
-use Rattle.fold.specs.Limits.{mostBound, mostCommitmentRank, mostConstraints, mostParts, mostProjections, mostRank}
+use Rattle.fold.specs.Limits.{mostBound, mostCommitmentRank, mostConstraints, mostParts, mostProjections, mostRank, mostDigits, mostChunks}
 
 false-true : {A : Type 0} → false ≡ true → A
 false-true e = absurd (subst T (sym e) tt)
@@ -171,44 +171,44 @@ degree-fits d e = cases (degree-iff d .0 e)
 
 pub rank-iff : (n : ℕ) → (rank (pos n) ≡ true) ↔ ((1 ≤ n) × (n ≤ mostRank))
 unfolding rank
-rank-iff n = between-iff 1 256 n
+rank-iff n = between-iff 1 mostRank n
 
 pub parts-iff : (r : ℕ) → (parts (pos r) ≡ true) ↔ ((1 ≤ r) × (r ≤ mostParts))
 unfolding parts
-parts-iff r = between-iff 1 16 r
+parts-iff r = between-iff 1 mostParts r
 
 pub constraintCount-iff : (k : ℕ) → (constraintCount (pos k) ≡ true) ↔ ((0 ≤ k) × (k ≤ mostConstraints))
 unfolding constraintCount
-constraintCount-iff k = between-iff 0 32 k
+constraintCount-iff k = between-iff 0 mostConstraints k
 
 pub projectionCount-iff : (w : ℕ) → (projectionCount (pos w) ≡ true) ↔ ((0 ≤ w) × (w ≤ mostProjections))
 unfolding projectionCount
-projectionCount-iff w = between-iff 0 256 w
+projectionCount-iff w = between-iff 0 mostProjections w
 
 pub commitmentRank-iff : (κ : ℕ) → (commitmentRank (pos κ) ≡ true) ↔ ((1 ≤ κ) × (κ ≤ mostCommitmentRank))
 unfolding commitmentRank
-commitmentRank-iff κ = between-iff 1 8 κ
+commitmentRank-iff κ = between-iff 1 mostCommitmentRank κ
 
-pub base-iff : (b : ℕ) → (base (pos b) ≡ true) ↔ ((2 ≤ b) × (b ≤ 65536))
+pub base-iff : (b : ℕ) → (base (pos b) ≡ true) ↔ ((leastBase ≤ b) × (b ≤ mostBase))
 unfolding base
-base-iff b = between-iff 2 65536 b
+base-iff b = between-iff leastBase mostBase b
 
 pub base-fits : (b : ℕ) → base (pos b) ≡ true → Base b
 base-fits b e = record { least = base-iff b .0 e .0; most = base-iff b .0 e .1 }
 
-pub digitCount-iff : (t : ℕ) → (digitCount (pos t) ≡ true) ↔ ((2 ≤ t) × (t ≤ 8))
+pub digitCount-iff : (t : ℕ) → (digitCount (pos t) ≡ true) ↔ ((2 ≤ t) × (t ≤ mostDigits))
 unfolding digitCount
-digitCount-iff t = between-iff 2 8 t
+digitCount-iff t = between-iff 2 mostDigits t
 
 pub lengthBound-iff : (β² : ℕ) → (lengthBound (pos β²) ≡ true) ↔ ((0 ≤ β²) × (β² ≤ mostBound))
 unfolding lengthBound
-lengthBound-iff β² = between-iff 0 999999999999999 β²
+lengthBound-iff β² = between-iff 0 mostBound β²
 
 pub sized-iff : {A : Type 0} (xs : List A) (k : ℕ) → (sized xs k ≡ true) ↔ (length xs ≡ k)
 unfolding sized
 sized-iff xs k = (eqb-true (length xs) k, eq-eqb (length xs) k)
 
-pub chunks-iff : (tz ν μ : ℕ) → (chunks tz (pos ν) (pos μ) ≡ true) ↔ ((1 ≤ ν) × ((1 ≤ μ) × (tz * ν + μ ≤ 16)))
+pub chunks-iff : (tz ν μ : ℕ) → (chunks tz (pos ν) (pos μ) ≡ true) ↔ ((1 ≤ ν) × ((1 ≤ μ) × (tz * ν + μ ≤ mostChunks)))
 unfolding chunks
 chunks-iff tz ν μ = (
   λ e. search (leb-true, allOf-all _ e),
@@ -252,7 +252,7 @@ base-least b e = base-iff b .0 e .0
 pub digitCount-least : (t : ℕ) → digitCount (pos t) ≡ true → 2 ≤ t
 digitCount-least t e = digitCount-iff t .0 e .0
 
-pub digitCount-most : (t : ℕ) → digitCount (pos t) ≡ true → t ≤ 8
+pub digitCount-most : (t : ℕ) → digitCount (pos t) ≡ true → t ≤ mostDigits
 digitCount-most t e = digitCount-iff t .0 e .1
 
 pub lengthBound-most : (β² : ℕ) → lengthBound (pos β²) ≡ true → β² ≤ mostBound

@@ -37,7 +37,7 @@ unfolding tSize
 tSize-bound r κ t₁ h k l =
     let inner : t₁ * κ ≤ 64 = product-bound t₁ κ 8 8 l k in product-bound r (t₁ * κ) 16 64 h inner
 
-pub garbageSize-bound : (r t : ℕ) → r ≤ mostParts → t ≤ 8 → garbageSize r t ≤ 1088
+pub garbageSize-bound : (r t : ℕ) → r ≤ mostParts → t ≤ mostDigits → garbageSize r t ≤ 1088
 unfolding garbageSize
 garbageSize-bound r t h k = product-bound (pairs r) t 136 8 (pairs-bound r h) k
 

@@ -9,7 +9,7 @@ use Rattle.fold.specs.Limits.{mostCommitmentRank, mostDigits, mostParts, mostRa
 pub t-within : (r κ t₁ : ℕ) {k : ℕ} → k ≡ tSize r κ t₁ → r ≤ mostParts → κ ≤ mostCommitmentRank → t₁ ≤ mostDigits → k ≤ 8192
 t-within r κ t₁ e h l u = omega (arith, tSize-bound r κ t₁ h l u)
 
-pub garbage-within : (r t : ℕ) {k : ℕ} → k ≡ garbageSize r t → r ≤ mostParts → t ≤ 8 → k ≤ 8192
+pub garbage-within : (r t : ℕ) {k : ℕ} → k ≡ garbageSize r t → r ≤ mostParts → t ≤ mostDigits → k ≤ 8192
 garbage-within r t e h u = omega (arith, garbageSize-bound r t h u)
 
 pub opening-within : (tz n r κ t₁ t₂ : ℕ) {k : ℕ} → k ≡ openingSize tz n r κ t₁ t₂ → tz ≤ 2 → n ≤ mostRank → r ≤ mostParts → κ ≤ mostCommitmentRank → t₁ ≤ mostDigits → t₂ ≤ mostDigits → k ≤ 8192

@@ -5,14 +5,14 @@ use Prim.Native.Nat.{_+_, _*_, _<_, _≤_}
 use Rattle.fold.specs.declared.Sizes.{Sizes}
 use Rattle.fold.specs.Sizes.{pairs, functionSize, tSize, garbageSize, restSize, nextRank, nextParts}
 use Rattle.next_checks.specs.declared.cut.Cut.{Cut}
-use Rattle.fold.specs.Limits.{mostRank}
+use Rattle.fold.specs.Limits.{mostRank, mostChunks}
 
 pub record CutFacts (s : Sizes) (cut : Cut) : Type 0 where
   pub tz-positive : 0 < cut .tz
   pub tz-small : cut .tz ≤ 2
   pub ν-positive : 0 < cut .nu
   pub μ-positive : 0 < cut .mu
-  pub parts-small : cut .tz * cut .nu + cut .mu ≤ 16
+  pub parts-small : cut .tz * cut .nu + cut .mu ≤ mostChunks
   pub rest-is : cut .m ≡ restSize (s .shape .r) (s .kappa) (s .t1) (s .t2)
   pub rank-is : cut .rank ≡ nextRank (s .shape .n) (cut .nu) (cut .m) (cut .mu)
   pub rank-small : cut .rank ≤ mostRank

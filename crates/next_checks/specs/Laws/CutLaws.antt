@@ -19,7 +19,7 @@ use Rattle.fold.specs.Known.CutSizes.{CutSizes, restSize-bound}
 use Rattle.next_checks.specs.declared.cut.Cut.{Cut}
 use Rattle.next_checks.specs.Known.Facts.{CutFacts}
 use Rattle.next_checks.specs.Spread.{widths}
-use Rattle.fold.specs.Limits.{mostDigits, mostParts}
+use Rattle.fold.specs.Limits.{mostDigits, mostParts, mostRank, mostChunks}
 
 pub rest-small : (s : Sizes) → VerifySized s → restSize (s .shape .r) (s .kappa) (s .t1) (s .t2) ≤ 3200
 rest-small s fits = restSize-bound _ _ _ _ (fits .shaped .parts-small) (fits .κ-small) (fits .t₁-most) (fits .t₂-most)
@@ -43,7 +43,7 @@ opening-within tz n ν m μ some-ν some-μ =
     omega (arith, rw all at room, none, widths-cover tz n ν m μ some-ν some-μ)
 
 -- the same for the numbers that code has computed
-pub room-of : (n : ℕ) {tz ν μ m m′ rank size : ℕ} → ChunkLimits tz ν μ → nextRank n ν m′ μ ≤ 256 → m ≡ m′ → rank ≡ nextRank n ν m μ
+pub room-of : (n : ℕ) {tz ν μ m m′ rank size : ℕ} → ChunkLimits tz ν μ → nextRank n ν m′ μ ≤ mostRank → m ≡ m′ → rank ≡ nextRank n ν m μ
     → size ≡ functionSize rank (tz * ν + μ) → (tz * n + m ≤ size) × (size ≤ 4232)
 unfolding nextParts
 room-of n {tz} {ν} {μ} {m} limits small m-is rank-is size-is =
@@ -53,11 +53,11 @@ room-of n {tz} {ν} {μ} {m} limits small m-is rank-is size-is =
     )
 
 module _ (s : Sizes) (cut : Cut) (facts : CutFacts s cut) where
-  pub parts-few : cut .parts ≤ mostParts
+  pub parts-few : cut .parts ≤ mostChunks
   unfolding nextParts
   parts-few = omega (arith, facts .parts-is, facts .parts-small)
 
-  pub z-parts : cut .tz * cut .nu ≤ 16
+  pub z-parts : cut .tz * cut .nu ≤ mostChunks
   z-parts = omega (arith, facts .parts-small)
 
   pub size-small : cut .size ≤ 4232

@@ -14,7 +14,7 @@ use Rattle.algebra.specs.Triangle.{start}
 use Rattle.algebra.specs.Laws.TriangleLaws.{start-mono}
 use Rattle.fold.specs.declared.PartSizes.{PartSizes}
 use Rattle.fold.specs.Answers.{written}
-use Rattle.fold.specs.Sizes.{openingSize, nextParts}
+use Rattle.fold.specs.Sizes.{openingSize, nextParts, zCount}
 use Rattle.fold.specs.Refusals.{partBounds, partTests}
 use Rattle.fold.specs.Chunks.{width, cut, padded}
 use Rattle.fold.specs.NextCall.{partRefusal, nextPart}
@@ -52,13 +52,13 @@ module _ (m : PartSizes) (i : ℕ) (o : List ℤ) {x : ℕ} (e : x ≡ partRefus
 
   module _ (z : x ≡ 0) where
     abbrev tests : List (ℕ × Bool)
-    tests = partTests (m .shape .d) (m .shape .n) (m .shape .r) (m .kappa) (m .t1) (m .t2) 2 (m .nu) (m .mu) i o
+    tests = partTests (m .shape .d) (m .shape .n) (m .shape .r) (m .kappa) (m .t1) (m .t2) zCount (m .nu) (m .mu) i o
 
     pub part-known : PartSized m i
     unfolding partRefusal partTests
     part-known =
         part-limits _ _ _ _ _ _ _ _ _ _
-        (early-holds (partBounds (m .shape .d) (m .shape .n) (m .shape .r) (m .kappa) (m .t1) (m .t2) 2 (m .nu) (m .mu) i) _ refl (sym e ∙ z))
+        (early-holds (partBounds (m .shape .d) (m .shape .n) (m .shape .r) (m .kappa) (m .t1) (m .t2) zCount (m .nu) (m .mu) i) _ refl (sym e ∙ z))
 
     opening-length : length o ≡ (2 * m .shape .n + restOf m) * m .shape .d
     unfolding partRefusal partTests openingSize
@@ -67,23 +67,23 @@ module _ (m : PartSizes) (i : ℕ) (o : List ℤ) {x : ℕ} (e : x ≡ partRefus
     pub part-cut : {k : ℕ} → k ≡ restOf m → CutSizes (m .shape .n) (m .nu) k (m .mu)
     part-cut h =
         let f = part-known in
-        cut-sizes 2 (m .shape .r) (m .kappa) (m .t1) (m .t2) (omega arith) (f .shaped .rank-small) (f .shaped .parts-small) (f .κ-small) (f .t₁-most) (f .t₂-most) (f .cut) h
+        cut-sizes zCount (m .shape .r) (m .kappa) (m .t1) (m .t2) (omega arith) (f .shaped .rank-small) (f .shaped .parts-small) (f .κ-small) (f .t₁-most) (f .t₂-most) (f .cut) h
 
     pub part-before : i - 1 ≤ 16
     unfolding nextParts
     part-before = let f = part-known in omega (arith, f .up-to-parts, f .cut .parts-small)
 
     -- where the chunk ends: at, k and w are what the code has computed
-    module _ {k at w : ℕ} (rest : k ≡ restOf m) (begins : at ≡ start (width 2 (m .shape .n) (m .nu) k (m .mu)) (i - 1))
-        (wide : w ≡ width 2 (m .shape .n) (m .nu) k (m .mu) (i - 1)) where
+    module _ {k at w : ℕ} (rest : k ≡ restOf m) (begins : at ≡ start (width zCount (m .shape .n) (m .nu) k (m .mu)) (i - 1))
+        (wide : w ≡ width zCount (m .shape .n) (m .nu) k (m .mu) (i - 1)) where
       chunk-inside : at * m .shape .d + w * m .shape .d ≤ length o
       unfolding nextParts
       chunk-inside =
           let f = part-known in
-          let here : i - 1 < 2 * m .nu + m .mu = omega (arith, f .from-one, f .up-to-parts) in
-          let ends = start-mono (width 2 (m .shape .n) (m .nu) k (m .mu)) (i - 1) (2 * m .nu + m .mu) here in
-          let all = widths-cover 2 (m .shape .n) (m .nu) k (m .mu) (f .cut .ν-positive) (f .cut .μ-positive) in
-          let within : at + w ≤ 2 * m .shape .n + restOf m = omega (arith, begins, wide, ends, all, rest) in
+          let here : i - 1 < zCount * m .nu + m .mu = omega (arith, f .from-one, f .up-to-parts) in
+          let ends = start-mono (width zCount (m .shape .n) (m .nu) k (m .mu)) (i - 1) (zCount * m .nu + m .mu) here in
+          let all = widths-cover zCount (m .shape .n) (m .nu) k (m .mu) (f .cut .ν-positive) (f .cut .μ-positive) in
+          let within : at + w ≤ zCount * m .shape .n + restOf m = omega (arith, begins, wide, ends, all, rest) in
           let scaled : (at + w) * m .shape .d ≤ (2 * m .shape .n + restOf m) * m .shape .d = mul-le-mul-right (m .shape .d) within in
           omega (arith, scaled, opening-length)
 
@@ -111,7 +111,7 @@ placed-part m i o place p =
 
 pub part-handed-back : (m : PartSizes) (i : ℕ) (o : List ℤ) (number : ℕ) (part : List ℤ)
     → number ≡ partRefusalOf m i o → part ≡ nextPartOf m i o → number ≡ 0
-    → part ++ replicate ((rankOf m - width 2 (m .shape .n) (m .nu) (restOf m) (m .mu) (i - 1)) * m .shape .d) (pos 0)
-    ≡ take (rankOf m * m .shape .d) (drop ((i - 1) * (rankOf m * m .shape .d)) (padded (m .shape .d) 2 (m .shape .n) (m .nu) (restOf m) (m .mu) o))
+    → part ++ replicate ((rankOf m - width zCount (m .shape .n) (m .nu) (restOf m) (m .mu) (i - 1)) * m .shape .d) (pos 0)
+    ≡ take (rankOf m * m .shape .d) (drop ((i - 1) * (rankOf m * m .shape .d)) (padded (m .shape .d) zCount (m .shape .n) (m .nu) (restOf m) (m .mu) o))
 part-handed-back m i o number part e f z =
-    rw f (part-of-padded (m .shape .d) (m .shape .n) (m .shape .r) (m .kappa) (m .t1) (m .t2) 2 (m .nu) (m .mu) i o (sym e ∙ z))
+    rw f (part-of-padded (m .shape .d) (m .shape .n) (m .shape .r) (m .kappa) (m .t1) (m .t2) zCount (m .nu) (m .mu) i o (sym e ∙ z))
