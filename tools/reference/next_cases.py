@@ -20,8 +20,8 @@ Kind 2, one part of the next witness.
 Kind 3, a fold and a fold of the next instance. Nothing is refused here.
     Input: A, B, C, D, whole, constant terms, projections, ψ, ω, α, δ, c, witness;
         lengths of z digits, t digits, g digits, h digits, u1, p, b'', u2, and of the next instance's constraints;
-        eighteen sizes of the second fold; A, B, C, D, projections, ω, α, δ, c of it (L is 0, so constant terms and ψ are empty);
-        lengths of z digits, t digits, g digits, h digits, u1, p, b'', u2 of it.
+        eighteen sizes of the second fold; its lists in the same order, of which whole, constant terms, ψ and witness are empty (the run
+        gives it the first and the last, and L is 0); lengths of z digits, t digits, g digits, h digits, u1, p, b'', u2 of it.
     Run: every list to write is filled with FILL. Messages 1 to 5 from the first statement and witness (commit, project, aggregate,
     commit_garbage, amortize), verify on them (the opening is the digits of z, t, g, h), next_instance. Then the second fold: its whole
     constraints are the list that next_instance was to write (also where it wrote nothing), its witness is r' parts of n' elements, part
@@ -44,7 +44,7 @@ from stored import FILL, answer_numbers, numbers_text, shown, summed, write
 
 MESSAGES = ("message_1", "message_2", "message_3", "message_4", "message_5")
 FOLD_READS = "a_matrix b_matrix c_matrix d_matrix whole constant_terms projections psi omega alpha delta c witness".split()
-SECOND_READS = "a_matrix b_matrix c_matrix d_matrix projections omega alpha delta c".split()
+NOT_DRAWN = {"whole": [], "constant_terms": [], "psi": [], "witness": []}
 FOLD_WRITES = "z_digits t_digits g_digits h_digits u1 p second_b u2".split()
 
 # The longest list that is written, by kind.
@@ -104,7 +104,7 @@ def twice(s, x, following, draws, expected):
     """Kind 3. `expected` are the two verdicts and the next instance's answer."""
     room = LENGTHS["next_whole"](s)
     line = [3] + list(s) + lists(x, FOLD_READS) + [LENGTHS[name](s) for name in FOLD_WRITES] + [room]
-    line += list(following) + lists(draws, SECOND_READS) + [LENGTHS[name](following) for name in FOLD_WRITES]
+    line += list(following) + lists(draws | NOT_DRAWN, FOLD_READS) + [LENGTHS[name](following) for name in FOLD_WRITES]
     assert max(LENGTHS[name](sized) for name in FOLD_WRITES for sized in (s, following)) <= room <= LONGEST[3]
     output, y = fold_output(s, x)
     answer, whole = next_list(s, y, room)

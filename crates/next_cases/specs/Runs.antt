@@ -1,7 +1,7 @@
 -- What is promised of a case: the calls that it makes, and which of its numbers each is given. A list is followed by a mark, as m′, where it
 -- stands for the numbers after the call.
 use mathlib.Core.Path.{_≡_}
-use mathlib.Core.List.{List, [], map}
+use mathlib.Core.List.{List, map}
 use Prim.Native.Nat.{ℕ, _-_}
 use lib.IntN.{ℤ}
 use lib.ListN.{length, drop}
@@ -36,62 +36,64 @@ pub record InstanceRun (sizes : Sizes) (ν μ : ℕ) (xs : List ℤ) (code : CAn
   pub out′ : List ℤ
   pub called : NextOfLists sizes ν μ (drop 19 xs) (filled (sizeAt 32768 (pastLists 16 (drop 19 xs)) 0)) code out′
 
--- ---- a fold: `setup` begins with A, B, C, D, and `draws` with ω, α, δ, c
+-- ---- a fold: `lists` are A, B, C, D, the whole and the constant-term functions, the rows, ψ, ω, α, δ, c, the witness; the whole functions
+-- and the witness s that it is made of are given beside them
 
-pub record Committing (sizes : Sizes) (setup s lengths m : List ℤ) (code : CAnswer) (m′ : List ℤ) : Type 0 where
+pub record Committing (sizes : Sizes) (lists s lengths m : List ℤ) (code : CAnswer) (m′ : List ℤ) : Type 0 where
   pub t′ : List ℤ
   pub g′ : List ℤ
   pub u′ : List ℤ
   pub called : Coded
-      (λ answer. Committed (commitSizesOf sizes) (nthList 0 setup) (nthList 1 setup) (nthList 2 setup) s (blank lengths 1) (blank lengths 2)
+      (λ answer. Committed (commitSizesOf sizes) (nthList 0 lists) (nthList 1 lists) (nthList 2 lists) s (blank lengths 1) (blank lengths 2)
       (blank lengths 4) answer t′ g′ u′)
       code
   pub keeps : m′ ≡ kept (kept (kept m lengths 1 t′) lengths 2 g′) lengths 4 u′
 
-pub record Projecting (sizes : Sizes) (projections s lengths m : List ℤ) (code : CAnswer) (m′ : List ℤ) : Type 0 where
+pub record Projecting (sizes : Sizes) (lists s lengths m : List ℤ) (code : CAnswer) (m′ : List ℤ) : Type 0 where
   pub p′ : List ℤ
-  pub called : Coded (λ answer. Projected (sizes .shape) (sizes .w) projections s (blank lengths 5) answer p′) code
+  pub called : Coded (λ answer. Projected (sizes .shape) (sizes .w) (nthList 6 lists) s (blank lengths 5) answer p′) code
   pub keeps : m′ ≡ kept m lengths 5 p′
 
-pub record Aggregating (sizes : Sizes) (constantTerms projections ψ draws s lengths m : List ℤ) (code : CAnswer) (m′ : List ℤ) : Type 0 where
+pub record Aggregating (sizes : Sizes) (lists s lengths m : List ℤ) (code : CAnswer) (m′ : List ℤ) : Type 0 where
   pub b′ : List ℤ
   pub called : Coded
-      (λ answer. Aggregated (sizes .shape) (sizes .l) (sizes .w) constantTerms projections ψ (nthList 0 draws) s (blank lengths 6) answer b′)
+      (λ answer. Aggregated (sizes .shape) (sizes .l) (sizes .w) (nthList 5 lists) (nthList 6 lists) (nthList 7 lists) (nthList 8 lists) s
+      (blank lengths 6) answer b′)
       code
   pub keeps : m′ ≡ kept m lengths 6 b′
 
-pub record GarbageCommitting (sizes : Sizes) (setup whole constantTerms projections ψ draws s lengths m : List ℤ) (code : CAnswer) (m′ : List ℤ) : Type 0 where
+pub record GarbageCommitting (sizes : Sizes) (lists whole s lengths m : List ℤ) (code : CAnswer) (m′ : List ℤ) : Type 0 where
   pub h′ : List ℤ
   pub u′ : List ℤ
   pub called : Coded
-      (λ answer. GarbageCommitted (garbageSizesOf sizes) whole constantTerms projections ψ (nthList 0 draws) (nthList 1 draws) (nthList 2 draws)
-      (nthList 3 setup) s (blank lengths 3) (blank lengths 7) answer h′ u′)
+      (λ answer. GarbageCommitted (garbageSizesOf sizes) whole (nthList 5 lists) (nthList 6 lists) (nthList 7 lists) (nthList 8 lists)
+      (nthList 9 lists) (nthList 10 lists) (nthList 3 lists) s (blank lengths 3) (blank lengths 7) answer h′ u′)
       code
   pub keeps : m′ ≡ kept (kept m lengths 3 h′) lengths 7 u′
 
-pub record Amortizing (sizes : Sizes) (draws s lengths m : List ℤ) (code : CAnswer) (m′ : List ℤ) : Type 0 where
+pub record Amortizing (sizes : Sizes) (lists s lengths m : List ℤ) (code : CAnswer) (m′ : List ℤ) : Type 0 where
   pub z′ : List ℤ
-  pub called : Coded (λ answer. Amortized (sizes .shape) (sizes .b) (nthList 3 draws) s (blank lengths 0) answer z′) code
+  pub called : Coded (λ answer. Amortized (sizes .shape) (sizes .b) (nthList 11 lists) s (blank lengths 0) answer z′) code
   pub keeps : m′ ≡ kept m lengths 0 z′
 
 -- what the verifier and the next instance are given
-abbrev pub foldStatement : Sizes → (setup whole constantTerms : List ℤ) → Statement
-foldStatement sizes setup whole constantTerms =
-    statementOf sizes (nthList 0 setup) (nthList 1 setup) (nthList 2 setup) (nthList 3 setup) whole constantTerms
+abbrev pub foldStatement : Sizes → (lists whole : List ℤ) → Statement
+foldStatement sizes lists whole =
+    statementOf sizes (nthList 0 lists) (nthList 1 lists) (nthList 2 lists) (nthList 3 lists) whole (nthList 5 lists)
 
-abbrev pub foldDraws : (projections ψ draws : List ℤ) → Draws
-foldDraws projections ψ draws = drawsOf projections ψ (nthList 0 draws) (nthList 1 draws) (nthList 2 draws) (nthList 3 draws)
+abbrev pub foldDraws : (lists : List ℤ) → Draws
+foldDraws lists =
+    drawsOf (nthList 6 lists) (nthList 7 lists) (nthList 8 lists) (nthList 9 lists) (nthList 10 lists) (nthList 11 lists)
 
 abbrev pub foldTranscript : (lengths m : List ℤ) → Transcript
 foldTranscript lengths m = transcriptOf (messageOf m lengths 4) (messageOf m lengths 5) (messageOf m lengths 6) (messageOf m lengths 7)
 
-abbrev pub verdictOf : Sizes → (setup whole constantTerms projections ψ draws lengths m : List ℤ) → CAnswer
-verdictOf sizes setup whole constantTerms projections ψ draws lengths m =
-    codeOf
-    (verification (foldStatement sizes setup whole constantTerms) (foldDraws projections ψ draws) (foldTranscript lengths m) (openingOf m lengths))
+abbrev pub verdictOf : Sizes → (lists whole lengths m : List ℤ) → CAnswer
+verdictOf sizes lists whole lengths m =
+    codeOf (verification (foldStatement sizes lists whole) (foldDraws lists) (foldTranscript lengths m) (openingOf m lengths))
 
 -- the five messages one after another, and the verdict on them
-pub record Folded (sizes : Sizes) (setup whole constantTerms projections ψ draws s lengths m : List ℤ) (verdict : CAnswer) (m′ : List ℤ) : Type 0 where
+pub record Folded (sizes : Sizes) (lists whole s lengths m : List ℤ) (verdict : CAnswer) (m′ : List ℤ) : Type 0 where
   pub code₁ : CAnswer
   pub code₂ : CAnswer
   pub code₃ : CAnswer
@@ -101,35 +103,31 @@ pub record Folded (sizes : Sizes) (setup whole constantTerms projections ψ draw
   pub m₂ : List ℤ
   pub m₃ : List ℤ
   pub m₄ : List ℤ
-  pub message₁ : Committing sizes setup s lengths m code₁ m₁
-  pub message₂ : Projecting sizes projections s lengths m₁ code₂ m₂
-  pub message₃ : Aggregating sizes constantTerms projections ψ draws s lengths m₂ code₃ m₃
-  pub message₄ : GarbageCommitting sizes setup whole constantTerms projections ψ draws s lengths m₃ code₄ m₄
-  pub message₅ : Amortizing sizes draws s lengths m₄ code₅ m′
-  pub verdict-is : verdict ≡ verdictOf sizes setup whole constantTerms projections ψ draws lengths m′
+  pub message₁ : Committing sizes lists s lengths m code₁ m₁
+  pub message₂ : Projecting sizes lists s lengths m₁ code₂ m₂
+  pub message₃ : Aggregating sizes lists s lengths m₂ code₃ m₃
+  pub message₄ : GarbageCommitting sizes lists whole s lengths m₃ code₄ m₄
+  pub message₅ : Amortizing sizes lists s lengths m₄ code₅ m′
+  pub verdict-is : verdict ≡ verdictOf sizes lists whole lengths m′
 
 -- ---- kind 3
 
 -- the next instance after a fold
-abbrev pub NextOfFold : Sizes → (ν μ : ℕ) → (setup whole constantTerms projections ψ draws lengths m out : List ℤ) → CAnswer → (out′ : List ℤ) → Type 0
-NextOfFold sizes ν μ setup whole constantTerms projections ψ draws lengths m out code out′ =
-    Coded
-    (λ answer. NextCalled (foldStatement sizes setup whole constantTerms) (foldDraws projections ψ draws) (foldTranscript lengths m) ν μ out answer out′)
-    code
+abbrev pub NextOfFold : Sizes → (ν μ : ℕ) → (lists whole lengths m out : List ℤ) → CAnswer → (out′ : List ℤ) → Type 0
+NextOfFold sizes ν μ lists whole lengths m out code out′ =
+    Coded (λ answer. NextCalled (foldStatement sizes lists whole) (foldDraws lists) (foldTranscript lengths m) ν μ out answer out′) code
 
--- A, B, C, D, the whole and the constant-term functions, the rows, ψ, ω, α, δ, c, the witness
+-- the first fold, of its own whole functions and witness, and its next instance
 pub record FirstRun (sizes : Sizes) (ν μ : ℕ) (lists lengths m m′ out out′ : List ℤ) : Type 0 where
   pub verdict : CAnswer
-  pub folded : Folded sizes lists (nthList 4 lists) (nthList 5 lists) (nthList 6 lists) (nthList 7 lists) (pastLists 8 lists)
-      (nthList 12 lists) lengths m verdict m′
+  pub folded : Folded sizes lists (nthList 4 lists) (nthList 12 lists) lengths m verdict m′
   pub code : CAnswer
-  pub called : NextOfFold sizes ν μ lists (nthList 4 lists) (nthList 5 lists) (nthList 6 lists) (nthList 7 lists) (pastLists 8 lists)
-      lengths m′ out code out′
+  pub called : NextOfFold sizes ν μ lists (nthList 4 lists) lengths m′ out code out′
 
--- A, B, C, D, the rows, ω, α, δ, c, and the lengths; no constant-term functions and no ψ
+-- the second fold; the lengths stand after its lists
 pub record SecondRun (sizes : Sizes) (whole s lists : List ℤ) (verdict : CAnswer) : Type 0 where
   pub m′ : List ℤ
-  pub folded : Folded sizes lists whole [] (nthList 4 lists) [] (pastLists 5 lists) s (pastLists 9 lists) (filled 32768) verdict m′
+  pub folded : Folded sizes lists whole s (pastLists 13 lists) (filled 32768) verdict m′
 
 -- after the first fold's lists its lengths, that of the next constraints among them, and after these the second fold's sizes
 abbrev pub lengthsIn : List ℤ → List ℤ

@@ -1,5 +1,6 @@
-// A fold: messages 1 to 5 from a statement and a witness, and the verdict on them. `setup` begins with the lists A, B, C, D and `draws` with
-// ω, α, δ, c; `lengths` and `messages` are those of module messages.
+// A fold: messages 1 to 5 from a statement and a witness, and the verdict on them. `lists` are A, B, C, D, the whole and the constant-term
+// functions, the rows, ψ, ω, α, δ, c and the witness; the whole functions and the witness that the fold is made of are given beside them.
+// `lengths` and `messages` are those of module messages.
 ghost use mathlib.Core.Path.{_≡_};
 ghost use Rattle.next_cases.specs.Runs.{Committing, Projecting, Aggregating, GarbageCommitting, Amortizing, verdictOf, Folded};
 use crate::input::FILL;
@@ -26,13 +27,13 @@ use fold::Sizes;
 fn commit(
     place: usize,
     sizes: Sizes,
-    setup: &[i32],
+    lists: &[i32],
     witness: &[i32],
     lengths: &[i32],
     messages: &mut [i32],
 ) -> CAnswer
     ensures { λ x.
-        ⌜ Committing sizes (now (setup .entry)) (now (witness .entry)) (now (lengths .entry)) (now (messages .entry)) x
+        ⌜ Committing sizes (now (lists .entry)) (now (witness .entry)) (now (lengths .entry)) (now (messages .entry)) x
         (now (messages .exit)) ⌝ }
 {
     let t_count = size(lengths, T, ROOM);
@@ -56,9 +57,9 @@ fn commit(
     };
     let answer = capi::lizkarg_commit(
         its,
-        nth_list(setup, 0),
-        nth_list(setup, 1),
-        nth_list(setup, 2),
+        nth_list(lists, 0),
+        nth_list(lists, 1),
+        nth_list(lists, 2),
         witness,
         t,
         g,
@@ -73,19 +74,19 @@ fn commit(
 
 fn project(
     sizes: Sizes,
-    projections: &[i32],
+    lists: &[i32],
     witness: &[i32],
     lengths: &[i32],
     messages: &mut [i32],
 ) -> CAnswer
     ensures { λ x.
-        ⌜ Projecting sizes (now (projections .entry)) (now (witness .entry)) (now (lengths .entry)) (now (messages .entry)) x
+        ⌜ Projecting sizes (now (lists .entry)) (now (witness .entry)) (now (lengths .entry)) (now (messages .entry)) x
         (now (messages .exit)) ⌝ }
 {
     let count = size(lengths, P, ROOM);
     let mut room = [FILL; ROOM];
     let p = &mut room[..count];
-    let answer = capi::lizkarg_project(sizes.shape, sizes.w, projections, witness, p);
+    let answer = capi::lizkarg_project(sizes.shape, sizes.w, nth_list(lists, 6), witness, p);
     print_answer(1, answer);
     keep(messages, lengths, P, p);
     answer
@@ -93,17 +94,14 @@ fn project(
 
 fn aggregate(
     sizes: Sizes,
-    constant_terms: &[i32],
-    projections: &[i32],
-    psi: &[i32],
-    draws: &[i32],
+    lists: &[i32],
     witness: &[i32],
     lengths: &[i32],
     messages: &mut [i32],
 ) -> CAnswer
     ensures { λ x.
-        ⌜ Aggregating sizes (now («constant_terms» .entry)) (now (projections .entry)) (now (psi .entry)) (now (draws .entry))
-        (now (witness .entry)) (now (lengths .entry)) (now (messages .entry)) x (now (messages .exit)) ⌝ }
+        ⌜ Aggregating sizes (now (lists .entry)) (now (witness .entry)) (now (lengths .entry)) (now (messages .entry)) x
+        (now (messages .exit)) ⌝ }
 {
     let count = size(lengths, SECOND_B, ROOM);
     let mut room = [FILL; ROOM];
@@ -112,10 +110,10 @@ fn aggregate(
         sizes.shape,
         sizes.l,
         sizes.w,
-        constant_terms,
-        projections,
-        psi,
-        nth_list(draws, 0),
+        nth_list(lists, 5),
+        nth_list(lists, 6),
+        nth_list(lists, 7),
+        nth_list(lists, 8),
         witness,
         second_b,
     );
@@ -126,20 +124,15 @@ fn aggregate(
 
 fn commit_garbage(
     sizes: Sizes,
-    setup: &[i32],
+    lists: &[i32],
     whole: &[i32],
-    constant_terms: &[i32],
-    projections: &[i32],
-    psi: &[i32],
-    draws: &[i32],
     witness: &[i32],
     lengths: &[i32],
     messages: &mut [i32],
 ) -> CAnswer
     ensures { λ x.
-        ⌜ GarbageCommitting sizes (now (setup .entry)) (now (whole .entry)) (now («constant_terms» .entry)) (now (projections .entry))
-        (now (psi .entry)) (now (draws .entry)) (now (witness .entry)) (now (lengths .entry)) (now (messages .entry)) x
-        (now (messages .exit)) ⌝ }
+        ⌜ GarbageCommitting sizes (now (lists .entry)) (now (whole .entry)) (now (witness .entry)) (now (lengths .entry))
+        (now (messages .entry)) x (now (messages .exit)) ⌝ }
 {
     let h_count = size(lengths, H, ROOM);
     let u2_count = size(lengths, U2, ROOM);
@@ -160,13 +153,13 @@ fn commit_garbage(
     let answer = capi::lizkarg_commit_garbage(
         its,
         whole,
-        constant_terms,
-        projections,
-        psi,
-        nth_list(draws, 0),
-        nth_list(draws, 1),
-        nth_list(draws, 2),
-        nth_list(setup, 3),
+        nth_list(lists, 5),
+        nth_list(lists, 6),
+        nth_list(lists, 7),
+        nth_list(lists, 8),
+        nth_list(lists, 9),
+        nth_list(lists, 10),
+        nth_list(lists, 3),
         witness,
         h,
         u2,
@@ -179,19 +172,19 @@ fn commit_garbage(
 
 fn amortize(
     sizes: Sizes,
-    draws: &[i32],
+    lists: &[i32],
     witness: &[i32],
     lengths: &[i32],
     messages: &mut [i32],
 ) -> CAnswer
     ensures { λ x.
-        ⌜ Amortizing sizes (now (draws .entry)) (now (witness .entry)) (now (lengths .entry)) (now (messages .entry)) x
+        ⌜ Amortizing sizes (now (lists .entry)) (now (witness .entry)) (now (lengths .entry)) (now (messages .entry)) x
         (now (messages .exit)) ⌝ }
 {
     let count = size(lengths, Z, ROOM);
     let mut room = [FILL; ROOM];
     let z = &mut room[..count];
-    let c = nth_list(draws, 3);
+    let c = nth_list(lists, 11);
     let answer = capi::lizkarg_amortize(sizes.shape, sizes.b, c, witness, z);
     print_answer(1, answer);
     keep(messages, lengths, Z, z);
@@ -199,39 +192,28 @@ fn amortize(
 }
 
 // The verdict on the messages.
-fn verify(
-    sizes: Sizes,
-    setup: &[i32],
-    whole: &[i32],
-    constant_terms: &[i32],
-    projections: &[i32],
-    psi: &[i32],
-    draws: &[i32],
-    lengths: &[i32],
-    messages: &[i32],
-) -> CAnswer
+fn verify(sizes: Sizes, lists: &[i32], whole: &[i32], lengths: &[i32], messages: &[i32]) -> CAnswer
     ensures { λ x.
-        ⌜ x ≡ verdictOf sizes (now (setup .entry)) (now (whole .entry)) (now («constant_terms» .entry)) (now (projections .entry))
-        (now (psi .entry)) (now (draws .entry)) (now (lengths .entry)) (now (messages .entry)) ⌝ }
+        ⌜ x ≡ verdictOf sizes (now (lists .entry)) (now (whole .entry)) (now (lengths .entry)) (now (messages .entry)) ⌝ }
 {
     let answer = capi::lizkarg_verify(
         sizes,
-        nth_list(setup, 0),
-        nth_list(setup, 1),
-        nth_list(setup, 2),
-        nth_list(setup, 3),
+        nth_list(lists, 0),
+        nth_list(lists, 1),
+        nth_list(lists, 2),
+        nth_list(lists, 3),
         whole,
-        constant_terms,
+        nth_list(lists, 5),
         message(messages, lengths, U1),
-        projections,
+        nth_list(lists, 6),
         message(messages, lengths, P),
-        psi,
-        nth_list(draws, 0),
+        nth_list(lists, 7),
+        nth_list(lists, 8),
         message(messages, lengths, SECOND_B),
-        nth_list(draws, 1),
-        nth_list(draws, 2),
+        nth_list(lists, 9),
+        nth_list(lists, 10),
         message(messages, lengths, U2),
-        nth_list(draws, 3),
+        nth_list(lists, 11),
         opening(messages, lengths),
     );
     print_answer(1, answer);
@@ -242,54 +224,20 @@ fn verify(
 pub fn run_fold(
     place: usize,
     sizes: Sizes,
-    setup: &[i32],
+    lists: &[i32],
     whole: &[i32],
-    constant_terms: &[i32],
-    projections: &[i32],
-    psi: &[i32],
-    draws: &[i32],
     witness: &[i32],
     lengths: &[i32],
     messages: &mut [i32],
 ) -> CAnswer
     ensures { λ x.
-        ⌜ Folded sizes (now (setup .entry)) (now (whole .entry)) (now («constant_terms» .entry)) (now (projections .entry)) (now (psi .entry))
-        (now (draws .entry)) (now (witness .entry)) (now (lengths .entry)) (now (messages .entry)) x (now (messages .exit)) ⌝ }
+        ⌜ Folded sizes (now (lists .entry)) (now (whole .entry)) (now (witness .entry)) (now (lengths .entry)) (now (messages .entry)) x
+        (now (messages .exit)) ⌝ }
 {
-    commit(place, sizes, setup, witness, lengths, messages);
-    project(sizes, projections, witness, lengths, messages);
-    aggregate(
-        sizes,
-        constant_terms,
-        projections,
-        psi,
-        draws,
-        witness,
-        lengths,
-        messages,
-    );
-    commit_garbage(
-        sizes,
-        setup,
-        whole,
-        constant_terms,
-        projections,
-        psi,
-        draws,
-        witness,
-        lengths,
-        messages,
-    );
-    amortize(sizes, draws, witness, lengths, messages);
-    verify(
-        sizes,
-        setup,
-        whole,
-        constant_terms,
-        projections,
-        psi,
-        draws,
-        lengths,
-        messages,
-    )
+    commit(place, sizes, lists, witness, lengths, messages);
+    project(sizes, lists, witness, lengths, messages);
+    aggregate(sizes, lists, witness, lengths, messages);
+    commit_garbage(sizes, lists, whole, witness, lengths, messages);
+    amortize(sizes, lists, witness, lengths, messages);
+    verify(sizes, lists, whole, lengths, messages)
 }

@@ -37,41 +37,36 @@ fn print_next(
     sizes: Sizes,
     nu: usize,
     mu: usize,
-    setup: &[i32],
+    lists: &[i32],
     whole: &[i32],
-    constant_terms: &[i32],
-    projections: &[i32],
-    psi: &[i32],
-    draws: &[i32],
     lengths: &[i32],
     messages: &[i32],
     out: &mut [i32],
 ) -> CAnswer
     ensures { λ x.
-        ⌜ NextOfFold sizes nu mu (now (setup .entry)) (now (whole .entry)) (now («constant_terms» .entry)) (now (projections .entry))
-        (now (psi .entry)) (now (draws .entry)) (now (lengths .entry)) (now (messages .entry)) (now (out .entry)) x
-        (now (out .exit)) ⌝ }
+        ⌜ NextOfFold sizes nu mu (now (lists .entry)) (now (whole .entry)) (now (lengths .entry)) (now (messages .entry))
+        (now (out .entry)) x (now (out .exit)) ⌝ }
 {
     let answer = lizkarg_next_instance(
         sizes,
         nu,
         mu,
-        nth_list(setup, 0),
-        nth_list(setup, 1),
-        nth_list(setup, 2),
-        nth_list(setup, 3),
+        nth_list(lists, 0),
+        nth_list(lists, 1),
+        nth_list(lists, 2),
+        nth_list(lists, 3),
         whole,
-        constant_terms,
+        nth_list(lists, 5),
         message(messages, lengths, U1),
-        projections,
+        nth_list(lists, 6),
         message(messages, lengths, P),
-        psi,
-        nth_list(draws, 0),
+        nth_list(lists, 7),
+        nth_list(lists, 8),
         message(messages, lengths, SECOND_B),
-        nth_list(draws, 1),
-        nth_list(draws, 2),
+        nth_list(lists, 9),
+        nth_list(lists, 10),
         message(messages, lengths, U2),
-        nth_list(draws, 3),
+        nth_list(lists, 11),
         out,
     );
     print_answer(1, answer);
@@ -79,8 +74,7 @@ fn print_next(
     answer
 }
 
-// The first fold and its next instance: A, B, C, D, the whole and the constant-term functions, the rows, psi, omega, alpha, delta, the
-// challenges, the witness.
+// The first fold, of its own whole functions and witness, and its next instance.
 fn run_first(
     sizes: Sizes,
     nu: usize,
@@ -95,38 +89,9 @@ fn run_first(
         (now (out .entry)) (now (out .exit)) ⌝ }
 {
     let whole = nth_list(lists, 4);
-    let constant_terms = nth_list(lists, 5);
-    let projections = nth_list(lists, 6);
-    let psi = nth_list(lists, 7);
-    let draws = past_lists(lists, 8);
     let witness = nth_list(lists, 12);
-    run_fold(
-        0,
-        sizes,
-        lists,
-        whole,
-        constant_terms,
-        projections,
-        psi,
-        draws,
-        witness,
-        lengths,
-        messages,
-    );
-    print_next(
-        sizes,
-        nu,
-        mu,
-        lists,
-        whole,
-        constant_terms,
-        projections,
-        psi,
-        draws,
-        lengths,
-        messages,
-        out,
-    );
+    run_fold(0, sizes, lists, whole, witness, lengths, messages);
+    print_next(sizes, nu, mu, lists, whole, lengths, messages, out);
 }
 
 // A product of sizes; 0 where one passes what a list can have.
@@ -136,25 +101,14 @@ fn product(x: usize, y: usize) -> usize
     fitting(x) * fitting(y)
 }
 
-// The second fold: A, B, C, D, the rows, omega, alpha, delta, the challenges. There are no constant-term functions and no psi.
+// The second fold; the lengths stand after its lists.
 fn run_second(sizes: Sizes, whole: &[i32], witness: &[i32], lists: &[i32]) -> CAnswer
     ensures { λ x. ⌜ SecondRun sizes (now (whole .entry)) (now (witness .entry)) (now (lists .entry)) x ⌝ }
 {
+    let lengths = past_lists(lists, 13);
     let mut messages = [FILL; ROOM];
     print_sum(witness);
-    run_fold(
-        1,
-        sizes,
-        lists,
-        whole,
-        &whole[0..0],
-        nth_list(lists, 4),
-        &whole[0..0],
-        past_lists(lists, 5),
-        witness,
-        past_lists(lists, 9),
-        &mut messages,
-    )
+    run_fold(1, sizes, lists, whole, witness, lengths, &mut messages)
 }
 
 // The next witness from the first fold's opening, and the second fold. The witness has as many parts as the sizes say.

@@ -1,7 +1,7 @@
 -- From what a call promises over the lists that it was handed to what is promised over the numbers of the case: each list is moved along the
 -- equation that says which numbers it is.
 use mathlib.Core.Path.{_≡_, refl, sym, ap, _∙_}
-use mathlib.Core.List.{List, [], map}
+use mathlib.Core.List.{List, map}
 use Prim.Native.Nat.{ℕ, zero, suc, _-_, _≤_}
 use native.Mathlib.Omega.{arith}
 use lib.IntN.{ℤ, pos}
@@ -62,11 +62,11 @@ module _ {sizes : Sizes} {ν μ : ℕ} {code : CAnswer} {out′ : List ℤ} wher
 -- ---- a fold
 
 module _ {sizes : Sizes} {s lengths m : List ℤ} {code : CAnswer} {m′ : List ℤ} where
-  pub committing : {setup A B C t′ g′ u′ : List ℤ} {k l n : ℕ}
-      → A ≡ nthList 0 setup → B ≡ nthList 1 setup → C ≡ nthList 2 setup
+  pub committing : {lists A B C t′ g′ u′ : List ℤ} {k l n : ℕ}
+      → A ≡ nthList 0 lists → B ≡ nthList 1 lists → C ≡ nthList 2 lists
       → k ≡ sizeAt 32768 lengths 1 → l ≡ sizeAt 32768 lengths 2 → n ≡ sizeAt 32768 lengths 4
       → Coded (λ answer. Committed (commitSizesOf sizes) A B C s (front k) (front l) (front n) answer t′ g′ u′) code
-      → m′ ≡ kept (kept (kept m lengths 1 t′) lengths 2 g′) lengths 4 u′ → Committing sizes setup s lengths m code m′
+      → m′ ≡ kept (kept (kept m lengths 1 t′) lengths 2 g′) lengths 4 u′ → Committing sizes lists s lengths m code m′
   committing {t′ = t′} {g′ = g′} {u′ = u′} A B C k l n called keeps =
       let t = blank-is 32768 lengths 1 k in
       let g = blank-is 32768 lengths 2 l in
@@ -79,35 +79,40 @@ module _ {sizes : Sizes} {s lengths m : List ℤ} {code : CAnswer} {m′ : List 
         keeps = keeps;
       }
 
-  pub projecting : {projections p′ : List ℤ} {n : ℕ} → n ≡ sizeAt 32768 lengths 5
+  pub projecting : {lists projections p′ : List ℤ} {n : ℕ} → projections ≡ nthList 6 lists → n ≡ sizeAt 32768 lengths 5
       → Coded (λ answer. Projected (sizes .shape) (sizes .w) projections s (front n) answer p′) code → m′ ≡ kept m lengths 5 p′
-      → Projecting sizes projections s lengths m code m′
-  projecting {projections} {p′} n called keeps =
+      → Projecting sizes lists s lengths m code m′
+  projecting {p′ = p′} projections n called keeps =
       let p = blank-is 32768 lengths 5 n in
       record {
         p′ = p′;
-        called = coe 0 1 (i. Coded (λ answer. Projected (sizes .shape) (sizes .w) projections s (p i) answer p′) code) called;
+        called = coe 0 1 (i. Coded (λ answer. Projected (sizes .shape) (sizes .w) (projections i) s (p i) answer p′) code) called;
         keeps = keeps;
       }
 
-  pub aggregating : {constantTerms projections ψ draws ω b′ : List ℤ} {n : ℕ} → ω ≡ nthList 0 draws
+  pub aggregating : {lists constantTerms projections ψ ω b′ : List ℤ} {n : ℕ}
+      → constantTerms ≡ nthList 5 lists → projections ≡ nthList 6 lists → ψ ≡ nthList 7 lists → ω ≡ nthList 8 lists
       → n ≡ sizeAt 32768 lengths 6
       → Coded (λ answer. Aggregated (sizes .shape) (sizes .l) (sizes .w) constantTerms projections ψ ω s (front n) answer b′) code → m′ ≡ kept m lengths 6 b′
-      → Aggregating sizes constantTerms projections ψ draws s lengths m code m′
-  aggregating {constantTerms} {projections} {ψ} {b′ = b′} ω n called keeps =
+      → Aggregating sizes lists s lengths m code m′
+  aggregating {b′ = b′} constantTerms projections ψ ω n called keeps =
       let b = blank-is 32768 lengths 6 n in
       record {
         b′ = b′;
-        called = coe 0 1 (i. Coded (λ answer. Aggregated (sizes .shape) (sizes .l) (sizes .w) constantTerms projections ψ (ω i) s (b i) answer b′) code) called;
+        called =
+            coe 0 1
+            (i. Coded (λ answer. Aggregated (sizes .shape) (sizes .l) (sizes .w) (constantTerms i) (projections i) (ψ i) (ω i) s (b i) answer b′) code)
+            called;
         keeps = keeps;
       }
 
-  pub garbage-committing : {setup whole constantTerms projections ψ draws ω α δ D h′ u′ : List ℤ} {k n : ℕ}
-      → ω ≡ nthList 0 draws → α ≡ nthList 1 draws → δ ≡ nthList 2 draws → D ≡ nthList 3 setup
+  pub garbage-committing : {lists whole constantTerms projections ψ ω α δ D h′ u′ : List ℤ} {k n : ℕ}
+      → constantTerms ≡ nthList 5 lists → projections ≡ nthList 6 lists → ψ ≡ nthList 7 lists
+      → ω ≡ nthList 8 lists → α ≡ nthList 9 lists → δ ≡ nthList 10 lists → D ≡ nthList 3 lists
       → k ≡ sizeAt 32768 lengths 3 → n ≡ sizeAt 32768 lengths 7
       → Coded (λ answer. GarbageCommitted (garbageSizesOf sizes) whole constantTerms projections ψ ω α δ D s (front k) (front n) answer h′ u′) code
-      → m′ ≡ kept (kept m lengths 3 h′) lengths 7 u′ → GarbageCommitting sizes setup whole constantTerms projections ψ draws s lengths m code m′
-  garbage-committing {whole = whole} {constantTerms = constantTerms} {projections = projections} {ψ = ψ} {h′ = h′} {u′ = u′} ω α δ D k n called keeps =
+      → m′ ≡ kept (kept m lengths 3 h′) lengths 7 u′ → GarbageCommitting sizes lists whole s lengths m code m′
+  garbage-committing {whole = whole} {h′ = h′} {u′ = u′} constantTerms projections ψ ω α δ D k n called keeps =
       let h = blank-is 32768 lengths 3 k in
       let u = blank-is 32768 lengths 7 n in
       record {
@@ -115,14 +120,16 @@ module _ {sizes : Sizes} {s lengths m : List ℤ} {code : CAnswer} {m′ : List 
         u′ = u′;
         called =
             coe 0 1
-            (i. Coded (λ answer. GarbageCommitted (garbageSizesOf sizes) whole constantTerms projections ψ (ω i) (α i) (δ i) (D i) s (h i) (u i) answer h′ u′) code)
+            (i. Coded
+            (λ answer. GarbageCommitted (garbageSizesOf sizes) whole (constantTerms i) (projections i) (ψ i) (ω i) (α i) (δ i) (D i) s (h i) (u i) answer h′ u′)
+            code)
             called;
         keeps = keeps;
       }
 
-  pub amortizing : {draws c z′ : List ℤ} {n : ℕ} → c ≡ nthList 3 draws
+  pub amortizing : {lists c z′ : List ℤ} {n : ℕ} → c ≡ nthList 11 lists
       → n ≡ sizeAt 32768 lengths 0 → Coded (λ answer. Amortized (sizes .shape) (sizes .b) c s (front n) answer z′) code
-      → m′ ≡ kept m lengths 0 z′ → Amortizing sizes draws s lengths m code m′
+      → m′ ≡ kept m lengths 0 z′ → Amortizing sizes lists s lengths m code m′
   amortizing {z′ = z′} c n called keeps =
       let z = blank-is 32768 lengths 0 n in
       record {
@@ -132,45 +139,44 @@ module _ {sizes : Sizes} {s lengths m : List ℤ} {code : CAnswer} {m′ : List 
       }
 
 -- what the verifier and the next instance are given after a fold
-module _ (sizes : Sizes) (setup whole constantTerms projections ψ draws lengths m : List ℤ) {A B C D ω α δ c u₁ p b″ u₂ : List ℤ}
-    (A-is : A ≡ nthList 0 setup) (B-is : B ≡ nthList 1 setup) (C-is : C ≡ nthList 2 setup) (D-is : D ≡ nthList 3 setup)
-    (ω-is : ω ≡ nthList 0 draws) (α-is : α ≡ nthList 1 draws) (δ-is : δ ≡ nthList 2 draws) (c-is : c ≡ nthList 3 draws)
-    (u₁-is : u₁ ≡ messageOf m lengths 4) (p-is : p ≡ messageOf m lengths 5) (b″-is : b″ ≡ messageOf m lengths 6)
-    (u₂-is : u₂ ≡ messageOf m lengths 7) where
+module _ (sizes : Sizes) (lists whole lengths m : List ℤ) {A B C D constantTerms u₁ projections p ψ ω b″ α δ u₂ c : List ℤ}
+    (A-is : A ≡ nthList 0 lists) (B-is : B ≡ nthList 1 lists) (C-is : C ≡ nthList 2 lists) (D-is : D ≡ nthList 3 lists)
+    (constantTerms-is : constantTerms ≡ nthList 5 lists) (u₁-is : u₁ ≡ messageOf m lengths 4) (projections-is : projections ≡ nthList 6 lists)
+    (p-is : p ≡ messageOf m lengths 5) (ψ-is : ψ ≡ nthList 7 lists) (ω-is : ω ≡ nthList 8 lists) (b″-is : b″ ≡ messageOf m lengths 6)
+    (α-is : α ≡ nthList 9 lists) (δ-is : δ ≡ nthList 10 lists) (u₂-is : u₂ ≡ messageOf m lengths 7) (c-is : c ≡ nthList 11 lists) where
   pub verdict-of : {opening : List ℤ} {code : CAnswer} → opening ≡ openingOf m lengths
       → code
       ≡ codeOf (verification (statementOf sizes A B C D whole constantTerms) (drawsOf projections ψ ω α δ c) (transcriptOf u₁ p b″ u₂) opening)
-      → code ≡ verdictOf sizes setup whole constantTerms projections ψ draws lengths m
+      → code ≡ verdictOf sizes lists whole lengths m
   verdict-of opening-is e =
       e
       ∙ (λ i. codeOf
-      (verification (statementOf sizes (A-is i) (B-is i) (C-is i) (D-is i) whole constantTerms)
-      (drawsOf projections ψ (ω-is i) (α-is i) (δ-is i) (c-is i)) (transcriptOf (u₁-is i) (p-is i) (b″-is i) (u₂-is i)) (opening-is i)))
+      (verification (statementOf sizes (A-is i) (B-is i) (C-is i) (D-is i) whole (constantTerms-is i))
+      (drawsOf (projections-is i) (ψ-is i) (ω-is i) (α-is i) (δ-is i) (c-is i)) (transcriptOf (u₁-is i) (p-is i) (b″-is i) (u₂-is i)) (opening-is i)))
 
   pub next-of-fold : {ν μ : ℕ} {out out′ : List ℤ} {code : CAnswer}
       → Coded
       (λ answer. NextCalled (statementOf sizes A B C D whole constantTerms) (drawsOf projections ψ ω α δ c) (transcriptOf u₁ p b″ u₂) ν μ out answer out′) code
-      → NextOfFold sizes ν μ setup whole constantTerms projections ψ draws lengths m out code out′
+      → NextOfFold sizes ν μ lists whole lengths m out code out′
   next-of-fold {ν} {μ} {out} {out′} {code} called =
       coe 0 1
       (i. Coded
-      (λ answer. NextCalled (statementOf sizes (A-is i) (B-is i) (C-is i) (D-is i) whole constantTerms)
-      (drawsOf projections ψ (ω-is i) (α-is i) (δ-is i) (c-is i)) (transcriptOf (u₁-is i) (p-is i) (b″-is i) (u₂-is i)) ν μ out answer out′)
+      (λ answer. NextCalled (statementOf sizes (A-is i) (B-is i) (C-is i) (D-is i) whole (constantTerms-is i))
+      (drawsOf (projections-is i) (ψ-is i) (ω-is i) (α-is i) (δ-is i) (c-is i)) (transcriptOf (u₁-is i) (p-is i) (b″-is i) (u₂-is i)) ν μ out answer out′)
       code)
       called
 
 -- ---- kind 3
 
-pub first-run : {sizes : Sizes} {ν μ : ℕ} {lists lengths m m′ out out′ whole constantTerms projections ψ draws s : List ℤ} {verdict code : CAnswer}
-    → whole ≡ nthList 4 lists → constantTerms ≡ nthList 5 lists → projections ≡ nthList 6 lists → ψ ≡ nthList 7 lists → draws ≡ pastLists 8 lists
-    → s ≡ nthList 12 lists → Folded sizes lists whole constantTerms projections ψ draws s lengths m verdict m′
-    → NextOfFold sizes ν μ lists whole constantTerms projections ψ draws lengths m′ out code out′ → FirstRun sizes ν μ lists lengths m m′ out out′
-first-run {sizes} {ν} {μ} {lists} {lengths} {m} {m′} {out} {out′} {verdict = verdict} {code = code} whole constantTerms projections ψ draws s folded called =
+pub first-run : {sizes : Sizes} {ν μ : ℕ} {lists lengths m m′ out out′ whole s : List ℤ} {verdict code : CAnswer}
+    → whole ≡ nthList 4 lists → s ≡ nthList 12 lists → Folded sizes lists whole s lengths m verdict m′
+    → NextOfFold sizes ν μ lists whole lengths m′ out code out′ → FirstRun sizes ν μ lists lengths m m′ out out′
+first-run {sizes} {ν} {μ} {lists} {lengths} {m} {m′} {out} {out′} {verdict = verdict} {code = code} whole s folded called =
     record {
       verdict = verdict;
-      folded = coe 0 1 (i. Folded sizes lists (whole i) (constantTerms i) (projections i) (ψ i) (draws i) (s i) lengths m verdict m′) folded;
+      folded = coe 0 1 (i. Folded sizes lists (whole i) (s i) lengths m verdict m′) folded;
       code = code;
-      called = coe 0 1 (i. NextOfFold sizes ν μ lists (whole i) (constantTerms i) (projections i) (ψ i) (draws i) lengths m′ out code out′) called;
+      called = coe 0 1 (i. NextOfFold sizes ν μ lists (whole i) lengths m′ out code out′) called;
     }
 
 -- an array that is filled whole
@@ -178,14 +184,10 @@ all-filled : replicate 32768 (pos 77) ≡ filled 32768
 unfolding filled
 all-filled = refl
 
-pub second-run : {sizes : Sizes} {whole s lists projections draws lengths m′ : List ℤ} {verdict : CAnswer} → projections ≡ nthList 4 lists
-    → draws ≡ pastLists 5 lists → lengths ≡ pastLists 9 lists
-    → Folded sizes lists whole [] projections [] draws s lengths (replicate 32768 (pos 77)) verdict m′ → SecondRun sizes whole s lists verdict
-second-run {sizes} {whole} {s} {lists} {m′ = m′} {verdict = verdict} projections draws lengths folded =
-    record {
-      m′ = m′;
-      folded = coe 0 1 (i. Folded sizes lists whole [] (projections i) [] (draws i) s (lengths i) (all-filled i) verdict m′) folded;
-    }
+pub second-run : {sizes : Sizes} {whole s lists lengths m′ : List ℤ} {verdict : CAnswer} → lengths ≡ pastLists 13 lists
+    → Folded sizes lists whole s lengths (replicate 32768 (pos 77)) verdict m′ → SecondRun sizes whole s lists verdict
+second-run {sizes} {whole} {s} {lists} {m′ = m′} {verdict = verdict} lengths folded =
+    record { m′ = m′; folded = coe 0 1 (i. Folded sizes lists whole s (lengths i) (all-filled i) verdict m′) folded }
 
 -- the witness as it is written
 pub witness-is : (m : PartSizes) (second : Sizes) (o : List ℤ) {s : List ℤ} {width all count : ℕ} → width ≡ widthFor second

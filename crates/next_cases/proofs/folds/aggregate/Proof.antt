@@ -15,9 +15,13 @@ returns : tie.Need-returns
 returns c =
     let keep = c .before .before in
     let lizkarg-aggregate = keep .before .before .before .before .before in
-    let nth-list = lizkarg-aggregate .before .before in
+    let nth-list4 = lizkarg-aggregate .before .before in
+    let nth-list3 = nth-list4 .before in
+    let nth-list2 = nth-list3 .before in
+    let nth-list = nth-list2 .before in
     let size = nth-list .before .before in
-    aggregating (nth-list .nth-list .ensures) (size .size .ensures) (lizkarg-aggregate .lizkarg-aggregate .ensures)
+    aggregating (nth-list .nth-list .ensures) (nth-list2 .nth-list2 .ensures) (nth-list3 .nth-list3 .ensures) (nth-list4 .nth-list4 .ensures)
+    (size .size .ensures) (lizkarg-aggregate .lizkarg-aggregate .ensures)
     (keep .keep .ensures)
 
 pub aggregate-spec : {M : Type 1} → statement M
@@ -27,6 +31,9 @@ aggregate-spec =
     (λ c κs. tt)
     array-borrow-prefix-room
     slice-aggregate-second-b
+    (λ c κs. tt)
+    (λ c κs. tt)
+    (λ c κs. tt)
     (λ c κs. tt)
     (λ c κs. tt)
     (λ c κs. tt)

@@ -21,7 +21,7 @@ returns c =
     let lengths = a .lengths .now in
     let call = lizkarg-commit .lizkarg-commit in
     committing {sizes = a .sizes} {s = a .witness .now} {lengths = lengths} {m = a .messages .now} {code = call .result}
-    {setup = a .setup .now} (nth-list .nth-list .ensures) (nth-list2 .nth-list2 .ensures)
+    {lists = a .lists .now} (nth-list .nth-list .ensures) (nth-list2 .nth-list2 .ensures)
     (nth-list3 .nth-list3 .ensures) (size .size .ensures) (size2 .size2 .ensures) (size3 .size3 .ensures)
     (call .ensures)
     (kept-again lengths 4 _ (kept-again lengths 2 _ (keep .keep .ensures) (keep2 .keep2 .ensures)) (keep3 .keep3 .ensures))

@@ -22,7 +22,10 @@ returns c =
     let keep2 = c .before .before in
     let keep = keep2 .before .before .before .before .before in
     let lizkarg-commit-garbage = keep .before .before .before .before .before .before in
-    let nth-list4 = lizkarg-commit-garbage .before .before .before in
+    let nth-list7 = lizkarg-commit-garbage .before .before .before in
+    let nth-list6 = nth-list7 .before in
+    let nth-list5 = nth-list6 .before in
+    let nth-list4 = nth-list5 .before in
     let nth-list3 = nth-list4 .before in
     let nth-list2 = nth-list3 .before in
     let nth-list = nth-list2 .before in
@@ -31,9 +34,9 @@ returns c =
     let a = size .before .args in
     let call = lizkarg-commit-garbage .lizkarg-commit-garbage in
     garbage-committing {sizes = a .sizes} {s = a .witness .now} {lengths = a .lengths .now} {m = a .messages .now}
-    {code = call .result} {setup = a .setup .now} {whole = a .whole .now} {constantTerms = a .constant-terms .now} {projections = a .projections .now}
-    {ψ = a .psi .now} {draws = a .draws .now} (nth-list .nth-list .ensures) (nth-list2 .nth-list2 .ensures)
-    (nth-list3 .nth-list3 .ensures) (nth-list4 .nth-list4 .ensures) (size .size .ensures) (size2 .size2 .ensures)
+    {code = call .result} {lists = a .lists .now} {whole = a .whole .now}
+    (nth-list .nth-list .ensures) (nth-list2 .nth-list2 .ensures) (nth-list3 .nth-list3 .ensures) (nth-list4 .nth-list4 .ensures) (nth-list5 .nth-list5 .ensures) (nth-list6 .nth-list6 .ensures) (nth-list7 .nth-list7 .ensures)
+    (size .size .ensures) (size2 .size2 .ensures)
     (call .ensures)
     (kept-again (a .lengths .now) 7 _ (keep .keep .ensures) (keep2 .keep2 .ensures))
 
@@ -47,6 +50,9 @@ commit-garbage-spec =
     slice-aggregate-h
     array-borrow-prefix-u2-room
     slice-aggregate-u2
+    (λ c κs. tt)
+    (λ c κs. tt)
+    (λ c κs. tt)
     (λ c κs. tt)
     (λ c κs. tt)
     (λ c κs. tt)

@@ -15,8 +15,9 @@ returns : tie.Need-returns
 returns c =
     let keep = c .before .before in
     let lizkarg-project = keep .before .before .before .before .before in
-    let size = lizkarg-project .before .before .before in
-    projecting (size .size .ensures) (lizkarg-project .lizkarg-project .ensures)
+    let nth-list = lizkarg-project .before .before in
+    let size = nth-list .before .before in
+    projecting (nth-list .nth-list .ensures) (size .size .ensures) (lizkarg-project .lizkarg-project .ensures)
     (keep .keep .ensures)
 
 pub project-spec : {M : Type 1} → statement M
@@ -26,6 +27,7 @@ project-spec =
     (λ c κs. tt)
     array-borrow-prefix-room
     slice-aggregate-p
+    (λ c κs. tt)
     (λ c κs. tt)
     (λ c κs. tt)
     (λ c κs. tt)

@@ -10,8 +10,8 @@ same-length c =
     let aggregate = commit-garbage .before .before .before in
     let project = aggregate .before .before .before in
     let commit = project .before .before .before in
-    amortize .amortize .kept .1 .1 .1 .1 .0 ∙ commit-garbage .commit-garbage .kept .1 .1 .1 .1 .1 .1 .1 .1 .1 .0
-    ∙ aggregate .aggregate .kept .1 .1 .1 .1 .1 .1 .1 .0 ∙ project .project .kept .1 .1 .1 .1 .0
+    amortize .amortize .kept .1 .1 .1 .1 .0 ∙ commit-garbage .commit-garbage .kept .1 .1 .1 .1 .1 .0
+    ∙ aggregate .aggregate .kept .1 .1 .1 .1 .0 ∙ project .project .kept .1 .1 .1 .1 .0
     ∙ commit .commit .kept .1 .1 .1 .1 .1 .0
 
 returns : tie.Need-returns

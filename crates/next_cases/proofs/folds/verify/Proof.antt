@@ -7,34 +7,28 @@ returns : tie.Need-returns
 returns c =
     let lizkarg-verify = c .before in
     let opening = lizkarg-verify .before in
-    let nth-list8 = opening .before in
-    let message4 = nth-list8 .before in
-    let nth-list7 = message4 .before in
-    let nth-list6 = nth-list7 .before in
-    let message3 = nth-list6 .before in
-    let nth-list5 = message3 .before in
-    let message2 = nth-list5 .before in
-    let message = message2 .before in
-    let nth-list4 = message .before in
+    let nth-list11 = opening .before in
+    let message4 = nth-list11 .before in
+    let nth-list10 = message4 .before in
+    let nth-list9 = nth-list10 .before in
+    let message3 = nth-list9 .before in
+    let nth-list8 = message3 .before in
+    let nth-list7 = nth-list8 .before in
+    let message2 = nth-list7 .before in
+    let nth-list6 = message2 .before in
+    let message = nth-list6 .before in
+    let nth-list5 = message .before in
+    let nth-list4 = nth-list5 .before in
     let nth-list3 = nth-list4 .before in
     let nth-list2 = nth-list3 .before in
     let nth-list = nth-list2 .before in
     let start = nth-list .before in
     let a = start .args in
-    verdict-of (a .sizes) (a .setup .now) (a .whole .now) (a .constant-terms .now) (a .projections .now) (a .psi .now) (a .draws .now)
-    (a .lengths .now) (a .messages .now)
-    (nth-list .nth-list .ensures)
-    (nth-list2 .nth-list2 .ensures)
-    (nth-list3 .nth-list3 .ensures)
-    (nth-list4 .nth-list4 .ensures)
-    (nth-list5 .nth-list5 .ensures)
-    (nth-list6 .nth-list6 .ensures)
-    (nth-list7 .nth-list7 .ensures)
-    (nth-list8 .nth-list8 .ensures)
-    (message .message .ensures)
-    (message2 .message2 .ensures)
-    (message3 .message3 .ensures)
-    (message4 .message4 .ensures)
+    verdict-of (a .sizes) (a .lists .now) (a .whole .now) (a .lengths .now) (a .messages .now)
+    (nth-list .nth-list .ensures) (nth-list2 .nth-list2 .ensures) (nth-list3 .nth-list3 .ensures) (nth-list4 .nth-list4 .ensures)
+    (nth-list5 .nth-list5 .ensures) (message .message .ensures) (nth-list6 .nth-list6 .ensures) (message2 .message2 .ensures)
+    (nth-list7 .nth-list7 .ensures) (nth-list8 .nth-list8 .ensures) (message3 .message3 .ensures) (nth-list9 .nth-list9 .ensures)
+    (nth-list10 .nth-list10 .ensures) (message4 .message4 .ensures) (nth-list11 .nth-list11 .ensures)
     (opening .opening .ensures)
     (lizkarg-verify .lizkarg-verify .ensures)
 
@@ -42,6 +36,9 @@ pub verify-spec : {M : Type 1} → statement M
 verify-spec =
     tie.close
     (tie.spec
+    (λ c κs. tt)
+    (λ c κs. tt)
+    (λ c κs. tt)
     (λ c κs. tt)
     (λ c κs. tt)
     (λ c κs. tt)

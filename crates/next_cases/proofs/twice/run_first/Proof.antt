@@ -8,24 +8,14 @@ returns : tie.Need-returns
 returns c =
     let print-next = c .before in
     let run-fold = print-next .before .before .before .before in
-    let nth-list5 = run-fold .before .before in
-    let past-lists = nth-list5 .before in
-    let nth-list4 = past-lists .before in
-    let nth-list3 = nth-list4 .before in
-    let nth-list2 = nth-list3 .before in
+    let nth-list2 = run-fold .before .before in
     let nth-list = nth-list2 .before in
-    first-run (nth-list .nth-list .ensures) (nth-list2 .nth-list2 .ensures) (nth-list3 .nth-list3 .ensures)
-    (nth-list4 .nth-list4 .ensures) (past-lists .past-lists .ensures) (nth-list5 .nth-list5 .ensures) (run-fold .run-fold .ensures)
-    (print-next .print-next .ensures)
+    first-run (nth-list .nth-list .ensures) (nth-list2 .nth-list2 .ensures) (run-fold .run-fold .ensures) (print-next .print-next .ensures)
 
 pub run-first-spec : {M : Type 1} → statement M
 run-first-spec =
     tie.close
     (tie.spec
-    (λ c κs. tt)
-    (λ c κs. tt)
-    (λ c κs. tt)
-    (λ c κs. tt)
     (λ c κs. tt)
     (λ c κs. tt)
     (λ c κs. tt)
