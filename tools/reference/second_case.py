@@ -1,4 +1,4 @@
-"""The numbers of the second closed case, all computed here: crates/fold/specs/Cases/SecondCaseNumbers.antt. SecondCase.antt proves that
+"""The numbers of the second closed case, all computed here: crates/fold_values/specs/Cases/SecondCaseNumbers.antt. SecondCase.antt proves that
 they are the definitions'.
 
 Sizes are small, with odd and even bases; matrices, constraints and draws have coefficients of
@@ -166,7 +166,7 @@ def files():
     texts[-1] += "\n" + list_definition(NEXT[0], constraints[0])
     texts += [list_definition(*each) for each in zip(NEXT[1:], constraints[1:], strict=True)]
     texts += [list_definition("next-witness", fold.flat(fold.flat(fold.next_witness(s, y))))]
-    yield "crates/fold/specs/Cases/SecondCaseNumbers.antt", "\n".join(texts).encode()
+    yield "crates/fold_values/specs/Cases/SecondCaseNumbers.antt", "\n".join(texts).encode()
 
 
 if __name__ == "__main__":

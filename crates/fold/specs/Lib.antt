@@ -27,7 +27,5 @@ pub mod Arguments
 pub mod Known
 -- Theorems
 pub mod Theorems
--- Closed cases
-pub mod Cases
 -- Laws
 pub mod Laws

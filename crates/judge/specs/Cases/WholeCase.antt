@@ -10,7 +10,7 @@ use Rattle.fold.specs.declared.Verdict.the-variants.{Accepted}
 use Rattle.fold.specs.declared.Answer.the-variants.{Judged}
 use Rattle.fold.specs.Sizes.{pairs, functionSize, tSize, garbageSize, restSize, openingSize}
 use Rattle.fold.specs.Refusals.{wholeLength, constantTermsLength, projectionLength}
-use Rattle.fold.specs.Cases.WholeCase.{whole-case}
+use Rattle.fold_values.specs.Cases.WholeCase.{whole-case}
 use Rattle.sheet.specs.Reading.{size, sizesOf}
 use Rattle.sheet.specs.Field.{fieldText, signedText, columns, columnByte, minusDue}
 use Rattle.sheet.specs.Layout.{copies, elements, matrixLines, wholeLines, termLines, rowLines, numberLines, lastLines, bodyLines}

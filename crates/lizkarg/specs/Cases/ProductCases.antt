@@ -1,4 +1,4 @@
--- The ring product's call, computed: a product that is written and two that are refused. The sides of each test: crates/fold/specs/Cases/ProductCases.antt.
+-- The ring product's call, computed: a product that is written and two that are refused. The sides of each test: crates/fold_values/specs/Cases/ProductCases.antt.
 use mathlib.Core.Path.{_≡_, refl}
 use mathlib.Core.List.{List, [], _∷_}
 use lib.IntN.{ℤ}
@@ -6,8 +6,8 @@ use Rattle.integers.specs.Literals.{+_, -_, _zeros∷_}
 use Rattle.fold.specs.declared.Answer.{Answer}
 use Rattle.fold.specs.declared.Answer.the-variants.{Refused, Written}
 use Rattle.fold.specs.Answers.{answered, written}
-use Rattle.fold.specs.Cases.Computing.{fold-computes}
-use Rattle.fold.specs.Cases.ProductCases.{one, third, from}
+use Rattle.fold_values.specs.Cases.Computing.{fold-computes}
+use Rattle.fold_values.specs.Cases.ProductCases.{one, third, from}
 use Rattle.lizkarg.specs.declared.Product.{Product}
 use Rattle.lizkarg.specs.Calls.{productOf}
 

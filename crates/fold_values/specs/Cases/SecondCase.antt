@@ -11,22 +11,22 @@ use Rattle.algebra.specs.Conjugation.{ct}
 use Rattle.algebra.specs.DotProduct.{value}
 use Rattle.residues.specs.Modulus.{Zq, red}
 use Rattle.ring.specs.Element.{R}
 use Rattle.fold.specs.declared.Verdict.{Verdict}
 use Rattle.fold.specs.declared.Verdict.the-variants.{Accepted, Failed}
 use Rattle.fold.specs.Answers.{firstFailing}
 use Rattle.fold.specs.Statement.{Meets, part, function, wholeAt, wholeConstant, termAt, termConstant}
 use Rattle.fold.specs.Statement.{Statement, Transcript}
 use Rattle.fold.specs.Verdict.{verdict}
 use Rattle.fold.specs.Honest.{honestTranscript, honestOpening}
 use Rattle.fold.specs.Refusals.{verifyTests, proverTests, nextTests}
 use Rattle.fold.specs.Chunks.{padded, unpadded}
 use Rattle.fold.specs.NextInstance.{nextWhole}
-use Rattle.fold.specs.Cases.SecondCaseNumbers.{whole, constantTerms, statement, witness, draws}
-use Rattle.fold.specs.Cases.SecondCaseNumbers.{u₁, p, b″, u₂, opening, least-bound, squared-length}
-use Rattle.fold.specs.Cases.SecondCaseNumbers.{z-changed, t-changed, g-changed, h-changed, b″-changed-0, b″-changed-1}
-use Rattle.fold.specs.Cases.SecondCaseNumbers.{u₁-of-g-changed, u₂-of-h-changed, next-witness}
-use Rattle.fold.specs.Cases.SecondCaseNumbers.{next-5-1, next-5-2, next-6, next-7, next-8, next-3-1, next-3-2, next-3-3, next-4-1, next-4-2}
-use Rattle.fold.specs.Cases.Computing.{fold-computes}
+use Rattle.fold_values.specs.Cases.SecondCaseNumbers.{whole, constantTerms, statement, witness, draws}
+use Rattle.fold_values.specs.Cases.SecondCaseNumbers.{u₁, p, b″, u₂, opening, least-bound, squared-length}
+use Rattle.fold_values.specs.Cases.SecondCaseNumbers.{z-changed, t-changed, g-changed, h-changed, b″-changed-0, b″-changed-1}
+use Rattle.fold_values.specs.Cases.SecondCaseNumbers.{u₁-of-g-changed, u₂-of-h-changed, next-witness}
+use Rattle.fold_values.specs.Cases.SecondCaseNumbers.{next-5-1, next-5-2, next-6, next-7, next-8, next-3-1, next-3-2, next-3-3, next-4-1, next-4-2}
+use Rattle.fold_values.specs.Cases.Computing.{fold-computes}
 
 abbrev pub transcript : (u₁ b″ u₂ : List ℤ) → Transcript
 transcript u₁ b″ u₂ = record { u₁ = u₁; p = p; b″ = b″; u₂ = u₂ }

@@ -10,11 +10,11 @@ use lib.ListN.{length, getD, replicate}
 use lib.IntN.{ℤ}
 use Rattle.integers.specs.Literals.{+_, -_, _zeros∷_}
 use Rattle.integers.specs.Lists.{tab}
 use Rattle.fold.specs.Answers.{firstFailing}
 use Rattle.fold.specs.Statement.{Statement, Draws, Transcript}
 use Rattle.fold.specs.Refusals.{commitTests, projectTests, aggregateTests, garbageTests, amortizeTests}
 use Rattle.fold.specs.Refusals.{proverTests, verifyTests, nextTests, partTests}
-use Rattle.fold.specs.Cases.Computing.{fold-computes}
+use Rattle.fold_values.specs.Cases.Computing.{fold-computes}
 
 -- ---- what is said of a call: its refusal as a function of its lists, by place
 

@@ -7,11 +7,11 @@ use Prim.Native.Nat.{ℕ, _+_, _-_}
 use lib.Dec.{leb}
 use lib.ListN.{replicate}
 use Rattle.integers.specs.Literals.{+_, -_}
 use Rattle.fold.specs.Answers.{firstFailing}
 use Rattle.fold.specs.Statement.{Statement, Draws, Transcript}
 use Rattle.fold.specs.Refusals.{degree, rank, parts, constraintCount, projectionCount, commitmentRank, base, digitCount, chunks, lengthBound}
 use Rattle.fold.specs.Refusals.{commitTests, projectTests, aggregateTests, garbageTests, amortizeTests, verifyTests, nextTests, partTests}
-use Rattle.fold.specs.Cases.Computing.{fold-computes}
+use Rattle.fold_values.specs.Cases.Computing.{fold-computes}
 
 -- ---- what is said of a size
 

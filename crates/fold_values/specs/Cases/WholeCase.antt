@@ -9,14 +9,14 @@ use Rattle.integers.specs.Literals.{+_, -_, _zeros∷_}
 use Rattle.integers.specs.Sums.{normSq}
 use Rattle.algebra.specs.DotProduct.{value}
 use Rattle.ring.specs.Element.{R}
 use Rattle.fold.specs.declared.Verdict.the-variants.{Accepted}
 use Rattle.fold.specs.Answers.{firstFailing}
 use Rattle.fold.specs.Statement.{Solves, part, function, wholeAt, wholeConstant}
 use Rattle.fold.specs.Statement.{Statement, Draws, Transcript}
 use Rattle.fold.specs.Verdict.{verdict}
 use Rattle.fold.specs.Honest.{honestTranscript, honestOpening}
 use Rattle.fold.specs.Refusals.{verifyTests, proverTests}
-use Rattle.fold.specs.Cases.Computing.{fold-computes}
+use Rattle.fold_values.specs.Cases.Computing.{fold-computes}
 
 abbrev pub whole : List ℤ
 whole = + 1 ∷ + 0 ∷ + 0 ∷ + 0 ∷ - 3 ∷ + 4 ∷ []

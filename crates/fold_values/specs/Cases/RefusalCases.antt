@@ -8,11 +8,11 @@ use Prim.Native.Nat.{ℕ, _*_}
 use lib.ListN.{replicate}
 use lib.IntN.{ℤ}
 use Rattle.integers.specs.Literals.{+_, -_, _zeros∷_}
 use Rattle.fold.specs.Answers.{firstFailing}
 use Rattle.fold.specs.Sizes.{tSize, garbageSize, restSize, openingSize, nextRank, nextParts, nextCount}
 use Rattle.fold.specs.Statement.{Statement, Draws, Transcript}
 use Rattle.fold.specs.Refusals.{lengthBound, wholeLength, projectTests, amortizeTests, verifyTests, nextTests, partTests}
-use Rattle.fold.specs.Cases.Computing.{fold-computes}
+use Rattle.fold_values.specs.Cases.Computing.{fold-computes}
 
 abbrev pub zeros : ℕ → List ℤ
 zeros k = k zeros∷ []

@@ -10,13 +10,13 @@ use Rattle.algebra.specs.Conjugation.{conjugate}
 use Rattle.residues.specs.Modulus.{Zq, centred}
 use Rattle.residues.specs.Digits.{split}
 use Rattle.ring.specs.Element.{R, lift, coeffs}
 use Rattle.fold.specs.declared.Verdict.the-variants.{Failed}
 use Rattle.fold.specs.Statement.{Relation}
 use Rattle.fold.specs.Messages.{elements, half, z}
 use Rattle.fold.specs.Verdict.{verdict}
 use Rattle.fold.specs.NextInstance.{m, nextRelation}
-use Rattle.fold.specs.Cases.WholeCase.{case, witness, draws, transcript, digits}
-use Rattle.fold.specs.Cases.Computing.{fold-computes}
+use Rattle.fold_values.specs.Cases.WholeCase.{case, witness, draws, transcript, digits}
+use Rattle.fold_values.specs.Cases.Computing.{fold-computes}
 
 -- X, and 1+2X, at d = 2
 abbrev pub X : R 2 .Carrier

@@ -1,0 +1,2 @@
+-- Closed cases
+pub mod Cases
