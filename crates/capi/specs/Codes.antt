@@ -6,7 +6,7 @@ use lib.ListN.{length}
 use lib.IntN.{ℤ}
 use Rattle.fold.specs.declared.Answer.{Answer}
 use Rattle.fold.specs.Answers.{kindOf, numberOf, written}
-use Rattle.sheet.specs.declared.sizes.SheetSizes.{SheetSizes}
+use Rattle.sheet.specs.declared.header.SheetSizes.{SheetSizes}
 use Rattle.sheet.specs.declared.reader.SheetAnswer.{SheetAnswer}
 use Rattle.sheet.specs.Reading.{headerNumbers, sizesOf, bodyNumbers, reading, readingRefusal, answerOf, headerOf}
 use Rattle.lizkarg.specs.declared.Product.{Product}

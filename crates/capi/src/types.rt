@@ -5,7 +5,7 @@ ghost use Rattle.capi.specs.Codes.{codeOf, productCode, headerCode, shee
 use fold::Answer;
 use lizkarg::Product;
 use sheet::reader::SheetAnswer;
-use sheet::sizes::SheetSizes;
+use sheet::header::SheetSizes;
 
 // An answer: kind 0 accepted, 1 failed, 2 refused, 3 written; the number of the check or of the refusal, else 0.
 #[repr(C)]

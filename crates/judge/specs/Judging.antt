@@ -16,7 +16,7 @@ use Rattle.fold.specs.Answers.{kindOf, numberOf}
 use Rattle.fold.specs.Verification.{verification}
 use Rattle.fold.specs.declared.Sizes.{Sizes}
 use Rattle.sheet.specs.declared.reader.SheetAnswer.{SheetAnswer}
-use Rattle.sheet.specs.Sections.{total}
+use Rattle.fields.specs.Sections.{total}
 use Rattle.sheet.specs.Lists.{listLengths, listAt}
 use Rattle.sheet.specs.Reading.{headerNumbers, sizesOf, bodyNumbers, reading, answerOf, headerOf}
 use Rattle.sheet.specs.Layout.{lineText}

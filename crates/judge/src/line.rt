@@ -2,7 +2,7 @@
 ghost use mathlib.Core.Path.{_≡_};
 ghost use mathlib.Core.Bool.{false};
 ghost use Prim.Native.Nat.{_+_, _%_};
-ghost use Rattle.sheet.specs.Field.{columnByte};
+ghost use Rattle.fields.specs.Field.{columnByte};
 ghost use Rattle.judge.specs.Judging.{verdictLine};
 use fold::Answer;
 

@@ -1,13 +1,4 @@
-pub mod ByteLaws
-pub mod FieldLaws
-pub mod FieldSteps
-pub mod FieldsLaws
-pub mod NumberLaws
-pub mod SectionLaws
 pub mod ListLaws
-pub mod PlaceLaws
-pub mod WalkLaws
-pub mod ChallengeLaws
 pub mod TextLaws
 pub mod LayoutLaws
 pub mod BodyLaws

@@ -13,7 +13,7 @@ use Rattle.fold.specs.Answers.{firstFailing}
 use Rattle.fold.specs.Sizes.{zCount, pairs, tSize, garbageSize, openingSize}
 use Rattle.fold.specs.declared.Shape.{Shape}
 use Rattle.fold.specs.declared.Sizes.{Sizes}
-use Rattle.sheet.specs.Field.{fieldText, Fits16}
+use Rattle.fields.specs.Field.{fieldText, Fits16}
 use Rattle.sheet.specs.Reading.{headerTests, sizesOf, numberTests}
 
 -- ---- lines

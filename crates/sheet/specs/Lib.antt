@@ -1,9 +1,5 @@
 -- Definitions
-pub mod Field
-pub mod Fields
 pub mod Lists
-pub mod Sections
-pub mod Place
 pub mod Reading
 pub mod Layout
 -- What a call that is not refused knows

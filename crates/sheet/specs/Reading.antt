@@ -23,14 +23,14 @@ use Rattle.fold.specs.Answers.{firstFailing, answered, written}
 use Rattle.fold.specs.declared.Sizes.{Sizes}
 use Rattle.fold.specs.Sizes.{zCount}
 use Rattle.fold.specs.Refusals.{sizeRows, boundRows, chunks, challenges}
-use Rattle.sheet.specs.declared.sizes.SheetSizes.{SheetSizes}
-use Rattle.sheet.specs.declared.sizes.Sections.{Sections}
+use Rattle.sheet.specs.declared.header.SheetSizes.{SheetSizes}
+use Rattle.fields.specs.declared.sizes.Sections.{Sections}
 use Rattle.sheet.specs.declared.reader.SheetAnswer.{SheetAnswer}
 use Rattle.sheet.specs.declared.reader.SheetAnswer.the-variants.{Sheet, Refused}
 use Rattle.sheet.specs.Lists.{listLengths, listAt}
-use Rattle.sheet.specs.Sections.{sectionsOf, total, endsLine}
-use Rattle.sheet.specs.Place.{place, laid, numberAt, numbersFrom}
-use Rattle.sheet.specs.Field.{headerBytes}
+use Rattle.fields.specs.Sections.{sectionsOf, total, endsLine}
+use Rattle.fields.specs.Place.{place, laid, numberAt, numbersFrom}
+use Rattle.fields.specs.Field.{headerBytes}
 
 -- ---- the header: "d n r K L w κ κ1 κ2 b b1 b2 t1 t2 ν μ β² β'²", one line of 18 fields
 

@@ -1,19 +1,25 @@
 // The header: its layout, its numbers as sizes, and their tests, which are those that the library makes of the same sizes.
 ghost use mathlib.Core.Path.{_≡_};
 ghost use Rattle.fold.specs.Answers.{firstFailing};
-ghost use Rattle.sheet.specs.Place.{numberAt};
+ghost use Rattle.fields.specs.Place.{numberAt};
 ghost use Rattle.sheet.specs.Reading.{headerLaid, headerNumbers, frontTests, size, sheetSizesOf};
 ghost use Rattle.sheet.specs.Known.Reading.{hasEnd};
-use crate::sizes::Sections;
-use crate::sizes::SheetSizes;
-use crate::walk::End;
-use crate::walk::laid_end;
-use crate::walk::number_at;
+use fields::sizes::Sections;
+use fields::walk::End;
+use fields::walk::laid_end;
+use fields::walk::number_at;
 use fold::Shape;
 use fold::Sizes;
 use fold::counts::Z_DIGITS;
 use limits::next::next_bounds;
 use limits::rows::first;
+
+// The header's numbers: the fold's sizes, and into how many chunks z and the rest are cut, ν and μ.
+pub struct SheetSizes {
+    pub sizes: Sizes,
+    pub nu: usize,
+    pub mu: usize,
+}
 
 fn has_end(end: End) -> bool
     ensures { λ r. ⌜ r ≡ hasEnd end ⌝ }

@@ -6,12 +6,12 @@ ghost use mathlib.Core.Path.{_≡_};
 ghost use Prim.Native.Nat.{_≤_, min, _-_};
 ghost use lib.ListN.{take};
 ghost use lib.IntN.{natAbs};
-ghost use Rattle.sheet.specs.Place.{numberAt};
+ghost use Rattle.fields.specs.Place.{numberAt};
 use capi::types::CHeader;
 use cases::printing::print_gap;
 use cases::printing::print_line_end;
 use cases::sums::print_shown;
-use sheet::walk::number_size;
+use fields::walk::number_size;
 
 // Most cases.
 const CASES: usize = 1000;

@@ -4,9 +4,9 @@ ghost use mathlib.Core.Path.{_≡_};
 ghost use Prim.Native.Nat.{_≤_, min};
 ghost use lib.ListN.{take};
 ghost use lib.IntN.{natAbs};
-ghost use Rattle.sheet.specs.Place.{numberAt};
+ghost use Rattle.fields.specs.Place.{numberAt};
 ghost use Rattle.judge.specs.Judging.{judgedText, verdictLine};
-use sheet::walk::number_size;
+use fields::walk::number_size;
 
 // Most cases.
 const CASES: usize = 100000;

@@ -12,7 +12,7 @@ use Rattle.fold.specs.Sizes.{pairs, functionSize, tSize, garbageSize, restSize,
 use Rattle.fold.specs.Refusals.{wholeLength, constantTermsLength, projectionLength}
 use Rattle.fold_values.specs.Cases.WholeCase.{whole-case}
 use Rattle.sheet.specs.Reading.{size, sizesOf}
-use Rattle.sheet.specs.Field.{fieldText, signedText, columns, columnByte, minusDue}
+use Rattle.fields.specs.Field.{fieldText, signedText, columns, columnByte, minusDue}
 use Rattle.sheet.specs.Layout.{copies, elements, matrixLines, wholeLines, termLines, rowLines, numberLines, lastLines, bodyLines}
 use Rattle.sheet.specs.Layout.{lineText, textOf, sheetText}
 use Rattle.sheet.specs.Cases.WholeSheet.{header, numbers, whole-numbers}

@@ -11,7 +11,7 @@ use borrow.Author.Tests.{lt-ltb, le-ltb}
 use Rattle.integers.specs.Flat.{flat}
 use Rattle.fold.specs.declared.Answer.{Answer}
 use Rattle.fold.specs.Answers.{kindOf, numberOf}
-use Rattle.sheet.specs.Field.{columnByte, minusDue, columns, signedText, fieldText}
+use Rattle.fields.specs.Field.{columnByte, minusDue, columns, signedText, fieldText}
 use Rattle.sheet.specs.Layout.{lineText}
 use Rattle.judge.specs.Judging.{verdictLine}
 

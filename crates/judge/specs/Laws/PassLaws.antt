@@ -21,7 +21,7 @@ use Rattle.fold.specs.Sizes.{zCount}
 use Rattle.limits.specs.Stages.{nextBoundsOf}
 use Rattle.fold.specs.declared.Sizes.{Sizes}
 use Rattle.sheet.specs.Lists.{listLengths, listAt}
-use Rattle.sheet.specs.Sections.{total}
+use Rattle.fields.specs.Sections.{total}
 use Rattle.sheet.specs.Laws.ListLaws.{length-list, coefficients-list, list-coefficients, lengths-total}
 use Rattle.sheet.specs.Laws.HeaderLaws.{header-passes}
 use Rattle.sheet.specs.Reading.{headerTests, sizesOf, sheetSizesOf, projectionsIn, challengesIn, numberTests}

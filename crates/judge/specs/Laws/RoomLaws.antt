@@ -13,15 +13,15 @@ use lib.ListN.{length}
 use borrow.Author.Tests.{eq-eqb}
 use Rattle.fold.specs.Answers.{firstFailing}
 use Rattle.fold.specs.declared.Sizes.{Sizes}
-use Rattle.sheet.specs.Sections.{sectionsOf, total, endsLine}
-use Rattle.sheet.specs.Place.{place}
-use Rattle.sheet.specs.Laws.PlaceLaws.{width-least}
+use Rattle.fields.specs.Sections.{sectionsOf, total, endsLine}
+use Rattle.fields.specs.Place.{place}
+use Rattle.fields.specs.Laws.PlaceLaws.{width-least}
 use Rattle.sheet.specs.Reading.{headerNumbers, sizesOf, sheetSizesOf, bodyLaid, bodyNumbers, numberTests, bodyTests, readingTests}
 use Rattle.sheet.specs.Reading.{frontTests, numberCount, sheetIf, reading}
 use Rattle.sheet.specs.Laws.ReadingLaws.{body-within}
 use Rattle.sheet.specs.Laws.AnswerLaws.{refusal-first}
 use Rattle.judge.specs.Room.{lentCount}
-use Rattle.sheet.specs.Field.{headerBytes}
+use Rattle.fields.specs.Field.{headerBytes}
 
 -- i numbers have at least 16·i bytes
 place-least : (ends : ℕ → Bool) (at i : ℕ) → at + 16 * i ≤ place ends at i

@@ -23,12 +23,12 @@ use Rattle.fold.specs.Verdict.{verdict}
 use Rattle.fold.specs.Answers.{kindOf, numberOf, firstFailing, answered}
 use Rattle.fold.specs.Laws.RefusalLaws.{refusal-passes}
 use Rattle.fold.specs.declared.Sizes.{Sizes}
-use Rattle.sheet.specs.declared.sizes.SheetSizes.{SheetSizes}
+use Rattle.sheet.specs.declared.header.SheetSizes.{SheetSizes}
 use Rattle.sheet.specs.declared.reader.SheetAnswer as reader
-use Rattle.sheet.specs.Sections.{total}
+use Rattle.fields.specs.Sections.{total}
 use Rattle.sheet.specs.Reading.{headerNumbers, headerTests, sizesOf, sheetSizesOf, bodyNumbers, numberTests, bodyTests}
 use Rattle.sheet.specs.Reading.{readingTests, sheetIf, reading}
-use Rattle.sheet.specs.Laws.PlaceLaws.{contradiction}
+use Rattle.fields.specs.Laws.PlaceLaws.{contradiction}
 use Rattle.sheet.specs.Laws.AnswerLaws.{reading-passed}
 use Rattle.sheet.specs.Laws.HeaderLaws.{header-bounded}
 use Rattle.sheet.specs.Laws.BodyLaws.{body-total}

@@ -6,11 +6,11 @@ use lib.Dec.{eqb}
 use lib.ListN.{length}
 use Rattle.fold.specs.Arguments.{VerifySized}
 use Rattle.fold.specs.declared.Sizes.{Sizes}
-use Rattle.sheet.specs.declared.walk.End.{End}
-use Rattle.sheet.specs.declared.walk.End.the-variants.{At, Broken}
-use Rattle.sheet.specs.Sections.{sectionsOf, total, endsLine}
-use Rattle.sheet.specs.Place.{place}
-use Rattle.sheet.specs.Field.{headerBytes}
+use Rattle.fields.specs.declared.walk.End.{End}
+use Rattle.fields.specs.declared.walk.End.the-variants.{At, Broken}
+use Rattle.fields.specs.Sections.{sectionsOf, total, endsLine}
+use Rattle.fields.specs.Place.{place}
+use Rattle.fields.specs.Field.{headerBytes}
 
 -- fields end at a place
 abbrev pub endsAt : End → ℕ → Bool

@@ -20,12 +20,12 @@ use Rattle.fold.specs.declared.Answer.the-variants as answer
 use Rattle.fold.specs.Answers.{kindOf, numberOf, firstFailing, answered, written}
 use Rattle.fold.specs.Laws.RefusalLaws.{Passes, refusal-passes, passes-refusal, passes-front, passes-back, passes-join}
 use Rattle.fold.specs.declared.Sizes.{Sizes}
-use Rattle.sheet.specs.declared.sizes.SheetSizes.{SheetSizes}
+use Rattle.sheet.specs.declared.header.SheetSizes.{SheetSizes}
 use Rattle.sheet.specs.declared.reader.SheetAnswer.{SheetAnswer}
 use Rattle.sheet.specs.declared.reader.SheetAnswer.the-variants.{Sheet, Refused}
-use Rattle.sheet.specs.declared.sizes.Sections.{Sections}
-use Rattle.sheet.specs.Sections.{Sectioned, total, endsLine}
-use Rattle.sheet.specs.Place.{numbersFrom}
+use Rattle.fields.specs.declared.sizes.Sections.{Sections}
+use Rattle.fields.specs.Sections.{Sectioned, total, endsLine}
+use Rattle.fields.specs.Place.{numbersFrom}
 use Rattle.sheet.specs.Laws.HeaderLaws.{header-bounded}
 use Rattle.sheet.specs.Reading.{headerLaid, headerNumbers, headerTests, sizesOf, sheetSizesOf, bodyLaid, bodyNumbers, frontTests, numberCount, numberTests, bodyTests}
 use Rattle.sheet.specs.Reading.{readingTests, sheetIf, reading, answerOf, headerOf, headerIf, readingRefusal, SheetRead}
@@ -33,7 +33,7 @@ use Rattle.sheet.specs.Known.Reading.{Inside}
 use Rattle.sheet.specs.Laws.ReadingLaws.{body-within, all-numbers}
 use Rattle.sheet.specs.Laws.BodyLaws.{body-total}
 use Rattle.sheet.specs.Laws.SheetLaws.{length-body}
-use Rattle.sheet.specs.Field.{headerBytes}
+use Rattle.fields.specs.Field.{headerBytes}
 
 -- ---- two lists of tests, one after the other
 

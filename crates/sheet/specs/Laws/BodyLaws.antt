@@ -9,7 +9,7 @@ use native.Mathlib.Omega.{arith}
 use Rattle.fold.specs.Sizes.{pairs, functionSize}
 use Rattle.fold.specs.declared.Shape.{Shape}
 use Rattle.fold.specs.declared.Sizes.{Sizes}
-use Rattle.sheet.specs.Sections.{matrixCount, wholeCount, rowCount, lastCount, termSize, onesCount, total}
+use Rattle.fields.specs.Sections.{matrixCount, wholeCount, rowCount, lastCount, termSize, onesCount, total}
 use Rattle.sheet.specs.Layout.{copies, elements, fields, matrixLines, wholeLines, termLines, rowLines, numberLines, lastLines, bodyLines}
 use Rattle.sheet.specs.Laws.LayoutLaws.{Positive, fields-append, fields-copies, fields-elements, positive-append, positive-copies, positive-elements}
 

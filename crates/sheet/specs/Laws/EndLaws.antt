@@ -13,15 +13,15 @@ use lib.Dec.{ltb, eqb}
 use borrow.Author.Tests.{ltb-true, ltb-false, ne-eqb}
 use Rattle.fold.specs.Sizes.{functionSize}
 use Rattle.fold.specs.declared.Sizes.{Sizes}
-use Rattle.sheet.specs.declared.sizes.Sections.{Sections}
-use Rattle.sheet.specs.Sections.{matrixCount, wholeCount, rowCount, lastCount, termSize, onesCount, sectionsOf, total, endsElement, endsLine}
-use Rattle.sheet.specs.Laws.SectionLaws.{line-head, line-terms, line-middle, line-ones, line-tail}
-use Rattle.sheet.specs.Place.{fieldWidth, place}
+use Rattle.fields.specs.declared.sizes.Sections.{Sections}
+use Rattle.fields.specs.Sections.{matrixCount, wholeCount, rowCount, lastCount, termSize, onesCount, sectionsOf, total, endsElement, endsLine}
+use Rattle.fields.specs.Laws.SectionLaws.{line-head, line-terms, line-middle, line-ones, line-tail}
+use Rattle.fields.specs.Place.{fieldWidth, place}
 use Rattle.sheet.specs.Layout.{copies, elements, fields, bodyLines}
 use Rattle.sheet.specs.Laws.LayoutLaws.{endsOf, fields-append, fields-copies, fields-elements, ends-front, ends-back, ends-elements, ends-term}
 use Rattle.sheet.specs.Laws.BodyLaws.{middlePart, termPart, body-merged}
 use Rattle.sheet.specs.Reading.{headerSections}
-use Rattle.sheet.specs.Field.{headerBytes}
+use Rattle.fields.specs.Field.{headerBytes}
 
 -- ---- past some lines, or among them
 

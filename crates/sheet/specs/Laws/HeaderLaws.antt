@@ -21,8 +21,8 @@ use Rattle.fold.specs.Laws.RefusalLaws.{Passes, passes-refusal}
 use Rattle.limits.specs.Stages.{nextBoundsOf}
 use Rattle.limits.specs.Laws.CountLaws.{many-ν, many-μ}
 use Rattle.limits.specs.Known.StageLimits.{next-sized}
-use Rattle.sheet.specs.Place.{endIf}
-use Rattle.sheet.specs.Laws.PlaceLaws.{contradiction}
+use Rattle.fields.specs.Place.{endIf}
+use Rattle.fields.specs.Laws.PlaceLaws.{contradiction}
 use Rattle.sheet.specs.Reading.{headerTests, size, sizesOf, sheetSizesOf}
 use Rattle.sheet.specs.Known.Reading.{hasEnd}
 

@@ -15,8 +15,8 @@ use lib.IntN.{ℤ, pos}
 use borrow.Author.Tests.{lt-ltb, le-ltb, ltb-true, ltb-false, eq-eqb, ne-eqb}
 use Rattle.integers.specs.Flat.{flat}
 use Rattle.integers.specs.Laws.FlatLaws.{flat-cong, flat-append}
-use Rattle.sheet.specs.Field.{fieldText}
-use Rattle.sheet.specs.Sections.{endsElement, endsTerm}
+use Rattle.fields.specs.Field.{fieldText}
+use Rattle.fields.specs.Sections.{endsElement, endsTerm}
 use Rattle.sheet.specs.Layout.{copies, elements, fields, lineText, textOf}
 use Rattle.sheet.specs.Laws.TextLaws.{feed, lineFields}
 

@@ -16,7 +16,7 @@ use Rattle.residues.specs.Laws.RangeLaws.{coefficients-of, coefficients-join, c
 use Rattle.fold.specs.Refusals.{wholeLength, constantTermsLength, projectionLength}
 use Rattle.fold.specs.declared.Sizes.{Sizes}
 use Rattle.sheet.specs.Lists.{listLengths, listAt}
-use Rattle.sheet.specs.Sections.{matrixCount, wholeCount, rowCount, lastCount, termSize, onesCount, total, projectionsFrom, challengesFrom}
+use Rattle.fields.specs.Sections.{matrixCount, wholeCount, rowCount, lastCount, termSize, onesCount, total, projectionsFrom, challengesFrom}
 use Rattle.sheet.specs.Reading.{projectionsIn, challengesIn}
 
 -- ---- lists of any lengths

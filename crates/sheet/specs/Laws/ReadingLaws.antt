@@ -16,15 +16,15 @@ use Rattle.fold.specs.Arguments.{VerifySized}
 use Rattle.fold.specs.Answers.{firstFailing}
 use Rattle.fold.specs.Refusals.{challenges, projectionLength}
 use Rattle.fold.specs.declared.Sizes.{Sizes}
-use Rattle.sheet.specs.declared.sizes.Sections.{Sections}
-use Rattle.sheet.specs.declared.walk.End.{End}
-use Rattle.sheet.specs.Sections.{Sectioned, sectionsOf, termSize, rowCount, lastCount, total, projectionsFrom, challengesFrom, endsLine}
-use Rattle.sheet.specs.Place.{place, laid, endIf, numbersFrom, Span}
-use Rattle.sheet.specs.Laws.PlaceLaws.{contradiction, place-mono}
-use Rattle.sheet.specs.Laws.ChallengeLaws.{numbers-part}
+use Rattle.fields.specs.declared.sizes.Sections.{Sections}
+use Rattle.fields.specs.declared.walk.End.{End}
+use Rattle.fields.specs.Sections.{Sectioned, sectionsOf, termSize, rowCount, lastCount, total, projectionsFrom, challengesFrom, endsLine}
+use Rattle.fields.specs.Place.{place, laid, endIf, numbersFrom, Span}
+use Rattle.fields.specs.Laws.PlaceLaws.{contradiction, place-mono}
+use Rattle.fields.specs.Laws.ChallengeLaws.{numbers-part}
 use Rattle.sheet.specs.Reading.{bodyLaid, bodyNumbers, projectionsIn, challengesIn, numberTests, bodyTests}
 use Rattle.sheet.specs.Known.Reading.{endsAt, Inside}
-use Rattle.sheet.specs.Field.{headerBytes}
+use Rattle.fields.specs.Field.{headerBytes}
 
 pub lines-positive : {s : Sizes} {q : Sections} → VerifySized s → Sectioned s q → (0 < q .d) × (0 < q .period)
 unfolding sectionsOf termSize

@@ -17,16 +17,16 @@ use Rattle.integers.specs.Laws.Bridge.{zarith, natAbs-pn}
 use Rattle.ring.specs.Laws.ElementEquality.{every-true}
 use Rattle.residues.specs.Range.{coefficients}
 use Rattle.residues.specs.Laws.RangeLaws.{coefficients-at}
-use Rattle.sheet.specs.declared.field.Field.{Field}
-use Rattle.sheet.specs.declared.field.Field.the-variants.{Number, Broken}
+use Rattle.fields.specs.declared.field.Field.{Field}
+use Rattle.fields.specs.declared.field.Field.the-variants.{Number, Broken}
 use Rattle.fold.specs.declared.Sizes.{Sizes}
-use Rattle.sheet.specs.Field.{Fits16, headerBytes}
-use Rattle.sheet.specs.Fields.{readField, fieldAt, isNumber, numberIn}
-use Rattle.sheet.specs.Laws.FieldLaws.{read-fits}
-use Rattle.sheet.specs.Sections.{sectionsOf, total, endsLine}
-use Rattle.sheet.specs.Place.{place, laidField, laid, numberAt}
-use Rattle.sheet.specs.Laws.PlaceLaws.{contradiction, laidField-number, laidField-fits, laid-suc}
-use Rattle.sheet.specs.Laws.WalkLaws.{length-numbers, number-of}
+use Rattle.fields.specs.Field.{Fits16, headerBytes}
+use Rattle.fields.specs.Fields.{readField, fieldAt, isNumber, numberIn}
+use Rattle.fields.specs.Laws.FieldLaws.{read-fits}
+use Rattle.fields.specs.Sections.{sectionsOf, total, endsLine}
+use Rattle.fields.specs.Place.{place, laidField, laid, numberAt}
+use Rattle.fields.specs.Laws.PlaceLaws.{contradiction, laidField-number, laidField-fits, laid-suc}
+use Rattle.fields.specs.Laws.WalkLaws.{length-numbers, number-of}
 use Rattle.sheet.specs.Reading.{headerSections, headerLaid, headerNumbers, bodyLaid, bodyNumbers}
 use Rattle.sheet.specs.Layout.{fields, bodyLines, lineText, textOf, AllFit}
 use Rattle.sheet.specs.Laws.TextLaws.{lineFields, laid-text, text-held}

@@ -15,13 +15,13 @@ use lib.IntN.{ℤ}
 use borrow.Author.Tests.{eq-eqb}
 use Rattle.integers.specs.Laws.AllLaws.{both-left, both-right}
 use Rattle.integers.specs.Flat.{flat}
-use Rattle.sheet.specs.declared.field.Field.{Field}
-use Rattle.sheet.specs.declared.field.Field.the-variants.{Number, Broken}
-use Rattle.sheet.specs.Field.{fieldText, Fits16}
-use Rattle.sheet.specs.Fields.{readField, fieldAt, isNumber, numberIn}
-use Rattle.sheet.specs.Laws.FieldLaws.{read-text, read-written, length-field}
-use Rattle.sheet.specs.Place.{fieldWidth, place, laidField, laid, numberAt}
-use Rattle.sheet.specs.Laws.PlaceLaws.{contradiction, laidField-number, laidField-feed, laidField-fits, laid-zero, laid-suc}
+use Rattle.fields.specs.declared.field.Field.{Field}
+use Rattle.fields.specs.declared.field.Field.the-variants.{Number, Broken}
+use Rattle.fields.specs.Field.{fieldText, Fits16}
+use Rattle.fields.specs.Fields.{readField, fieldAt, isNumber, numberIn}
+use Rattle.fields.specs.Laws.FieldLaws.{read-text, read-written, length-field}
+use Rattle.fields.specs.Place.{fieldWidth, place, laidField, laid, numberAt}
+use Rattle.fields.specs.Laws.PlaceLaws.{contradiction, laidField-number, laidField-feed, laidField-fits, laid-zero, laid-suc}
 
 unfoldable pub feed : Bool → List ℕ
 feed true = 10 ∷ []

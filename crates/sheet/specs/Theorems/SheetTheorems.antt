@@ -17,9 +17,9 @@ use borrow.Author.Tests.{eq-eqb, ne-eqb}
 use Rattle.fold.specs.Answers.{firstFailing}
 use Rattle.fold.specs.Laws.RefusalLaws.{refusal-passes, passes-refusal}
 use Rattle.fold.specs.declared.Sizes.{Sizes}
-use Rattle.sheet.specs.declared.sizes.SheetSizes.{SheetSizes}
+use Rattle.sheet.specs.declared.header.SheetSizes.{SheetSizes}
 use Rattle.sheet.specs.declared.reader.SheetAnswer.the-variants.{Sheet, Refused}
-use Rattle.sheet.specs.Sections.{total}
+use Rattle.fields.specs.Sections.{total}
 use Rattle.sheet.specs.Reading.{headerLaid, headerNumbers, headerTests, sizesOf, sheetSizesOf, bodyLaid, bodyNumbers, numberTests, bodyTests}
 use Rattle.sheet.specs.Reading.{frontTests, numberCount, readingTests, sheetIf, reading}
 use Rattle.sheet.specs.Laws.AnswerLaws.{front-passes, refusal-first, refusal-rest}
@@ -29,7 +29,7 @@ use Rattle.sheet.specs.Layout.{fields, bodyLines, lineText, textOf, shee
 use Rattle.sheet.specs.Laws.BodyLaws.{body-total}
 use Rattle.sheet.specs.Laws.SheetLaws.{length-header, header-text, header-fit, HeaderRead, header-read, length-body, body-text, body-fit, body-read}
 use Rattle.sheet.specs.Laws.SheetLaws.{coefficients-fit}
-use Rattle.sheet.specs.Field.{headerBytes}
+use Rattle.fields.specs.Field.{headerBytes}
 
 -- ---- the lines
 

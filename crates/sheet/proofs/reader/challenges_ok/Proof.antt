@@ -2,7 +2,7 @@
 use mathlib.Core.Path.{sym, ap, _∙_}
 use native.Mathlib.Omega.{arith}
 use Prim.Native.Nat.{_+_, _*_, _≤_}
-use Rattle.sheet.specs.Sections.{total}
+use Rattle.fields.specs.Sections.{total}
 use Rattle.fold.specs.Refusals.{challenges}
 use Rattle.sheet.specs.Laws.ListLaws.{challenges-part}
 use Rattle.sheet.specs.Laws.ReadingLaws.{lines-positive, front-span, later-span, body-part, body-coefficients, challenges-end}

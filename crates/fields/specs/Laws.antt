@@ -1,0 +1,9 @@
+pub mod ByteLaws
+pub mod FieldLaws
+pub mod FieldSteps
+pub mod FieldsLaws
+pub mod NumberLaws
+pub mod SectionLaws
+pub mod PlaceLaws
+pub mod WalkLaws
+pub mod ChallengeLaws
