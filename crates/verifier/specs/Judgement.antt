@@ -9,7 +9,7 @@ use Rattle.ring.specs.Element.{el}
 use Rattle.fold.specs.declared.Sizes.{Sizes}
 use Rattle.fold.specs.Verdict.{messageChecks, outerChecks, openingChecks}
 use Rattle.fold.specs.Arguments.{statementOf, statementWith, drawsOf, transcriptOf}
-use Rattle.verifier.specs.Known.Facts.{zValue}
+use Rattle.checks.specs.Known.Facts.{zValue}
 
 abbrev pub messageChecksOf : Sizes → (constantTerms p ψ ω b″ : List ℤ) → List (ℕ × Bool)
 messageChecksOf s constantTerms p ψ ω b″ =

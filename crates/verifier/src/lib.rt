@@ -7,14 +7,7 @@ use fold::Sizes;
 use fold::counts::Z_DIGITS;
 use limits::verify_refusal;
 
-pub mod amortized;
 pub mod judgement;
-pub mod linear;
-pub mod norms;
-pub mod outer;
-pub mod recomposed;
-pub mod relation;
-pub mod terms;
 
 // The answer to a statement, the draws, the messages and an opening.
 pub fn verify(

@@ -18,7 +18,7 @@ use Rattle.fold.specs.Statement.{Statement, Draws, Transcript}
 use Rattle.fold.specs.Arguments.{statementWith, drawsOf, transcriptOf, verifyRefusal}
 use Rattle.fold.specs.Laws.TestLaws.{stops, goes-on}
 use Rattle.fold.specs.Known.CallFacts.{VerifyFacts, verify-facts}
-use Rattle.verifier.specs.Known.Facts.{Fits, zValue}
+use Rattle.checks.specs.Known.Facts.{Fits, zValue}
 use Rattle.fold.specs.Laws.WriterLaws.{el-written}
 use Rattle.verifier.specs.Judgement.{Recomposed, messageChecksOf, outerChecksOf, openingChecksOf}
 

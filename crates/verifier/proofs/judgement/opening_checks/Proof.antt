@@ -1,6 +1,6 @@
 -- `verifier::judgement::opening_checks` meets its contract.
 use native.Mathlib.Nat.{mul-le-mul}
-use Rattle.verifier.specs.Laws.SizeLaws.{z-within}
+use Rattle.checks.specs.Laws.SizeLaws.{z-within}
 use Rattle.verifier.specs.Laws.JudgementLaws.{recomposed}
 use borrow.Author.Needs.{needs}
 use Rattle.verifier.proofs.judgement.opening_checks.Statement.{statement}

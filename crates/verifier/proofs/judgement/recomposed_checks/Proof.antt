@@ -2,7 +2,7 @@
 use mathlib.Core.Path.{_∙_}
 use Rattle.fold.specs.Laws.TestLaws.{fails, passes}
 use Rattle.limits.specs.Laws.StageLaws.{single, none}
-use Rattle.verifier.specs.Laws.Rows.{check-five-cong, check-six-cong, check-seven-cong}
+use Rattle.checks.specs.Laws.Rows.{check-five-cong, check-six-cong, check-seven-cong}
 use borrow.Author.Needs.{needs}
 use Rattle.verifier.proofs.judgement.recomposed_checks.Statement.{statement}
 use Rattle.verifier.proofs.judgement.recomposed_checks.Tie as tie
