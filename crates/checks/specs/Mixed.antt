@@ -28,10 +28,13 @@ pub record Garbage (d r b t place : ℕ) (o : List ℤ) : Type 0 where
   pub digits : 0 < t
   pub inside : (place + pairs r * t) * d ≤ length o
 
+-- term k of row i, of the garbage element x
+unfoldable pub mixedTerm : (d : ℕ) (c : List ℤ) (i k : ℕ) → R d .Carrier → R d .Carrier
+mixedTerm d c i k x = weighed (R d) k (R d .mul x (R d .mul (el d c i) (el d c (i + k))))
+
 module _ (d r b t place : ℕ) (c o : List ℤ) where
-  -- term k of row i
   unfoldable pub mixedSummand : ℕ → ℕ → R d .Carrier
-  mixedSummand i k = weighed (R d) k (R d .mul (garbageOf d r b t (block d o place) i (i + k)) (R d .mul (el d c i) (el d c (i + k))))
+  mixedSummand i k = mixedTerm d c i k (garbageOf d r b t (block d o place) i (i + k))
 
   unfoldable pub mixedRow : ℕ → R d .Carrier
   mixedRow i = sum (R d) (r - i) (mixedSummand i)

@@ -5,13 +5,13 @@ ghost use lib.ListN.{length};
 ghost use Rattle.algebra.specs.Sum.{sum};
 ghost use Rattle.algebra.specs.Triangle.{pair};
 ghost use Rattle.algebra.specs.DotProduct.{mixed};
-ghost use Rattle.ring.specs.Element.{R, el, array, same};
+ghost use Rattle.ring.specs.Element.{R, Degree, lift, el, array, same};
 ghost use Rattle.fold.specs.Messages.{times};
 ghost use Rattle.fold.specs.Opening.{block, garbageOf};
 ghost use Rattle.fold.specs.Verdict.{check₅, check₆};
 ghost use Rattle.fold.specs.Known.WorkFacts.{FoldedFacts, AmortizedFacts};
 ghost use Rattle.checks.specs.Known.Facts.{Holds, tValue, gValue};
-ghost use Rattle.checks.specs.Mixed.{Garbage, mixedSummand, mixedRow};
+ghost use Rattle.checks.specs.Mixed.{Garbage, mixedTerm, mixedRow};
 use crate::outer;
 use crate::recomposed;
 use fold::Sizes;
@@ -115,25 +115,12 @@ pub fn amortized(
     all
 }
 
-// Summand k of row i of the mixed sum: garbage element q times c_i c_j for j = i + k, doubled off the diagonal.
-fn mixed_summand(
-    d: usize,
-    r: usize,
-    b: usize,
-    t: usize,
-    opening: &[i32],
-    place: usize,
-    c: &[i32],
-    i: usize,
-    k: usize,
-    q: usize,
-) -> Element
-    requires { ⌜ Garbage d r b t place (now opening) ⌝ }
-    requires { ⌜ Holds d r (now c) ⌝ }
-    requires { ⌜ (i + k < r) × (q ≡ pair r i (i + k)) ⌝ }
-    ensures { λ x. ⌜ x .coefficients ≡ array d (mixedSummand d r b t place (now (c .entry)) (now (opening .entry)) i k) ⌝ }
+// Summand k of row i of the mixed sum: a garbage element times c_i c_j for j = i + k, doubled off the diagonal.
+fn mixed_summand(d: usize, garbage: Element, c: &[i32], i: usize, k: usize) -> Element
+    requires { ⌜ Degree d ⌝ }
+    requires { ⌜ (i + k) * d + d ≤ length (now c) ⌝ }
+    ensures { λ x. ⌜ x .coefficients ≡ array d (mixedTerm d (now (c .entry)) i k (lift d (garbage .coefficients))) ⌝ }
 {
-    let garbage = recomposed::garbage_of(d, b, t, opening, place, q);
     let left = Element::from_slice(d, c, i);
     let right = Element::from_slice(d, c, i + k);
     let challenges = left.product(d, right);
@@ -165,7 +152,8 @@ fn mixed_row(
     let mut acc = Element::additive_identity();
     let mut k = 0;
     while k < width {
-        let summand = mixed_summand(d, r, b, t, opening, place, c, i, k, q + k);
+        let garbage = recomposed::garbage_of(d, b, t, opening, place, q + k);
+        let summand = mixed_summand(d, garbage, c, i, k);
         acc = acc.sum(d, summand);
         k += 1;
     }

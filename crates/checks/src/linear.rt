@@ -3,11 +3,11 @@ ghost use mathlib.Core.Path.{_≡_};
 ghost use Prim.Native.Nat.{_*_, _≤_};
 ghost use lib.ListN.{length};
 ghost use Rattle.algebra.specs.Sum.{sum};
-ghost use Rattle.ring.specs.Element.{R, el, array};
+ghost use Rattle.algebra.specs.DotProduct.{mixed};
+ghost use Rattle.ring.specs.Element.{R, lift, el, array, same};
 ghost use Rattle.fold.specs.Messages.{aggregate};
-ghost use Rattle.fold.specs.Verdict.{check₇};
-ghost use Rattle.constraints.specs.Known.Facts.{AggregateFacts};
-ghost use Rattle.checks.specs.Known.Facts.{Fits, Holds, Opening, hValue};
+ghost use Rattle.fold.specs.Known.WorkFacts.{AggregateFacts, FoldedFacts};
+ghost use Rattle.checks.specs.Known.Facts.{Holds, hValue};
 ghost use Rattle.checks.specs.Relation.{linearSummand};
 use crate::amortized;
 use constraints::ConstraintSizes;
@@ -20,8 +20,8 @@ use fold::places;
 use ring::element::Element;
 use ring::product::inner;
 
-// Σ <φ_i, z> c_i.
-fn linear_sum(
+// Σ <φ_i, z> c_i, with z read from the start of a slice.
+pub fn linear_sum(
     sizes: ConstraintSizes,
     whole: &[i32],
     constant_terms: &[i32],
@@ -74,55 +74,16 @@ fn linear_sum(
     acc
 }
 
-// Check 7: Σ <φ_i, z> c_i is the mixed sum of h, with z read from the start of a slice.
-pub fn linear_part(
-    tz: usize,
-    sizes: Sizes,
-    whole: &[i32],
-    constant_terms: &[i32],
-    projections: &[i32],
-    psi: &[i32],
-    omega: &[i32],
-    alpha: &[i32],
-    delta: &[i32],
-    c: &[i32],
-    z: &[i32],
-    opening: &[i32],
-) -> bool
+// Check 7: Σ <φ_i, z> c_i, which is lent, is the mixed sum of h.
+pub fn linear_part(tz: usize, sizes: Sizes, linear: Element, c: &[i32], opening: &[i32]) -> bool
     requires { ⌜ tz ≤ 2 ⌝ }
-    requires { ⌜ Fits sizes ⌝ }
-    requires { ⌜ AggregateFacts (sizes .shape .d) (sizes .shape .n) (sizes .shape .r) (sizes .k) (sizes .l) (sizes .w) (now whole) (now «constant_terms») (now projections)
-        (now psi) (now omega) (now alpha) (now delta) ⌝ }
-    requires { ⌜ Holds (sizes .shape .d) (sizes .shape .r) (now c) ⌝ }
-    requires { ⌜ sizes .shape .n * sizes .shape .d ≤ length (now z) ⌝ }
-    requires { ⌜ Opening tz sizes (now opening) ⌝ }
+    requires { ⌜ FoldedFacts tz sizes (now c) (now opening) ⌝ }
     ensures { λ r.
-        ⌜ r ≡ check₇ (sizes .shape .d) (sizes .shape .n) (sizes .shape .r) (now (c .entry))
-        (aggregate (sizes .shape .d) (sizes .shape .n) (sizes .shape .r) (sizes .k) (sizes .l) (sizes .w) (now (whole .entry)) (now («constant_terms» .entry))
-        (now (projections .entry)) (now (psi .entry)) (now (omega .entry)) (now (alpha .entry)) (now (delta .entry)) .φ)
-        (el (sizes .shape .d) (now (z .entry))) (hValue tz sizes (now (opening .entry))) ⌝ }
+        ⌜ r ≡ same (sizes .shape .d) (lift (sizes .shape .d) (linear .coefficients)) (mixed (R (sizes .shape .d)) (sizes .shape .r)
+        (hValue tz sizes (now (opening .entry))) (el (sizes .shape .d) (now (c .entry)))) ⌝ }
 {
-    let shape = sizes.shape;
-    let d = shape.d;
-    let constraint_sizes = ConstraintSizes {
-        shape,
-        k: sizes.k,
-        l: sizes.l,
-        w: sizes.w,
-    };
-    let left = linear_sum(
-        constraint_sizes,
-        whole,
-        constant_terms,
-        projections,
-        psi,
-        omega,
-        alpha,
-        delta,
-        c,
-        z,
-    );
+    let d = sizes.shape.d;
     let start = places::h_place(tz, sizes);
-    let right = amortized::mixed_sum(d, shape.r, sizes.b1, sizes.t1, opening, start, c);
-    left.equals(d, right)
+    let right = amortized::mixed_sum(d, sizes.shape.r, sizes.b1, sizes.t1, opening, start, c);
+    linear.equals(d, right)
 }

@@ -64,23 +64,31 @@ pub fn verify(
     if message != 0 {
         return Answer::Judged(judgement::verdict(message));
     }
-    let number = judgement::later_checks(
+    let outer = judgement::outer_checks(
         Z_DIGITS,
         sizes,
-        a_matrix,
         b_matrix,
         c_matrix,
         d_matrix,
+        u1,
+        u2,
+        opening,
+    );
+    if outer != 0 {
+        return Answer::Judged(judgement::verdict(outer));
+    }
+    let number = judgement::opening_checks(
+        Z_DIGITS,
+        sizes,
+        a_matrix,
         whole,
         constant_terms,
-        u1,
         projections,
         psi,
         omega,
         second_b,
         alpha,
         delta,
-        u2,
         c,
         opening,
     );

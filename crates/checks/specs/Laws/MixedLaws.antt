@@ -24,7 +24,7 @@ use Rattle.checks.specs.Known.Facts.{Fits, Opening}
 use Rattle.checks.specs.Laws.PlaceLaws.{garbage-at}
 use Rattle.checks.specs.Places.{garbageAt}
 use Rattle.checks.specs.Laws.SizeLaws.{g-within, h-within}
-use Rattle.checks.specs.Mixed.{weighed, Garbage, mixedSummand, mixedRow}
+use Rattle.checks.specs.Mixed.{weighed, Garbage, mixedTerm, mixedSummand, mixedRow}
 use Rattle.fold.specs.Limits.{mostParts}
 
 module _ (𝓡 : CommRing) where
@@ -62,7 +62,7 @@ module _ (d r b t place : ℕ) (c o : List ℤ) where
   mixed-row i = refl
 
   pub mixed-all : sum (R d) r (mixedRow d r b t place c o) ≡ mixed (R d) r (garbageOf d r b t (block d o place)) (el d c)
-  unfolding mixedRow mixedSummand rows
+  unfolding mixedRow mixedSummand mixedTerm rows
   mixed-all =
       sum-cong (R d) r _ _ (λ i _. sum-cong (R d) (r - i) _ _ (λ k _. ap (λ e. weighed (R d) e (summand i k)) (sym (add-sub-cancel-left i k))))
       ∙ mixed-rows (R d) r (garbageOf d r b t (block d o place)) (el d c)
@@ -70,26 +70,28 @@ module _ (d r b t place : ℕ) (c o : List ℤ) where
       summand : ℕ → ℕ → R d .Carrier
       summand i k = R d .mul (garbageOf d r b t (block d o place) i (i + k)) (R d .mul (el d c i) (el d c (i + k)))
 
-  -- the term from what the calls promise: g_ij, c_i c_j, and their product, which is doubled off the diagonal
-  pub mixed-summand-once : (i k q : ℕ) (g x y xy r′ : List ℤ) → d ≤ 64 → k ≤ 0 → q ≡ pair r i (i + k) → g ≡ array d (garbageAt d b t
-      (block d o place) q)
-      → x ≡ array d (el d c i) → y ≡ array d (el d c (i + k)) → xy ≡ array d (R d .mul (lift d x) (lift d y))
-      → r′ ≡ array d (R d .mul (lift d g) (lift d xy)) → r′ ≡ array d (mixedSummand d r b t place c o i k)
+  -- the summand at pair number q, from the garbage element there
+  pub mixed-summand : (i k q : ℕ) {g x : List ℤ} → d ≤ 64 → q ≡ pair r i (i + k) → g ≡ array d (garbageAt d b t (block d o place) q)
+      → x ≡ array d (mixedTerm d c i k (lift d g)) → x ≡ array d (mixedSummand d r b t place c o i k)
   unfolding mixedSummand
-  mixed-summand-once i k q g x y xy r′ small h eq eg ex ey exy e =
-      e ∙ ap (array d) (ap₂ (R d .mul) (held small eg ∙ garbage-at d r b t (block d o place) i (i + k) q eq) (held small exy ∙ ap₂
-      (R d .mul) (held small ex) (held small ey))
-      ∙ sym (weighed-zero (R d) k _ h))
+  mixed-summand i k q small eq eg e =
+      e ∙ ap (λ u. array d (mixedTerm d c i k u)) (held small eg ∙ garbage-at d r b t (block d o place) i (i + k) q eq)
 
-  pub mixed-summand-twice : (i k q : ℕ) (g x y xy once r′ : List ℤ) → d ≤ 64 → 0 < k → q ≡ pair r i (i + k) → g ≡ array d (garbageAt d b t
-      (block d o place) q)
-      → x ≡ array d (el d c i) → y ≡ array d (el d c (i + k)) → xy ≡ array d (R d .mul (lift d x) (lift d y))
-      → once ≡ array d (R d .mul (lift d g) (lift d xy)) → r′ ≡ array d (R d .add (lift d once) (lift d once)) → r′ ≡ array d (mixedSummand d r b t place c o i k)
-  unfolding mixedSummand
-  mixed-summand-twice i k q g x y xy once r′ small h eq eg ex ey exy e double =
-      let value = held small e ∙ ap₂ (R d .mul) (held small eg ∙ garbage-at d r b t (block d o place) i (i + k) q eq)
-      (held small exy ∙ ap₂ (R d .mul) (held small ex) (held small ey)) in
-      double ∙ ap (array d) (ap₂ (R d .add) value value ∙ sym (weighed-apart (R d) k _ h))
+-- the term from what the calls promise: c_i c_j, and its product with g_ij, which is doubled off the diagonal
+module _ (d : ℕ) (c : List ℤ) (i k : ℕ) (small : d ≤ 64) (g : List ℤ) {x y xy once : List ℤ} (ex : x ≡ array d (el d c i)) (ey : y ≡ array d (el d c (i + k)))
+    (exy : xy ≡ array d (R d .mul (lift d x) (lift d y))) (product : once ≡ array d (R d .mul (lift d g) (lift d xy))) where
+  value : once ≡ array d (R d .mul (lift d g) (R d .mul (el d c i) (el d c (i + k))))
+  value = product ∙ ap (λ u. array d (R d .mul (lift d g) u)) (held small exy ∙ ap₂ (R d .mul) (held small ex) (held small ey))
+
+  pub mixed-term-once : k ≤ 0 → once ≡ array d (mixedTerm d c i k (lift d g))
+  unfolding mixedTerm
+  mixed-term-once h = value ∙ ap (array d) (sym (weighed-zero (R d) k _ h))
+
+  pub mixed-term-twice : {double : List ℤ} → 0 < k → double ≡ array d (R d .add (lift d once) (lift d once))
+      → double ≡ array d (mixedTerm d c i k (lift d g))
+  unfolding mixedTerm
+  mixed-term-twice h e =
+      e ∙ ap (array d) (ap₂ (R d .add) (held small value) (held small value) ∙ sym (weighed-apart (R d) k _ h))
 
 pub pair-along : (r i k q : ℕ) → q ≡ pair r i i → q + k ≡ pair r i (i + k)
 unfolding pair

@@ -2,7 +2,7 @@
 use mathlib.Core.Path.{_≡_, refl, sym, ap, ap₂, _∙_}
 use mathlib.Core.Bool.{Bool}
 use mathlib.Core.List.{List}
-use Prim.Native.Nat.{ℕ, _+_, _≤_}
+use Prim.Native.Nat.{ℕ, _+_, _<_, _≤_}
 use native.Mathlib.Nat.{zero-add}
 use lib.IntN.{ℤ}
 use Rattle.integers.specs.Over.{over}
@@ -23,6 +23,7 @@ use Rattle.fold.specs.Verdict.{check₇, check₈}
 use Rattle.ring.specs.Laws.Loops.{held, held-product}
 use Rattle.checks.specs.Known.Facts.{gBlockOf, gValue, hValue}
 use Rattle.checks.specs.Laws.PlaceLaws.{garbage-at}
+use Rattle.checks.specs.Laws.Rows.{check-seven-cong}
 use Rattle.checks.specs.Places.{garbageAt}
 use Rattle.checks.specs.Relation.{linearSummand, relationSummand}
 
@@ -39,12 +40,21 @@ linear-summand d n φ c z i old small written is by product =
     held-product _ _ small
     (is ∙ ap (array d) (sum-cong (R d) n _ _ (λ y h. rw (zero-add y) (ap (λ u. R d .mul u (el d z y)) (el-written d n (φ i) old written y h))))) by product
 
-pub check-seven : (tz : ℕ) (s : Sizes) (φ : ℕ → ℕ → R (s .shape .d) .Carrier) (c z o : List ℤ) {place : ℕ} {left right : List ℤ} {t : Bool} → s .shape .d ≤ 64
-    → left ≡ array (s .shape .d) (sum (R (s .shape .d)) (s .shape .r) (linearSummand (s .shape .d) (s .shape .n) φ c z)) → place ≡ hPlace tz (s .shape .n) (s .shape .r) (s .kappa) (s .t1) (s .t2)
+-- h from the given place on
+pub linear-part : (tz : ℕ) (s : Sizes) (c o left : List ℤ) {place : ℕ} {right : List ℤ} {t : Bool} → s .shape .d ≤ 64
+    → place ≡ hPlace tz (s .shape .n) (s .shape .r) (s .kappa) (s .t1) (s .t2)
     → right ≡ array (s .shape .d) (mixed (R (s .shape .d)) (s .shape .r) (garbageOf (s .shape .d) (s .shape .r) (s .b1) (s .t1) (block (s .shape .d) o place)) (el (s .shape .d) c))
-    → t ≡ same (s .shape .d) (lift (s .shape .d) left) (lift (s .shape .d) right) → t ≡ check₇ (s .shape .d) (s .shape .n) (s .shape .r) c φ (el (s .shape .d) z) (hValue tz s o)
+    → t ≡ same (s .shape .d) (lift (s .shape .d) left) (lift (s .shape .d) right)
+    → t ≡ same (s .shape .d) (lift (s .shape .d) left) (mixed (R (s .shape .d)) (s .shape .r) (hValue tz s o) (el (s .shape .d) c))
+linear-part tz s c o left small ep er result = result ∙ ap (same (s .shape .d) (lift (s .shape .d) left)) (held small er ∙ rw ep refl)
+
+-- the sum is that of a z that agrees with the list's
+pub check-seven : (d n r : ℕ) (φ h : ℕ → ℕ → R d .Carrier) (c z : List ℤ) (y : ℕ → R d .Carrier) {linear : List ℤ} {t : Bool} → d ≤ 64
+    → ((i : ℕ) → i < n → el d z i ≡ y i) → linear ≡ array d (sum (R d) r (linearSummand d n φ c z))
+    → t ≡ same d (lift d linear) (mixed (R d) r h (el d c)) → t ≡ check₇ d n r c φ y h
 unfolding check₇ linearSummand
-check-seven tz s φ c z o small el ep er result = result ∙ ap₂ (same (s .shape .d)) (held small el) (held small er ∙ rw ep refl)
+check-seven d n r φ h c z y small agree e result =
+    result ∙ ap (λ u. same d u (mixed (R d) r h (el d c))) (held small e) ∙ check-seven-cong d n r c (el d z) y agree φ h
 
 -- ---- check 8
 
