@@ -1,11 +1,12 @@
 // Check 7: the aggregated function's φ against h. Each φ_i is formed once, as a list.
 ghost use mathlib.Core.Path.{_≡_};
-ghost use Prim.Native.Nat.{_*_, _≤_};
+ghost use Prim.Native.Nat.{_*_, _<_, _≤_};
 ghost use lib.ListN.{length};
 ghost use Rattle.algebra.specs.Sum.{sum};
 ghost use Rattle.algebra.specs.DotProduct.{mixed};
 ghost use Rattle.ring.specs.Element.{R, lift, el, array, same};
 ghost use Rattle.fold.specs.Messages.{aggregate};
+ghost use Rattle.fold.specs.Known.Facts.{Shaped};
 ghost use Rattle.fold.specs.Known.WorkFacts.{AggregateFacts, FoldedFacts};
 ghost use Rattle.checks.specs.Known.Facts.{Holds, hValue};
 ghost use Rattle.checks.specs.Relation.{linearSummand};
@@ -14,11 +15,28 @@ use constraints::ConstraintSizes;
 use constraints::phi::write_phi_part;
 use constraints::row_groups;
 use constraints::row_groups::OMEGA_SUMS;
+use fold::Shape;
 use fold::Sizes;
 use fold::limits::PART_ROOM;
 use fold::places;
 use ring::element::Element;
 use ring::product::inner;
+
+// <φ_i, z> c_i, with φ_i and z read from the start of slices.
+fn linear_summand(shape: Shape, phi: &[i32], z: &[i32], c: &[i32], i: usize) -> Element
+    requires { ⌜ Shaped (shape .d) (shape .n) (shape .r) ⌝ }
+    requires { ⌜ (shape .n * shape .d ≤ length (now phi)) × (shape .n * shape .d ≤ length (now z)) ⌝ }
+    requires { ⌜ Holds (shape .d) (shape .r) (now c) × (i < shape .r) ⌝ }
+    ensures { λ x. ⌜ x .coefficients ≡ array (shape .d) (linearSummand (shape .d) (shape .n) (λ _. el (shape .d) (now (phi .entry))) (now (c .entry))
+        (now (z .entry)) i) ⌝ }
+{
+    let d = shape.d;
+    let product = Element {
+        coefficients: inner(d, shape.n, phi, 0, z, 0),
+    };
+    let challenge = Element::from_slice(d, c, i);
+    product.product(d, challenge)
+}
 
 // Σ <φ_i, z> c_i, with z read from the start of a slice.
 pub fn linear_sum(
@@ -44,9 +62,9 @@ pub fn linear_sum(
 {
     let mut omega_sums = [0i64; OMEGA_SUMS];
     row_groups::write_omega_sums(sizes.w, omega, &mut omega_sums);
-    let d = sizes.shape.d;
-    let rank = sizes.shape.n;
-    let parts = sizes.shape.r;
+    let shape = sizes.shape;
+    let d = shape.d;
+    let parts = shape.r;
     let mut phi = [0i32; PART_ROOM];
     let mut acc = Element::additive_identity();
     let mut i = 0;
@@ -64,11 +82,8 @@ pub fn linear_sum(
             i,
             &mut phi,
         );
-        let coefficients = inner(d, rank, &phi, 0, z, 0);
-        let product = Element { coefficients };
-        let challenge = Element::from_slice(d, c, i);
-        let weighted = product.product(d, challenge);
-        acc = acc.sum(d, weighted);
+        let summand = linear_summand(shape, &phi, z, c, i);
+        acc = acc.sum(d, summand);
         i += 1;
     }
     acc

@@ -29,16 +29,20 @@ use Rattle.checks.specs.Relation.{linearSummand, relationSummand}
 
 -- ---- check 7
 
--- φ_i stands at the beginning of a list
-pub linear-summand : (d n : ℕ) (φ : ℕ → ℕ → R d .Carrier) (c z : List ℤ) (i : ℕ) (old : List ℤ) {phi product challenge r : List ℤ} → d ≤ 64
-    → phi ≡ over old 0 (elements d n (φ i))
+-- φ_i and z stand at the beginning of lists
+pub linear-summand : (d n : ℕ) (phi c z : List ℤ) (i : ℕ) {product challenge r : List ℤ} → d ≤ 64
     → product ≡ array d (sum (R d) n (λ y. R d .mul (el d phi (0 + y)) (el d z (0 + y))))
     → challenge ≡ array d (el d c i) → r ≡ array d (R d .mul (lift d product) (lift d challenge))
-    → r ≡ array d (linearSummand d n φ c z i)
+    → r ≡ array d (linearSummand d n (λ _. el d phi) c z i)
 unfolding linearSummand inner
-linear-summand d n φ c z i old small written is by product =
-    held-product _ _ small
-    (is ∙ ap (array d) (sum-cong (R d) n _ _ (λ y h. rw (zero-add y) (ap (λ u. R d .mul u (el d z y)) (el-written d n (φ i) old written y h))))) by product
+linear-summand d n phi c z i small is by product =
+    held-product _ _ small (is ∙ ap (array d) (sum-cong (R d) n _ _ (λ y _. rw (zero-add y) refl))) by product
+
+pub linear-written : (d n : ℕ) (φ : ℕ → ℕ → R d .Carrier) (c z : List ℤ) (i : ℕ) (old : List ℤ) {phi r : List ℤ}
+    → phi ≡ over old 0 (elements d n (φ i)) → r ≡ array d (linearSummand d n (λ _. el d phi) c z i) → r ≡ array d (linearSummand d n φ c z i)
+unfolding linearSummand inner
+linear-written d n φ c z i old written is =
+    is ∙ ap (λ u. array d (R d .mul u (el d c i))) (sum-cong (R d) n _ _ (λ y h. ap (λ u. R d .mul u (el d z y)) (el-written d n (φ i) old written y h)))
 
 -- h from the given place on
 pub linear-part : (tz : ℕ) (s : Sizes) (c o left : List ℤ) {place : ℕ} {right : List ℤ} {t : Bool} → s .shape .d ≤ 64
