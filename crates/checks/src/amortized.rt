@@ -1,6 +1,6 @@
 // Checks 5 and 6: the amortized opening z, of tz digits, against t and g.
 ghost use mathlib.Core.Path.{_≡_};
-ghost use Prim.Native.Nat.{_+_, _-_, _*_, _<_, _≤_};
+ghost use Prim.Native.Nat.{_+_, _*_, _<_, _≤_};
 ghost use lib.ListN.{length};
 ghost use Rattle.algebra.specs.Sum.{sum};
 ghost use Rattle.algebra.specs.Triangle.{pair};

@@ -3,7 +3,6 @@ ghost use mathlib.Core.Path.{_≡_};
 ghost use Prim.Native.Nat.{_+_, _*_, _<_, _≤_};
 ghost use lib.ListN.{length};
 ghost use Rattle.ring.specs.Element.{Degree, el, array, same};
-ghost use Rattle.fold.specs.Sizes.{tSize, garbageSize};
 ghost use Rattle.fold.specs.Messages.{times, outer₁, outer₂};
 ghost use Rattle.fold.specs.Opening.{block};
 ghost use Rattle.fold.specs.Verdict.{check₃, check₄};

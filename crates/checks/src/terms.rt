@@ -1,13 +1,9 @@
 // Check 2: the constant terms of b''.
 ghost use mathlib.Core.Path.{_≡_};
-ghost use mathlib.Core.Bool.{Bool};
 ghost use Prim.Native.Nat.{_+_, _*_, _<_, _≤_};
-ghost use lib.Dec.{eqb};
-ghost use lib.ListN.{length, getD};
-ghost use lib.IntN.{pos};
+ghost use lib.ListN.{length};
 ghost use Rattle.algebra.specs.Sum.{sum};
-ghost use Rattle.residues.specs.Modulus.{Zq, red, cent};
-ghost use Rattle.fold.specs.Sizes.{functionSize};
+ghost use Rattle.residues.specs.Modulus.{Zq, cent};
 ghost use Rattle.fold.specs.Verdict.{check₂};
 ghost use Rattle.fold.specs.Known.WorkFacts.{MessageFacts};
 ghost use Rattle.checks.specs.ConstantTerms.{weighted, termHolds};

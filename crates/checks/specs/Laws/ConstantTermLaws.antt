@@ -23,7 +23,6 @@ use Rattle.ring.specs.Laws.ElementLaws.{getD-array}
 use Rattle.ring.specs.Laws.ElementSteps.{bits32, bits32-small, bits32-centred}
 use Rattle.fold.specs.Sizes.{functionSize}
 use Rattle.fold.specs.Statement.{termAt, termConstant}
-use Rattle.fold.specs.Sizes.{five}
 use Rattle.fold.specs.Verdict.{check₂}
 use Rattle.fold.specs.Refusals.{constantTermsLength}
 use Rattle.checks.specs.ConstantTerms.{weighted, termHolds}
