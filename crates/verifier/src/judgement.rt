@@ -1,17 +1,19 @@
 // The number of the first check that fails, 0 where none does. A check is asked only where those before it pass.
 ghost use mathlib.Core.Path.{_≡_};
-ghost use mathlib.Core.List.{_++_};
+ghost use mathlib.Core.List.{List};
 ghost use Prim.Native.Nat.{_<_, _≤_};
+ghost use lib.IntN.{ℤ};
 ghost use Rattle.fold.specs.Answers.{firstFailing, judged};
-ghost use Rattle.fold.specs.Known.WorkFacts.{MessageFacts, OuterFacts, OpeningFacts};
-ghost use Rattle.verifier.specs.Judgement.{messageChecksOf, outerChecksOf, openingChecksOf, Recomposed};
-use crate::amortized;
-use crate::linear;
-use crate::norms;
-use crate::outer;
-use crate::recomposed;
-use crate::relation;
-use crate::terms;
+ghost use Rattle.fold.specs.Known.WorkFacts.{MessageFacts, OuterFacts, AmortizedFacts, RelationFacts, OpeningFacts};
+ghost use Rattle.verifier.specs.Judgement.{messageChecksOf, outerChecksOf, amortizedChecksOf, relationChecksOf, openingChecksOf, Recomposed};
+use checks::amortized;
+use checks::linear;
+use checks::norms;
+use checks::outer;
+use checks::recomposed;
+use checks::relation;
+use checks::terms;
+use constraints::ConstraintSizes;
 use fold::Sizes;
 use fold::Verdict;
 use fold::limits::PART_ROOM;
@@ -40,7 +42,7 @@ pub fn message_checks(
 }
 
 // Checks 3 and 4.
-fn outer_checks(
+pub fn outer_checks(
     tz: usize,
     sizes: Sizes,
     b_matrix: &[i32],
@@ -64,57 +66,46 @@ fn outer_checks(
     first(four, 4, 0)
 }
 
-// Checks 5 to 9, with the recomposed z at the start of a slice.
-fn recomposed_checks(
+// Checks 5 and 6, with the recomposed z at the start of a slice.
+fn amortized_checks(
     tz: usize,
     sizes: Sizes,
     a_matrix: &[i32],
-    whole: &[i32],
-    constant_terms: &[i32],
-    projections: &[i32],
-    psi: &[i32],
-    omega: &[i32],
-    second_b: &[i32],
-    alpha: &[i32],
-    delta: &[i32],
     c: &[i32],
-    opening: &[i32],
     z: &[i32],
+    opening: &[i32],
 ) -> u8
     requires { ⌜ tz ≤ 2 ⌝ }
-    requires { ⌜ OpeningFacts tz sizes (now «a_matrix») (now whole) (now «constant_terms») (now projections) (now psi) (now omega) (now «second_b») (now alpha) (now delta)
-        (now c) (now opening) ⌝ }
+    requires { ⌜ AmortizedFacts tz sizes (now «a_matrix») (now c) (now opening) ⌝ }
     requires { ⌜ Recomposed tz sizes (now opening) (now z) ⌝ }
-    ensures { λ x.
-        ⌜ x ≡ firstFailing (openingChecksOf tz sizes (now («a_matrix» .entry)) (now (whole .entry)) (now («constant_terms» .entry)) (now (projections .entry))
-        (now (psi .entry)) (now (omega .entry)) (now («second_b» .entry)) (now (alpha .entry)) (now (delta .entry)) (now (c .entry))
-        (now (opening .entry))) ⌝ }
+    ensures { λ x. ⌜ x ≡ firstFailing (amortizedChecksOf tz sizes (now («a_matrix» .entry)) (now (c .entry)) (now (opening .entry))) ⌝ }
 {
     let five = amortized::amortized(tz, sizes, a_matrix, c, z, opening);
     if !five {
         return 5;
     }
     let six = amortized::self_product(tz, sizes, c, z, opening);
-    if !six {
-        return 6;
-    }
-    let seven = linear::linear_part(
-        tz,
-        sizes,
-        whole,
-        constant_terms,
-        projections,
-        psi,
-        omega,
-        alpha,
-        delta,
-        c,
-        z,
-        opening,
-    );
-    if !seven {
-        return 7;
-    }
+    first(six, 6, 0)
+}
+
+// Checks 8 and 9. The projection rows and ω are no part of the aggregate's a.
+fn relation_checks(
+    tz: usize,
+    sizes: Sizes,
+    whole: &[i32],
+    constant_terms: &[i32],
+    psi: &[i32],
+    alpha: &[i32],
+    delta: &[i32],
+    second_b: &[i32],
+    opening: &[i32],
+) -> u8
+    requires { ⌜ tz ≤ 2 ⌝ }
+    requires { ⌜ RelationFacts tz sizes (now whole) (now «constant_terms») (now psi) (now alpha) (now delta) (now «second_b») (now opening) ⌝ }
+    ensures { λ x.
+        ⌜ ((projections omega : List ℤ) → x ≡ firstFailing (relationChecksOf tz sizes (now (whole .entry)) (now («constant_terms» .entry)) projections
+        (now (psi .entry)) omega (now («second_b» .entry)) (now (alpha .entry)) (now (delta .entry)) (now (opening .entry)))) ⌝ }
+{
     let eight = relation::relation_holds(
         tz,
         sizes,
@@ -133,8 +124,8 @@ fn recomposed_checks(
     first(nine, 9, 0)
 }
 
-// The same, with z recomposed here.
-fn opening_checks(
+// Checks 5 to 9, with z recomposed once.
+pub fn opening_checks(
     tz: usize,
     sizes: Sizes,
     a_matrix: &[i32],
@@ -159,73 +150,42 @@ fn opening_checks(
 {
     let mut z = [0i32; PART_ROOM];
     recomposed::write_z(tz, sizes.shape.d, sizes.shape.n, sizes.b, opening, &mut z);
-    recomposed_checks(
-        tz,
-        sizes,
-        a_matrix,
-        whole,
-        constant_terms,
-        projections,
-        psi,
-        omega,
-        second_b,
-        alpha,
-        delta,
-        c,
-        opening,
-        &z,
-    )
-}
-
-// Checks 3 to 9, of an opening whose z has tz digits.
-pub fn later_checks(
-    tz: usize,
-    sizes: Sizes,
-    a_matrix: &[i32],
-    b_matrix: &[i32],
-    c_matrix: &[i32],
-    d_matrix: &[i32],
-    whole: &[i32],
-    constant_terms: &[i32],
-    u1: &[i32],
-    projections: &[i32],
-    psi: &[i32],
-    omega: &[i32],
-    second_b: &[i32],
-    alpha: &[i32],
-    delta: &[i32],
-    u2: &[i32],
-    c: &[i32],
-    opening: &[i32],
-) -> u8
-    requires { ⌜ (0 < tz) × (tz ≤ 2) ⌝ }
-    requires { ⌜ OuterFacts tz sizes (now «b_matrix») (now «c_matrix») (now «d_matrix») (now u1) (now u2) (now opening) ⌝ }
-    requires { ⌜ OpeningFacts tz sizes (now «a_matrix») (now whole) (now «constant_terms») (now projections) (now psi) (now omega) (now «second_b») (now alpha) (now delta)
-        (now c) (now opening) ⌝ }
-    ensures { λ x.
-        ⌜ x ≡ firstFailing (outerChecksOf tz sizes (now («b_matrix» .entry)) (now («c_matrix» .entry)) (now («d_matrix» .entry))
-        (now (u1 .entry)) (now (u2 .entry)) (now (opening .entry))
-        ++ openingChecksOf tz sizes (now («a_matrix» .entry)) (now (whole .entry)) (now («constant_terms» .entry)) (now (projections .entry))
-        (now (psi .entry)) (now (omega .entry)) (now («second_b» .entry)) (now (alpha .entry)) (now (delta .entry)) (now (c .entry))
-        (now (opening .entry))) ⌝ }
-{
-    let outer = outer_checks(tz, sizes, b_matrix, c_matrix, d_matrix, u1, u2, opening);
-    if outer != 0 {
-        return outer;
+    let amortized = amortized_checks(tz, sizes, a_matrix, c, &z, opening);
+    if amortized != 0 {
+        return amortized;
     }
-    opening_checks(
-        tz,
-        sizes,
-        a_matrix,
+    let shape = sizes.shape;
+    let constraint_sizes = ConstraintSizes {
+        shape,
+        k: sizes.k,
+        l: sizes.l,
+        w: sizes.w,
+    };
+    let linear = linear::linear_sum(
+        constraint_sizes,
         whole,
         constant_terms,
         projections,
         psi,
         omega,
-        second_b,
         alpha,
         delta,
         c,
+        &z,
+    );
+    let seven = linear::linear_part(tz, sizes, linear, c, opening);
+    if !seven {
+        return 7;
+    }
+    relation_checks(
+        tz,
+        sizes,
+        whole,
+        constant_terms,
+        psi,
+        alpha,
+        delta,
+        second_b,
         opening,
     )
 }

@@ -7,14 +7,7 @@ use fold::Sizes;
 use fold::counts::Z_DIGITS;
 use limits::verify_refusal;
 
-pub mod amortized;
 pub mod judgement;
-pub mod linear;
-pub mod norms;
-pub mod outer;
-pub mod recomposed;
-pub mod relation;
-pub mod terms;
 
 // The answer to a statement, the draws, the messages and an opening.
 pub fn verify(
@@ -71,23 +64,31 @@ pub fn verify(
     if message != 0 {
         return Answer::Judged(judgement::verdict(message));
     }
-    let number = judgement::later_checks(
+    let outer = judgement::outer_checks(
         Z_DIGITS,
         sizes,
-        a_matrix,
         b_matrix,
         c_matrix,
         d_matrix,
+        u1,
+        u2,
+        opening,
+    );
+    if outer != 0 {
+        return Answer::Judged(judgement::verdict(outer));
+    }
+    let number = judgement::opening_checks(
+        Z_DIGITS,
+        sizes,
+        a_matrix,
         whole,
         constant_terms,
-        u1,
         projections,
         psi,
         omega,
         second_b,
         alpha,
         delta,
-        u2,
         c,
         opening,
     );

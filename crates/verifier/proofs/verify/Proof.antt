@@ -5,13 +5,9 @@ use Rattle.fold.specs.declared.Answer.the-variants.{Judged}
 use Rattle.fold.specs.Sizes.{zCount}
 use Rattle.fold.specs.Answers.{judged}
 use Rattle.fold.specs.Verdict.{verdict}
-use Rattle.verifier.specs.Laws.JudgementLaws.{call-facts, message-fails, message-passes, refused, unrefused}
-use borrow.Author.Needs.{needs}
+use Rattle.verifier.specs.Laws.JudgementLaws.{call-facts, message-fails, outer-fails, opening-says, refused, unrefused}
 use Rattle.verifier.proofs.verify.Statement.{statement}
 use Rattle.verifier.proofs.verify.Tie as tie
-
-verify-refusal-requires : tie.Need-verify-refusal-requires
-verify-refusal-requires c κs = search needs
 
 returns : tie.Need-returns
 returns c = refused _ _ _ (c .before .verify-refusal .ensures) (c .if1 .taken)
@@ -30,27 +26,46 @@ returns-2 c =
     unrefused _ _ (r .verify-refusal .ensures) (e .if1 .left)
     (ap Judged (c .verdict .ensures ∙ ap judged (message-fails zCount (r .before .args .sizes) _ _ _ _ _ _ _ _ _ _ _ _ _ _ _ _ _ (m .message-checks .ensures) (c .before .if2 .taken))))
 
-later-checks-requires : tie.Need-later-checks-requires
-later-checks-requires c κs =
+outer-checks-requires : tie.Need-outer-checks-requires
+outer-checks-requires c κs =
     let e = c .before .before in
     let r = e .before in
-    let facts = call-facts zCount (r .before .args .sizes) _ _ _ _ _ _ _ _ _ _ _ _ _ _ _ _ _ (r .verify-refusal .ensures) (e .if1 .left) in
-    ((omega arith, omega arith), (facts .outer, facts .opening))
+    (omega arith, call-facts zCount (r .before .args .sizes) _ _ _ _ _ _ _ _ _ _ _ _ _ _ _ _ _ (r .verify-refusal .ensures) (e .if1 .left) .outer)
 
 returns-3 : tie.Need-returns-3
 unfolding verdict
 returns-3 c =
-    let l = c .before in
-    let p = l .before in
+    let o = c .before .before in
+    let p = o .before in
     let m = p .before in
     let e = m .before in
     let r = e .before in
     unrefused _ _ (r .verify-refusal .ensures) (e .if1 .left)
-    (ap Judged (c .verdict2 .ensures ∙ ap judged (message-passes zCount (r .before .args .sizes) _ _ _ _ _ _ _ _ _ _ _ _ _ _ _ _ _ (m .message-checks .ensures) (p .if2 .left)
-    (l .later-checks .ensures))))
+    (ap Judged (c .verdict2 .ensures ∙ ap judged (outer-fails zCount (r .before .args .sizes) _ _ _ _ _ _ _ _ _ _ _ _ _ _ _ _ _ (m .message-checks .ensures) (p .if2 .left)
+    (o .outer-checks .ensures) (c .before .if3 .taken))))
+
+opening-checks-requires : tie.Need-opening-checks-requires
+opening-checks-requires c κs =
+    let e = c .before .before .before .before in
+    let r = e .before in
+    ((omega arith, omega arith), call-facts zCount (r .before .args .sizes) _ _ _ _ _ _ _ _ _ _ _ _ _ _ _ _ _ (r .verify-refusal .ensures) (e .if1 .left) .opening)
+
+returns-4 : tie.Need-returns-4
+unfolding verdict
+returns-4 c =
+    let l = c .before in
+    let q = l .before in
+    let o = q .before in
+    let p = o .before in
+    let m = p .before in
+    let e = m .before in
+    let r = e .before in
+    unrefused _ _ (r .verify-refusal .ensures) (e .if1 .left)
+    (ap Judged (c .verdict3 .ensures ∙ ap judged (opening-says zCount (r .before .args .sizes) _ _ _ _ _ _ _ _ _ _ _ _ _ _ _ _ _ (m .message-checks .ensures) (p .if2 .left)
+    (o .outer-checks .ensures) (q .if3 .left) (l .opening-checks .ensures))))
 
 pub verify-spec : {M : Type 1} → statement M
 verify-spec =
     tie.close
-    (tie.spec verify-refusal-requires returns message-checks-requires (λ c κs. search needs) returns-2 later-checks-requires
-    (λ c κs. search needs) returns-3)
+    (tie.spec (λ c κs. tt) returns message-checks-requires (λ c κs. tt) returns-2 outer-checks-requires
+    (λ c κs. tt) returns-3 opening-checks-requires (λ c κs. tt) returns-4)

@@ -1,6 +1,6 @@
 -- Laws of what Judgement.antt defines.
 use mathlib.Core.Path.{_≡_, refl, sym, ap, _∙_}
-use mathlib.Core.List.{List, _++_}
+use mathlib.Core.List.{List}
 use Prim.Native.Nat.{ℕ, zero, suc, _≤_, _<_}
 use native.Mathlib.Nat.{mul-le-mul}
 use native.Mathlib.Omega.{arith}
@@ -18,7 +18,7 @@ use Rattle.fold.specs.Statement.{Statement, Draws, Transcript}
 use Rattle.fold.specs.Arguments.{statementWith, drawsOf, transcriptOf, verifyRefusal}
 use Rattle.fold.specs.Laws.TestLaws.{stops, goes-on}
 use Rattle.fold.specs.Known.CallFacts.{VerifyFacts, verify-facts}
-use Rattle.verifier.specs.Known.Facts.{Fits, zValue}
+use Rattle.checks.specs.Known.Facts.{Fits, zValue}
 use Rattle.fold.specs.Laws.WriterLaws.{el-written}
 use Rattle.verifier.specs.Judgement.{Recomposed, messageChecksOf, outerChecksOf, openingChecksOf}
 
@@ -45,14 +45,18 @@ module _ (tz : ℕ) (s : Sizes) (A B C D whole constantTerms projections ψ ω �
       let unrefused : x ≡ 0 = omega arith in
       verify-facts tz s A B C D whole constantTerms projections ψ ω α δ c u₁ p b″ u₂ o (sym e ∙ unrefused)
 
-  -- the three parts are the checks: one of the first part fails, or the later parts say
-  pub message-fails : {x : ℕ} → x ≡ firstFailing (messageChecksOf s constantTerms p ψ ω b″) → (x ≡ 0 → ⊥) → x ≡ firstFailing (checks 𝓢 𝓓 𝓣 o)
-  message-fails e some = stops _ _ e some
+  -- the three parts are the checks: one of the first part fails, or one of the second, or the third says
+  module _ {x : ℕ} (e : x ≡ firstFailing (messageChecksOf s constantTerms p ψ ω b″)) where
+    pub message-fails : (x ≡ 0 → ⊥) → x ≡ firstFailing (checks 𝓢 𝓓 𝓣 o)
+    message-fails some = stops _ _ e some
 
-  pub message-passes : {x y : ℕ} → x ≡ firstFailing (messageChecksOf s constantTerms p ψ ω b″) → x ≡ 0
-      → y ≡ firstFailing (outerChecksOf tz s B C D u₁ u₂ o ++ openingChecksOf tz s A whole constantTerms projections ψ ω b″ α δ c o)
-      → y ≡ firstFailing (checks 𝓢 𝓓 𝓣 o)
-  message-passes e none later = goes-on _ _ refl e none later
+    module _ (none : x ≡ 0) {y : ℕ} (f : y ≡ firstFailing (outerChecksOf tz s B C D u₁ u₂ o)) where
+      pub outer-fails : (y ≡ 0 → ⊥) → y ≡ firstFailing (checks 𝓢 𝓓 𝓣 o)
+      outer-fails some = goes-on _ _ refl e none (stops _ _ f some)
+
+      pub opening-says : {z : ℕ} → y ≡ 0 → z ≡ firstFailing (openingChecksOf tz s A whole constantTerms projections ψ ω b″ α δ c o)
+          → z ≡ firstFailing (checks 𝓢 𝓓 𝓣 o)
+      opening-says pass later = goes-on _ _ refl e none (goes-on _ _ refl f pass later)
 
 pub refused : (k n : ℕ) (a : Answer) → k ≡ n → 0 < k → Refused k ≡ answered n a
 unfolding answered

@@ -1,7 +1,6 @@
 -- `verifier::judgement::message_checks` meets its contract: check 1 fails, or check 2 says. Assumes nothing.
 use Rattle.fold.specs.Laws.TestLaws.{fails, passes}
 use Rattle.limits.specs.Laws.StageLaws.{single, none}
-use borrow.Author.Needs.{needs}
 use Rattle.verifier.proofs.judgement.message_checks.Statement.{statement}
 use Rattle.verifier.proofs.judgement.message_checks.Tie as tie
 
@@ -18,4 +17,4 @@ returns-2 c =
 pub message-checks-spec : {M : Type 1} → statement M
 message-checks-spec =
     tie.close
-    (tie.spec (λ c κs. search needs) returns (λ c κs. c .before .before .pre) (λ c κs. search needs) returns-2)
+    (tie.spec (λ c κs. (c .pre .limits .w-small, c .pre .limits .bound-small)) returns (λ c κs. c .before .before .pre) (λ c κs. tt) returns-2)

@@ -1,7 +1,6 @@
 -- `verifier::judgement::outer_checks` meets its contract: check 3 fails, or check 4 says.
 use Rattle.fold.specs.Laws.TestLaws.{fails, passes}
 use Rattle.limits.specs.Laws.StageLaws.{single, none}
-use borrow.Author.Needs.{needs}
 use Rattle.verifier.proofs.judgement.outer_checks.Statement.{statement}
 use Rattle.verifier.proofs.judgement.outer_checks.Tie as tie
 
@@ -24,4 +23,4 @@ returns-2 c =
 pub outer-checks-spec : {M : Type 1} → statement M
 outer-checks-spec =
     tie.close
-    (tie.spec first-outer-requires returns second-outer-requires (λ c κs. search needs) returns-2)
+    (tie.spec first-outer-requires returns second-outer-requires (λ c κs. tt) returns-2)
