@@ -5,6 +5,7 @@ ghost use Rattle.fold.specs.Arguments.{VerifySized};
 ghost use Rattle.refusals.specs.Lengths as spec;
 use crate::lengths::constraint_lengths;
 use crate::lengths::list_fits;
+use fold::ConstraintSizes;
 use fold::Sizes;
 
 pub fn draw_lengths(
@@ -23,11 +24,15 @@ pub fn draw_lengths(
         ⌜ x ≡ allOf (spec.drawLengthsOf sizes (now (whole .entry)) (now («constant_terms» .entry)) (now (projections .entry))
         (now (psi .entry)) (now (omega .entry)) (now (alpha .entry)) (now (delta .entry)) (now (c .entry))) ⌝ }
 {
+    let shape = sizes.shape;
+    let constraint_sizes = ConstraintSizes {
+        shape,
+        k: sizes.k,
+        l: sizes.l,
+        w: sizes.w,
+    };
     constraint_lengths(
-        sizes.shape,
-        sizes.k,
-        sizes.l,
-        sizes.w,
+        constraint_sizes,
         whole,
         constant_terms,
         projections,
@@ -36,5 +41,5 @@ pub fn draw_lengths(
         alpha,
         delta,
     )
-        & list_fits(c, sizes.shape.r, sizes.shape.d)
+        & list_fits(c, shape.r, shape.d)
 }

@@ -4,12 +4,13 @@ ghost use Prim.Native.Nat.{_*_, _≤_};
 ghost use Rattle.fold.specs.Refusals.{allOf};
 ghost use Rattle.fold.specs.Refusals as table;
 ghost use Rattle.fold.specs.Sizes.{openingSize};
-ghost use Rattle.fold.specs.Known.CallLimits.{ProjectLimits, AggregateLimits, AmortizeLimits};
+ghost use Rattle.fold.specs.Known.CallLimits.{ProjectLimits, AmortizeLimits};
 ghost use Rattle.fold.specs.Arguments.{CommitSized, GarbageSized, VerifySized};
-ghost use Rattle.refusals.specs.Lengths.{ConstraintLimits};
+ghost use Rattle.refusals.specs.Lengths.{AggregateSized, ConstraintSized};
 ghost use Rattle.refusals.specs.Lengths as spec;
 ghost use Rattle.fold.specs.Limits.{mostCommitmentRank, mostConstraints, mostDigits, mostParts, mostProjections, mostRank};
 use fold::CommitSizes;
+use fold::ConstraintSizes;
 use fold::GarbageSizes;
 use fold::Shape;
 use fold::Sizes;
@@ -135,10 +136,9 @@ pub fn project_lengths(
         & sized(p, w)
 }
 
+// Message 3, which has no whole constraints: `sizes.k` is not looked at.
 pub fn aggregate_lengths(
-    shape: Shape,
-    l: usize,
-    w: usize,
+    sizes: ConstraintSizes,
     constant_terms: &[i32],
     projections: &[i32],
     psi: &[i32],
@@ -146,25 +146,34 @@ pub fn aggregate_lengths(
     witness: &[i32],
     second_b: &[i32],
 ) -> bool
-    requires { ⌜ AggregateLimits (shape .d) (shape .n) (shape .r) l w ⌝ }
+    requires { ⌜ AggregateSized sizes ⌝ }
     ensures { λ x.
-        ⌜ x ≡ allOf (table.aggregateLengths (shape .d) (shape .n) (shape .r) l w (now («constant_terms» .entry)) (now (projections .entry))
-        (now (psi .entry)) (now (omega .entry)) (now (witness .entry)) (now («second_b» .entry))) ⌝ }
+        ⌜ x ≡ allOf (spec.aggregateLengthsOf sizes (now («constant_terms» .entry)) (now (projections .entry)) (now (psi .entry)) (now (omega .entry))
+        (now (witness .entry)) (now («second_b» .entry))) ⌝ }
 {
-    constant_terms_fit(shape.d, shape.n, shape.r, l, constant_terms)
-        & projections_fit(shape.d, shape.n, shape.r, w, projections)
-        & five_fit(psi, l)
-        & five_fit(omega, w)
-        & matrix_fits(witness, shape.r, shape.n, shape.d)
-        & five_fit(second_b, shape.d)
+    constant_terms_fit(
+        sizes.shape.d,
+        sizes.shape.n,
+        sizes.shape.r,
+        sizes.l,
+        constant_terms,
+    )
+        & projections_fit(
+            sizes.shape.d,
+            sizes.shape.n,
+            sizes.shape.r,
+            sizes.w,
+            projections,
+        )
+        & five_fit(psi, sizes.l)
+        & five_fit(omega, sizes.w)
+        & matrix_fits(witness, sizes.shape.r, sizes.shape.n, sizes.shape.d)
+        & five_fit(second_b, sizes.shape.d)
 }
 
 // Both kinds of constraints and what is lent to aggregate them.
 pub fn constraint_lengths(
-    shape: Shape,
-    k: usize,
-    l: usize,
-    w: usize,
+    sizes: ConstraintSizes,
     whole: &[i32],
     constant_terms: &[i32],
     projections: &[i32],
@@ -173,19 +182,30 @@ pub fn constraint_lengths(
     alpha: &[i32],
     delta: &[i32],
 ) -> bool
-    requires { ⌜ ConstraintLimits (shape .d) (shape .n) (shape .r) k l w ⌝ }
+    requires { ⌜ ConstraintSized sizes ⌝ }
     ensures { λ x.
-        ⌜ x ≡ allOf (table.constraintLengths (shape .d) (shape .n) (shape .r) k l w (now (whole .entry))
-        (now («constant_terms» .entry)) (now (projections .entry)) (now (psi .entry)) (now (omega .entry)) (now (alpha .entry))
-        (now (delta .entry))) ⌝ }
+        ⌜ x ≡ allOf (spec.constraintLengthsOf sizes (now (whole .entry)) (now («constant_terms» .entry)) (now (projections .entry))
+        (now (psi .entry)) (now (omega .entry)) (now (alpha .entry)) (now (delta .entry))) ⌝ }
 {
-    whole_fits(shape.d, shape.n, shape.r, k, whole)
-        & constant_terms_fit(shape.d, shape.n, shape.r, l, constant_terms)
-        & projections_fit(shape.d, shape.n, shape.r, w, projections)
-        & five_fit(psi, l)
-        & five_fit(omega, w)
-        & list_fits(alpha, k, shape.d)
-        & five_fit(delta, shape.d)
+    whole_fits(sizes.shape.d, sizes.shape.n, sizes.shape.r, sizes.k, whole)
+        & constant_terms_fit(
+            sizes.shape.d,
+            sizes.shape.n,
+            sizes.shape.r,
+            sizes.l,
+            constant_terms,
+        )
+        & projections_fit(
+            sizes.shape.d,
+            sizes.shape.n,
+            sizes.shape.r,
+            sizes.w,
+            projections,
+        )
+        & five_fit(psi, sizes.l)
+        & five_fit(omega, sizes.w)
+        & list_fits(alpha, sizes.k, sizes.shape.d)
+        & five_fit(delta, sizes.shape.d)
 }
 
 // The other lists of message 4.

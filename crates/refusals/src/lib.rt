@@ -11,6 +11,7 @@ ghost use Rattle.fold.specs.Arguments.{commitRefusal, projectRefusal, aggregate
 ghost use Rattle.fold.specs.Arguments.{statementOf, drawsOf, transcriptOf};
 use draws::draw_lengths;
 use fold::CommitSizes;
+use fold::ConstraintSizes;
 use fold::GarbageSizes;
 use fold::Shape;
 use fold::Sizes;
@@ -114,10 +115,9 @@ pub fn aggregate_refusal(
     if size != 0 {
         return size;
     }
+    let sizes = ConstraintSizes { shape, k: 0, l, w };
     let fits = aggregate_lengths(
-        shape,
-        l,
-        w,
+        sizes,
         constant_terms,
         projections,
         psi,
@@ -161,11 +161,15 @@ pub fn garbage_refusal(
     if size != 0 {
         return size;
     }
+    let shape = sizes.shape;
+    let constraint_sizes = ConstraintSizes {
+        shape,
+        k: sizes.k,
+        l: sizes.l,
+        w: sizes.w,
+    };
     let fits = constraint_lengths(
-        sizes.shape,
-        sizes.k,
-        sizes.l,
-        sizes.w,
+        constraint_sizes,
         whole,
         constant_terms,
         projections,

@@ -20,15 +20,17 @@ returns c =
 
 constraint-lengths-requires : tie.Need-constraint-lengths-requires
 constraint-lengths-requires c κs =
-    let a = c .before .before .args in
-    let m = a .sizes in
-    garbage-constraints m (garbage-sized m (c .before .garbage-bounds .ensures) (c .if1 .left))
+    let c1 = c .before in
+    let c2 = c1 .before in
+    let m = c2 .before .args .sizes in
+    garbage-constraints m (garbage-sized m (c2 .garbage-bounds .ensures) (c1 .if1 .left))
 
 garbage-lengths-requires : tie.Need-garbage-lengths-requires
 garbage-lengths-requires c κs =
-    let a = c .before .before .before .args in
-    let m = a .sizes in
-    garbage-sized m (c .before .before .garbage-bounds .ensures) (c .before .if1 .left)
+    let c2 = c .before .before in
+    let c3 = c2 .before in
+    let m = c3 .before .args .sizes in
+    garbage-sized m (c3 .garbage-bounds .ensures) (c2 .if1 .left)
 
 returns-2 : tie.Need-returns-2
 unfolding garbageTests
@@ -38,10 +40,9 @@ returns-2 c =
     let c3 = c2 .before in
     let c4 = c3 .before in
     let c5 = c4 .before in
-    let a = c5 .args in
-    let m = a .sizes in
+    let m = c5 .before .args .sizes in
     let fits = append-rows _ _ (c2 .constraint-lengths .ensures) (c1 .garbage-lengths .ensures) in
-    unfit (garbageBoundsOf m) 7 _ _ refl (c4 .garbage-bounds .ensures) (c3 .if1 .left) fits (c .if2 .taken)
+    unfit (garbageBoundsOf m) 7 _ _ refl (c5 .garbage-bounds .ensures) (c4 .if1 .left) fits (c .if2 .taken)
 
 constraint-ranges-requires : tie.Need-constraint-ranges-requires
 constraint-ranges-requires c κs = c .before .before .are-projection-entries .ensures
@@ -60,10 +61,9 @@ returns-3 c =
     let c9 = c8 .before in
     let c10 = c9 .before in
     let c11 = c10 .before in
-    let a = c11 .args in
-    let m = a .sizes in
+    let m = c11 .before .args .sizes in
     let fits = append-rows _ _ (c8 .constraint-lengths .ensures) (c7 .garbage-lengths .ensures) in
-    fit (garbageBoundsOf m) 7 _ _ refl (c10 .garbage-bounds .ensures) (c9 .if1 .left) fits (c6 .if2 .left)
+    fit (garbageBoundsOf m) 7 _ _ refl (c11 .garbage-bounds .ensures) (c10 .if1 .left) fits (c6 .if2 .left)
     (single 8 _
     (append-rows _ _ (c2 .constraint-ranges .ensures) (joined-row (c4 .are-coefficients .ensures
     & c3 .are-coefficients2 .ensures & end))) (c .first2 .ensures)

@@ -7,11 +7,11 @@ use Rattle.refusals.proofs.draws.draw_lengths.Statement.{statement}
 use Rattle.refusals.proofs.draws.draw_lengths.Tie as tie
 
 constraint-lengths-requires : tie.Need-constraint-lengths-requires
-constraint-lengths-requires c κs = verify-constraints (c .args .sizes) (c .pre)
+constraint-lengths-requires c κs = verify-constraints (c .before .args .sizes) (c .before .pre)
 
 list-fits-requires : tie.Need-list-fits-requires
 list-fits-requires c κs =
-    let l = c .before .pre in
+    let l = c .before .before .pre in
     (omega (arith, l .shaped .parts-small), l .shaped .degree .small)
 
 returns : tie.Need-returns
