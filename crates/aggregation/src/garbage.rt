@@ -10,7 +10,7 @@ ghost use Rattle.fold.specs.PairElements.{pairElements};
 ghost use Rattle.fold.specs.Known.WorkFacts.{HFacts, U₂Facts};
 ghost use Rattle.aggregation.specs.Garbage.{halved};
 use crate::products::write_products;
-use constraints::ConstraintSizes;
+use fold::ConstraintSizes;
 use fold::GarbageSizes;
 use fold::counts::garbage_size;
 use fold::counts::pair_count;

@@ -4,13 +4,3 @@ pub mod phi;
 pub mod projected_rows;
 pub mod row_groups;
 pub mod second;
-
-use fold::Shape;
-
-// The shape, and how many whole constraints, constant-term constraints and projection rows there are.
-pub struct ConstraintSizes {
-    pub shape: Shape,
-    pub k: usize,
-    pub l: usize,
-    pub w: usize,
-}

@@ -6,10 +6,10 @@ ghost use Rattle.integers.specs.Over.{over};
 ghost use Rattle.fold.specs.Messages.{elements, aggregate};
 ghost use Rattle.constraints.specs.Known.Facts.{AggregateFacts};
 ghost use Rattle.constraints.specs.RowGroups.{OmegaSums};
-use crate::ConstraintSizes;
 use crate::aggregated::aggregate_phi;
 use crate::projected_rows::projection_row;
 use crate::row_groups::OMEGA_SUMS;
+use fold::ConstraintSizes;
 
 // The φ_i of the aggregate for part i, as the first elements of `out`. `omega_sums` are the sums of ω.
 pub fn write_phi_part(

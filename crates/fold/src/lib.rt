@@ -29,6 +29,15 @@ pub struct Shape {
     pub r: usize,
 }
 
+// The sizes of the constraints: the shape, and how many whole constraints, constant-term constraints and projection rows there are.
+#[repr(C)]
+pub struct ConstraintSizes {
+    pub shape: Shape,
+    pub k: usize,
+    pub l: usize,
+    pub w: usize,
+}
+
 // The sizes of message 1.
 #[repr(C)]
 pub struct CommitSizes {

@@ -1,21 +1,18 @@
-// The number with which the question for a part of the next witness refuses, 0 where it does not.
+// The sizes of the question for a part of the next witness: rows 1 to 5 of SPECIFICATION 7.
 ghost use mathlib.Core.Path.{_≡_};
 ghost use Prim.Native.Nat.{_<_, _≤_};
 ghost use lib.IntN.{pos};
 ghost use Rattle.fold.specs.Answers.{firstFailing};
 ghost use Rattle.fold.specs.Sizes.{nextParts};
 ghost use Rattle.fold.specs.Refusals as table;
-ghost use Rattle.fold.specs.Arguments.{partRefusalOf};
 ghost use Rattle.limits.specs.Stages as spec;
 use crate::groups::shape;
-use crate::lengths::opening_fits;
 use crate::rows::chunk_counts;
 use crate::rows::commitment_rank;
 use crate::rows::degree;
 use crate::rows::digit_count;
 use crate::rows::first;
 use fold::PartSizes;
-use fold::counts::Z_DIGITS;
 
 // Whether a part number is 1 to r' = tz·ν+μ, for any ν and μ: ν is taken off digit by digit, so nothing wraps.
 pub fn part_number(tz: usize, nu: usize, mu: usize, part: usize) -> bool
@@ -50,25 +47,4 @@ pub fn part_bounds(tz: usize, sizes: PartSizes, part: usize) -> u8
         1,
         first(two, 2, first(three, 3, first(four, 4, first(five, 5, 0)))),
     )
-}
-
-// The number with which part `part`, from 1, of the next witness is refused; 0 where it is not.
-pub fn next_part_refusal(sizes: PartSizes, part: usize, opening: &[i32]) -> u8
-    ensures { λ x. ⌜ x ≡ partRefusalOf sizes part (now (opening .entry)) ⌝ }
-{
-    let size = part_bounds(Z_DIGITS, sizes, part);
-    if size != 0 {
-        return size;
-    }
-    let seven = opening_fits(
-        Z_DIGITS,
-        sizes.shape.d,
-        sizes.shape.n,
-        sizes.shape.r,
-        sizes.kappa,
-        sizes.t1,
-        sizes.t2,
-        opening,
-    );
-    first(seven, 7, 0)
 }

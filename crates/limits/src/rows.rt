@@ -1,8 +1,7 @@
-// The tests of the rows of SPECIFICATION 7, one by one.
+// The tests of the rows of SPECIFICATION 7 on sizes, one by one, and that of one length.
 ghost use mathlib.Core.Path.{_≡_};
 ghost use mathlib.Core.Bool.{cond};
-ghost use Prim.Native.Nat.{_*_, _<_, _≤_};
-ghost use lib.ListN.{length};
+ghost use Prim.Native.Nat.{_<_, _≤_};
 ghost use lib.IntN.{pos};
 ghost use Rattle.fold.specs.Refusals as spec;
 use fold::limits::LEAST_BASE;
@@ -15,7 +14,6 @@ use fold::limits::MOST_DIGITS;
 use fold::limits::MOST_PARTS;
 use fold::limits::MOST_PROJECTIONS;
 use fold::limits::MOST_RANK;
-use residues::range;
 
 // Row 1.
 pub fn degree(d: usize) -> bool
@@ -96,23 +94,6 @@ pub fn sized(xs: &[i32], k: usize) -> bool
     ensures { λ r. ⌜ r ≡ spec.sized (now (xs .entry)) k ⌝ }
 {
     xs.len() == k
-}
-
-// Row 10, for each of the r elements of c.
-pub fn challenges(d: usize, r: usize, c: &[i32]) -> bool
-    requires { ⌜ length (now c) ≡ r * d ⌝ }
-    ensures { λ x. ⌜ x ≡ spec.challenges d r (now (c .entry)) ⌝ }
-{
-    let mut all = true;
-    let mut i = 0;
-    while i < r {
-        let at = i * d;
-        let end = at + d;
-        let one = range::is_challenge(&c[at..end]);
-        all = all & one;
-        i += 1;
-    }
-    all
 }
 
 // The number of a row whose test fails, or else what the later rows say.

@@ -8,9 +8,9 @@ use fold::GarbageSizes;
 use fold::Shape;
 use fold::counts::Z_DIGITS;
 pub use judge::judge_sheet;
-pub use limits::part::next_part_refusal;
 pub use next_instance::next_instance;
 pub use next_instance::part::next_part;
+pub use refusals::part::next_part_refusal;
 use ring::element::Element;
 pub use sheet::reader::read_sheet;
 pub use sheet::reader::sheet_numbers;
@@ -26,7 +26,7 @@ pub struct Product {
 pub fn multiply(d: usize, x: Element, y: Element) -> Product
     ensures { λ r. ⌜ r ≡ productOf d (x .coefficients) (y .coefficients) ⌝ }
 {
-    let refusal = limits::product_refusal(d, x, y);
+    let refusal = refusals::product_refusal(d, x, y);
     if refusal != 0 {
         return Product {
             answer: Answer::Refused(refusal),
@@ -54,7 +54,7 @@ pub fn commit(
         ⌜ Committed sizes (now («a_matrix» .entry)) (now («b_matrix» .entry)) (now («c_matrix» .entry)) (now (witness .entry)) (now (t .entry))
         (now (g .entry)) (now (u1 .entry)) x (now (t .exit)) (now (g .exit)) (now (u1 .exit)) ⌝ }
 {
-    let refusal = limits::commit_refusal(sizes, a_matrix, b_matrix, c_matrix, witness, t, g, u1);
+    let refusal = refusals::commit_refusal(sizes, a_matrix, b_matrix, c_matrix, witness, t, g, u1);
     if refusal != 0 {
         return Answer::Refused(refusal);
     }
@@ -74,7 +74,7 @@ pub fn project(
 ) -> Answer
     ensures { λ x. ⌜ Projected shape w (now (projections .entry)) (now (witness .entry)) (now (p .entry)) x (now (p .exit)) ⌝ }
 {
-    let refusal = limits::project_refusal(shape, w, projections, witness, p);
+    let refusal = refusals::project_refusal(shape, w, projections, witness, p);
     if refusal != 0 {
         return Answer::Refused(refusal);
     }
@@ -98,7 +98,7 @@ pub fn aggregate(
         ⌜ Aggregated shape l w (now («constant_terms» .entry)) (now (projections .entry)) (now (psi .entry)) (now (omega .entry))
         (now (witness .entry)) (now («second_b» .entry)) x (now («second_b» .exit)) ⌝ }
 {
-    let refusal = limits::aggregate_refusal(
+    let refusal = refusals::aggregate_refusal(
         shape,
         l,
         w,
@@ -146,7 +146,7 @@ pub fn commit_garbage(
         (now (alpha .entry)) (now (delta .entry)) (now («d_matrix» .entry)) (now (witness .entry)) (now (h .entry))
         (now (u2 .entry)) x (now (h .exit)) (now (u2 .exit)) ⌝ }
 {
-    let refusal = limits::garbage_refusal(
+    let refusal = refusals::garbage_refusal(
         sizes,
         whole,
         constant_terms,
@@ -183,7 +183,7 @@ pub fn commit_garbage(
 pub fn amortize(shape: Shape, b: usize, c: &[i32], witness: &[i32], z: &mut [i32]) -> Answer
     ensures { λ x. ⌜ Amortized shape b (now (c .entry)) (now (witness .entry)) (now (z .entry)) x (now (z .exit)) ⌝ }
 {
-    let refusal = limits::amortize_refusal(shape, b, c, witness, z);
+    let refusal = refusals::amortize_refusal(shape, b, c, witness, z);
     if refusal != 0 {
         return Answer::Refused(refusal);
     }

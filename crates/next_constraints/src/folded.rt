@@ -8,10 +8,10 @@ ghost use Rattle.fold.specs.Messages.{elements, aggregate};
 ghost use Rattle.constraints.specs.Known.Facts.{AggregateFacts};
 ghost use Rattle.next_constraints.specs.Folded.{plusMultiple, foldedSum};
 use crate::blocks::write_zeros;
-use constraints::ConstraintSizes;
 use constraints::phi::write_phi_part;
 use constraints::row_groups;
 use constraints::row_groups::OMEGA_SUMS;
+use fold::ConstraintSizes;
 use fold::limits::PART_ROOM;
 use ring::element::Element;
 

@@ -7,7 +7,7 @@ use crate::folded::write_folded;
 use crate::tables::write_aggregate_a;
 use crate::tables::write_diagonal;
 use crate::tables::write_products;
-use constraints::ConstraintSizes;
+use fold::ConstraintSizes;
 use fold::Sizes;
 
 pub fn write_tables(

@@ -14,8 +14,8 @@ ghost use Rattle.fold.specs.Entries.{aggregateA};
 ghost use Rattle.fold.specs.NextInstance.{product};
 ghost use Rattle.fold.specs.PairElements.{pairElements};
 ghost use Rattle.constraints.specs.Known.Facts.{WholeFacts, TermFacts};
-use constraints::ConstraintSizes;
 use constraints::aggregated::aggregate_a;
+use fold::ConstraintSizes;
 use fold::counts::pair_count;
 use ring::element::Element;
 

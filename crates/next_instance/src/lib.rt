@@ -4,7 +4,7 @@ ghost use Rattle.next_instance.specs.Calls.{NextCalled};
 use fold::Answer;
 use fold::Sizes;
 use fold::Verdict;
-use limits::next::next_refusal;
+use refusals::next::next_refusal;
 use verifier::judgement::message_checks;
 use writer::write_instance;
 

@@ -13,7 +13,7 @@ use checks::outer;
 use checks::recomposed;
 use checks::relation;
 use checks::terms;
-use constraints::ConstraintSizes;
+use fold::ConstraintSizes;
 use fold::Sizes;
 use fold::Verdict;
 use fold::limits::PART_ROOM;

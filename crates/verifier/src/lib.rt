@@ -5,7 +5,7 @@ ghost use Rattle.fold.specs.Verification.{verification};
 use fold::Answer;
 use fold::Sizes;
 use fold::counts::Z_DIGITS;
-use limits::verify_refusal;
+use refusals::verify_refusal;
 
 pub mod judgement;
 

@@ -16,7 +16,6 @@ use Rattle.fold.specs.Sizes.{restSize}
 use Rattle.fold.specs.Arguments.{CommitSized, GarbageSized, VerifySized, PartSizedWith}
 use Rattle.fold.specs.Refusals.{projectBounds, aggregateBounds, amortizeBounds, chunks}
 use Rattle.limits.specs.Stages.{commitBoundsOf, garbageBoundsOf, verifyBoundsOf, sizeRowsOf, boundRowsOf, nextBoundsOf, partBoundsOf}
-use Rattle.limits.specs.Stages.{ConstraintLimits}
 
 pub commit-sized : (m : CommitSizes) {x : ℕ} → x ≡ firstFailing (commitBoundsOf m) → x ≡ 0 → CommitSized m
 commit-sized m e z = commit-limits _ _ _ _ _ _ _ _ _ (holds (commitBoundsOf m) refl (sym e ∙ z))
@@ -56,12 +55,3 @@ module _ (tz : ℕ) (m : Sizes) (ν μ : ℕ) {x : ℕ} (e : x ≡ firstFailing 
 
 pub part-sized : (tz : ℕ) (m : PartSizes) (i : ℕ) {x : ℕ} → x ≡ firstFailing (partBoundsOf tz m i) → x ≡ 0 → PartSizedWith tz m i
 part-sized tz m i e z = part-limits _ _ _ _ _ _ _ _ _ _ (holds (partBoundsOf tz m i) refl (sym e ∙ z))
-
--- the sizes of the constraints alone
-pub garbage-constraints : (m : GarbageSizes) → GarbageSized m → ConstraintLimits (m .shape .d) (m .shape .n) (m .shape .r) (m .k) (m .l) (m .w)
-garbage-constraints m l =
-    record { shaped = l .shaped; K-small = l .K-small; L-small = l .L-small; w-small = l .w-small }
-
-pub verify-constraints : (m : Sizes) → VerifySized m → ConstraintLimits (m .shape .d) (m .shape .n) (m .shape .r) (m .k) (m .l) (m .w)
-verify-constraints m l =
-    record { shaped = l .shaped; K-small = l .K-small; L-small = l .L-small; w-small = l .w-small }

@@ -1,18 +1,16 @@
 -- The number of a refusal, stage by stage.
 --     single, row, none        one row of a nest of `first`, and its end
 --     after-rows               the first rows, then the later ones
---     unfit, fit               none of those fails, and row m does or does not
---     fitting, fitting-last    what row m then says, and its last test
 --     joined-tests, append-rows     the tests of a row, and a row in two parts
 use mathlib.Core.Path.{_≡_, refl, sym, _∙_}
-use mathlib.Core.Bool.{Bool, true, false, cond, not, _&&_}
+use mathlib.Core.Bool.{Bool, true, false, cond, _&&_}
 use mathlib.Core.List.{List, [], _∷_, _++_}
 use Prim.Native.Nat.{ℕ}
 use lib.Dec.{eqb}
-use borrow.Author.Tests.{not-true, not-false, eqb-true, eqb-false}
+use borrow.Author.Tests.{eqb-true, eqb-false}
 use Rattle.fold.specs.Answers.{firstFailing}
 use Rattle.fold.specs.Refusals.{allOf}
-use Rattle.fold.specs.Laws.RefusalLaws.{numbered, refusal-passes, All, allOf-all}
+use Rattle.fold.specs.Laws.RefusalLaws.{numbered, refusal-passes}
 use Rattle.fold.specs.Laws.TestLaws.{stops, after-passes}
 use Rattle.limits.specs.Laws.RowLaws.{joined, Alike, joined-row, allOf-append}
 
@@ -43,19 +41,6 @@ after-rows early later {x} {y} {z} l e f g = by (eqb x 0) refl
     by true h = (rw h at g) ∙ f ∙ sym (after-passes early later (refusal-passes early l (sym e ∙ eqb-true x 0 h)))
     by false h = (rw h at g) ∙ stops early later e (eqb-false x 0 h)
 
-module _ (early : List (ℕ × Bool)) (m : ℕ) (t : Bool) (later : List (ℕ × Bool)) {x : ℕ} {s : Bool}
-    (l : numbered early ≡ true) (e : x ≡ firstFailing early) (z : x ≡ 0) (q : s ≡ t) where
-  after : firstFailing (early ++ ((m, t) ∷ later)) ≡ firstFailing ((m, t) ∷ later)
-  after = after-passes early ((m, t) ∷ later) (refusal-passes early l (sym e ∙ z))
-
-  pub unfit : not s ≡ true → m ≡ firstFailing (early ++ ((m, t) ∷ later))
-  unfolding firstFailing
-  unfit f = sym (after ∙ rw (sym q ∙ not-true s f) refl)
-
-  pub fit : {y : ℕ} → not s ≡ false → y ≡ firstFailing later → y ≡ firstFailing (early ++ ((m, t) ∷ later))
-  unfolding firstFailing
-  fit f g = g ∙ sym (after ∙ rw (sym q ∙ not-false s f) refl)
-
 -- ---- the tests of a row, in the goal's direction: x is what the code computes
 
 pub joined-tests : {x s : Bool} {ss ts : List Bool} → Alike (s ∷ ss) ts → x ≡ joined s ss → x ≡ allOf ts
@@ -63,19 +48,3 @@ joined-tests a e = e ∙ joined-row a
 
 pub append-rows : (ss ts : List Bool) {s t : Bool} → s ≡ allOf ss → t ≡ allOf ts → (s && t) ≡ allOf (ss ++ ts)
 append-rows ss ts e f = rw (e, f) (allOf-append ss ts)
-
--- the tests of a row that has passed
-pub fitting : (ts : List Bool) {s : Bool} → s ≡ allOf ts → not s ≡ false → All ts
-fitting ts {s} q f = allOf-all ts (sym q ∙ not-false s f)
-
--- the last of them, whatever stands before it
-abbrev pub lastOf : Bool → List Bool → Bool
-lastOf t [] = t
-lastOf t (u ∷ ts) = lastOf u ts
-
-last-holds : (t : Bool) (ts : List Bool) → All (t ∷ ts) → lastOf t ts ≡ true
-last-holds t [] a = a .0
-last-holds t (u ∷ ts) a = last-holds u ts (a .1)
-
-pub fitting-last : (ts : List Bool) {s : Bool} → s ≡ allOf ts → not s ≡ false → lastOf true ts ≡ true
-fitting-last ts q f = last-holds true ts (refl, fitting ts q f)

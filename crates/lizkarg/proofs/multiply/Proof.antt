@@ -1,6 +1,6 @@
 -- `lizkarg::multiply` meets its contract: refused by a number, or the product. Assumes nothing.
 use borrow.Author.Needs.{needs}
-use Rattle.limits.specs.Laws.ProductLaws.{product-degree}
+use Rattle.refusals.specs.Laws.ProductLaws.{product-degree}
 use Rattle.lizkarg.specs.Laws.CallLaws.{product-refused, product-written}
 use Rattle.lizkarg.proofs.multiply.Statement.{statement}
 use Rattle.lizkarg.proofs.multiply.Tie as tie

@@ -1,0 +1,16 @@
+-- `refusals::lengths::whole_fits` meets its contract: the length asked for is that of `whole_length`. Assumes nothing.
+use borrow.Author.Needs.{needs}
+use Rattle.refusals.proofs.lengths.whole_fits.Statement.{statement}
+use Rattle.refusals.proofs.lengths.whole_fits.Tie as tie
+
+whole-length-requires : tie.Need-whole-length-requires
+whole-length-requires c κs = search needs
+
+sized-requires : tie.Need-sized-requires
+sized-requires c κs = search needs
+
+returns : tie.Need-returns
+returns c = rw (c .before .whole-length .ensures) at (c .sized .ensures)
+
+pub whole-fits-spec : {M : Type 1} → statement M
+whole-fits-spec = tie.close (tie.spec whole-length-requires sized-requires returns)

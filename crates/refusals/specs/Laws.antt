@@ -1,0 +1,3 @@
+pub mod FitLaws
+pub mod ListLaws
+pub mod ProductLaws

@@ -1,0 +1,6 @@
+-- Definitions
+pub mod Lengths
+-- What a call that is not refused knows
+pub mod Known
+-- Laws
+pub mod Laws
