@@ -6,6 +6,7 @@ use mathlib.Core.Path.{_≡_}
 use mathlib.Core.Bool.{Bool, true, cond}
 use Prim.Native.Nat.{ℕ, _+_, _*_, _-_, _%_, _≤_}
 use lib.Dec.{ltb, eqb}
+use Rattle.fold.specs.Limits.{mostConstraints, mostProjections}
 use Rattle.fold.specs.Sizes.{zCount, functionSize, tSize, garbageSize, openingSize}
 use Rattle.fold.specs.declared.Shape.{Shape}
 use Rattle.fold.specs.declared.Sizes.{Sizes}
@@ -61,10 +62,10 @@ module _ (s : Sizes) where
 -- the parts, and that they are few numbers
 pub record Sectioned (s : Sizes) (q : Sections) : Type 0 where
   pub is : q ≡ sectionsOf s
-  pub head : q .head ≤ 10438656
-  pub terms : q .terms ≤ 8667168
+  pub head : q .head ≤ (27648 + mostConstraints * 4233) * 64
+  pub terms : q .terms ≤ mostConstraints * 270849
   pub middle : q .middle ≤ 67109376
-  pub ones : q .ones ≤ 1696
+  pub ones : q .ones ≤ 5 * mostConstraints + 6 * mostProjections
 
 -- number i, on lines of d numbers, is the last of its line
 unfoldable pub endsElement : ℕ → ℕ → Bool

@@ -2,6 +2,7 @@
 ghost use mathlib.Core.Path.{_≡_};
 ghost use Prim.Native.Nat.{_+_, _*_, _≤_, _<_};
 ghost use Rattle.fold.specs.Arguments.{VerifySized};
+ghost use Rattle.fold.specs.Limits.{mostConstraints};
 ghost use Rattle.fields.specs.Sections.{Sectioned, matrixCount, wholeCount, rowCount, lastCount, termSize};
 ghost use Rattle.fields.specs.Sections.{total, projectionsFrom, challengesFrom, endsElement, endsTerm, endsLine};
 use fold::Sizes;
@@ -43,7 +44,7 @@ fn matrix_count(s: Sizes) -> usize
 // Elements of the whole constraints.
 fn whole_count(s: Sizes) -> usize
     requires { ⌜ VerifySized s ⌝ }
-    ensures { λ p. ⌜ (p ≡ wholeCount s) × (p ≤ 135456) ⌝ }
+    ensures { λ p. ⌜ (p ≡ wholeCount s) × (p ≤ mostConstraints * 4233) ⌝ }
 {
     let f = function_size(s.shape.n, s.shape.r);
     s.k * (f + 1)
@@ -61,7 +62,7 @@ fn row_count(s: Sizes) -> usize
 // Elements of b'', α, δ, u2, c and the opening.
 fn last_count(s: Sizes) -> usize
     requires { ⌜ VerifySized s ⌝ }
-    ensures { λ p. ⌜ (p ≡ lastCount s) × (p ≤ 3778) ⌝ }
+    ensures { λ p. ⌜ (p ≡ lastCount s) × (p ≤ mostConstraints + 3746) ⌝ }
 {
     let opening = opening_size(Z_DIGITS, s.shape.n, s.shape.r, s.kappa, s.t1, s.t2);
     5 + (s.k + (5 + (s.kappa2 + (s.shape.r + opening))))
@@ -70,7 +71,7 @@ fn last_count(s: Sizes) -> usize
 // Numbers before the constant-term constraints.
 fn head_numbers(s: Sizes) -> usize
     requires { ⌜ VerifySized s ⌝ }
-    ensures { λ p. ⌜ (p ≡ (matrixCount s + wholeCount s) * s .shape .d) × (p ≤ 10438656) ⌝ }
+    ensures { λ p. ⌜ (p ≡ (matrixCount s + wholeCount s) * s .shape .d) × (p ≤ (27648 + mostConstraints * 4233) * 64) ⌝ }
 {
     let a = matrix_count(s);
     let b = whole_count(s);

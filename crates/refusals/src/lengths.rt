@@ -4,6 +4,7 @@ ghost use Prim.Native.Nat.{_*_, _≤_};
 ghost use Rattle.fold.specs.Refusals.{allOf};
 ghost use Rattle.fold.specs.Refusals as table;
 ghost use Rattle.fold.specs.Sizes.{openingSize};
+ghost use Rattle.fold.specs.Known.Facts.{Shaped};
 ghost use Rattle.fold.specs.Known.CallLimits.{ProjectLimits, AmortizeLimits};
 ghost use Rattle.fold.specs.Arguments.{CommitSized, GarbageSized, VerifySized};
 ghost use Rattle.refusals.specs.Lengths.{AggregateSized, ConstraintSized};
@@ -51,27 +52,27 @@ pub fn five_fit(xs: &[i32], count: usize) -> bool
     sized(xs, length)
 }
 
-pub fn whole_fits(d: usize, n: usize, r: usize, k: usize, whole: &[i32]) -> bool
-    requires { ⌜ (d ≤ 64) × (n ≤ mostRank) × (r ≤ mostParts) × (k ≤ mostConstraints) ⌝ }
-    ensures { λ x. ⌜ x ≡ table.sized (now (whole .entry)) (table.wholeLength d n r k) ⌝ }
+pub fn whole_fits(shape: Shape, k: usize, whole: &[i32]) -> bool
+    requires { ⌜ Shaped (shape .d) (shape .n) (shape .r) × (k ≤ mostConstraints) ⌝ }
+    ensures { λ x. ⌜ x ≡ table.sized (now (whole .entry)) (table.wholeLength (shape .d) (shape .n) (shape .r) k) ⌝ }
 {
-    let length = whole_length(d, n, r, k);
+    let length = whole_length(shape.d, shape.n, shape.r, k);
     sized(whole, length)
 }
 
-pub fn constant_terms_fit(d: usize, n: usize, r: usize, l: usize, constant_terms: &[i32]) -> bool
-    requires { ⌜ (d ≤ 64) × (n ≤ mostRank) × (r ≤ mostParts) × (l ≤ mostConstraints) ⌝ }
-    ensures { λ x. ⌜ x ≡ table.sized (now («constant_terms» .entry)) (table.constantTermsLength d n r l) ⌝ }
+pub fn constant_terms_fit(shape: Shape, l: usize, constant_terms: &[i32]) -> bool
+    requires { ⌜ Shaped (shape .d) (shape .n) (shape .r) × (l ≤ mostConstraints) ⌝ }
+    ensures { λ x. ⌜ x ≡ table.sized (now («constant_terms» .entry)) (table.constantTermsLength (shape .d) (shape .n) (shape .r) l) ⌝ }
 {
-    let length = constant_terms_length(d, n, r, l);
+    let length = constant_terms_length(shape.d, shape.n, shape.r, l);
     sized(constant_terms, length)
 }
 
-pub fn projections_fit(d: usize, n: usize, r: usize, w: usize, projections: &[i32]) -> bool
-    requires { ⌜ (d ≤ 64) × (n ≤ mostRank) × (r ≤ mostParts) × (w ≤ mostProjections) ⌝ }
-    ensures { λ x. ⌜ x ≡ table.sized (now (projections .entry)) (table.projectionLength d n r w) ⌝ }
+pub fn projections_fit(shape: Shape, w: usize, projections: &[i32]) -> bool
+    requires { ⌜ Shaped (shape .d) (shape .n) (shape .r) × (w ≤ mostProjections) ⌝ }
+    ensures { λ x. ⌜ x ≡ table.sized (now (projections .entry)) (table.projectionLength (shape .d) (shape .n) (shape .r) w) ⌝ }
 {
-    let length = projection_length(d, n, r, w);
+    let length = projection_length(shape.d, shape.n, shape.r, w);
     sized(projections, length)
 }
 
@@ -131,7 +132,7 @@ pub fn project_lengths(
         ⌜ x ≡ allOf (table.projectLengths (shape .d) (shape .n) (shape .r) w (now (projections .entry)) (now (witness .entry))
         (now (p .entry))) ⌝ }
 {
-    projections_fit(shape.d, shape.n, shape.r, w, projections)
+    projections_fit(shape, w, projections)
         & matrix_fits(witness, shape.r, shape.n, shape.d)
         & sized(p, w)
 }
@@ -151,24 +152,13 @@ pub fn aggregate_lengths(
         ⌜ x ≡ allOf (spec.aggregateLengthsOf sizes (now («constant_terms» .entry)) (now (projections .entry)) (now (psi .entry)) (now (omega .entry))
         (now (witness .entry)) (now («second_b» .entry))) ⌝ }
 {
-    constant_terms_fit(
-        sizes.shape.d,
-        sizes.shape.n,
-        sizes.shape.r,
-        sizes.l,
-        constant_terms,
-    )
-        & projections_fit(
-            sizes.shape.d,
-            sizes.shape.n,
-            sizes.shape.r,
-            sizes.w,
-            projections,
-        )
+    let shape = sizes.shape;
+    constant_terms_fit(shape, sizes.l, constant_terms)
+        & projections_fit(shape, sizes.w, projections)
         & five_fit(psi, sizes.l)
         & five_fit(omega, sizes.w)
-        & matrix_fits(witness, sizes.shape.r, sizes.shape.n, sizes.shape.d)
-        & five_fit(second_b, sizes.shape.d)
+        & matrix_fits(witness, shape.r, shape.n, shape.d)
+        & five_fit(second_b, shape.d)
 }
 
 // Both kinds of constraints and what is lent to aggregate them.
@@ -187,25 +177,14 @@ pub fn constraint_lengths(
         ⌜ x ≡ allOf (spec.constraintLengthsOf sizes (now (whole .entry)) (now («constant_terms» .entry)) (now (projections .entry))
         (now (psi .entry)) (now (omega .entry)) (now (alpha .entry)) (now (delta .entry))) ⌝ }
 {
-    whole_fits(sizes.shape.d, sizes.shape.n, sizes.shape.r, sizes.k, whole)
-        & constant_terms_fit(
-            sizes.shape.d,
-            sizes.shape.n,
-            sizes.shape.r,
-            sizes.l,
-            constant_terms,
-        )
-        & projections_fit(
-            sizes.shape.d,
-            sizes.shape.n,
-            sizes.shape.r,
-            sizes.w,
-            projections,
-        )
+    let shape = sizes.shape;
+    whole_fits(shape, sizes.k, whole)
+        & constant_terms_fit(shape, sizes.l, constant_terms)
+        & projections_fit(shape, sizes.w, projections)
         & five_fit(psi, sizes.l)
         & five_fit(omega, sizes.w)
-        & list_fits(alpha, sizes.k, sizes.shape.d)
-        & five_fit(delta, sizes.shape.d)
+        & list_fits(alpha, sizes.k, shape.d)
+        & five_fit(delta, shape.d)
 }
 
 // The other lists of message 4.

@@ -1,12 +1,12 @@
 // The number with which the next instance refuses, 0 where it does not: SPECIFICATION 7.
 ghost use mathlib.Core.Path.{_≡_};
-ghost use Prim.Native.Nat.{_<_, _≤_};
+ghost use Prim.Native.Nat.{_+_, _*_, _<_, _≤_};
 ghost use Rattle.fold.specs.Answers.{firstFailing};
 ghost use Rattle.fold.specs.Refusals.{nextTests};
 ghost use Rattle.fold.specs.Refusals as table;
 ghost use Rattle.fold.specs.Arguments.{VerifySized, statementOf, drawsOf, transcriptOf};
 ghost use Rattle.fold.specs.Known.CallLimits.{ChunkLimits};
-ghost use Rattle.fold.specs.Limits.{mostChunks};
+ghost use Rattle.fold.specs.Limits.{mostChunks, mostCommitmentRank};
 ghost use Rattle.limits.specs.Stages.{rankOf};
 ghost use Rattle.refusals.specs.Lengths as spec;
 use crate::draws::draw_lengths;
@@ -27,7 +27,7 @@ use residues::range::are_projection_entries;
 
 // Row 7: numbers of `count` whole constraints on `parts` parts of `rank` elements. The rank may be above 256 here, which row 11 tells.
 pub fn next_fits(out: &[i32], d: usize, rank: usize, parts: usize, count: usize) -> bool
-    requires { ⌜ (d ≤ 64) × (rank ≤ 8192) × (parts ≤ mostChunks) × (count ≤ 32) ⌝ }
+    requires { ⌜ (d ≤ 64) × (rank ≤ 8192) × (parts ≤ mostChunks) × (count ≤ 3 * mostCommitmentRank + 3) ⌝ }
     ensures { λ x. ⌜ x ≡ table.sized (now (out .entry)) (table.wholeLength d rank parts count) ⌝ }
 {
     let function = fold::counts::pair_count(parts) + parts * rank;

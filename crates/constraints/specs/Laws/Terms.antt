@@ -18,6 +18,7 @@ use Rattle.ring.specs.Element.{R, Degree, lift, el, array, number}
 use Rattle.ring.specs.Laws.ElementLaws.{lift-array}
 use Rattle.ring.specs.Laws.Loops.{Summed, summed-step}
 use Rattle.residues.specs.Laws.Words.{word}
+use Rattle.fold.specs.Limits.{mostConstraints}
 use Rattle.fold.specs.Sizes.{functionSize}
 use Rattle.fold.specs.Statement.{termAt, wholeAt}
 use Rattle.fold.specs.Refusals.{constantTermsLength, wholeLength}
@@ -77,7 +78,7 @@ module _ {d n r L : ℕ} {constantTerms ψ : List ℤ} (facts : TermFacts d n r 
   unfolding constantTermsLength
   term-room {j} h = rw is (omega (arith, facts .constant-terms-length, mul-le-mul-right (functionSize n r * d + 1) h))
 
-  term-small : length constantTerms ≤ 8667168
+  term-small : length constantTerms ≤ mostConstraints * 270849
   unfolding constantTermsLength
   term-small =
       let one : functionSize n r * d + 1 ≤ 270849 = omega (arith, numbers-small (facts .shaped)) in
@@ -90,11 +91,11 @@ module _ {d n r L : ℕ} {constantTerms ψ : List ℤ} (facts : TermFacts d n r 
       omega (arith, term-room h, place, mul-le-mul-right d below)
 
   -- constraint j from place `at` on
-  pub term-inside : {j at : ℕ} → j < L → at ≡ j * (size * d + 1) → (at + (size * d + 1) ≤ length constantTerms) × (length constantTerms ≤ 8667168)
+  pub term-inside : {j at : ℕ} → j < L → at ≡ j * (size * d + 1) → (at + (size * d + 1) ≤ length constantTerms) × (length constantTerms ≤ mostConstraints * 270849)
   term-inside {j} {at} h place = (omega (arith, term-room h, place), term-small)
 
 pub ψ-place : {d n r L : ℕ} {constantTerms ψ : List ℤ} → TermFacts d n r L constantTerms ψ → {k j : ℕ}
-    → k < 5 → j < L → (k * L + j < length ψ) × (k * L + j < 160)
+    → k < 5 → j < L → (k * L + j < length ψ) × (k * L + j < 5 * mostConstraints)
 ψ-place {L} facts {k} {j} h l = (rw (facts .ψ-length) (block-fits 5 L k j h l), omega (arith, block-fits 5 L k j h l, facts .term-count))
 
 -- ---- the whole constraints
@@ -141,7 +142,7 @@ module _ {d n r K : ℕ} {whole α : List ℤ} (facts : WholeFacts d n r K whole
   unfolding wholeLength
   whole-room {k} h = rw is (omega (arith, facts .whole-length, mul-le-mul-right ((functionSize n r + 1) * d) h))
 
-  whole-small : length whole ≤ 8669184
+  whole-small : length whole ≤ mostConstraints * 270912
   unfolding wholeLength
   whole-small =
       let one : (functionSize n r + 1) * d ≤ 270912 = rw is at whole-step-small in
@@ -152,7 +153,7 @@ module _ {d n r K : ℕ} {whole α : List ℤ} (facts : WholeFacts d n r K whole
       let below : e ≤ size = omega (arith, is, l) in
       omega (arith, whole-room h, place, mul-le-mul-right d below)
 
-  pub whole-inside : {k at : ℕ} → k < K → at ≡ k * ((size + 1) * d) → (at + (size + 1) * d ≤ length whole) × (length whole ≤ 8669184)
+  pub whole-inside : {k at : ℕ} → k < K → at ≡ k * ((size + 1) * d) → (at + (size + 1) * d ≤ length whole) × (length whole ≤ mostConstraints * 270912)
   whole-inside {k} {at} h place = (omega (arith, whole-room h, place), whole-small)
 
 pub α-place : {d n r K : ℕ} {whole α : List ℤ} → WholeFacts d n r K whole α → {k : ℕ} → k < K → k * d + d ≤ length α

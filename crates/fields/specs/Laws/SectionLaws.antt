@@ -19,7 +19,7 @@ le-one h = omega arith
 pub sum-le : {a b x y : ℕ} → a ≤ x → b ≤ y → a + b ≤ x + y
 sum-le h k = omega arith
 
-pub before-challenges : {k κ₂ : ℕ} → k ≤ mostConstraints → κ₂ ≤ mostCommitmentRank → 5 + (k + (5 + κ₂)) ≤ 50
+pub before-challenges : {k κ₂ : ℕ} → k ≤ mostConstraints → κ₂ ≤ mostCommitmentRank → 5 + (k + (5 + κ₂)) ≤ mostConstraints + mostCommitmentRank + 10
 before-challenges h l = omega arith
 
 -- ---- numbers of elements that code has computed

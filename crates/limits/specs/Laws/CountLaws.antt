@@ -8,6 +8,7 @@ use native.Mathlib.Omega.{arith}
 use lib.Dec.{leb}
 use lib.IntN.{pos}
 use borrow.Author.Tests.{leb-true, leb-false, le-leb}
+use Rattle.fold.specs.Limits.{mostChunks}
 use Rattle.fold.specs.Sizes.{nextParts}
 use Rattle.fold.specs.Refusals.{chunks, between}
 use Rattle.fold.specs.Laws.SizeBounds.{product-bound}
@@ -33,16 +34,16 @@ leb-same a b c d f g = by (leb a b) refl
 
 -- ---- row 5, for tz digits of z
 
-pub many-ν : (tz ν μ : ℕ) → 0 < tz → 16 < ν → false ≡ chunks tz (pos ν) (pos μ)
+pub many-ν : (tz ν μ : ℕ) → 0 < tz → mostChunks < ν → false ≡ chunks tz (pos ν) (pos μ)
 many-ν tz ν μ some h =
     untrue _ (λ e. omega (arith, h, chunk-limits tz ν μ e .parts-small, product-bound 1 ν tz ν some (le-refl ν)))
 
-pub many-μ : (tz ν μ : ℕ) → 16 < μ → false ≡ chunks tz (pos ν) (pos μ)
+pub many-μ : (tz ν μ : ℕ) → mostChunks < μ → false ≡ chunks tz (pos ν) (pos μ)
 many-μ tz ν μ h = untrue _ (λ e. omega (arith, h, chunk-limits tz ν μ e .parts-small))
 
-pub chunk-tests : (tz ν μ : ℕ) → leb 1 ν && leb 1 μ && leb (tz * ν + μ) 16 ≡ chunks tz (pos ν) (pos μ)
+pub chunk-tests : (tz ν μ : ℕ) → leb 1 ν && leb 1 μ && leb (tz * ν + μ) mostChunks ≡ chunks tz (pos ν) (pos μ)
 unfolding chunks
-chunk-tests tz ν μ = joined-allOf (leb 1 ν) (leb 1 μ ∷ leb (tz * ν + μ) 16 ∷ [])
+chunk-tests tz ν μ = joined-allOf (leb 1 ν) (leb 1 μ ∷ leb (tz * ν + μ) mostChunks ∷ [])
 
 -- ---- a part number i: `left` of it after ν is taken off e times
 

@@ -4,6 +4,7 @@ use Prim.Native.Nat.{_+_, _-_, _*_, _≤_}
 use lib.ListN.{length}
 use native.Mathlib.Nat.{le-refl}
 use native.Mathlib.Omega.{arith}
+use Rattle.fold.specs.Limits.{mostConstraints}
 use Rattle.constraints.specs.Laws.Terms.{wholeSummand, whole-step, whole-end, whole-size-small, whole-step-small}
 use Rattle.constraints.specs.Laws.Terms.{whole-inside, whole-place, α-place, rest-room}
 use Rattle.ring.specs.Laws.Loops.{Summed, summed-start, summed-end}
@@ -19,7 +20,7 @@ abbrev μ-loop : tie.MeasureT-loop
 
 -- the next constraint lies within the list
 inside : (c : tie.In-loop Inv-loop μ-loop) → let f = c .before .before .before in
-    (c .before .loop .at + ((f .function-size .result + 1) * f .before .args .shape .d) ≤ length (f .before .args .whole .now)) × (length (f .before .args .whole .now) ≤ 8669184)
+    (c .before .loop .at + ((f .function-size .result + 1) * f .before .args .shape .d) ≤ length (f .before .args .whole .now)) × (length (f .before .args .whole .now) ≤ mostConstraints * 270912)
 inside c =
     let f = c .before .before .before in
     whole-inside (f .before .pre .0) (f .function-size .ensures) (c .loop-test .taken) (c .before .loop .inv .0)

@@ -4,6 +4,7 @@ use Prim.Native.Nat.{_+_, _-_, _*_, _≤_}
 use lib.ListN.{length}
 use native.Mathlib.Omega.{arith}
 use native.Mathlib.Nat.{le-refl, mul-le-mul-right}
+use Rattle.fold.specs.Limits.{mostConstraints}
 use Rattle.constraints.specs.Laws.Terms.{termSummand, term-step, term-end, term-step-small}
 use Rattle.constraints.specs.Laws.Terms.{term-inside, term-place, ψ-place, rest-room}
 use Rattle.ring.specs.Laws.Loops.{Summed, summed-start, summed-end}
@@ -19,7 +20,7 @@ abbrev μ-loop : tie.MeasureT-loop
 
 -- the next constraint lies within the list
 inside : (c : tie.In-loop Inv-loop μ-loop) → let f = c .before .before .before in
-    (c .before .loop .at + (f .function-size .result * f .before .args .shape .d + 1) ≤ length (f .before .args .constant-terms .now)) × (length (f .before .args .constant-terms .now) ≤ 8667168)
+    (c .before .loop .at + (f .function-size .result * f .before .args .shape .d + 1) ≤ length (f .before .args .constant-terms .now)) × (length (f .before .args .constant-terms .now) ≤ mostConstraints * 270849)
 inside c =
     let f = c .before .before .before in
     term-inside (f .before .pre .0) (f .function-size .ensures) (c .loop-test .taken) (c .before .loop .inv .0)

@@ -6,7 +6,7 @@ use Rattle.limits.proofs.rows.base.Tie as tie
 
 returns : tie.Need-returns
 unfolding base
-returns c = between-tests 2 65536 _
+returns c = between-tests _ _ _
 
 pub base-spec : {M : Type 1} → statement M
 base-spec = tie.close (tie.spec returns)

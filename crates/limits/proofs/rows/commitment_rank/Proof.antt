@@ -6,7 +6,7 @@ use Rattle.limits.proofs.rows.commitment_rank.Tie as tie
 
 returns : tie.Need-returns
 unfolding commitmentRank
-returns c = between-tests 1 8 _
+returns c = between-tests _ _ _
 
 pub commitment-rank-spec : {M : Type 1} → statement M
 commitment-rank-spec = tie.close (tie.spec returns)

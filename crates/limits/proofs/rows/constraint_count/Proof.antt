@@ -6,7 +6,7 @@ use Rattle.limits.proofs.rows.constraint_count.Tie as tie
 
 returns : tie.Need-returns
 unfolding constraintCount
-returns c = between-test 32 _
+returns c = between-test _ _
 
 pub constraint-count-spec : {M : Type 1} → statement M
 constraint-count-spec = tie.close (tie.spec returns)

@@ -6,7 +6,7 @@ use Rattle.limits.proofs.rows.digit_count.Tie as tie
 
 returns : tie.Need-returns
 unfolding digitCount
-returns c = between-tests 2 8 _
+returns c = between-tests _ _ _
 
 pub digit-count-spec : {M : Type 1} → statement M
 digit-count-spec = tie.close (tie.spec returns)

@@ -6,7 +6,7 @@ use Rattle.limits.proofs.rows.length_bound.Tie as tie
 
 returns : tie.Need-returns
 unfolding lengthBound
-returns c = between-test 999999999999999 _
+returns c = between-test _ _
 
 pub length-bound-spec : {M : Type 1} → statement M
 length-bound-spec = tie.close (tie.spec returns)

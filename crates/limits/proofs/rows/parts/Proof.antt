@@ -6,7 +6,7 @@ use Rattle.limits.proofs.rows.parts.Tie as tie
 
 returns : tie.Need-returns
 unfolding parts
-returns c = between-tests 1 16 _
+returns c = between-tests _ _ _
 
 pub parts-spec : {M : Type 1} → statement M
 parts-spec = tie.close (tie.spec returns)

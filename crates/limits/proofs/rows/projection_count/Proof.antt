@@ -6,7 +6,7 @@ use Rattle.limits.proofs.rows.projection_count.Tie as tie
 
 returns : tie.Need-returns
 unfolding projectionCount
-returns c = between-test 256 _
+returns c = between-test _ _
 
 pub projection-count-spec : {M : Type 1} → statement M
 projection-count-spec = tie.close (tie.spec returns)

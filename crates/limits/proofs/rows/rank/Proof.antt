@@ -6,7 +6,7 @@ use Rattle.limits.proofs.rows.rank.Tie as tie
 
 returns : tie.Need-returns
 unfolding rank
-returns c = between-tests 1 256 _
+returns c = between-tests _ _ _
 
 pub rank-spec : {M : Type 1} → statement M
 rank-spec = tie.close (tie.spec returns)

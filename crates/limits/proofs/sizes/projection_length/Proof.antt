@@ -1,7 +1,8 @@
--- `limits::sizes::projection_length` meets its contract: at most 256 rows of 16 * 256 elements. Assumes nothing.
+-- `limits::sizes::projection_length` meets its contract: rows of at most 16 * 256 elements. Assumes nothing.
 use borrow.Author.Needs.{needs}
 use mathlib.Core.Path.{ap}
 use Prim.Native.Nat.{_*_, _≤_}
+use Rattle.fold.specs.Limits.{mostParts, mostProjections, mostRank}
 use Rattle.fold.specs.Refusals.{projectionLength}
 use Rattle.fold.specs.Laws.SizeBounds.{product-fits, product-bound}
 use Rattle.limits.proofs.sizes.projection_length.Statement.{statement}
@@ -13,9 +14,9 @@ flat-length-requires c κs = search needs
 mul-result : tie.Need-mul-result
 mul-result c =
     let p = c .before .pre in
-    let row : c .flat-length .result ≤ 262144 =
-    rw (c .flat-length .ensures) (product-bound _ _ 4096 64 (product-bound _ _ 16 256 (p .2) (p .1)) (p .0)) in
-    product-fits _ _ 256 262144 (p .3) row tt
+    let row : c .flat-length .result ≤ mostParts * mostRank * 64 =
+    rw (c .flat-length .ensures) (product-bound _ _ (mostParts * mostRank) 64 (product-bound _ _ mostParts mostRank (p .2) (p .1)) (p .0)) in
+    product-fits _ _ mostProjections (mostParts * mostRank * 64) (p .3) row tt
 
 returns : tie.Need-returns
 unfolding projectionLength

@@ -1,6 +1,6 @@
 -- `refusals::lengths::constraint_lengths` meets its contract: each list of the constraints. Assumes nothing.
 use mathlib.Core.Path.{refl}
-use borrow.Author.Needs.{needs}
+use native.Mathlib.Omega.{arith}
 use Rattle.limits.specs.Laws.RowLaws.{end, _&_}
 use Rattle.limits.specs.Laws.StageLaws.{joined-tests}
 use Rattle.refusals.proofs.lengths.constraint_lengths.Statement.{statement}
@@ -22,11 +22,11 @@ pub constraint-lengths-spec : {M : Type 1} → statement M
 constraint-lengths-spec =
     tie.close
     (tie.spec
-    (λ c κs. search needs)
-    (λ c κs. search needs)
-    (λ c κs. search needs)
-    (λ c κs. search needs)
-    (λ c κs. search needs)
-    (λ c κs. search needs)
-    (λ c κs. search needs)
+    (λ c κs. let l = c .before .pre in (l .shaped, l .K-small))
+    (λ c κs. let l = c .before .before .pre in (l .shaped, l .L-small))
+    (λ c κs. let l = c .before .before .before .pre in (l .shaped, l .w-small))
+    (λ c κs. let l = c .before .before .before .before .pre in omega (arith, l .L-small))
+    (λ c κs. let l = c .before .before .before .before .before .pre in omega (arith, l .w-small))
+    (λ c κs. let l = c .before .before .before .before .before .before .pre in (omega (arith, l .K-small), l .shaped .degree .small))
+    (λ c κs. let l = c .before .before .before .before .before .before .before .pre in omega (arith, l .shaped .degree .small))
     returns)

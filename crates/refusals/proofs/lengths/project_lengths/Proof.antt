@@ -1,19 +1,10 @@
 -- `refusals::lengths::project_lengths` meets its contract: each list of message 2. Assumes nothing.
 use mathlib.Core.Path.{refl}
-use borrow.Author.Needs.{needs}
+use native.Mathlib.Omega.{arith}
 use Rattle.limits.specs.Laws.RowLaws.{end, _&_}
 use Rattle.limits.specs.Laws.StageLaws.{joined-tests}
 use Rattle.refusals.proofs.lengths.project_lengths.Statement.{statement}
 use Rattle.refusals.proofs.lengths.project_lengths.Tie as tie
-
-projections-fit-requires : tie.Need-projections-fit-requires
-projections-fit-requires c κs = search needs
-
-matrix-fits-requires : tie.Need-matrix-fits-requires
-matrix-fits-requires c κs = search needs
-
-sized-requires : tie.Need-sized-requires
-sized-requires c κs = search needs
 
 returns : tie.Need-returns
 returns c =
@@ -23,4 +14,9 @@ returns c =
 
 pub project-lengths-spec : {M : Type 1} → statement M
 project-lengths-spec =
-    tie.close (tie.spec projections-fit-requires matrix-fits-requires sized-requires returns)
+    tie.close
+    (tie.spec
+    (λ c κs. (c .pre .shaped, c .pre .w-small))
+    (λ c κs. let l = c .before .pre in (omega (arith, l .shaped .parts-small), omega (arith, l .shaped .rank-small), l .shaped .degree .small))
+    (λ c κs. tt)
+    returns)

@@ -1,6 +1,7 @@
--- `refusals::next::next_fits` meets its contract: at most 32 constraints of 131209 elements. Assumes nothing.
-use Prim.Native.Nat.{_≤_}
+-- `refusals::next::next_fits` meets its contract: constraints of at most 131209 elements. Assumes nothing.
+use Prim.Native.Nat.{_+_, _*_, _≤_}
 use native.Mathlib.Omega.{arith}
+use Rattle.fold.specs.Limits.{mostChunks, mostCommitmentRank}
 use Rattle.fold.specs.Sizes.{functionSize}
 use Rattle.fold.specs.Refusals.{wholeLength}
 use Rattle.fold.specs.Laws.SizeBounds.{product-fits, product-bound, pairs-bound}
@@ -8,36 +9,22 @@ use borrow.Author.Needs.{needs}
 use Rattle.refusals.proofs.next.next_fits.Statement.{statement}
 use Rattle.refusals.proofs.next.next_fits.Tie as tie
 
+-- the elements of one constraint
+few : (c : tie.After-pair-count) → c .pair-count .result + c .before .args .parts * c .before .args .rank + 1 ≤ 131209
+few c =
+    let p = c .before .pre in
+    let pairs : c .pair-count .result ≤ 136 = rw (c .pair-count .ensures) (pairs-bound _ (p .2)) in
+    omega (arith, pairs, product-bound (c .before .args .parts) (c .before .args .rank) mostChunks 8192 (p .2) (p .1))
+
 mul-function : tie.Need-mul-function
-mul-function c = product-fits _ _ 16 8192 (c .before .pre .2) (c .before .pre .1) tt
-
-add-function : tie.Need-add-function
-add-function c =
-    let p = c .before .pre in
-    let few : c .pair-count .result ≤ 136 = rw (c .pair-count .ensures) (pairs-bound _ (p .2)) in
-    let linear = product-bound (c .before .args .parts) (c .before .args .rank) 16 8192 (p .2) (p .1) in
-    omega (arith, few, linear)
-
-add-length : tie.Need-add-length
-add-length c =
-    let p = c .before .pre in
-    let few : c .pair-count .result ≤ 136 = rw (c .pair-count .ensures) (pairs-bound _ (p .2)) in
-    let linear = product-bound (c .before .args .parts) (c .before .args .rank) 16 8192 (p .2) (p .1) in
-    omega (arith, few, linear)
+mul-function c = product-fits _ _ mostChunks 8192 (c .before .pre .2) (c .before .pre .1) tt
 
 mul-length : tie.Need-mul-length
-mul-length c =
-    let p = c .before .pre in
-    let few : c .pair-count .result ≤ 136 = rw (c .pair-count .ensures) (pairs-bound _ (p .2)) in
-    let linear = product-bound (c .before .args .parts) (c .before .args .rank) 16 8192 (p .2) (p .1) in
-    product-fits _ _ 131209 64 (omega (arith, few, linear)) (p .0) tt
+mul-length c = product-fits _ _ 131209 64 (few c) (c .before .pre .0) tt
 
 mul-length-2 : tie.Need-mul-length-2
 mul-length-2 c =
-    let p = c .before .pre in
-    let few : c .pair-count .result ≤ 136 = rw (c .pair-count .ensures) (pairs-bound _ (p .2)) in
-    let linear = product-bound (c .before .args .parts) (c .before .args .rank) 16 8192 (p .2) (p .1) in
-    product-fits _ _ 32 8397376 (p .3) (product-bound _ _ 131209 64 (omega (arith, few, linear)) (p .0)) tt
+    product-fits _ _ (3 * mostCommitmentRank + 3) (131209 * 64) (c .before .pre .3) (product-bound _ _ 131209 64 (few c) (c .before .pre .0)) tt
 
 returns : tie.Need-returns
 unfolding wholeLength functionSize
@@ -49,8 +36,8 @@ next-fits-spec =
     (tie.spec
     (λ c κs. search needs)
     mul-function
-    add-function
-    add-length
+    (λ c. omega (arith, few c))
+    (λ c. omega (arith, few c))
     mul-length
     mul-length-2
     (λ c κs. search needs)
