@@ -4,8 +4,8 @@ ghost use Rattle.sheet.specs.Reading.{emptyHeader};
 ghost use Rattle.capi.specs.Codes.{codeOf, productCode, headerCode, sheetCode};
 use fold::Answer;
 use lizkarg::Product;
-use sheet::reader::SheetAnswer;
 use sheet::header::SheetSizes;
+use sheet::reader::SheetAnswer;
 
 // An answer: kind 0 accepted, 1 failed, 2 refused, 3 written; the number of the check or of the refusal, else 0.
 #[repr(C)]
