@@ -14,6 +14,8 @@ from pathlib import Path
 
 HERE = Path(__file__).resolve().parent.parent.parent
 FOLDERS = ("crates", "docs", "tools", "bindings", "examples")
+# a file of a crate may stand without crates/
+OF_CRATE = r"[a-z_]+/(?:specs|src|proofs|must-fail)"
 FILES = subprocess.run(["git", "ls-files", "-co", "--exclude-standard"], cwd=HERE, capture_output=True, text=True, check=True).stdout.split("\n")
 FILES = [name for name in FILES if name and (HERE / name).is_file()]
 NAMES = {Path(name).name for name in FILES}
@@ -40,7 +42,7 @@ def placeholder(path):
 
 def file_faults(page):
     words = re.sub(r"https?://\S+", "", text(page))
-    for path in set(re.findall(r"(?<![\w/.$-])((?:%s)/[\w./*-]*[\w*])" % "|".join(FOLDERS), words)):
+    for path in set(re.findall(r"(?<![\w/.$-])((?:%s)/[\w./*-]*[\w*])" % "|".join(FOLDERS + (OF_CRATE,)), words)):
         if not placeholder(path) and not is_there(page, path):
             yield f"{page}: {path} is not there"
     for name in set(re.findall(r"(?<![\w/.*-])([A-Za-z][\w-]*\.(?:antt|rt|md|py|rs|c|h|svg|sheet))(?![\w/])", words)):

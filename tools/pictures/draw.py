@@ -9,7 +9,7 @@ from svg import Page
 ROOT = Path(__file__).resolve().parent.parent.parent
 
 
-NO_CODE = ("integers", "algebra", "theorems")
+NO_CODE = ("integers", "algebra", "fold_values", "theorems")
 
 
 def crate_colour(crate):

@@ -1,4 +1,4 @@
--- The mixed sum Σ g_ii c_i² + 2 Σ_{i<j} g_ij c_i c_j, row by row: each term once on the diagonal and twice off it.
+-- The mixed sum Σ g_ii c_i² + 2 Σ_{i<j} g_ij c_i c_j, row by row: each summand once on the diagonal and twice off it.
 use mathlib.Core.List.{List}
 use Prim.Native.Nat.{ℕ, zero, suc, _+_, _-_, _*_, _<_, _≤_}
 use lib.ListN.{length}
@@ -28,13 +28,13 @@ pub record Garbage (d r b t place : ℕ) (o : List ℤ) : Type 0 where
   pub digits : 0 < t
   pub inside : (place + pairs r * t) * d ≤ length o
 
--- term k of row i, of the garbage element x
-unfoldable pub mixedTerm : (d : ℕ) (c : List ℤ) (i k : ℕ) → R d .Carrier → R d .Carrier
-mixedTerm d c i k x = weighed (R d) k (R d .mul x (R d .mul (el d c i) (el d c (i + k))))
+-- the summand at i and j = i + k, of the garbage element x
+unfoldable pub mixedAt : (d : ℕ) (c : List ℤ) (i k : ℕ) → R d .Carrier → R d .Carrier
+mixedAt d c i k x = weighed (R d) k (R d .mul x (R d .mul (el d c i) (el d c (i + k))))
 
 module _ (d r b t place : ℕ) (c o : List ℤ) where
   unfoldable pub mixedSummand : ℕ → ℕ → R d .Carrier
-  mixedSummand i k = mixedTerm d c i k (garbageOf d r b t (block d o place) i (i + k))
+  mixedSummand i k = mixedAt d c i k (garbageOf d r b t (block d o place) i (i + k))
 
   unfoldable pub mixedRow : ℕ → R d .Carrier
   mixedRow i = sum (R d) (r - i) (mixedSummand i)

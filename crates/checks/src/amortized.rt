@@ -11,7 +11,7 @@ ghost use Rattle.fold.specs.Opening.{block, garbageOf};
 ghost use Rattle.fold.specs.Verdict.{check₅, check₆};
 ghost use Rattle.fold.specs.Known.WorkFacts.{FoldedFacts, AmortizedFacts};
 ghost use Rattle.checks.specs.Known.Facts.{Holds, tValue, gValue};
-ghost use Rattle.checks.specs.Mixed.{Garbage, mixedTerm, mixedRow};
+ghost use Rattle.checks.specs.Mixed.{Garbage, mixedAt, mixedRow};
 use crate::outer;
 use crate::recomposed;
 use fold::Sizes;
@@ -119,7 +119,7 @@ pub fn amortized(
 fn mixed_summand(d: usize, garbage: Element, c: &[i32], i: usize, k: usize) -> Element
     requires { ⌜ Degree d ⌝ }
     requires { ⌜ (i + k) * d + d ≤ length (now c) ⌝ }
-    ensures { λ x. ⌜ x .coefficients ≡ array d (mixedTerm d (now (c .entry)) i k (lift d (garbage .coefficients))) ⌝ }
+    ensures { λ x. ⌜ x .coefficients ≡ array d (mixedAt d (now (c .entry)) i k (lift d (garbage .coefficients))) ⌝ }
 {
     let left = Element::from_slice(d, c, i);
     let right = Element::from_slice(d, c, i + k);

@@ -90,7 +90,7 @@ pub fn linear_sum(
 }
 
 // Check 7: Σ <φ_i, z> c_i, given as an element, is the mixed sum of h.
-pub fn linear_part(tz: usize, sizes: Sizes, linear: Element, c: &[i32], opening: &[i32]) -> bool
+pub fn linear_holds(tz: usize, sizes: Sizes, linear: Element, c: &[i32], opening: &[i32]) -> bool
     requires { ⌜ tz ≤ 2 ⌝ }
     requires { ⌜ FoldedFacts tz sizes (now c) (now opening) ⌝ }
     ensures { λ r.

@@ -111,15 +111,18 @@ module _ (𝓢 : Statement) (𝓓 : Draws) (𝓣 : Transcript) (o : List ℤ) wh
   abbrev pub outerChecks : List (ℕ × Bool)
   outerChecks = (3, check₃ d r κ κ₁ t₁ t₂ B C u₁ tBlock gBlock) ∷ (4, check₄ d r κ₂ t₁ D u₂ hBlock) ∷ []
 
+  -- checks 5 and 6, of z
+  abbrev pub amortizedChecks : List (ℕ × Bool)
+  amortizedChecks = (5, check₅ d n r κ A c zᵒ tᵒ) ∷ (6, check₆ d n r c zᵒ gᵒ) ∷ []
+
+  -- checks 8 and 9, of the aggregated function and of the length
+  abbrev pub lastChecks : List (ℕ × Bool)
+  lastChecks =
+      (8, check₈ d r (aggregated 𝓢 𝓓 .a) (aggregateConstant d n r K whole α δ b″) gᵒ hᵒ) ∷ (9, check₉ d n r tz κ t₁ t₂ target o) ∷ []
+
   -- checks 5 to 9, of what the digits recompose to and of their length
   abbrev pub openingChecks : List (ℕ × Bool)
-  openingChecks =
-      (5, check₅ d n r κ A c zᵒ tᵒ)
-      ∷ (6, check₆ d n r c zᵒ gᵒ)
-      ∷ (7, check₇ d n r c (aggregated 𝓢 𝓓 .φ) zᵒ hᵒ)
-      ∷ (8, check₈ d r (aggregated 𝓢 𝓓 .a) (aggregateConstant d n r K whole α δ b″) gᵒ hᵒ)
-      ∷ (9, check₉ d n r tz κ t₁ t₂ target o)
-      ∷ []
+  openingChecks = amortizedChecks ++ ((7, check₇ d n r c (aggregated 𝓢 𝓓 .φ) zᵒ hᵒ) ∷ lastChecks)
 
   abbrev pub checks : List (ℕ × Bool)
   checks = messageChecks 𝓢 𝓓 𝓣 ++ (outerChecks ++ openingChecks)

@@ -30,7 +30,6 @@ pub struct Shape {
 }
 
 // The sizes of the constraints: the shape, and how many whole constraints, constant-term constraints and projection rows there are.
-#[repr(C)]
 pub struct ConstraintSizes {
     pub shape: Shape,
     pub k: usize,

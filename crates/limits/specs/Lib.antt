@@ -1,5 +1,5 @@
 -- Definitions
-pub mod Stages
+pub mod Bounds
 -- What a call that is not refused knows
 pub mod Known
 -- Laws

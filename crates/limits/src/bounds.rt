@@ -2,7 +2,7 @@
 ghost use mathlib.Core.Path.{_≡_};
 ghost use Rattle.fold.specs.Answers.{firstFailing};
 ghost use Rattle.fold.specs.Refusals.{projectBounds, aggregateBounds, amortizeBounds};
-ghost use Rattle.limits.specs.Stages as spec;
+ghost use Rattle.limits.specs.Bounds as spec;
 use crate::groups;
 use crate::rows::base;
 use crate::rows::commitment_rank;

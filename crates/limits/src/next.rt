@@ -7,7 +7,7 @@ ghost use Rattle.fold.specs.Arguments.{VerifySized};
 ghost use Rattle.fold.specs.Sizes.{restSize};
 ghost use Rattle.fold.specs.Known.CutSizes.{CutSizes};
 ghost use Rattle.fold.specs.Limits.{mostRank};
-ghost use Rattle.limits.specs.Stages as spec;
+ghost use Rattle.limits.specs.Bounds as spec;
 use crate::bounds::size_rows;
 use crate::groups::length_bounds;
 use crate::rows::chunk_counts;

@@ -5,7 +5,7 @@ ghost use lib.IntN.{pos};
 ghost use Rattle.fold.specs.Answers.{firstFailing};
 ghost use Rattle.fold.specs.Sizes.{nextParts};
 ghost use Rattle.fold.specs.Refusals as table;
-ghost use Rattle.limits.specs.Stages as spec;
+ghost use Rattle.limits.specs.Bounds as spec;
 use crate::groups::shape;
 use crate::rows::chunk_counts;
 use crate::rows::commitment_rank;

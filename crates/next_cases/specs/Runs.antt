@@ -37,7 +37,7 @@ pub record InstanceRun (sizes : Sizes) (ν μ : ℕ) (xs : List ℤ) (code : CAn
   pub called : NextOfLists sizes ν μ (drop 19 xs) (filled (sizeAt 32768 (pastLists 16 (drop 19 xs)) 0)) code out′
 
 -- ---- a fold: `lists` are A, B, C, D, the whole and the constant-term functions, the rows, ψ, ω, α, δ, c, the witness; the whole functions
--- and the witness s that it is made of are given beside them
+-- and the witness s of the fold stand apart, since those of a second fold come from the first
 
 pub record Committing (sizes : Sizes) (lists s lengths m : List ℤ) (code : CAnswer) (m′ : List ℤ) : Type 0 where
   pub t′ : List ℤ

@@ -1,5 +1,6 @@
 // A fold: messages 1 to 5 from a statement and a witness, and the verdict on them. `lists` are A, B, C, D, the whole and the constant-term
-// functions, the rows, ψ, ω, α, δ, c and the witness; the whole functions and the witness that the fold is made of are given beside them.
+// functions, the rows, ψ, ω, α, δ, c and the witness; the whole functions and the witness of the fold are lent besides, since
+// those of a second fold come from the first.
 // `lengths` and `messages` are those of module messages.
 ghost use mathlib.Core.Path.{_≡_};
 ghost use Rattle.next_cases.specs.Runs.{Committing, Projecting, Aggregating, GarbageCommitting, Amortizing, verdictOf, Folded};

@@ -18,9 +18,9 @@ use fold::Sizes;
 use fold::counts::Z_DIGITS;
 use fold::limits::PAIR_ROOM;
 use fold::limits::PART_ROOM;
-use next_checks::checks;
 use next_checks::cut::Cut;
 use next_checks::cut::cut_of;
+use next_checks::writers;
 use next_constraints::blocks::write_row;
 use next_constraints::lists::write_tables;
 use ring::element::Element;
@@ -39,7 +39,7 @@ fn write_rows5(sizes: Sizes, cut: Cut, a_matrix: &[i32], minus: &[i32], out: &mu
     let mut place = at;
     let mut k = 0;
     while k < rows {
-        checks::write_check5(sizes, cut, a_matrix, minus, k, out, place);
+        writers::write_check5(sizes, cut, a_matrix, minus, k, out, place);
         place += size;
         k += 1;
     }
@@ -70,9 +70,9 @@ fn write_middle(
     let size = cut.size + 1;
     let seventh = at + size;
     let eighth = seventh + size;
-    checks::write_check6(sizes, cut, products, out, at);
-    checks::write_check7(sizes, cut, folded, products, out, seventh);
-    checks::write_check8(sizes, cut, aggregate_a, diagonal, b, out, eighth);
+    writers::write_check6(sizes, cut, products, out, at);
+    writers::write_check7(sizes, cut, folded, products, out, seventh);
+    writers::write_check8(sizes, cut, aggregate_a, diagonal, b, out, eighth);
 }
 
 // The rows of check 3.
@@ -99,7 +99,7 @@ fn write_rows3(
     let mut place = at;
     let mut k = 0;
     while k < rows {
-        checks::write_check3(sizes, cut, b_matrix, c_matrix, u1, k, out, place);
+        writers::write_check3(sizes, cut, b_matrix, c_matrix, u1, k, out, place);
         place += size;
         k += 1;
     }
@@ -120,7 +120,7 @@ fn write_rows4(sizes: Sizes, cut: Cut, d_matrix: &[i32], u2: &[i32], out: &mut [
     let mut place = at;
     let mut k = 0;
     while k < rows {
-        checks::write_check4(sizes, cut, d_matrix, u2, k, out, place);
+        writers::write_check4(sizes, cut, d_matrix, u2, k, out, place);
         place += size;
         k += 1;
     }

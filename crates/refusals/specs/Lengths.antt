@@ -1,18 +1,15 @@
 -- Row 7 of fold's Refusals for sizes that stand in a struct, as the functions here ask for it.
 use mathlib.Core.Bool.{Bool}
 use mathlib.Core.List.{List, [], _∷_, _++_}
-use Prim.Native.Nat.{ℕ, _*_, _≤_}
+use Prim.Native.Nat.{ℕ, _*_}
 use lib.IntN.{ℤ}
 use Rattle.fold.specs.declared.CommitSizes.{CommitSizes}
 use Rattle.fold.specs.declared.ConstraintSizes.{ConstraintSizes}
 use Rattle.fold.specs.declared.GarbageSizes.{GarbageSizes}
 use Rattle.fold.specs.declared.Sizes.{Sizes}
 use Rattle.fold.specs.Sizes.{nextParts, nextCount}
-use Rattle.fold.specs.Known.Facts.{Shaped}
-use Rattle.fold.specs.Known.CallLimits.{AggregateLimits}
 use Rattle.fold.specs.Refusals.{sized, wholeLength, commitLengths, aggregateLengths, constraintLengths, garbageLengths, matrixLengths, messageLengths}
-use Rattle.fold.specs.Limits.{mostConstraints, mostProjections}
-use Rattle.limits.specs.Stages.{rankOf}
+use Rattle.limits.specs.Bounds.{rankOf}
 
 abbrev pub commitLengthsOf : CommitSizes → (A B C s ts gs u₁ : List ℤ) → List Bool
 commitLengthsOf m A B C s ts gs u₁ = commitLengths (m .shape .d) (m .shape .n) (m .shape .r) (m .kappa) (m .kappa1) (m .t1) (m .t2) A B C s ts gs u₁
@@ -43,16 +40,3 @@ drawLengthsOf m whole constantTerms projections ψ ω α δ c =
 -- the constraints of the next instance
 abbrev pub outLengthOf : (tz : ℕ) → Sizes → (ν μ : ℕ) → ℕ
 outLengthOf tz m ν μ = wholeLength (m .shape .d) (rankOf m ν μ) (nextParts tz ν μ) (nextCount (m .kappa) (m .kappa1) (m .kappa2))
-
--- the limits of the sizes of both kinds of constraints
-pub record ConstraintLimits (d n r K L w : ℕ) : Type 0 where
-  pub shaped : Shaped d n r
-  pub K-small : K ≤ mostConstraints
-  pub L-small : L ≤ mostConstraints
-  pub w-small : w ≤ mostProjections
-
-abbrev pub ConstraintSized : ConstraintSizes → Type 0
-ConstraintSized m = ConstraintLimits (m .shape .d) (m .shape .n) (m .shape .r) (m .k) (m .l) (m .w)
-
-abbrev pub AggregateSized : ConstraintSizes → Type 0
-AggregateSized m = AggregateLimits (m .shape .d) (m .shape .n) (m .shape .r) (m .l) (m .w)

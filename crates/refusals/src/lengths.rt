@@ -7,7 +7,7 @@ ghost use Rattle.fold.specs.Sizes.{openingSize};
 ghost use Rattle.fold.specs.Known.Facts.{Shaped};
 ghost use Rattle.fold.specs.Known.CallLimits.{ProjectLimits, AmortizeLimits};
 ghost use Rattle.fold.specs.Arguments.{CommitSized, GarbageSized, VerifySized};
-ghost use Rattle.refusals.specs.Lengths.{AggregateSized, ConstraintSized};
+ghost use Rattle.refusals.specs.Known.ConstraintSized.{AggregateSized, ConstraintSized};
 ghost use Rattle.refusals.specs.Lengths as spec;
 ghost use Rattle.fold.specs.Limits.{mostCommitmentRank, mostConstraints, mostDigits, mostParts, mostProjections, mostRank};
 use fold::CommitSizes;

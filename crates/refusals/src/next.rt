@@ -7,7 +7,7 @@ ghost use Rattle.fold.specs.Refusals as table;
 ghost use Rattle.fold.specs.Arguments.{VerifySized, statementOf, drawsOf, transcriptOf};
 ghost use Rattle.fold.specs.Known.CallLimits.{ChunkLimits};
 ghost use Rattle.fold.specs.Limits.{mostChunks, mostCommitmentRank};
-ghost use Rattle.limits.specs.Stages.{rankOf};
+ghost use Rattle.limits.specs.Bounds.{rankOf};
 ghost use Rattle.refusals.specs.Lengths as spec;
 use crate::draws::draw_lengths;
 use crate::lengths::matrix_lengths;

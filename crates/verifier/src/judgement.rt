@@ -5,7 +5,7 @@ ghost use Prim.Native.Nat.{_<_, _≤_};
 ghost use lib.IntN.{ℤ};
 ghost use Rattle.fold.specs.Answers.{firstFailing, judged};
 ghost use Rattle.fold.specs.Known.WorkFacts.{MessageFacts, OuterFacts, AmortizedFacts, RelationFacts, OpeningFacts};
-ghost use Rattle.verifier.specs.Judgement.{messageChecksOf, outerChecksOf, amortizedChecksOf, relationChecksOf, openingChecksOf, Recomposed};
+ghost use Rattle.verifier.specs.Judgement.{messageChecksOf, outerChecksOf, amortizedChecksOf, lastChecksOf, openingChecksOf, Recomposed};
 use checks::amortized;
 use checks::linear;
 use checks::norms;
@@ -89,7 +89,7 @@ fn amortized_checks(
 }
 
 // Checks 8 and 9. The projection rows and ω are no part of the aggregate's a.
-fn relation_checks(
+fn last_checks(
     tz: usize,
     sizes: Sizes,
     whole: &[i32],
@@ -103,7 +103,7 @@ fn relation_checks(
     requires { ⌜ tz ≤ 2 ⌝ }
     requires { ⌜ RelationFacts tz sizes (now whole) (now «constant_terms») (now psi) (now alpha) (now delta) (now «second_b») (now opening) ⌝ }
     ensures { λ x.
-        ⌜ ((projections omega : List ℤ) → x ≡ firstFailing (relationChecksOf tz sizes (now (whole .entry)) (now («constant_terms» .entry)) projections
+        ⌜ ((projections omega : List ℤ) → x ≡ firstFailing (lastChecksOf tz sizes (now (whole .entry)) (now («constant_terms» .entry)) projections
         (now (psi .entry)) omega (now («second_b» .entry)) (now (alpha .entry)) (now (delta .entry)) (now (opening .entry)))) ⌝ }
 {
     let eight = relation::relation_holds(
@@ -150,9 +150,9 @@ pub fn opening_checks(
 {
     let mut z = [0i32; PART_ROOM];
     recomposed::write_z(tz, sizes.shape.d, sizes.shape.n, sizes.b, opening, &mut z);
-    let amortized = amortized_checks(tz, sizes, a_matrix, c, &z, opening);
-    if amortized != 0 {
-        return amortized;
+    let failed = amortized_checks(tz, sizes, a_matrix, c, &z, opening);
+    if failed != 0 {
+        return failed;
     }
     let shape = sizes.shape;
     let constraint_sizes = ConstraintSizes {
@@ -161,7 +161,7 @@ pub fn opening_checks(
         l: sizes.l,
         w: sizes.w,
     };
-    let linear = linear::linear_sum(
+    let sum = linear::linear_sum(
         constraint_sizes,
         whole,
         constant_terms,
@@ -173,11 +173,11 @@ pub fn opening_checks(
         c,
         &z,
     );
-    let seven = linear::linear_part(tz, sizes, linear, c, opening);
+    let seven = linear::linear_holds(tz, sizes, sum, c, opening);
     if !seven {
         return 7;
     }
-    relation_checks(
+    last_checks(
         tz,
         sizes,
         whole,

@@ -24,7 +24,7 @@ use Rattle.checks.specs.Known.Facts.{Fits, Opening}
 use Rattle.checks.specs.Laws.PlaceLaws.{garbage-at}
 use Rattle.checks.specs.Places.{garbageAt}
 use Rattle.checks.specs.Laws.SizeLaws.{g-within, h-within}
-use Rattle.checks.specs.Mixed.{weighed, Garbage, mixedTerm, mixedSummand, mixedRow}
+use Rattle.checks.specs.Mixed.{weighed, Garbage, mixedAt, mixedSummand, mixedRow}
 use Rattle.fold.specs.Limits.{mostParts}
 
 module _ (𝓡 : CommRing) where
@@ -62,7 +62,7 @@ module _ (d r b t place : ℕ) (c o : List ℤ) where
   mixed-row i = refl
 
   pub mixed-all : sum (R d) r (mixedRow d r b t place c o) ≡ mixed (R d) r (garbageOf d r b t (block d o place)) (el d c)
-  unfolding mixedRow mixedSummand mixedTerm rows
+  unfolding mixedRow mixedSummand mixedAt rows
   mixed-all =
       sum-cong (R d) r _ _ (λ i _. sum-cong (R d) (r - i) _ _ (λ k _. ap (λ e. weighed (R d) e (summand i k)) (sym (add-sub-cancel-left i k))))
       ∙ mixed-rows (R d) r (garbageOf d r b t (block d o place)) (el d c)
@@ -72,10 +72,10 @@ module _ (d r b t place : ℕ) (c o : List ℤ) where
 
   -- the summand at pair number q, from the garbage element there
   pub mixed-summand : (i k q : ℕ) {g x : List ℤ} → d ≤ 64 → q ≡ pair r i (i + k) → g ≡ array d (garbageAt d b t (block d o place) q)
-      → x ≡ array d (mixedTerm d c i k (lift d g)) → x ≡ array d (mixedSummand d r b t place c o i k)
+      → x ≡ array d (mixedAt d c i k (lift d g)) → x ≡ array d (mixedSummand d r b t place c o i k)
   unfolding mixedSummand
   mixed-summand i k q small eq eg e =
-      e ∙ ap (λ u. array d (mixedTerm d c i k u)) (held small eg ∙ garbage-at d r b t (block d o place) i (i + k) q eq)
+      e ∙ ap (λ u. array d (mixedAt d c i k u)) (held small eg ∙ garbage-at d r b t (block d o place) i (i + k) q eq)
 
 -- the term from what the calls promise: c_i c_j, and its product with g_ij, which is doubled off the diagonal
 module _ (d : ℕ) (c : List ℤ) (i k : ℕ) (small : d ≤ 64) (g : List ℤ) {x y xy once : List ℤ} (ex : x ≡ array d (el d c i)) (ey : y ≡ array d (el d c (i + k)))
@@ -83,14 +83,14 @@ module _ (d : ℕ) (c : List ℤ) (i k : ℕ) (small : d ≤ 64) (g : List ℤ) 
   value : once ≡ array d (R d .mul (lift d g) (R d .mul (el d c i) (el d c (i + k))))
   value = product ∙ ap (λ u. array d (R d .mul (lift d g) u)) (held small exy ∙ ap₂ (R d .mul) (held small ex) (held small ey))
 
-  pub mixed-term-once : k ≤ 0 → once ≡ array d (mixedTerm d c i k (lift d g))
-  unfolding mixedTerm
-  mixed-term-once h = value ∙ ap (array d) (sym (weighed-zero (R d) k _ h))
+  pub mixed-once : k ≤ 0 → once ≡ array d (mixedAt d c i k (lift d g))
+  unfolding mixedAt
+  mixed-once h = value ∙ ap (array d) (sym (weighed-zero (R d) k _ h))
 
-  pub mixed-term-twice : {double : List ℤ} → 0 < k → double ≡ array d (R d .add (lift d once) (lift d once))
-      → double ≡ array d (mixedTerm d c i k (lift d g))
-  unfolding mixedTerm
-  mixed-term-twice h e =
+  pub mixed-twice : {double : List ℤ} → 0 < k → double ≡ array d (R d .add (lift d once) (lift d once))
+      → double ≡ array d (mixedAt d c i k (lift d g))
+  unfolding mixedAt
+  mixed-twice h e =
       e ∙ ap (array d) (ap₂ (R d .add) (held small value) (held small value) ∙ sym (weighed-apart (R d) k _ h))
 
 pub pair-along : (r i k q : ℕ) → q ≡ pair r i i → q + k ≡ pair r i (i + k)

@@ -45,12 +45,12 @@ linear-written d n φ c z i old written is =
     is ∙ ap (λ u. array d (R d .mul u (el d c i))) (sum-cong (R d) n _ _ (λ y h. ap (λ u. R d .mul u (el d z y)) (el-written d n (φ i) old written y h)))
 
 -- h from the given place on
-pub linear-part : (tz : ℕ) (s : Sizes) (c o left : List ℤ) {place : ℕ} {right : List ℤ} {t : Bool} → s .shape .d ≤ 64
+pub linear-holds : (tz : ℕ) (s : Sizes) (c o left : List ℤ) {place : ℕ} {right : List ℤ} {t : Bool} → s .shape .d ≤ 64
     → place ≡ hPlace tz (s .shape .n) (s .shape .r) (s .kappa) (s .t1) (s .t2)
     → right ≡ array (s .shape .d) (mixed (R (s .shape .d)) (s .shape .r) (garbageOf (s .shape .d) (s .shape .r) (s .b1) (s .t1) (block (s .shape .d) o place)) (el (s .shape .d) c))
     → t ≡ same (s .shape .d) (lift (s .shape .d) left) (lift (s .shape .d) right)
     → t ≡ same (s .shape .d) (lift (s .shape .d) left) (mixed (R (s .shape .d)) (s .shape .r) (hValue tz s o) (el (s .shape .d) c))
-linear-part tz s c o left small ep er result = result ∙ ap (same (s .shape .d) (lift (s .shape .d) left)) (held small er ∙ rw ep refl)
+linear-holds tz s c o left small ep er result = result ∙ ap (same (s .shape .d) (lift (s .shape .d) left)) (held small er ∙ rw ep refl)
 
 -- the sum is that of a z that agrees with the list's
 pub check-seven : (d n r : ℕ) (φ h : ℕ → ℕ → R d .Carrier) (c z : List ℤ) (y : ℕ → R d .Carrier) {linear : List ℤ} {t : Bool} → d ≤ 64

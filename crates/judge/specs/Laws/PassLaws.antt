@@ -18,7 +18,7 @@ use Rattle.fold.specs.Refusals.{allOf, sized, ranges, verifyTests}
 use Rattle.fold.specs.Laws.RefusalLaws.{Passes, _&_, passes-refusal, allOf-all, all-allOf, sized-iff}
 use Rattle.fold.specs.Laws.TestLaws.{passes-rows, after-passes}
 use Rattle.fold.specs.Sizes.{zCount}
-use Rattle.limits.specs.Stages.{nextBoundsOf}
+use Rattle.limits.specs.Bounds.{nextBoundsOf}
 use Rattle.fold.specs.declared.Sizes.{Sizes}
 use Rattle.sheet.specs.Lists.{listLengths, listAt}
 use Rattle.fields.specs.Sections.{total}

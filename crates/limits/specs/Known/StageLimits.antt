@@ -15,7 +15,7 @@ use Rattle.fold.specs.Known.CutSizes.{CutSizes, cut-sizes}
 use Rattle.fold.specs.Sizes.{restSize}
 use Rattle.fold.specs.Arguments.{CommitSized, GarbageSized, VerifySized, PartSizedWith}
 use Rattle.fold.specs.Refusals.{projectBounds, aggregateBounds, amortizeBounds, chunks}
-use Rattle.limits.specs.Stages.{commitBoundsOf, garbageBoundsOf, verifyBoundsOf, sizeRowsOf, boundRowsOf, nextBoundsOf, partBoundsOf}
+use Rattle.limits.specs.Bounds.{commitBoundsOf, garbageBoundsOf, verifyBoundsOf, sizeRowsOf, boundRowsOf, nextBoundsOf, partBoundsOf}
 
 pub commit-sized : (m : CommitSizes) {x : ℕ} → x ≡ firstFailing (commitBoundsOf m) → x ≡ 0 → CommitSized m
 commit-sized m e z = commit-limits _ _ _ _ _ _ _ _ _ (holds (commitBoundsOf m) refl (sym e ∙ z))

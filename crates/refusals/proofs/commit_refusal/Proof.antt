@@ -2,7 +2,7 @@
 use mathlib.Core.Path.{refl}
 use Rattle.fold.specs.Refusals.{commitTests}
 use Rattle.fold.specs.Laws.TestLaws.{stops}
-use Rattle.limits.specs.Stages.{commitBoundsOf}
+use Rattle.limits.specs.Bounds.{commitBoundsOf}
 use Rattle.limits.specs.Laws.RowLaws.{end, _&_}
 use Rattle.limits.specs.Laws.StageLaws.{row, none}
 use Rattle.refusals.specs.Laws.FitLaws.{unfit, fit}

@@ -2,7 +2,7 @@
 use mathlib.Core.Path.{refl}
 use Rattle.fold.specs.Refusals.{garbageTests}
 use Rattle.fold.specs.Laws.TestLaws.{stops}
-use Rattle.limits.specs.Stages.{garbageBoundsOf}
+use Rattle.limits.specs.Bounds.{garbageBoundsOf}
 use Rattle.limits.specs.Laws.RowLaws.{end, _&_, joined-row}
 use Rattle.limits.specs.Laws.StageLaws.{single, none, append-rows}
 use Rattle.refusals.specs.Laws.FitLaws.{unfit, fit}

@@ -4,7 +4,7 @@ use native.Mathlib.Omega.{arith}
 use Rattle.fold.specs.Refusals.{verifyTests}
 use Rattle.fold.specs.Laws.RefusalLaws.{sized-length}
 use Rattle.fold.specs.Laws.TestLaws.{stops}
-use Rattle.limits.specs.Stages.{verifyBoundsOf}
+use Rattle.limits.specs.Bounds.{verifyBoundsOf}
 use Rattle.limits.specs.Laws.RowLaws.{end, _&_, joined-row}
 use Rattle.limits.specs.Laws.StageLaws.{single, none, append-rows}
 use Rattle.refusals.specs.Laws.FitLaws.{unfit, fit, fitting-last}

@@ -18,7 +18,7 @@ use Rattle.fold.specs.Arguments.{VerifySized}
 use Rattle.fold.specs.Refusals.{anyOf, between, degree, rank, parts, constraintCount, projectionCount, commitmentRank, base, digitCount}
 use Rattle.fold.specs.Refusals.{lengthBound, chunks}
 use Rattle.fold.specs.Laws.RefusalLaws.{Passes, passes-refusal}
-use Rattle.limits.specs.Stages.{nextBoundsOf}
+use Rattle.limits.specs.Bounds.{nextBoundsOf}
 use Rattle.limits.specs.Laws.CountLaws.{many-ν, many-μ}
 use Rattle.limits.specs.Known.StageLimits.{next-sized}
 use Rattle.fields.specs.Place.{endIf}

@@ -3,7 +3,7 @@ use Prim.Native.Nat.{_+_, _≤_, _<_}
 use native.Mathlib.Nat.{mul-le-mul-right}
 use native.Mathlib.Omega.{arith}
 use Rattle.ring.specs.Laws.ElementPlaces.{element-below}
-use Rattle.checks.specs.Laws.MixedLaws.{mixed-term-once, mixed-term-twice}
+use Rattle.checks.specs.Laws.MixedLaws.{mixed-once, mixed-twice}
 use borrow.Author.Needs.{needs}
 use Rattle.checks.proofs.amortized.mixed_summand.Statement.{statement}
 use Rattle.checks.proofs.amortized.mixed_summand.Tie as tie
@@ -26,7 +26,7 @@ returns c =
     let s = p .before .before .before in
     let a = s .args in
     let zero : a .k ≤ 0 = omega (arith, c .if1 .taken) in
-    mixed-term-once (a .d) _ (a .i) (a .k) (s .pre .0 .small) _ (p .before .before .from-slice .ensures) (p .before .from-slice2 .ensures)
+    mixed-once (a .d) _ (a .i) (a .k) (s .pre .0 .small) _ (p .before .before .from-slice .ensures) (p .before .from-slice2 .ensures)
     (p .product .ensures) (c .before .product2 .ensures) zero
 
 returns-2 : tie.Need-returns-2
@@ -36,7 +36,7 @@ returns-2 c =
     let s = p .before .before .before in
     let a = s .args in
     let apart : 0 < a .k = omega (arith, l .if1 .left) in
-    mixed-term-twice (a .d) _ (a .i) (a .k) (s .pre .0 .small) _ (p .before .before .from-slice .ensures) (p .before .from-slice2 .ensures)
+    mixed-twice (a .d) _ (a .i) (a .k) (s .pre .0 .small) _ (p .before .before .from-slice .ensures) (p .before .from-slice2 .ensures)
     (p .product .ensures) (l .before .product2 .ensures) apart (c .sum .ensures)
 
 pub mixed-summand-spec : {M : Type 1} → statement M

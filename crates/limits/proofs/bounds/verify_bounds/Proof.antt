@@ -1,7 +1,7 @@
 -- `limits::bounds::verify_bounds` meets its contract: rows 1 to 4, then row 6. Assumes nothing.
 use mathlib.Core.Path.{refl}
 use Rattle.limits.specs.Laws.StageLaws.{single, none, after-rows}
-use Rattle.limits.specs.Stages.{sizeRowsOf}
+use Rattle.limits.specs.Bounds.{sizeRowsOf}
 use Rattle.limits.proofs.bounds.verify_bounds.Statement.{statement}
 use Rattle.limits.proofs.bounds.verify_bounds.Tie as tie
 

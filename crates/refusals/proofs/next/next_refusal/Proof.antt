@@ -7,7 +7,7 @@ use Rattle.fold.specs.Sizes.{zCount}
 use Rattle.fold.specs.Refusals.{nextTests}
 use Rattle.fold.specs.Laws.RefusalLaws.{sized-length}
 use Rattle.fold.specs.Laws.TestLaws.{stops}
-use Rattle.limits.specs.Stages.{nextBoundsOf}
+use Rattle.limits.specs.Bounds.{nextBoundsOf}
 use Rattle.limits.specs.Laws.RowLaws.{end, _&_, joined-row}
 use Rattle.limits.specs.Laws.StageLaws.{single, none, append-rows}
 use Rattle.refusals.specs.Laws.FitLaws.{unfit, fit, fitting-last}

@@ -5,7 +5,7 @@ use Rattle.fold.specs.Sizes.{zCount}
 use Rattle.fold.specs.Refusals.{partTests}
 use Rattle.fold.specs.NextCall.{partRefusal}
 use Rattle.fold.specs.Laws.TestLaws.{stops, goes-on}
-use Rattle.limits.specs.Stages.{partBoundsOf}
+use Rattle.limits.specs.Bounds.{partBoundsOf}
 use Rattle.limits.specs.Laws.StageLaws.{single, none}
 use Rattle.limits.specs.Known.StageLimits.{part-sized}
 use Rattle.refusals.proofs.part.next_part_refusal.Statement.{statement}

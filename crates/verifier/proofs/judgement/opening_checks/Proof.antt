@@ -54,8 +54,8 @@ linear-sum-requires c κs =
     let s = w .before .before in
     (s .pre .1 .aggregated, (s .pre .1 .amortized .folded .c-length, stands w .room))
 
-linear-part-requires : tie.Need-linear-part-requires
-linear-part-requires c κs =
+linear-holds-requires : tie.Need-linear-holds-requires
+linear-holds-requires c κs =
     let s = c .before .before .before .before .before .before .before .before .before in
     (s .pre .0 .1, s .pre .1 .amortized .folded)
 
@@ -68,10 +68,10 @@ returns-2 c =
     let w = a1 .before .before .before in
     let small = w .before .before .pre .1 .relation .limits .shaped .degree .small in
     goes-on _ _ refl (a1 .amortized-checks .ensures) (e1 .if1 .left)
-    (fails 7 _ (check-seven _ _ _ _ _ _ _ _ small (stands w .agree) (l .linear-sum .ensures) (a2 .linear-part .ensures)) (c .if2 .taken))
+    (fails 7 _ (check-seven _ _ _ _ _ _ _ _ small (stands w .agree) (l .linear-sum .ensures) (a2 .linear-holds .ensures)) (c .if2 .taken))
 
-relation-checks-requires : tie.Need-relation-checks-requires
-relation-checks-requires c κs =
+last-checks-requires : tie.Need-last-checks-requires
+last-checks-requires c κs =
     let s = c .before .before .before .before .before .before .before .before .before .before .before in
     (s .pre .0 .1, s .pre .1 .relation)
 
@@ -86,8 +86,8 @@ returns-3 c =
     let s = w .before .before in
     let small = s .pre .1 .relation .limits .shaped .degree .small in
     goes-on _ _ refl (a1 .amortized-checks .ensures) (e1 .if1 .left)
-    (passes 7 _ (check-seven _ _ _ _ _ _ _ _ small (stands w .agree) (l .linear-sum .ensures) (a2 .linear-part .ensures)) (e2 .if2 .left)
-    (c .relation-checks .ensures (s .args .projections .now) (s .args .omega .now)))
+    (passes 7 _ (check-seven _ _ _ _ _ _ _ _ small (stands w .agree) (l .linear-sum .ensures) (a2 .linear-holds .ensures)) (e2 .if2 .left)
+    (c .last-checks .ensures (s .args .projections .now) (s .args .omega .now)))
 
 pub opening-checks-spec : {M : Type 1} → statement M
 opening-checks-spec =
@@ -100,7 +100,7 @@ opening-checks-spec =
     returns
     (λ c. sym (long (c .before .before .before .before .before .before)))
     linear-sum-requires
-    linear-part-requires
+    linear-holds-requires
     returns-2
-    relation-checks-requires
+    last-checks-requires
     returns-3)

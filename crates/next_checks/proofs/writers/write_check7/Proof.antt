@@ -1,4 +1,4 @@
--- `next_checks::checks::write_check7` meets its contract.
+-- `next_checks::writers::write_check7` meets its contract.
 use mathlib.Core.Path.{refl, sym, _∙_}
 use native.Mathlib.Omega.{arith}
 use Rattle.next_checks.specs.Checks as spec
@@ -6,8 +6,8 @@ use Rattle.next_checks.specs.Laws.CutLaws.{z-below, h-below, z-asked, h-
 use Rattle.next_constraints.specs.Laws.BlockLaws.{numbers-zeros, length-z, length-garbage}
 use Rattle.next_checks.specs.Laws.Forming.{cleared-pieces, replaced, pieceSizes, cleared, put-z, put-h, formed-no-a}
 use borrow.Author.Needs.{needs}
-use Rattle.next_checks.proofs.checks.write_check7.Statement.{statement}
-use Rattle.next_checks.proofs.checks.write_check7.Tie as tie
+use Rattle.next_checks.proofs.writers.write_check7.Statement.{statement}
+use Rattle.next_checks.proofs.writers.write_check7.Tie as tie
 
 write-z-requires : tie.Need-write-z-requires
 write-z-requires c κs =

@@ -35,6 +35,7 @@ nextBoundsOf tz m ν μ = sizeRowsOf m ++ ((5, chunks tz (pos ν) (pos μ)) ∷ 
 abbrev pub partBoundsOf : (tz : ℕ) → PartSizes → ℕ → List (ℕ × Bool)
 partBoundsOf tz m i = partBounds (m .shape .d) (m .shape .n) (m .shape .r) (m .kappa) (m .t1) (m .t2) tz (m .nu) (m .mu) i
 
--- the rank of the next instance
+-- ---- row 11: the rank of the next instance
+
 abbrev pub rankOf : Sizes → (ν μ : ℕ) → ℕ
 rankOf m ν μ = nextRank (m .shape .n) ν (restSize (m .shape .r) (m .kappa) (m .t1) (m .t2)) μ

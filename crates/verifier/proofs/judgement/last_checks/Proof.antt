@@ -1,8 +1,8 @@
--- `verifier::judgement::relation_checks` meets its contract: check 8 fails, or check 9 says.
+-- `verifier::judgement::last_checks` meets its contract: check 8 fails, or check 9 says.
 use Rattle.fold.specs.Laws.TestLaws.{fails, passes}
 use Rattle.limits.specs.Laws.StageLaws.{single, none}
-use Rattle.verifier.proofs.judgement.relation_checks.Statement.{statement}
-use Rattle.verifier.proofs.judgement.relation_checks.Tie as tie
+use Rattle.verifier.proofs.judgement.last_checks.Statement.{statement}
+use Rattle.verifier.proofs.judgement.last_checks.Tie as tie
 
 returns : tie.Need-returns
 returns c =
@@ -19,8 +19,8 @@ returns-2 c =
     passes 8 _ (a1 .relation-holds .ensures (a1 .before .args .sizes .w) projections omega) (e1 .if1 .left)
     (single 9 _ (a2 .short-opening .ensures) (c .first .ensures) none)
 
-pub relation-checks-spec : {M : Type 1} → statement M
-relation-checks-spec =
+pub last-checks-spec : {M : Type 1} → statement M
+last-checks-spec =
     tie.close
     (tie.spec (λ c κs. c .pre) returns
     (λ c κs. let s = c .before .before in (s .pre .0, (s .pre .1 .limits, s .pre .1 .o-length))) (λ c κs. tt) returns-2)

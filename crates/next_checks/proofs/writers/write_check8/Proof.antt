@@ -1,4 +1,4 @@
--- `next_checks::checks::write_check8` meets its contract.
+-- `next_checks::writers::write_check8` meets its contract.
 use mathlib.Core.Path.{refl, sym, _∙_}
 use native.Mathlib.Omega.{arith}
 use Rattle.next_checks.specs.Checks as spec
@@ -6,8 +6,8 @@ use Rattle.next_checks.specs.Laws.CutLaws.{g-below, h-below, g-asked, h-
 use Rattle.next_constraints.specs.Laws.BlockLaws.{numbers-zeros, length-garbage}
 use Rattle.next_checks.specs.Laws.Forming.{cleared-pieces, replaced, pieceSizes, cleared, put-g, put-h, formed-no-a}
 use borrow.Author.Needs.{needs}
-use Rattle.next_checks.proofs.checks.write_check8.Statement.{statement}
-use Rattle.next_checks.proofs.checks.write_check8.Tie as tie
+use Rattle.next_checks.proofs.writers.write_check8.Statement.{statement}
+use Rattle.next_checks.proofs.writers.write_check8.Tie as tie
 
 write-garbage-requires-2 : tie.Need-write-garbage-requires-2
 write-garbage-requires-2 c κs =

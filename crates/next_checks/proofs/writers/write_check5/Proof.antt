@@ -1,4 +1,4 @@
--- `next_checks::checks::write_check5` meets its contract.
+-- `next_checks::writers::write_check5` meets its contract.
 use mathlib.Core.Path.{refl, sym, _∙_}
 use Prim.Native.Nat.{_*_, _≤_}
 use native.Mathlib.Omega.{arith}
@@ -11,8 +11,8 @@ use Rattle.next_checks.specs.Laws.CutLaws.{t-block, block-fits, z-below,
 use Rattle.next_constraints.specs.Laws.BlockLaws.{numbers-zeros, length-z, length-t}
 use Rattle.next_checks.specs.Laws.Forming.{cleared-pieces, replaced, pieceSizes, cleared, put-z, put-t, formed-no-a}
 use borrow.Author.Needs.{needs}
-use Rattle.next_checks.proofs.checks.write_check5.Statement.{statement}
-use Rattle.next_checks.proofs.checks.write_check5.Tie as tie
+use Rattle.next_checks.proofs.writers.write_check5.Statement.{statement}
+use Rattle.next_checks.proofs.writers.write_check5.Tie as tie
 
 mul-write-z : tie.Need-mul-write-z
 mul-write-z c =

@@ -1,4 +1,4 @@
--- `next_checks::checks::write_check3` meets its contract.
+-- `next_checks::writers::write_check3` meets its contract.
 use mathlib.Core.Path.{refl, sym, ap, _∙_}
 use mathlib.Core.List.{List}
 use Prim.Native.Nat.{ℕ, _*_, _≤_}
@@ -15,8 +15,8 @@ use Rattle.next_checks.specs.Laws.CutLaws.{t-block, g-block, t-columns, 
 use Rattle.next_constraints.specs.Laws.BlockLaws.{numbers-zeros}
 use Rattle.next_checks.specs.Laws.Forming.{cleared-pieces, replaced, pieceSizes, cleared, put-t, put-g, formed-no-a}
 use borrow.Author.Needs.{needs}
-use Rattle.next_checks.proofs.checks.write_check3.Statement.{statement}
-use Rattle.next_checks.proofs.checks.write_check3.Tie as tie
+use Rattle.next_checks.proofs.writers.write_check3.Statement.{statement}
+use Rattle.next_checks.proofs.writers.write_check3.Tie as tie
 
 write-matrix-row-requires : tie.Need-write-matrix-row-requires
 write-matrix-row-requires c κs =

@@ -1,4 +1,4 @@
--- `next_checks::checks::write_check6` meets its contract.
+-- `next_checks::writers::write_check6` meets its contract.
 use mathlib.Core.Path.{refl, sym, ap}
 use Prim.Native.Nat.{_+_, _*_, _≤_}
 use native.Mathlib.Omega.{arith}
@@ -9,8 +9,8 @@ use Rattle.next_checks.specs.Laws.CutLaws.{z-parts, parts-few, g-below, 
 use Rattle.next_constraints.specs.Laws.BlockLaws.{numbers-zeros, length-garbage}
 use Rattle.next_checks.specs.Laws.Forming.{cleared-pieces, replaced, pieceSizes, cleared, put-a, put-g, same-size, lent-over, lent-length, a-room, length-a, formed}
 use borrow.Author.Needs.{needs}
-use Rattle.next_checks.proofs.checks.write_check6.Statement.{statement}
-use Rattle.next_checks.proofs.checks.write_check6.Tie as tie
+use Rattle.next_checks.proofs.writers.write_check6.Statement.{statement}
+use Rattle.next_checks.proofs.writers.write_check6.Tie as tie
 
 mul-end : tie.Need-mul-end
 mul-end c =
