@@ -60,7 +60,7 @@ module _ (m : PartSizes) (i : ℕ) (o : List ℤ) {x : ℕ} (e : x ≡ partRefus
         part-limits _ _ _ _ _ _ _ _ _ _
         (early-holds (partBounds (m .shape .d) (m .shape .n) (m .shape .r) (m .kappa) (m .t1) (m .t2) zCount (m .nu) (m .mu) i) _ refl (sym e ∙ z))
 
-    opening-length : length o ≡ (2 * m .shape .n + restOf m) * m .shape .d
+    opening-length : length o ≡ (zCount * m .shape .n + restOf m) * m .shape .d
     unfolding partRefusal partTests openingSize
     opening-length = sized-iff o _ .0 (holds tests refl (sym e ∙ z) 7)
 
@@ -84,14 +84,14 @@ module _ (m : PartSizes) (i : ℕ) (o : List ℤ) {x : ℕ} (e : x ≡ partRefus
           let ends = start-mono (width zCount (m .shape .n) (m .nu) k (m .mu)) (i - 1) (zCount * m .nu + m .mu) here in
           let all = widths-cover zCount (m .shape .n) (m .nu) k (m .mu) (f .cut .ν-positive) (f .cut .μ-positive) in
           let within : at + w ≤ zCount * m .shape .n + restOf m = omega (arith, begins, wide, ends, all, rest) in
-          let scaled : (at + w) * m .shape .d ≤ (2 * m .shape .n + restOf m) * m .shape .d = mul-le-mul-right (m .shape .d) within in
+          let scaled : (at + w) * m .shape .d ≤ (zCount * m .shape .n + restOf m) * m .shape .d = mul-le-mul-right (m .shape .d) within in
           omega (arith, scaled, opening-length)
 
       pub chunk-room : at * m .shape .d + w * m .shape .d ≤ 1000000
       chunk-room =
           let f = part-known in
           let m-bound = restSize-bound (m .shape .r) (m .kappa) (m .t1) (m .t2) (f .shaped .parts-small) (f .κ-small) (f .t₁-most) (f .t₂-most) in
-          let room = product-bound (2 * m .shape .n + restOf m) (m .shape .d) 3712 64 (omega (arith, f .shaped .rank-small, m-bound)) (f .shaped .degree .small) in
+          let room = product-bound (zCount * m .shape .n + restOf m) (m .shape .d) 3712 64 (omega (arith, f .shaped .rank-small, m-bound)) (f .shaped .degree .small) in
           omega (arith, room, chunk-inside, opening-length)
 
       pub placed-found : Placed m i o (record { start = at * m .shape .d; length = w * m .shape .d })
