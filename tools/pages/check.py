@@ -3,7 +3,7 @@
 
     files       a file or folder that a page names is there; so is the target of each link and picture
     names       a name in `..` is a word of the sources, or a file
-    citations   'SPECIFICATION 7' and 'SPECIFICATION 7.h', anywhere, are a section and a paragraph of docs/SPECIFICATION.md
+    citations   'SPECIFICATION 7' and 'SPECIFICATION 7.h', anywhere, are a section and a paragraph of docs/SPECIFICATION.md, which has each number once
     quotes      what a comment of the crates quotes in "..", of more than ten characters, stands in docs/SPECIFICATION.md; '..' is something left out
     edits       docs/EDITS.md has a table for each crate with must-fail edits, and the edits that it names after a crate are that crate's
 """
@@ -96,6 +96,13 @@ def citation_faults(name, known):
             yield f"{name}: SPECIFICATION {cited} is not there"
 
 
+def number_faults():
+    numbers = re.findall(r"^\*\*(\d+\.\w+)\*\*", SPECIFICATION, re.MULTILINE)
+    for number in set(numbers):
+        if numbers.count(number) > 1:
+            yield f"docs/SPECIFICATION.md: {number} stands {numbers.count(number)} times"
+
+
 def quote_faults(name, specification):
     for block in re.findall(r"(?:^[ \t]*(?:--|//).*\n)+", text(name), re.MULTILINE):
         comment = plain(re.sub(r"^[ \t]*(--|//) ?", "", block, flags=re.MULTILINE))
@@ -131,6 +138,7 @@ def faults():
         yield from citation_faults(name, known)
         if name.startswith("crates/") and name.endswith((".antt", ".rt")):
             yield from quote_faults(name, specification)
+    yield from number_faults()
     yield from edit_faults()
 
 

@@ -5,7 +5,7 @@ pages themselves anew.
 Their words are kept in the pages; what is copied stands between marks and is written here, so that it cannot go stale: tools/all writes the pages
 anew and compares. A mark is followed by what is written, and that by <!-- end -->.
 
-    <!-- show FILE NAME .. -->    declarations of a file: a theorem's statement, a record, a definition with its equations, each under the modules whose
+    <!-- show FILE NAME .. -->    declarations of a file: a theorem's statement, a record, a data type, a definition with its equations, each under the modules whose
                                   parameters it takes
     <!-- lines -->                a table of files; the last column is how many lines they have
     <!-- edits CRATE -->          the must-fail edits of a crate: name, what the edit says of itself, and a last column that the page keeps
@@ -67,7 +67,7 @@ def modules(lines, at):
 
 def declaration(path, lines, name):
     """Where the declaration of `name` starts and ends; a theorem's ends before its proof."""
-    head = re.compile(r"\s*(abbrev |unfoldable )?(pub )?(record )?" + re.escape(name) + r" ")
+    head = re.compile(r"\s*(abbrev |unfoldable )?(pub )?(record |data )?" + re.escape(name) + r" ")
     start = next((k for k, line in enumerate(lines) if head.match(line) and (head.match(line)[3] or f"{name} :" in line)), None)
     if start is None:
         raise SystemExit(f"{path} declares no {name}")

@@ -1,5 +1,7 @@
 pub mod ModulusLaws
 pub mod Centring
+pub mod SignBits
+pub mod StraightLineLaws
 pub mod ResidueSteps
 pub mod DigitLaws
 pub mod DigitSteps

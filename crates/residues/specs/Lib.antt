@@ -3,6 +3,7 @@ pub mod Modulus
 pub mod Digits
 pub mod Length
 pub mod Range
+pub mod StraightLine
 -- What the code forms
 pub mod DigitBlocks
 -- Laws

@@ -53,17 +53,17 @@ pub fn residue(x: i32) -> u64
     ensures { λ r. ⌜ r ≡ emod x q ⌝ }
 {
     let wide = x as i64;
-    if wide < 0 {
-        return (wide + MODULUS) as u64;
-    }
-    wide as u64
+    let raised = wide + MODULUS;
+    (raised % MODULUS) as u64
 }
 
-// The centred number congruent to x modulo q.
+// The centred number congruent to x modulo q. A remainder above 2147483598 is lowered by q: `upper` is 1 there, where the sum reaches 2^32,
+// and 0 elsewhere.
 pub fn from_residue(x: u64) -> i32
     ensures { λ r. ⌜ r ≡ centred (pos x) ⌝ }
 {
     let low = x % 4294967197;
     let wide = low as i64;
-    centre_small(wide)
+    let upper = (wide + 2147483697) / 4294967296;
+    (wide - upper * MODULUS) as i32
 }

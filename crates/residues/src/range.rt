@@ -5,15 +5,14 @@ ghost use Rattle.residues.specs.Range.{between, allBetween, coefficients
 use crate::length::compare;
 use crate::length::is_within;
 
-// The absolute value.
+// The absolute value. `wide >> 63` is -1 where x is negative and 0 elsewhere.
 pub fn magnitude(x: i32) -> u64
     ensures { λ r. ⌜ r ≡ natAbs x ⌝ }
 {
     let wide = x as i64;
-    if wide < 0 {
-        return (-wide) as u64;
-    }
-    wide as u64
+    let sign = wide >> 63;
+    let turned = wide ^ sign;
+    (turned - sign) as u64
 }
 
 // Whether x lies from low to high.

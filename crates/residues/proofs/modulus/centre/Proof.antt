@@ -1,9 +1,13 @@
 -- `residues::modulus::centre` meets its contract: each step is in range, and together they centre.
+use mathlib.Core.Path.{_≡_, refl}
+use mathlib.Core.Bool.{true}
 use native.Mathlib.Omega.{arith}
 use borrow.Author.Needs.{needs}
 use mir.Facts.{toZ-ofZ}
 use Rattle.residues.specs.Modulus.{q, centred}
 use Rattle.residues.specs.Laws.Centring.{quotZ-fits, shifted-fits, centre-fits, centre-fits-wide, remainder-held, shifted-held, low-held}
+use Rattle.residues.specs.StraightLine.{straight, Signed, returned, added, subtracted, reduced, resized}
+use Rattle.residues.proofs.modulus.centre.Code.Mir as code
 use Rattle.residues.proofs.modulus.centre.Statement.{statement}
 use Rattle.residues.proofs.modulus.centre.Tie as tie
 
@@ -44,3 +48,12 @@ centre-spec =
     tie.close
     (tie.spec (λ c. rw (toZ-ofZ (c .fits .x)) (omega arith, quotZ-fits 4294967197 (c .args .x) (c .fits .x))) (λ c. search needs)
     add-shifted-2 rem-low sub-result cast-result returns)
+
+-- ---- SPECIFICATION 2.11
+
+pub centre-straight : straight (code.function .body) ≡ true
+unfolding straight
+centre-straight = refl
+
+pub centre-signed : Signed (code.function .body)
+centre-signed = reduced (added (added (reduced (subtracted (resized returned)))))

@@ -1,9 +1,13 @@
 -- `residues::modulus::centre_small` meets its contract: what is added makes the number natural, and one remainder centres it.
+use mathlib.Core.Path.{_≡_, refl}
+use mathlib.Core.Bool.{true}
 use native.Mathlib.Omega.{arith}
 use borrow.Author.Needs.{needs}
 use mir.Facts.{toZ-ofZ}
 use Rattle.residues.specs.Modulus.{q, centred}
 use Rattle.residues.specs.Laws.Centring.{quotZ-fits, centre-fits, centre-fits-wide, raised-fits, raised-held, raised-low-held}
+use Rattle.residues.specs.StraightLine.{straight, Signed, returned, added, subtracted, reduced, resized}
+use Rattle.residues.proofs.modulus.centre_small.Code.Mir as code
 use Rattle.residues.proofs.modulus.centre_small.Statement.{statement}
 use Rattle.residues.proofs.modulus.centre_small.Tie as tie
 
@@ -46,3 +50,12 @@ returns c =
 pub centre-small-spec : {M : Type 1} → statement M
 centre-small-spec =
     tie.close (tie.spec add-shifted add-shifted-2 rem-low sub-result cast-result returns)
+
+-- ---- SPECIFICATION 2.11
+
+pub centre-small-straight : straight (code.function .body) ≡ true
+unfolding straight
+centre-small-straight = refl
+
+pub centre-small-signed : Signed (code.function .body)
+centre-small-signed = added (added (reduced (subtracted (resized returned))))

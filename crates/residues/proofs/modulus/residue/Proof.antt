@@ -1,36 +1,35 @@
--- `residues::modulus::residue` meets its contract, by the sign of x.
-use mir.Facts.{toZ-ofZ}
-use Rattle.residues.specs.Laws.Centring.{widen, wide}
-use Rattle.residues.specs.Laws.ResidueSteps.{residue-negative, residue-nonnegative, raised-fits, raised-natural, natural}
+-- `residues::modulus::residue` meets its contract: with q added the number is natural, and its remainder is the residue.
+use mathlib.Core.Path.{_≡_, refl}
+use mathlib.Core.Bool.{true}
+use native.Mathlib.Omega.{arith}
+use mir.Facts.{toZ-ofZ, fits-natAbs}
+use Rattle.residues.specs.Laws.Centring.{widen, wide, quotZ-fits}
+use Rattle.residues.specs.Laws.ResidueSteps.{plus-q-fits, plus-q-held, residue-fits, residue-held}
+use Rattle.residues.specs.StraightLine.{straight}
+use Rattle.residues.proofs.modulus.residue.Code.Mir as code
 use Rattle.residues.proofs.modulus.residue.Statement.{statement}
 use Rattle.residues.proofs.modulus.residue.Tie as tie
 
 cast-wide : tie.Need-cast-wide
 cast-wide c = rw (toZ-ofZ (c .fits .x)) (widen (c .fits .x))
 
-add-result : tie.Need-add-result
-add-result c = rw (wide (c .before .fits .x)) (raised-fits (c .before .fits .x))
+add-raised : tie.Need-add-raised
+add-raised c = rw (wide (c .fits .x)) (plus-q-fits (c .fits .x))
+
+rem-result : tie.Need-rem-result
+rem-result c = rw (plus-q-held (c .fits .x)) (omega arith, quotZ-fits 4294967197 _ (plus-q-fits (c .fits .x)))
 
 cast-result : tie.Need-cast-result
-cast-result c =
-    let x = c .before .fits .x in
-    rw (wide x, toZ-ofZ (raised-fits x)) (raised-natural x)
+cast-result c = rw (residue-held (c .fits .x)) (tt, fits-natAbs tt (residue-fits (c .args .x)))
 
 returns : tie.Need-returns
-returns c =
-    let x = c .before .fits .x in
-    rw (wide x, toZ-ofZ (raised-fits x)) (residue-negative x (rw (wide x) at (c .if1 .taken)))
-
-cast-result-2 : tie.Need-cast-result-2
-cast-result-2 c =
-    let x = c .before .fits .x in
-    rw (wide x) (natural x (rw (wide x) at (c .if1 .left)))
-
-returns-2 : tie.Need-returns-2
-returns-2 c =
-    let x = c .before .fits .x in
-    rw (wide x) (residue-nonnegative x (rw (wide x) at (c .if1 .left)))
+returns c = rw (residue-held (c .fits .x)) refl
 
 pub residue-spec : {M : Type 1} → statement M
-residue-spec =
-    tie.close (tie.spec cast-wide add-result cast-result returns cast-result-2 returns-2)
+residue-spec = tie.close (tie.spec cast-wide add-raised rem-result cast-result returns)
+
+-- ---- SPECIFICATION 2.11
+
+pub residue-straight : straight (code.function .body) ≡ true
+unfolding straight
+residue-straight = refl

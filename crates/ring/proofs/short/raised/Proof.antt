@@ -1,9 +1,12 @@
 -- `ring::short::raised` meets its contract: 2^22 + x is not negative.
-use mathlib.Core.Path.{refl}
+use mathlib.Core.Path.{_≡_, refl}
+use mathlib.Core.Bool.{true}
 use mir.Facts.{toZ-ofZ, sfits-widen}
 use Rattle.residues.specs.Laws.Words.{wide}
+use Rattle.residues.specs.StraightLine.{straight}
 use Rattle.ring.specs.Short.{lifted}
 use Rattle.ring.specs.Laws.ShortOperand.{raised-fits, raised-natural}
+use Rattle.ring.proofs.short.raised.Code.Mir as code
 use Rattle.ring.proofs.short.raised.Statement.{statement}
 use Rattle.ring.proofs.short.raised.Tie as tie
 
@@ -22,3 +25,9 @@ returns c = rw (wide (c .args .x) (c .fits .x), toZ-ofZ (raised-fits (c .args .x
 
 pub raised-spec : {M : Type 1} → statement M
 raised-spec = tie.close (tie.spec cast-wide add-result cast-result returns)
+
+-- ---- SPECIFICATION 2.11
+
+pub raised-straight : straight (code.function .body) ≡ true
+unfolding straight
+raised-straight = refl
