@@ -44,7 +44,7 @@ static void heading(void) {
 }
 
 static void products(const char *what, int32_t most) {
-    enum { ELEMENTS = 64, ROUNDS = 40 };
+    enum { ELEMENTS = 64, ROUNDS = 400 };
     static int32_t x[ELEMENTS * 64], y[ELEMENTS * 64], first[64], other[64];
     double least[COUNT];
     for (int i = 0; i < ELEMENTS * 64; i++) {

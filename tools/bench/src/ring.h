@@ -43,14 +43,20 @@ static element inner(size_t d, size_t n, const int32_t *u, const int32_t *v) {
     return out;
 }
 #elif KERNEL == 1
+/* by the bits of the sign, where the library takes a remainder: of that these compilers make slower code */
 static inline uint64_t residue(int32_t x) {
     int64_t w = x;
-    return w < 0 ? (uint64_t)(w + Q) : (uint64_t)w;
+    return (uint64_t)(w + ((w >> 63) & Q));
 }
 
 static inline uint64_t magnitude(int32_t x) {
-    int64_t w = x;
-    return w < 0 ? (uint64_t)-w : (uint64_t)w;
+    int64_t w = x, sign = w >> 63;
+    return (uint64_t)((w ^ sign) - sign);
+}
+
+static inline int32_t from_residue(uint64_t x) {
+    int64_t w = (int64_t)(x % (uint64_t)Q);
+    return (int32_t)(w - (w + 2147483697) / 4294967296 * Q);
 }
 
 /* all numbers below 2^22 in absolute value */
@@ -117,7 +123,7 @@ static element inner(size_t d, size_t n, const int32_t *u, const int32_t *v) {
         if (is_short(d, v)) add_short_pair(d, a, v, e, sums);
         else add_pair(d, a, v, e, sums);
     }
-    for (size_t k = 0; k < d; k++) out.v[k] = centre_sum((int64_t)(sums[k] % (uint64_t)Q));
+    for (size_t k = 0; k < d; k++) out.v[k] = from_residue(sums[k]);
     return out;
 }
 #else
