@@ -1,10 +1,15 @@
--- What straight code leaves out, and that signed arithmetic is straight.
+-- What straight code leaves out, which lines signed arithmetic has, and that it is straight.
 use mathlib.Core.Path.{_≡_, refl}
 use mathlib.Core.Bool.{true, false, _&&_}
 use mathlib.Core.List.{List}
-use mir.Syntax.{Place, Opd, Op2, op2, add, sub, mul, div, rem, unsigned}
-use mir.Syntax.{Body, seq, assign, loop, cond, switch, Arms, call, Name}
-use Rattle.residues.specs.StraightLine.{straight, Signed, returned, added, subtracted, multiplied, divided, reduced, resized}
+use mathlib.Core.Logic.{_⊎_, inl, inr}
+use Prim.Native.Nat.{ℕ}
+use mir.Syntax.{Width, Sign, signed, unsigned, Place, Opd, Op1, op1, cast, Op2, op2, add, sub, mul, div, rem}
+use mir.Syntax.{Body, seq, assign, block, loop, cond, switch, Arms, exit, call, Name}
+use Rattle.residues.specs.StraightLine.{straight, Signed, Reduced}
+use Rattle.residues.specs.StraightLine.{returned, added, subtracted, multiplied, divided, reduced, resized, first}
+
+-- ---- straight code
 
 pub no-branch : (x : Opd) (a b : Body) → straight (cond x a b) ≡ false
 unfolding straight
@@ -22,9 +27,19 @@ pub no-call : (f : Name) (xs : List Opd) (p : Place) → straight (call f xs p) 
 unfolding straight
 no-call f xs p = refl
 
+pub no-block : (b : Body) → straight (block b) ≡ false
+unfolding straight
+no-block b = refl
+
+pub no-exit : (n : ℕ) → straight (exit n) ≡ false
+unfolding straight
+no-exit n = refl
+
 pub both : (a b : Body) → straight (seq a b) ≡ straight a && straight b
 unfolding straight
 both a b = refl
+
+-- ---- signed arithmetic
 
 pub signed-straight : {b : Body} → Signed b → straight b ≡ true
 unfolding straight
@@ -36,10 +51,25 @@ signed-straight (divided h) = signed-straight h
 signed-straight (reduced h) = signed-straight h
 signed-straight (resized h) = signed-straight h
 
+pub reduced-straight : {b : Body} → Reduced b → straight b ≡ true
+unfolding straight
+reduced-straight (first h) = signed-straight h
+
+-- a line that computes o of two operands
 abbrev line : Op2 → Place → Opd → Opd → Body → Body
 line o p x y b = seq (assign p (op2 o x y)) b
 
-pub no-unsigned : (p : Place) (x y : Opd) (b : Body) →
-    (Signed (line (add unsigned) p x y b) → ⊥) × (Signed (line (sub unsigned) p x y b) → ⊥) × (Signed (line (mul unsigned) p x y b) → ⊥)
-    × (Signed (line (div unsigned) p x y b) → ⊥) × (Signed (line (rem unsigned) p x y b) → ⊥)
-no-unsigned p x y b = (λ h. elim h [ ], λ h. elim h [ ], λ h. elim h [ ], λ h. elim h [ ], λ h. elim h [ ])
+pub signed-line : {o : Op2} {p : Place} {x y : Opd} {b : Body} → Signed (line o p x y b) →
+    ((o ≡ add signed) ⊎ (o ≡ sub signed) ⊎ (o ≡ mul signed) ⊎ (o ≡ div signed) ⊎ (o ≡ rem signed)) × Signed b
+signed-line (added h) = (inl refl, h)
+signed-line (subtracted h) = (inr (inl refl), h)
+signed-line (multiplied h) = (inr (inr (inl refl)), h)
+signed-line (divided h) = (inr (inr (inr (inl refl))), h)
+signed-line (reduced h) = (inr (inr (inr (inr refl))), h)
+
+pub signed-width : {o : Op1} {p : Place} {x : Opd} {b : Body} → Signed (seq (assign p (op1 o x)) b) →
+    (s : Sign) × (w : Width) × (o ≡ cast s signed w) × Signed b
+signed-width (resized h) = (_, _, refl, h)
+
+pub reduced-line : {o : Op2} {p : Place} {x y : Opd} {b : Body} → Reduced (line o p x y b) → (o ≡ rem unsigned) × Signed b
+reduced-line (first h) = (refl, h)
