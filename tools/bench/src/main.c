@@ -291,18 +291,18 @@ int main(int argc, char **argv) {
     fold(s, (int)v[5]);
     linear(s, (int)v[5]);
     sheets();
-    printf("\nGrowth with n (r = 8) and with r (n = 64); w = 64, K = L = 2, kappa = 4, best of 3; ours, then ratios to ours\n\n");
+    printf("\nGrowth with n (r = 8) and with r (n = 64); w = 64, K = L = 2, kappa = 4, best of 9; ours, then ratios to ours\n\n");
     growth_heading();
     lizkarg_sizes small = {64, 64, 8, 2, 2, 64, 4, 4, 4, 16, 256, 256, 4, 4, 0, 0};
     for (size_t n = 16; n <= 256; n *= 2) {
         lizkarg_sizes x = small;
         x.n = n;
-        growth_line("n", n, x, 3);
+        growth_line("n", n, x, 9);
     }
     for (size_t r = 1; r <= 16; r *= 2) {
         lizkarg_sizes x = small;
         x.r = r;
-        growth_line("r", r, x, 3);
+        growth_line("r", r, x, 9);
     }
     return 0;
 }
