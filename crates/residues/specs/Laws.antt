@@ -1,12 +1,12 @@
 pub mod ModulusLaws
+pub mod Words
 pub mod Centring
-pub mod SignBits
-pub mod StraightLineLaws
 pub mod ResidueSteps
+pub mod StraightLineLaws
 pub mod DigitLaws
 pub mod DigitSteps
 pub mod DigitBlockLaws
 pub mod DigitSums
-pub mod Words
 pub mod LengthLaws
 pub mod RangeLaws
+pub mod AbsoluteValue

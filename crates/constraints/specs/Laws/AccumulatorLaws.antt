@@ -15,8 +15,7 @@ use mir.Val.{SFits, toZ, ofZ}
 use mir.Facts.{toZ-ofZ}
 use Rattle.integers.specs.Laws.Bridge.{P, N, zarith, eq-pn, natAbs-pn, pn-min, add-pn, sub-pn, mul-pn, abs-bnd, mul-bnd}
 use Rattle.residues.specs.Modulus.{centred}
-use Rattle.residues.specs.Laws.Centring.{held}
-use Rattle.residues.specs.Laws.Words.{word}
+use Rattle.residues.specs.Laws.Words.{word, held}
 use Rattle.ring.specs.Laws.ElementSteps.{bits32-centred}
 use Rattle.constraints.specs.Accumulator.{FiveRoom, AddedFive}
 

@@ -16,10 +16,9 @@ use mir.Syntax.{w32, w64}
 use mir.Val.{SFits, toZ, ofZ}
 use mir.Facts.{toZ-ofZ}
 use Rattle.integers.specs.Laws.Bridge.{P, N, zarith, natAbs-pn, pn-min, pos-pn, add-pn, sub-pn, abs-bnd, mul-bnd}
-use Rattle.residues.specs.Laws.Centring.{held}
 use Rattle.residues.specs.Range.{projectionEntries}
 use Rattle.residues.specs.Laws.RangeLaws.{allWithin-at}
-use Rattle.residues.specs.Laws.Words.{word}
+use Rattle.residues.specs.Laws.Words.{word, held}
 use Rattle.constraints.specs.RowGroups.{decode, Coded, Codes, CodesOf, fourSum, Summand, WeightedSum, OmegaSums, omegaSumCount, codeCount}
 use Rattle.fold.specs.Limits.{mostProjections}
 

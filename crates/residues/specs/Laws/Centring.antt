@@ -7,17 +7,14 @@ use native.Mathlib.Omega.{arith}
 use lib.IntN.{ℤ, pos, negsuc, natAbs, _+ℤ_, _-ℤ_, _*ℤ_}
 use lib.Signed.{quotZ, remZ}
 use mir.Syntax.{w32, w64}
-use mir.Val.{SFits, toZ, ofZ}
+use mir.Val.{SFits}
 use mir.Facts.{toZ-ofZ}
 use Rattle.integers.specs.Laws.Bridge.{P, N, natAbs-pn, pn-min, bnd, abs-bnd, mul-bnd, add-pn, neg-pn, mul-pn, zarith}
 use Rattle.integers.specs.Remainder.{centre}
 use Rattle.integers.specs.Laws.RemainderLaws.{emod-eq}
 use Rattle.integers.specs.Laws.CentreLaws.{centre-range}
 use Rattle.integers.specs.Laws.MachineDivision.{remZ-lt, remZ-nonneg, centre-remZ}
-
--- a number as a 64-bit signed local holds it
-abbrev pub held : ℤ → ℤ
-held z = toZ w64 (ofZ w64 z)
+use Rattle.residues.specs.Laws.Words.{held}
 
 -- a quotient is no longer than its dividend
 pub quotZ-sign : (m : ℕ) (x : ℤ) → (P (quotZ x (pos m)) ≤ P x) × (N (quotZ x (pos m)) ≤ N x)
@@ -27,13 +24,6 @@ quotZ-sign m (negsuc a) =
 
 pub quotZ-fits : (m : ℕ) (x : ℤ) → SFits w64 x → SFits w64 (quotZ x (pos m))
 quotZ-fits m x h = omega (zarith, bnd x, quotZ-sign m x)
-
-pub widen : {x : ℤ} → SFits w32 x → SFits w64 x
-widen {x} h = omega (zarith, bnd x)
-
--- a 32-bit number as a 64-bit local holds it
-pub wide : {x : ℤ} → SFits w32 x → held (toZ w32 (ofZ w32 x)) ≡ x
-wide {x} h = rw (toZ-ofZ h) (toZ-ofZ (widen h))
 
 pub sum-fits : {x y : ℤ} → SFits w32 x → SFits w32 y → SFits w64 (x +ℤ y)
 sum-fits {x} {y} h k = omega (zarith, bnd x, bnd y, add-pn x y)

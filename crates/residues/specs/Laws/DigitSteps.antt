@@ -11,7 +11,8 @@ use mir.Facts.{toZ-ofZ, toZ-pos}
 use Rattle.integers.specs.Laws.Bridge.{P, N, pn-min, natAbs-pn, bnd, abs-bnd, add-pn, sub-pn, mul-bnd, zarith}
 use Rattle.residues.specs.Digits.{Base, low, rest}
 use Rattle.residues.specs.Laws.DigitLaws.{low-bound, rest-size}
-use Rattle.residues.specs.Laws.Centring.{held, widen, wide, quotZ-fits, remainder-fits, shifted-fits, low-fits as centre-low-fits, centring}
+use Rattle.residues.specs.Laws.Words.{held, widen, wide}
+use Rattle.residues.specs.Laws.Centring.{quotZ-fits, remainder-fits, shifted-fits, low-fits as centre-low-fits, centring}
 
 -- the locals of `low_digit`
 abbrev half : ℕ → ℤ

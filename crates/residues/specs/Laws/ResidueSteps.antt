@@ -14,7 +14,7 @@ use Rattle.integers.specs.Laws.RemainderLaws.{emod-eq, emod-lt}
 use Rattle.integers.specs.Laws.MachineDivision.{remZ-nonneg}
 use Rattle.residues.specs.Modulus.{q, centred}
 use Rattle.residues.specs.Laws.ModulusLaws.{centred-fits}
-use Rattle.residues.specs.Laws.Centring.{held, wide, widen}
+use Rattle.residues.specs.Laws.Words.{held, widen, wide}
 
 -- ---- q makes a 32-bit number natural, and the remainder is its residue
 

@@ -35,9 +35,9 @@ pub no-exit : (n : ℕ) → straight (exit n) ≡ false
 unfolding straight
 no-exit n = refl
 
-pub both : (a b : Body) → straight (seq a b) ≡ straight a && straight b
+pub straight-seq : (a b : Body) → straight (seq a b) ≡ straight a && straight b
 unfolding straight
-both a b = refl
+straight-seq a b = refl
 
 -- ---- signed arithmetic
 

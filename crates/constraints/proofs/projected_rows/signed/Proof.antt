@@ -1,7 +1,6 @@
 -- `constraints::projected_rows::signed` meets its contract, by the sign of x.
 use mir.Facts.{toZ-ofZ}
-use Rattle.residues.specs.Laws.Centring.{widen}
-use Rattle.residues.specs.Laws.Words.{wide, wide-opposite, opposite-fits}
+use Rattle.residues.specs.Laws.Words.{widen, wide, opposite-fits, wide-opposite}
 use Rattle.constraints.specs.Laws.AccumulatorLaws.{signed-positive, signed-negative, signed-zero}
 use Rattle.constraints.proofs.projected_rows.signed.Statement.{statement}
 use Rattle.constraints.proofs.projected_rows.signed.Tie as tie
@@ -12,12 +11,12 @@ cast-wide c = rw (toZ-ofZ (c .fits .c)) (widen (c .fits .c))
 returns : tie.Need-returns
 returns c =
     let s = c .before in
-    rw (wide _ (s .fits .c)) (signed-positive (s .args .c) (s .args .x) (s .pre) (rw (toZ-ofZ (s .fits .x)) at (c .if1 .taken)))
+    rw (wide (s .fits .c)) (signed-positive (s .args .c) (s .args .x) (s .pre) (rw (toZ-ofZ (s .fits .x)) at (c .if1 .taken)))
 
 sub-result : tie.Need-sub-result
 sub-result c =
     let s = c .before .before in
-    rw (wide _ (s .fits .c)) (opposite-fits _ (s .fits .c))
+    rw (wide (s .fits .c)) (opposite-fits _ (s .fits .c))
 
 returns-2 : tie.Need-returns-2
 returns-2 c =

@@ -1,6 +1,7 @@
 -- `constraints::row_groups::add_signed` meets its contract: the product of two 32-bit numbers leaves room for the sum.
 use mir.Facts.{toZ-ofZ}
-use Rattle.residues.specs.Laws.Centring.{widen, wide, product-fits}
+use Rattle.residues.specs.Laws.Words.{widen, wide}
+use Rattle.residues.specs.Laws.Centring.{product-fits}
 use Rattle.constraints.specs.Laws.RowGroupLaws.{signed-fits}
 use Rattle.constraints.proofs.row_groups.add_signed.Statement.{statement}
 use Rattle.constraints.proofs.row_groups.add_signed.Tie as tie

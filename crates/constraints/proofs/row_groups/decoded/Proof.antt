@@ -4,7 +4,7 @@ use native.Mathlib.Omega.{arith}
 use borrow.Author.Needs.{needs}
 use mir.Syntax.{w64}
 use mir.Facts.{toZ-ofZ, toZ-pos}
-use Rattle.residues.specs.Laws.Centring.{widen}
+use Rattle.residues.specs.Laws.Words.{widen}
 use Rattle.constraints.specs.RowGroups.{decode}
 use Rattle.constraints.specs.Laws.RowGroupLaws.{decode-fits}
 use Rattle.constraints.proofs.row_groups.decoded.Statement.{statement}

@@ -1,7 +1,7 @@
 -- `residues::digits::fold_digit` meets its contract: the product with the base and the sum fit 64 bits.
 use mathlib.Core.Path.{_∙_}
 use mir.Facts.{toZ-ofZ}
-use Rattle.residues.specs.Laws.Centring.{widen, wide}
+use Rattle.residues.specs.Laws.Words.{widen, wide}
 use Rattle.residues.specs.Laws.DigitSteps.{base-held, base-product-fits, horner-fits}
 use borrow.Author.Needs.{needs}
 use Rattle.residues.proofs.digits.fold_digit.Statement.{statement}

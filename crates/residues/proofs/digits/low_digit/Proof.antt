@@ -1,7 +1,7 @@
 -- `residues::digits::low_digit` meets its contract: each step is in range, and together they give the low digit.
 use native.Mathlib.Omega.{arith}
 use mir.Facts.{toZ-ofZ}
-use Rattle.residues.specs.Laws.Centring.{widen}
+use Rattle.residues.specs.Laws.Words.{widen}
 use Rattle.residues.specs.Laws.DigitSteps.{half-quotient-fits, remainder-quotient-fits, sum-half-fits, sum-offset-fits, digit-quotient-fits}
 use Rattle.residues.specs.Laws.DigitSteps.{digit-held, low-fits}
 use borrow.Author.Needs.{needs}

@@ -3,7 +3,7 @@ use native.Mathlib.Omega.{arith}
 use mir.Syntax.{w32}
 use mir.Val.{SFits}
 use mir.Facts.{toZ-ofZ}
-use Rattle.residues.specs.Laws.Centring.{widen}
+use Rattle.residues.specs.Laws.Words.{widen}
 use Rattle.residues.specs.Laws.DigitSteps.{sub-low-fits, rest-quotient-fits, rest-narrow-fits, rest-held}
 use borrow.Author.Needs.{needs}
 use Rattle.residues.proofs.digits.quotient.Statement.{statement}

@@ -1,7 +1,8 @@
 -- `residues::modulus::add` meets its contract: the sum of two 32-bit numbers fits 64 bits.
 use mathlib.Core.Path.{_∙_}
 use mir.Facts.{toZ-ofZ}
-use Rattle.residues.specs.Laws.Centring.{widen, wide, sum-fits, sum-near}
+use Rattle.residues.specs.Laws.Words.{widen, wide}
+use Rattle.residues.specs.Laws.Centring.{sum-fits, sum-near}
 use Rattle.residues.proofs.modulus.add.Statement.{statement}
 use Rattle.residues.proofs.modulus.add.Tie as tie
 

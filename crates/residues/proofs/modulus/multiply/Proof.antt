@@ -2,7 +2,8 @@
 use borrow.Author.Needs.{needs}
 use mathlib.Core.Path.{_∙_}
 use mir.Facts.{toZ-ofZ}
-use Rattle.residues.specs.Laws.Centring.{widen, wide, product-fits}
+use Rattle.residues.specs.Laws.Words.{widen, wide}
+use Rattle.residues.specs.Laws.Centring.{product-fits}
 use Rattle.residues.proofs.modulus.multiply.Statement.{statement}
 use Rattle.residues.proofs.modulus.multiply.Tie as tie
 

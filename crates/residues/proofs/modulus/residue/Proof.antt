@@ -3,7 +3,8 @@ use mathlib.Core.Path.{_≡_, refl}
 use mathlib.Core.Bool.{true}
 use native.Mathlib.Omega.{arith}
 use mir.Facts.{toZ-ofZ, fits-natAbs}
-use Rattle.residues.specs.Laws.Centring.{widen, wide, quotZ-fits}
+use Rattle.residues.specs.Laws.Words.{widen, wide}
+use Rattle.residues.specs.Laws.Centring.{quotZ-fits}
 use Rattle.residues.specs.Laws.ResidueSteps.{plus-q-fits, plus-q-held, residue-fits, residue-held}
 use Rattle.residues.specs.StraightLine.{straight}
 use Rattle.residues.proofs.modulus.residue.Code.Mir as code

@@ -10,7 +10,7 @@ use mir.Syntax.{w32, w64}
 use mir.Val.{SFits, toZ, ofZ}
 use mir.Facts.{toZ-ofZ, toZ-pos}
 use Rattle.integers.specs.Laws.Bridge.{natAbs-pn, pn-min, bnd, sub-pn, zarith}
-use Rattle.residues.specs.Laws.Centring.{held, wide}
+use Rattle.residues.specs.Laws.Words.{held, wide}
 
 abbrev sign : ℤ → ℤ
 sign (pos n) = pos 0
