@@ -6,8 +6,8 @@ use mathlib.Core.Logic.{_⊎_, inl, inr}
 use Prim.Native.Nat.{ℕ}
 use mir.Syntax.{Width, Sign, signed, unsigned, Place, Opd, Op1, op1, cast, Op2, op2, add, sub, mul, div, rem}
 use mir.Syntax.{Body, seq, assign, block, loop, cond, switch, Arms, exit, call, Name}
-use Rattle.residues.specs.StraightLine.{straight, Signed, Reduced}
-use Rattle.residues.specs.StraightLine.{returned, added, subtracted, multiplied, divided, reduced, resized, first}
+use Rattle.residues.specs.StraightLine.{straight, Signed, AfterRemainder}
+use Rattle.residues.specs.StraightLine.{returned, added, subtracted, multiplied, divided, reduced, made-signed, first}
 
 -- ---- straight code
 
@@ -49,11 +49,11 @@ signed-straight (subtracted h) = signed-straight h
 signed-straight (multiplied h) = signed-straight h
 signed-straight (divided h) = signed-straight h
 signed-straight (reduced h) = signed-straight h
-signed-straight (resized h) = signed-straight h
+signed-straight (made-signed h) = signed-straight h
 
-pub reduced-straight : {b : Body} → Reduced b → straight b ≡ true
+pub after-remainder-straight : {b : Body} → AfterRemainder b → straight b ≡ true
 unfolding straight
-reduced-straight (first h) = signed-straight h
+after-remainder-straight (first h) = signed-straight h
 
 -- a line that computes o of two operands
 abbrev line : Op2 → Place → Opd → Opd → Body → Body
@@ -67,9 +67,9 @@ signed-line (multiplied h) = (inr (inr (inl refl)), h)
 signed-line (divided h) = (inr (inr (inr (inl refl))), h)
 signed-line (reduced h) = (inr (inr (inr (inr refl))), h)
 
-pub signed-width : {o : Op1} {p : Place} {x : Opd} {b : Body} → Signed (seq (assign p (op1 o x)) b) →
+pub signed-cast : {o : Op1} {p : Place} {x : Opd} {b : Body} → Signed (seq (assign p (op1 o x)) b) →
     (s : Sign) × (w : Width) × (o ≡ cast s signed w) × Signed b
-signed-width (resized h) = (_, _, refl, h)
+signed-cast (made-signed h) = (_, _, refl, h)
 
-pub reduced-line : {o : Op2} {p : Place} {x y : Opd} {b : Body} → Reduced (line o p x y b) → (o ≡ rem unsigned) × Signed b
-reduced-line (first h) = (refl, h)
+pub after-remainder-line : {o : Op2} {p : Place} {x y : Opd} {b : Body} → AfterRemainder (line o p x y b) → (o ≡ rem unsigned) × Signed b
+after-remainder-line (first h) = (refl, h)

@@ -1,12 +1,13 @@
 -- `residues::modulus::centre` meets its contract: each step is in range, and together they centre.
-use mathlib.Core.Path.{_≡_, refl}
+use mathlib.Core.Path.{_≡_}
 use mathlib.Core.Bool.{true}
 use native.Mathlib.Omega.{arith}
 use borrow.Author.Needs.{needs}
 use mir.Facts.{toZ-ofZ}
 use Rattle.residues.specs.Modulus.{q, centred}
 use Rattle.residues.specs.Laws.Centring.{quotZ-fits, shifted-fits, centre-fits, centre-fits-wide, remainder-held, shifted-held, low-held}
-use Rattle.residues.specs.StraightLine.{straight, Signed, returned, added, subtracted, reduced, resized}
+use Rattle.residues.specs.Laws.StraightLineLaws.{signed-straight}
+use Rattle.residues.specs.StraightLine.{straight, Signed, returned, added, subtracted, reduced, made-signed}
 use Rattle.residues.proofs.modulus.centre.Code.Mir as code
 use Rattle.residues.proofs.modulus.centre.Statement.{statement}
 use Rattle.residues.proofs.modulus.centre.Tie as tie
@@ -51,9 +52,8 @@ centre-spec =
 
 -- ---- SPECIFICATION 2.11
 
-pub centre-straight : straight (code.function .body) ≡ true
-unfolding straight
-centre-straight = refl
-
 pub centre-signed : Signed (code.function .body)
-centre-signed = reduced (added (added (reduced (subtracted (resized returned)))))
+centre-signed = reduced (added (added (reduced (subtracted (made-signed returned)))))
+
+pub centre-straight : straight (code.function .body) ≡ true
+centre-straight = signed-straight centre-signed

@@ -1,12 +1,13 @@
 -- `residues::modulus::centre_small` meets its contract: what is added makes the number natural, and one remainder centres it.
-use mathlib.Core.Path.{_≡_, refl}
+use mathlib.Core.Path.{_≡_}
 use mathlib.Core.Bool.{true}
 use native.Mathlib.Omega.{arith}
 use borrow.Author.Needs.{needs}
 use mir.Facts.{toZ-ofZ}
 use Rattle.residues.specs.Modulus.{q, centred}
 use Rattle.residues.specs.Laws.Centring.{quotZ-fits, centre-fits, centre-fits-wide, raised-fits, raised-held, raised-low-held}
-use Rattle.residues.specs.StraightLine.{straight, Signed, returned, added, subtracted, reduced, resized}
+use Rattle.residues.specs.Laws.StraightLineLaws.{signed-straight}
+use Rattle.residues.specs.StraightLine.{straight, Signed, returned, added, subtracted, reduced, made-signed}
 use Rattle.residues.proofs.modulus.centre_small.Code.Mir as code
 use Rattle.residues.proofs.modulus.centre_small.Statement.{statement}
 use Rattle.residues.proofs.modulus.centre_small.Tie as tie
@@ -53,9 +54,8 @@ centre-small-spec =
 
 -- ---- SPECIFICATION 2.11
 
-pub centre-small-straight : straight (code.function .body) ≡ true
-unfolding straight
-centre-small-straight = refl
-
 pub centre-small-signed : Signed (code.function .body)
-centre-small-signed = added (added (reduced (subtracted (resized returned))))
+centre-small-signed = added (added (reduced (subtracted (made-signed returned))))
+
+pub centre-small-straight : straight (code.function .body) ≡ true
+centre-small-straight = signed-straight centre-small-signed

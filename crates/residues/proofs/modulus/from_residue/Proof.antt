@@ -1,5 +1,5 @@
 -- `residues::modulus::from_residue` meets its contract: the remainder has the same centred number, and one q at most is taken from it.
-use mathlib.Core.Path.{_≡_, refl, _∙_}
+use mathlib.Core.Path.{_≡_, _∙_}
 use mathlib.Core.Bool.{true}
 use Prim.Native.Nat.{ℕ, _%_, _<_}
 use native.Mathlib.Omega.{arith}
@@ -7,7 +7,8 @@ use borrow.Author.Needs.{needs}
 use mir.Facts.{toZ-ofZ}
 use Rattle.residues.specs.Laws.ModulusLaws.{centred-mod, centred-fits}
 use Rattle.residues.specs.Laws.ResidueSteps.{carry-fits, upper-fits, upper-held, multiple-fits, lowered-held, lowered-fits, lowered-centred}
-use Rattle.residues.specs.StraightLine.{straight, Reduced, returned, added, subtracted, multiplied, divided, resized, first}
+use Rattle.residues.specs.Laws.StraightLineLaws.{after-remainder-straight}
+use Rattle.residues.specs.StraightLine.{straight, AfterRemainder, returned, added, subtracted, multiplied, divided, made-signed, first}
 use Rattle.residues.proofs.modulus.from_residue.Code.Mir as code
 use Rattle.residues.proofs.modulus.from_residue.Statement.{statement}
 use Rattle.residues.proofs.modulus.from_residue.Tie as tie
@@ -45,9 +46,8 @@ from-residue-spec = tie.close (tie.spec cast-wide add-upper div-upper mul-result
 
 -- ---- SPECIFICATION 2.11
 
-pub from-residue-straight : straight (code.function .body) ≡ true
-unfolding straight
-from-residue-straight = refl
+pub from-residue-after-remainder : AfterRemainder (code.function .body)
+from-residue-after-remainder = first (made-signed (added (divided (multiplied (subtracted (made-signed returned))))))
 
-pub from-residue-signed : Reduced (code.function .body)
-from-residue-signed = first (resized (added (divided (multiplied (subtracted (resized returned))))))
+pub from-residue-straight : straight (code.function .body) ≡ true
+from-residue-straight = after-remainder-straight from-residue-after-remainder
