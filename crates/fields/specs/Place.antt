@@ -3,23 +3,33 @@
 --     place ends at i             the byte where number i starts
 --     laid ends at text n         the first n fields are numbers, with a line feed after the last of each line
 --     numberAt, numbersFrom       the number at a place, and `count` numbers from number `from` on
+--     lineFields ends x n         the text of the n numbers x 0, x 1, ..
 use mathlib.Core.Path.{_≡_}
 use mathlib.Core.Bool.{Bool, true, false, cond}
-use mathlib.Core.List.{List}
+use mathlib.Core.List.{List, [], _∷_, _++_}
 use Prim.Native.Nat.{ℕ, zero, suc, _+_, _≤_}
 use lib.Dec.{eqb}
 use lib.ListN.{length, getD}
 use lib.IntN.{ℤ}
 use Rattle.integers.specs.Lists.{tab}
+use Rattle.integers.specs.Flat.{flat}
 use Rattle.ring.specs.Element.{every}
 use Rattle.fields.specs.declared.walk.End.{End}
 use Rattle.fields.specs.declared.walk.End.the-variants.{At, Broken}
 use Rattle.fields.specs.Fields.{fieldAt, isNumber, numberIn}
-use Rattle.fields.specs.Field.{headerBytes}
+use Rattle.fields.specs.Field.{fieldText, headerBytes}
 
 -- "each line ends with one line feed"
 unfoldable pub fieldWidth : Bool → ℕ
 fieldWidth last = cond last 17 16
+
+-- what follows a field: the line feed where it is the last of its line
+unfoldable pub feed : Bool → List ℕ
+feed true = 10 ∷ []
+feed false = []
+
+unfoldable pub lineFields : (ℕ → Bool) → (ℕ → ℤ) → ℕ → List ℕ
+lineFields ends x n = flat n (λ i. fieldText (x i) ++ feed (ends i))
 
 unfoldable pub place : (ℕ → Bool) → ℕ → ℕ → ℕ
 place ends at zero = at

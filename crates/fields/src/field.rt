@@ -43,7 +43,7 @@ fn digits_value(text: &[u8], at: usize) -> u64
 }
 
 // The byte left of what is written, where m is still to be written and a minus is due if `minus`.
-fn column_byte(minus: bool, m: u64) -> u8
+pub fn column_byte(minus: bool, m: u64) -> u8
     ensures { λ r. ⌜ r ≡ columnByte minus m ⌝ }
 {
     if 0 < m {
@@ -57,7 +57,7 @@ fn column_byte(minus: bool, m: u64) -> u8
 }
 
 // A minus is due after that byte.
-fn minus_due(minus: bool, m: u64) -> bool
+pub fn minus_due(minus: bool, m: u64) -> bool
     ensures { λ r. ⌜ r ≡ minusDue minus m ⌝ }
 {
     if 0 < m {

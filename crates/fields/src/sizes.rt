@@ -27,7 +27,7 @@ pub struct Sections {
 }
 
 // Elements of A, B, C and D.
-fn matrix_count(s: Sizes) -> usize
+pub fn matrix_count(s: Sizes) -> usize
     requires { ⌜ VerifySized s ⌝ }
     ensures { λ p. ⌜ (p ≡ matrixCount s) × (p ≤ 27648) ⌝ }
 {
@@ -42,7 +42,7 @@ fn matrix_count(s: Sizes) -> usize
 }
 
 // Elements of the whole constraints.
-fn whole_count(s: Sizes) -> usize
+pub fn whole_count(s: Sizes) -> usize
     requires { ⌜ VerifySized s ⌝ }
     ensures { λ p. ⌜ (p ≡ wholeCount s) × (p ≤ mostConstraints * 4233) ⌝ }
 {
@@ -51,7 +51,7 @@ fn whole_count(s: Sizes) -> usize
 }
 
 // Elements of u1 and the projection rows.
-fn row_count(s: Sizes) -> usize
+pub fn row_count(s: Sizes) -> usize
     requires { ⌜ VerifySized s ⌝ }
     ensures { λ p. ⌜ (p ≡ rowCount s) × (p ≤ 1048584) ⌝ }
 {
@@ -60,7 +60,7 @@ fn row_count(s: Sizes) -> usize
 }
 
 // Elements of b'', α, δ, u2, c and the opening.
-fn last_count(s: Sizes) -> usize
+pub fn last_count(s: Sizes) -> usize
     requires { ⌜ VerifySized s ⌝ }
     ensures { λ p. ⌜ (p ≡ lastCount s) × (p ≤ mostConstraints + 3746) ⌝ }
 {

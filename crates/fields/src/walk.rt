@@ -73,7 +73,8 @@ fn is_laid(text: &[u8], at: usize, last: bool) -> bool
     true
 }
 
-fn field_width(last: bool) -> usize
+// The bytes of a field, and of the line feed after it where it is the last of its line.
+pub fn field_width(last: bool) -> usize
     ensures { λ r. ⌜ r ≡ fieldWidth last ⌝ }
 {
     if last {

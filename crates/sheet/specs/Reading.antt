@@ -5,6 +5,7 @@
 --     sheetSizesOf                those with ν and μ
 --     numberCount                 how many numbers the sizes give
 --     bodyNumbers                 the numbers after the header
+--     sliceTests                  what is tested of numbers: the writer makes the same tests
 --     readingTests, reading       the tests in their order, and the answer
 --     answerOf, headerOf          number and values of each answer: SPECIFICATION 13.7
 --     SheetRead                   the reader's promise
@@ -115,8 +116,12 @@ numberTests s xs =
     ∷ (10, challenges (s .shape .d) (s .shape .r) (challengesIn s xs))
     ∷ []
 
+-- what reader and writer test of numbers alike: row 7 for a slice of `count` numbers, then 8 to 10
+abbrev pub sliceTests : ℕ → Sizes → List ℤ → List (ℕ × Bool)
+sliceTests count s xs = (7, eqb count (total s)) ∷ numberTests s xs
+
 unfoldable pub bodyTests : ℕ → Sizes → List ℕ → List (ℕ × Bool)
-bodyTests room s text = (12, bodyLaid s text) ∷ (7, eqb room (total s)) ∷ numberTests s (bodyNumbers s text)
+bodyTests room s text = (12, bodyLaid s text) ∷ sliceTests room s (bodyNumbers s text)
 
 -- ---- the answer, where the slice that takes the numbers has the length `room`
 

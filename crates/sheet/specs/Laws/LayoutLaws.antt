@@ -17,8 +17,8 @@ use Rattle.integers.specs.Flat.{flat}
 use Rattle.integers.specs.Laws.FlatLaws.{flat-cong, flat-append}
 use Rattle.fields.specs.Field.{fieldText}
 use Rattle.fields.specs.Sections.{endsElement, endsTerm}
+use Rattle.fields.specs.Place.{feed, lineFields}
 use Rattle.sheet.specs.Layout.{copies, elements, fields, lineText, textOf}
-use Rattle.sheet.specs.Laws.TextLaws.{feed, lineFields}
 
 unfoldable pub endsOf : List ℕ → ℕ → Bool
 endsOf [] i = false

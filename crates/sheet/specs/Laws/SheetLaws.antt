@@ -24,12 +24,12 @@ use Rattle.fields.specs.Field.{Fits16, headerBytes}
 use Rattle.fields.specs.Fields.{readField, fieldAt, isNumber, numberIn}
 use Rattle.fields.specs.Laws.FieldLaws.{read-fits}
 use Rattle.fields.specs.Sections.{sectionsOf, total, endsLine}
-use Rattle.fields.specs.Place.{place, laidField, laid, numberAt}
+use Rattle.fields.specs.Place.{place, lineFields, laidField, laid, numberAt}
 use Rattle.fields.specs.Laws.PlaceLaws.{contradiction, laidField-number, laidField-fits, laid-suc}
 use Rattle.fields.specs.Laws.WalkLaws.{length-numbers, number-of}
 use Rattle.sheet.specs.Reading.{headerSections, headerLaid, headerNumbers, bodyLaid, bodyNumbers}
 use Rattle.sheet.specs.Layout.{fields, bodyLines, lineText, textOf, AllFit}
-use Rattle.sheet.specs.Laws.TextLaws.{lineFields, laid-text, text-held}
+use Rattle.sheet.specs.Laws.TextLaws.{laid-text, text-held}
 use Rattle.sheet.specs.Laws.LayoutLaws.{endsOf, fields-cong, line-fields, text-fields}
 use Rattle.sheet.specs.Laws.BodyLaws.{body-total, body-positive}
 use Rattle.sheet.specs.Laws.EndLaws.{body-ends, header-ends, header-place, header-end}
@@ -72,7 +72,7 @@ unfolding headerNumbers
 header-number text i h =
     getD-tab 18 (λ k. numberAt text (16 * k)) i (pos 0) h ∙ ap (numberAt text) (sym (header-place i (omega arith)))
 
-header-fields : (h : List ℤ) → length h ≡ 18 → lineText h ≡ lineFields (endsLine headerSections) (λ i. getD h i (pos 0)) 18
+pub header-fields : (h : List ℤ) → length h ≡ 18 → lineText h ≡ lineFields (endsLine headerSections) (λ i. getD h i (pos 0)) 18
 header-fields h e =
     line-fields h 17 e
     ∙ fields-cong (λ i. eqb (suc i) 18) (endsLine headerSections) (λ i. getD h i (pos 0)) (λ i. getD h i (pos 0)) 18 header-ends (λ i k. refl)
@@ -120,7 +120,7 @@ header-read text h rest e fit t =
 -- ---- the lines after the header
 
 module _ (s : Sizes) (p : 0 < s .shape .d) where
-  body-fields : (xs : List ℤ) → length xs ≡ fields (bodyLines s)
+  pub body-fields : (xs : List ℤ) → length xs ≡ fields (bodyLines s)
       → textOf (bodyLines s) xs ≡ lineFields (endsLine (sectionsOf s)) (λ i. getD xs i (pos 0)) (total s)
   body-fields xs e =
       text-fields (bodyLines s) xs (body-positive s p) e

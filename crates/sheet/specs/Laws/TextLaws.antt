@@ -1,5 +1,4 @@
 -- Laws that join a text and the numbers on its lines, by place.
---     lineFields ends xs n       the text of the first n numbers of xs, with a line feed where a line ends
 --     laid-text                  fields that are laid are the text of their numbers
 --     text-held, text-number     and the text of numbers that fit is laid, and gives them back
 use mathlib.Core.Path.{_≡_, refl, sym, ap, _∙_}
@@ -20,12 +19,8 @@ use Rattle.fields.specs.declared.field.Field.the-variants.{Number, Broken}
 use Rattle.fields.specs.Field.{fieldText, Fits16}
 use Rattle.fields.specs.Fields.{readField, fieldAt, isNumber, numberIn}
 use Rattle.fields.specs.Laws.FieldLaws.{read-text, read-written, length-field}
-use Rattle.fields.specs.Place.{fieldWidth, place, laidField, laid, numberAt}
+use Rattle.fields.specs.Place.{fieldWidth, feed, lineFields, place, laidField, laid, numberAt}
 use Rattle.fields.specs.Laws.PlaceLaws.{contradiction, laidField-number, laidField-feed, laidField-fits, laid-zero, laid-suc}
-
-unfoldable pub feed : Bool → List ℕ
-feed true = 10 ∷ []
-feed false = []
 
 -- ---- one field
 
@@ -92,9 +87,6 @@ text-rest text p true z rest fits e =
     ap (λ (k : ℕ). drop k text) (sym next) ∙ sym (drop-drop 1 (p + 16) text) ∙ ap (drop 1) (rest-is text p true z rest fits e)
 
 -- ---- all fields
-
-unfoldable pub lineFields : (ℕ → Bool) → (ℕ → ℤ) → ℕ → List ℕ
-lineFields ends x n = flat n (λ i. fieldText (x i) ++ feed (ends i))
 
 pub laid-text : (ends : ℕ → Bool) (at : ℕ) (text : List ℕ) (n : ℕ) → laid ends at text n ≡ true
     → drop at text ≡ lineFields ends (λ i. numberAt text (place ends at i)) n ++ drop (place ends at n) text
