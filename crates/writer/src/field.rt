@@ -14,7 +14,6 @@ fn write_field(text: &mut [u8], at: usize, minus: bool, m: u64)
     requires { ⌜ at + 16 ≤ length (now text) ⌝ }
     ensures { λ r. ⌜ now (text .exit) ≡ over (now (text .entry)) at (signedText minus m) ⌝ }
 {
-    text[at + 15] = 48 + ((m % 10) as u8);
     let mut left = 15;
     let mut rest = m / 10;
     let mut due = minus;
@@ -24,6 +23,7 @@ fn write_field(text: &mut [u8], at: usize, minus: bool, m: u64)
         rest = rest / 10;
         left -= 1;
     }
+    text[at + 15] = 48 + ((m % 10) as u8);
 }
 
 // The same, and a line feed after it where it is the last of its line.
