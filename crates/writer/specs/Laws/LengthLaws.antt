@@ -1,2 +1,129 @@
 -- How long the text of numbers is.
-use mathlib.Core.Path.{_≡_, refl}
+--     line-length, lines-length    of one line, and of numbers on lines
+--     body-length                  of the lines after the header, with the header's: `textBytes`
+--     length-fields, sizes-back    a header has 18 numbers, and they give its sizes back
+--     text-length                  of the whole text
+--     fields-place, place-end      the text of numbers ends at the place after them, and that is `textBytes` after the last
+use mathlib.Core.Path.{_≡_, refl, sym, ap, _∙_}
+use mathlib.Core.Bool.{Bool, true, false}
+use mathlib.Core.List.{List, [], _∷_, _++_}
+use Prim.Native.Nat.{ℕ, zero, suc, _+_, _*_, _<_}
+use native.Mathlib.Nat.{zero-mul, suc-mul, mul-one}
+use native.Mathlib.Omega.{arith}
+use lib.ListN.{length, getD, take, drop, length-append, length-take, length-drop}
+use lib.IntN.{ℤ, pos}
+use Rattle.integers.specs.Lists.{tab}
+use Rattle.integers.specs.Flat.{flat}
+use Rattle.integers.specs.Laws.ListLaws.{length-tab}
+use Rattle.integers.specs.Laws.FlatLaws.{length-flat}
+use Rattle.fold.specs.Sizes.{functionSize}
+use Rattle.fold.specs.declared.Shape.{Shape}
+use Rattle.fold.specs.declared.Sizes.{Sizes}
+use Rattle.fields.specs.Field.{fieldText, headerBytes}
+use Rattle.fields.specs.Laws.FieldLaws.{length-field}
+use Rattle.fields.specs.Sections.{matrixCount, wholeCount, rowCount, lastCount, termSize, onesCount, sectionsOf, total, endsLine}
+use Rattle.fields.specs.Place.{fieldWidth, feed, lineFields, place}
+use Rattle.sheet.specs.declared.header.SheetSizes.{SheetSizes}
+use Rattle.sheet.specs.Reading.{size, sizesOf, sheetSizesOf}
+use Rattle.sheet.specs.Layout.{copies, elements, fields, bodyLines, lineText, textOf, sheetText}
+use Rattle.sheet.specs.Laws.BodyLaws.{termPart, middlePart, body-merged, body-total}
+use Rattle.sheet.specs.Laws.SheetLaws.{body-fields}
+use Rattle.writer.specs.Writing.{headerWords, headerFields, writtenText, elementLines, textBytes}
+
+-- ---- numbers on lines
+
+pub line-length : (xs : List ℤ) → length (lineText xs) ≡ 16 * length xs + 1
+unfolding lineText
+line-length xs =
+    let F : ℕ → List ℕ = λ i. fieldText (getD xs i (pos 0)) in
+    omega (arith, length-append (flat (length xs) F) (10 ∷ []), length-flat (length xs) 16 F (λ i h. length-field (getD xs i (pos 0))))
+
+pub lines-length : (ws : List ℕ) (xs : List ℤ) → length xs ≡ fields ws → length (textOf ws xs) ≡ 16 * fields ws + length ws
+unfolding textOf fields
+lines-length [] xs e = omega arith
+lines-length (w ∷ ws) xs e =
+    omega (
+      arith,
+      length-append (lineText (take w xs)) (textOf ws (drop w xs)),
+      line-length (take w xs),
+      length-take w xs,
+      lines-length ws (drop w xs) (omega (arith, length-drop w xs)),
+    )
+
+-- ---- the lines after the header
+
+length-copies : (c : ℕ) (l : List ℕ) → length (copies c l) ≡ c * length l
+unfolding copies
+length-copies zero l = sym (zero-mul (length l))
+length-copies (suc c) l = omega (arith, length-append l (copies c l), length-copies c l, suc-mul c (length l))
+
+length-elements : (d c : ℕ) → length (elements d c) ≡ c
+unfolding elements
+length-elements d c = length-copies c (d ∷ []) ∙ mul-one c
+
+module _ (s : Sizes) where
+  open Sizes s using (shape, l, w)
+  open Shape shape using (d, n, r)
+
+  -- "6·(L + w)" lines of one number, beside those of d numbers
+  pub body-lines : length (bodyLines s) ≡ elementLines s + 6 * (l + w)
+  unfolding termPart middlePart elementLines onesCount
+  body-lines =
+      ap length (body-merged s) ∙ simp (length-append, length-copies, length-elements) (omega arith)
+
+  pub body-length : (xs : List ℤ) → length xs ≡ total s → headerBytes + length (textOf (bodyLines s) xs) ≡ textBytes s
+  unfolding textBytes total termSize elementLines onesCount
+  body-length xs e =
+      omega (arith, lines-length (bodyLines s) xs (e ∙ sym (body-total s)), body-lines, body-total s)
+
+-- ---- the whole text
+
+pub length-fields : (h : SheetSizes) → length (headerFields h) ≡ 18
+unfolding headerFields headerWords
+length-fields h = refl
+
+pub sizes-back : (h : SheetSizes) → sheetSizesOf (headerFields h) ≡ h
+unfolding headerFields headerWords sizesOf size
+sizes-back h = refl
+
+pub text-length : (h : SheetSizes) (xs : List ℤ) → length xs ≡ total (h .sizes) → length (writtenText h xs) ≡ textBytes (h .sizes)
+unfolding writtenText sheetText
+text-length h xs e =
+    let back : sizesOf (headerFields h) ≡ h .sizes = ap (λ (h : SheetSizes). h .sizes) (sizes-back h) in
+    rw back
+    (omega (
+      arith,
+      length-append (lineText (headerFields h)) (textOf (bodyLines (h .sizes)) xs),
+      line-length (headerFields h),
+      length-fields h,
+      body-length (h .sizes) xs e,
+    ))
+
+-- ---- by place
+
+length-feed : (last : Bool) → 16 + length (feed last) ≡ fieldWidth last
+unfolding feed fieldWidth
+length-feed true = refl
+length-feed false = refl
+
+pub fields-place : (ends : ℕ → Bool) (x : ℕ → ℤ) (at n : ℕ) → at + length (lineFields ends x n) ≡ place ends at n
+unfolding lineFields flat place
+fields-place ends x at zero = omega arith
+fields-place ends x at (suc n) =
+    let F : ℕ → List ℕ = λ i. fieldText (x i) ++ feed (ends i) in
+    omega (
+      arith,
+      length-append (flat n F) (F n),
+      length-append (fieldText (x n)) (feed (ends n)),
+      length-field (x n),
+      length-feed (ends n),
+      fields-place ends x at n,
+    )
+
+pub place-end : (s : Sizes) → 0 < s .shape .d → place (endsLine (sectionsOf s)) headerBytes (total s) ≡ textBytes s
+place-end s p =
+    let xs : List ℤ = tab (total s) (λ i. pos 0) in
+    let e : length xs ≡ total s = length-tab (total s) (λ i. pos 0) in
+    sym (fields-place (endsLine (sectionsOf s)) (λ i. getD xs i (pos 0)) headerBytes (total s))
+    ∙ ap (λ (l : List ℕ). headerBytes + length l) (sym (body-fields s p xs (e ∙ sym (body-total s))))
+    ∙ body-length s xs e
