@@ -1,1 +1,4 @@
 pub mod LengthLaws
+pub mod FieldLaws
+pub mod LineLaws
+pub mod RefusalLaws

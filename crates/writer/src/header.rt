@@ -44,7 +44,7 @@ pub fn write_header(h: SheetSizes, text: &mut [u8])
     let words = header_words(h);
     let mut k = 0;
     while k < 18 {
-        write_laid(text, 16 * k, false, words[k], k == 17);
+        write_laid(text, 16 * k, false, words[k], k + 1 == 18);
         k += 1;
     }
 }

@@ -1,17 +1,17 @@
 -- The bytes of one field, written from the right.
 --     over-left         one more element before what is written
 --     Columns           the loop of `write_field`: the columns from `left` on are written; its start, its step and its end
---     laid-inner, laid-last    the line feed of `write_laid`
+--     laid-inner, laid-last, length-laid    a field and the line feed after it: `write_laid`
 use mathlib.Core.Path.{_≡_, refl, sym, ap, _∙_}
 use mathlib.Core.Bool.{Bool, true, false}
 use mathlib.Core.List.{List, [], _∷_, _++_, append-assoc, append-nil}
 use Prim.Native.Nat.{ℕ, zero, suc, _+_, _-_, _/_, _%_, _≤_, _<_}
 use native.Mathlib.Nat.{add-zero}
 use native.Mathlib.Omega.{arith}
-use lib.ListN.{length, getD, take, drop, set, length-set}
+use lib.ListN.{length, getD, take, drop, set, length-set, length-append}
 use lib.Seq.{take-suc, set-at, length-take-le}
 use Rattle.integers.specs.Over.{over}
-use Rattle.integers.specs.Laws.OverLaws.{over-nil, over-step}
+use Rattle.integers.specs.Laws.OverLaws.{over-nil, over-step, length-over}
 use Rattle.fields.specs.Field.{columnByte, minusDue, columns, signedText}
 use Rattle.fields.specs.Place.{fieldWidth, feed}
 use Rattle.fields.specs.Laws.FieldLaws.{length-columns, length-signed}
@@ -84,6 +84,14 @@ module _ (out₀ : List ℕ) (at : ℕ) (minus : Bool) (m : ℕ) {out : List ℕ
   unfolding feed
   laid-inner e = is ∙ rw (e, append-nil (signedText minus m)) refl
 
+  -- the line feed's place
+  pub laid-inside : {last : Bool} → last ≡ true → at + fieldWidth last ≤ length out₀ → at + 16 < length out
+  unfolding fieldWidth
+  laid-inside e inside =
+      let wide : at + 17 ≤ length out₀ = rw e at inside in
+      let same = ap length is ∙ length-over out₀ at (signedText minus m) (omega (arith, length-signed minus m)) in
+      omega (arith, same)
+
   pub laid-last : {last : Bool} → last ≡ true → at + fieldWidth last ≤ length out₀ → set out (at + 16) 10 ≡ over out₀ at (signedText minus m ++ feed last)
   unfolding feed fieldWidth
   laid-last e inside =
@@ -95,3 +103,8 @@ pub laid-room : (at n : ℕ) (last : Bool) → at + fieldWidth last ≤ n → at
 unfolding fieldWidth
 laid-room at n true h = omega arith
 laid-room at n false h = h
+
+pub length-laid : (minus : Bool) (m : ℕ) (last : Bool) → length (signedText minus m ++ feed last) ≡ fieldWidth last
+unfolding feed fieldWidth
+length-laid minus m true = omega (arith, length-append (signedText minus m) (10 ∷ []), length-signed minus m)
+length-laid minus m false = omega (arith, length-append (signedText minus m) [], length-signed minus m)

@@ -1,46 +1,33 @@
+-- `writer::field::write_laid` meets its contract.
+use native.Mathlib.Omega.{arith}
+use Rattle.writer.specs.Laws.FieldLaws.{laid-inner, laid-last, laid-room, laid-inside}
 use borrow.Author.Needs.{needs}
 use Rattle.writer.proofs.field.write_laid.Statement.{statement}
 use Rattle.writer.proofs.field.write_laid.Tie as tie
-use Rattle.writer.proofs.field.write_laid.Reads as reads
-use Rattle.writer.proofs.field.write_laid.Lts as lts
-use Rattle.writer.proofs.field.write_field.Reads as write-field-reads
 
--- src/field.rt:34:5
-write-field-requires : tie.Need-write-field-requires
-write-field-requires c κs = ?
-
--- src/field.rt:36:14
-add-text : tie.Need-add-text
-add-text c = search needs
-
--- src/field.rt:36:9
-slice-write-text : tie.Need-slice-write-text
-slice-write-text c = ?
-
--- src/field.rt:30:1
-same-length : tie.Need-same-length
-same-length c = search needs
-
--- src/field.rt:30:1
 returns : tie.Need-returns
-returns c = ?
+returns c =
+    let start = c .before .before .before .before .before .before in
+    laid-last (start .args .text .now) (start .args .at) (start .args .minus) (start .args .m) (c .before .before .before .write-field .ensures)
+    (c .if1 .taken) (start .pre)
 
--- src/field.rt:30:1
-same-length-2 : tie.Need-same-length-2
-same-length-2 c = search needs
-
--- src/field.rt:30:1
 returns-2 : tie.Need-returns-2
-returns-2 c = ?
+returns-2 c =
+    let start = c .before .before .before .before .before .before in
+    laid-inner (start .args .text .now) (start .args .at) (start .args .minus) (start .args .m) (c .before .before .before .write-field .ensures)
+    (c .if1 .left)
 
 pub write-laid-spec : {M : Type 1} → statement M
 write-laid-spec =
     tie.close
     (tie.spec
-    write-field-requires
-    add-text
-    slice-write-text
-    same-length
+    (λ c κs. laid-room _ _ _ (c .before .before .pre))
+    (λ c. search needs)
+    (λ c.
+      let start = c .before .before .before .before .before .before in
+      laid-inside (start .args .text .now) (start .args .at) (start .args .minus) (start .args .m) (c .before .before .before .write-field .ensures)
+      (c .if1 .taken) (start .pre))
+    (λ c. search needs)
     returns
-    same-length-2
+    (λ c. search needs)
     returns-2)

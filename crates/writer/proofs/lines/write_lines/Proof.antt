@@ -1,69 +1,40 @@
+-- `writer::lines::write_lines` meets its contract.
+use mathlib.Core.Path.{ap, _∙_}
+use Prim.Native.Nat.{_-_}
+use native.Mathlib.Omega.{arith}
+use lib.IntN.{ℤ, pos, natAbs}
+use lib.Signed.{ltZ}
+use lib.ListN.{length, getD}
+use Rattle.residues.specs.Laws.Words.{word}
+use Rattle.fields.specs.Sections.{endsLine}
+use Rattle.fields.specs.Field.{headerBytes}
+use borrow.Author.Needs.{needs}
+use Rattle.writer.specs.Laws.LineLaws.{BodyWritten, body-start, body-room, body-step, body-done}
 use Rattle.writer.proofs.lines.write_lines.Statement.{statement}
 use Rattle.writer.proofs.lines.write_lines.Tie as tie
-use Rattle.writer.proofs.lines.write_lines.Reads as reads
-use Rattle.writer.proofs.lines.write_lines.Lts as lts
-use Rattle.fields.proofs.sizes.ends_line.Reads as ends-line-reads
-use Rattle.fields.proofs.walk.field_width.Reads as field-width-reads
-use Rattle.residues.proofs.range.magnitude.Reads as magnitude-reads
-use Rattle.writer.proofs.field.write_laid.Reads as write-laid-reads
 
 abbrev Inv-loop : tie.InvT-loop
-Inv-loop q numbers text₀ here₀ i₀ text here i = ?
+Inv-loop q numbers text₀ here₀ i₀ text here i = BodyWritten (endsLine q) numbers text₀ text here i
 
 abbrev μ-loop : tie.MeasureT-loop
-μ-loop q numbers text₀ here₀ i₀ text here i = ?
+μ-loop q numbers text₀ here₀ i₀ text here i = length numbers - i
 
--- src/lines.rt:31:5
-loop-holds : tie.Need-loop-holds Inv-loop μ-loop
-loop-holds c = ?
-
--- src/lines.rt:32:17
-mul-x : tie.Need-mul-x Inv-loop μ-loop
-mul-x c = ?
-
--- src/lines.rt:32:17
-shared-slice-copy-out-x : tie.Need-shared-slice-copy-out-x Inv-loop μ-loop
-shared-slice-copy-out-x c = ?
-
--- src/lines.rt:33:13
-ends-line-requires : tie.Need-ends-line-requires Inv-loop μ-loop
-ends-line-requires c κs = ?
-
--- src/lines.rt:34:39
-magnitude-requires : tie.Need-magnitude-requires Inv-loop μ-loop
-magnitude-requires c κs = ?
-
--- src/lines.rt:34:9
-write-laid-requires : tie.Need-write-laid-requires Inv-loop μ-loop
-write-laid-requires c κs = ?
-
--- src/lines.rt:35:17
-field-width-requires : tie.Need-field-width-requires Inv-loop μ-loop
-field-width-requires c κs = ?
-
--- src/lines.rt:35:9
 add-here : tie.Need-add-here Inv-loop μ-loop
-add-here c = ?
+add-here c =
+    let call = c .before .before .before .before in
+    let test = call .before .before .before .before in
+    let room = body-room _ _ _ (test .before .loop .inv) (test .loop-test .taken) (test .before .before .before .pre .1) (call .before .before .ends-line .ensures) in
+    omega (arith, room, c .field-width .ensures)
 
--- src/lines.rt:36:9
-add-i : tie.Need-add-i Inv-loop μ-loop
-add-i c = ?
-
--- src/lines.rt:31:5
-loop-less : tie.Need-loop-less Inv-loop μ-loop
-loop-less c = ?
-
--- src/lines.rt:31:5
 loop-again : tie.Need-loop-again Inv-loop μ-loop
-loop-again c = ?
-
--- src/lines.rt:22:1
-same-length : tie.Need-same-length Inv-loop μ-loop
-same-length c = ?
-
--- src/lines.rt:22:1
-returns : tie.Need-returns Inv-loop μ-loop
-returns c = ?
+loop-again c =
+    let wrote = c .before .before .before in
+    let call = wrote .before in
+    let test = call .before .before .before .before in
+    let x = getD (test .before .before .before .args .numbers .now) (test .before .loop .i) (pos 0) in
+    let read = word x (call .before .before .before .x .given) in
+    body-step _ _ _ (test .before .loop .inv) (test .loop-test .taken) (test .before .before .before .pre .1) (call .before .before .ends-line .ensures)
+    _ _ (ap (λ (z : ℤ). ltZ z (pos 0)) read) (call .magnitude .ensures ∙ ap natAbs read) (wrote .write-laid .ensures) (c .field-width .ensures)
 
 pub write-lines-spec : {M : Type 1} → statement M
 write-lines-spec =
@@ -71,16 +42,18 @@ write-lines-spec =
     (tie.spec
     Inv-loop
     μ-loop
-    loop-holds
-    mul-x
-    shared-slice-copy-out-x
-    ends-line-requires
-    magnitude-requires
-    write-laid-requires
-    field-width-requires
+    (λ c. body-start _ _ _)
+    (λ c. search needs)
+    (λ c. omega (arith, c .loop-test .taken))
+    (λ c κs. c .before .before .before .before .pre .0)
+    (λ c κs. tt)
+    (λ c κs.
+      let test = c .before .before .before .before in
+      body-room _ _ _ (test .before .loop .inv) (test .loop-test .taken) (test .before .before .before .pre .1) (c .before .before .ends-line .ensures))
+    (λ c κs. tt)
     add-here
-    add-i
-    loop-less
+    (λ c. search needs)
+    (λ c. omega (arith, c .before .before .before .before .before .before .before .before .loop-test .taken))
     loop-again
-    same-length
-    returns)
+    (λ c. c .before .loop .inv .lines .size)
+    (λ c. body-done _ _ _ (c .before .loop .inv) (c .loop-test .left)))

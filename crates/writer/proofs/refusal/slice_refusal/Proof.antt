@@ -1,27 +1,16 @@
+-- `writer::refusal::slice_refusal` meets its contract.
+use Rattle.writer.specs.Laws.RefusalLaws.{other-count, right-count}
 use borrow.Author.Needs.{needs}
 use Rattle.writer.proofs.refusal.slice_refusal.Statement.{statement}
 use Rattle.writer.proofs.refusal.slice_refusal.Tie as tie
-use Rattle.writer.proofs.refusal.slice_refusal.Reads as reads
-use Rattle.writer.proofs.refusal.slice_refusal.Lts as lts
-use Rattle.fields.proofs.sizes.total_numbers.Reads as total-numbers-reads
-use Rattle.writer.proofs.refusal.number_refusal.Reads as number-refusal-reads
 
--- src/refusal.rt:47:25
-total-numbers-requires : tie.Need-total-numbers-requires
-total-numbers-requires c κs = search needs
-
--- src/refusal.rt:48:9
 returns : tie.Need-returns
-returns c = ?
+returns c = other-count (c .before .before .args .s) (c .before .before .args .numbers .now) (c .before .total-numbers .ensures) (c .if1 .taken)
 
--- src/refusal.rt:50:5
-number-refusal-requires : tie.Need-number-refusal-requires
-number-refusal-requires c κs = search needs
-
--- src/refusal.rt:43:1
 returns-2 : tie.Need-returns-2
-returns-2 c = ?
+returns-2 c =
+    let a = c .before .before .before .args in
+    right-count (a .s) (a .numbers .now) (c .before .before .total-numbers .ensures) (c .before .if1 .left) (c .number-refusal .ensures)
 
 pub slice-refusal-spec : {M : Type 1} → statement M
-slice-refusal-spec =
-    tie.close (tie.spec total-numbers-requires returns number-refusal-requires returns-2)
+slice-refusal-spec = tie.close (tie.spec (λ c κs. search needs) returns (λ c κs. search needs) returns-2)

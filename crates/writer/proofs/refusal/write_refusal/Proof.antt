@@ -1,49 +1,36 @@
+-- `writer::refusal::write_refusal` meets its contract.
+use Rattle.writer.specs.Laws.RefusalLaws.{good-sizes, refused-header, refused-slice, last-refusal}
 use borrow.Author.Needs.{needs}
 use Rattle.writer.proofs.refusal.write_refusal.Statement.{statement}
 use Rattle.writer.proofs.refusal.write_refusal.Tie as tie
-use Rattle.writer.proofs.refusal.write_refusal.Reads as reads
-use Rattle.writer.proofs.refusal.write_refusal.Lts as lts
-use Rattle.limits.proofs.next.next_bounds.Reads as next-bounds-reads
-use Rattle.limits.proofs.rows.first.Reads as first-reads
-use Rattle.writer.proofs.bytes.text_bytes.Reads as text-bytes-reads
-use Rattle.writer.proofs.refusal.slice_refusal.Reads as slice-refusal-reads
 
--- src/refusal.rt:57:9
-next-bounds-requires : tie.Need-next-bounds-requires
-next-bounds-requires c κs = search needs
-
--- src/refusal.rt:59:9
 returns : tie.Need-returns
-returns c = ?
+returns c = refused-header _ _ _ (c .before .next-bounds .ensures) (c .if1 .taken)
 
--- src/refusal.rt:61:9
 slice-refusal-requires : tie.Need-slice-refusal-requires
-slice-refusal-requires c κs = ?
+slice-refusal-requires c κs =
+    let a = c .before .before .args in
+    good-sizes (a .room) (a .s) (a .numbers .now) (c .before .next-bounds .ensures) (c .if1 .left)
 
--- src/refusal.rt:63:9
 returns-2 : tie.Need-returns-2
-returns-2 c = ?
+returns-2 c =
+    let good = c .before .before in
+    refused-slice _ _ _ (good .before .next-bounds .ensures) (good .if1 .left) (c .before .slice-refusal .ensures) (c .if2 .taken)
 
--- src/refusal.rt:65:11
 text-bytes-requires : tie.Need-text-bytes-requires
-text-bytes-requires c κs = ?
+text-bytes-requires c κs =
+    let good = c .before .before in
+    let a = good .before .before .args in
+    good-sizes (a .room) (a .s) (a .numbers .now) (good .before .next-bounds .ensures) (good .if1 .left)
 
--- src/refusal.rt:65:5
-first-requires : tie.Need-first-requires
-first-requires c κs = search needs
-
--- src/refusal.rt:54:1
 returns-3 : tie.Need-returns-3
-returns-3 c = ?
+returns-3 c =
+    let slice = c .before .before in
+    let good = slice .before .before in
+    last-refusal _ _ _ (good .before .next-bounds .ensures) (good .if1 .left) (slice .before .slice-refusal .ensures) (slice .if2 .left)
+    (c .before .text-bytes .ensures) (c .first .ensures)
 
 pub write-refusal-spec : {M : Type 1} → statement M
 write-refusal-spec =
     tie.close
-    (tie.spec
-    next-bounds-requires
-    returns
-    slice-refusal-requires
-    returns-2
-    text-bytes-requires
-    first-requires
-    returns-3)
+    (tie.spec (λ c κs. search needs) returns slice-refusal-requires returns-2 text-bytes-requires (λ c κs. search needs) returns-3)
