@@ -40,7 +40,7 @@ MOST_BYTES = 140000
 # Numbers of a sheet
 
 def any_width(rng):
-    """A number of the range, every count of digits as often."""
+    """A number of the range, those of few digits as often as those of many."""
     return rng.choice((-1, 1)) * rng.randrange(min(10 ** rng.randint(1, 10), ring.LARGEST + 1))
 
 
@@ -126,6 +126,7 @@ def widths(rng):
     yield "bases 65535 and 65536", s._replace(b=65536, b1=65535, b2=65536, **OPEN), numbers, sheet.text_length(s)
 
 
+# Sizes of texts of 65537 bytes, 75133 and more than 100000.
 LONG = (
     ONE_MORE,
     SMALL._replace(n=256, r=16, K=0, kappa=2, nu=3, mu=10, b=65536, b1=65535),
@@ -168,24 +169,25 @@ def huge_sizes(rng):
     yield "all sizes 0", Sizes(*[0] * len(Sizes._fields)), [], 0
 
 
+# The smallest sizes of which no list is empty.
+MIXED = SMALL._replace(L=1, w=1)
+
+
 def counts(rng):
     """7: one number less, one more, none, as many as other sizes give."""
     s, numbers = whole_numbers()
-    mixed = SMALL._replace(L=1, w=1)
     for name, other, given in (
         ("one less", s, numbers[:-1]), ("one more", s, numbers + [0]), ("none", s, []), ("one", s, [0]), ("twice", s, numbers * 2),
-        ("one less, L = w = 1", mixed, drawn(rng, mixed)[:-1]), ("one more, L = w = 1", mixed, drawn(rng, mixed) + [0]),
+        ("one less, L = w = 1", MIXED, drawn(rng, MIXED)[:-1]), ("one more, L = w = 1", MIXED, drawn(rng, MIXED) + [0]),
         ("numbers of d = 2 for d = 4", s._replace(d=4), numbers), ("numbers of L = 0 for L = 1", s._replace(L=1), numbers),
     ):
         yield name, other, given, sheet.text_length(other)
 
 
-# The smallest sizes with projections and lines of one number of every kind.
-MIXED = SMALL._replace(L=1, w=1)
-
-
 def refused_numbers(rng):
-    """8 at both ends of the range and of 32 bits, in the first and last place and in every list; 9 and 10, and their good sides."""
+    """8 at both ends of the range and of 32 bits, in the first and last place, and in every list, then with a short buffer too; 9 and 10; challenges
+    that just pass.
+    """
     s, numbers = whole_numbers()
     for number in (ring.LARGEST + 1, -ring.LARGEST - 1, 2147483647, -2147483648):
         yield f"first number {number}", s, [number] + numbers[1:], sheet.text_length(s)
