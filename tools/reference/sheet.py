@@ -21,13 +21,31 @@ FIELD = re.compile(rb" *(0|-?[1-9][0-9]*)")
 # "kind (0 accepted, 1 failed, 2 refused)".
 KINDS = {"accepted": 0, "failed": 1, "refused": 2}
 
-# Row 7: "a slice's length is not what the sizes give"; row 12: "sheet broken".
+# Row 7: "a slice's length is not what the sizes give"; row 12: "sheet broken"; row 13: "the buffer is shorter than the text".
 SLICE_LENGTH = 7
 SHEET_BROKEN = 12
+BUFFER_SHORT = 13
 
 
 class Broken(Exception):
     """Row 12: "sheet broken"."""
+
+
+# The numbers after the header
+
+def flat_numbers(x):
+    """The lists of a sheet by name, one after another in its order."""
+    return [number for name in SHEET_LISTS for number in x[name]]
+
+
+def named_lists(s, numbers):
+    """The lists of a sheet by name, cut from its numbers."""
+    x = {}
+    for name in SHEET_LISTS:
+        length = LENGTHS[name](s)
+        x[name] = numbers[:length]
+        numbers = numbers[length:]
+    return x
 
 
 # Writing
@@ -65,11 +83,47 @@ def text_length(s):
     return sum(COLUMNS * width + 1 for width in [len(s)] + line_widths(s))
 
 
-def write_sheet(s, x):
-    """ "Header: .. Then .. A, B, C, D by rows; ..; the opening. Nothing follows." """
-    numbers = iter([number for name in SHEET_LISTS for number in x[name]])
-    lines = [[next(numbers) for _ in range(width)] for width in line_widths(s)]
+def sheet_text(s, numbers):
+    """ "Header: .. Then .. A, B, C, D by rows; ..; the opening. Nothing follows." "So numbers have one text". """
+    rest = iter(numbers)
+    lines = [[next(rest) for _ in range(width)] for width in line_widths(s)]
     return b"".join(line_text(line) for line in [s] + lines)
+
+
+def write_sheet(s, x):
+    """The sheet of lists by name, whether or not the reader takes their numbers."""
+    return sheet_text(s, flat_numbers(x))
+
+
+def sheet_bytes(s):
+    """How many bytes the text of a sheet of these sizes has; 0 where they are refused (1 to 6)."""
+    return 0 if size_refusal(Sizes._fields, s) else text_length(s)
+
+
+def write_refusal(s, numbers, room):
+    """The row by which the writer is refused, 0 if by none: 1 to 6 as for a header, 7 for the count of numbers, 8 to 10 for the numbers; "13, after
+    11, exactly when the buffer is shorter than the text." Sizes that 1 to 6 refuse give no length.
+    """
+    number = size_refusal(Sizes._fields, s)
+    if number:
+        return number
+    if len(numbers) != sum(line_widths(s)):
+        return SLICE_LENGTH
+    number = number_refusal(s, named_lists(s, numbers))
+    if number:
+        return number
+    return BUFFER_SHORT if room < text_length(s) else 0
+
+
+def write_into(s, numbers, buffer):
+    """The writer's call, which "turns the numbers of a sheet into its one text, into a lent buffer, and answers the text's length": its answer, that
+    length (0 where it refuses), and the buffer afterwards. "Bytes past the text are untouched."
+    """
+    number = write_refusal(s, numbers, len(buffer))
+    if number:
+        return ("refused", number), 0, bytes(buffer)
+    text = sheet_text(s, numbers)
+    return ("written", 0), len(text), text + bytes(buffer[len(text) :])
 
 
 # Reading
@@ -99,12 +153,7 @@ def read_body(s, text, position):
         numbers += line
     if position != len(text):
         raise Broken
-    x = {}
-    for name in SHEET_LISTS:
-        length = LENGTHS[name](s)
-        x[name] = numbers[:length]
-        numbers = numbers[length:]
-    return x
+    return named_lists(s, numbers)
 
 
 def read_header(text):
@@ -151,7 +200,7 @@ def read_into(text, numbers):
     if kind == "refused":
         return (kind, content), [0] * len(Sizes._fields), numbers
     s, x = content
-    return ("written", 0), list(s), [number for name in SHEET_LISTS for number in x[name]]
+    return ("written", 0), list(s), flat_numbers(x)
 
 
 # The program

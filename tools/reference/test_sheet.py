@@ -8,9 +8,12 @@ from pathlib import Path
 import fold
 import ring
 import sheet
+import sheet_cases
 import sizes
 from fixtures import honest_case, random_sizes, refused, whole_case, whole_case_text
+from sheet_faults import SIZE_SIDES
 from sizes import Sizes
+from writer_cases import FAULTS, LONG, MIXED, drawn, with_faults
 
 EXAMPLES = Path(__file__).parents[2] / "examples"
 
@@ -119,6 +122,87 @@ def test_reader_slice():
                 assert sheet.read_into(given, marked(length)) == (refused(number), [0] * 18, marked(length))
         assert sheet.sheet_numbers(text[:289]) == count
         assert sheet.sheet_numbers(text[:288]) == sheet.sheet_numbers(sheet.write_sheet(s._replace(nu=0), y)) == 0
+
+
+def marked(room):
+    """A buffer of so many bytes that no text has."""
+    return b"M" * room
+
+
+def test_writer_round_trip():
+    """ "What the writer puts down, the reader gives back .., and a text the reader takes is the text the writer makes of its numbers. Bytes past the
+    text are untouched. Errors: 13 .. exactly when the buffer is shorter than the text." """
+    rng = random.Random(15)
+    for case in range(40):
+        s, _, y = honest_case(rng)
+        numbers = sheet.flat_numbers(y) if case % 2 else drawn(rng, s)
+        length = sheet.sheet_bytes(s)
+        for room in (0, 288, 289, length - 1):
+            assert sheet.write_into(s, numbers, marked(room)) == (refused(13), 0, marked(room))
+        for room in (length, length + 5):
+            answer, written, buffer = sheet.write_into(s, numbers, marked(room))
+            assert answer == ("written", 0) and written == length and buffer[length:] == marked(room - length)
+            assert sheet.read_into(buffer[:length], [77] * len(numbers)) == (answer, list(s), numbers)
+        assert buffer[:length] == sheet.write_sheet(s, sheet.named_lists(s, numbers))
+
+
+def test_long_texts():
+    """ "(65536 bytes is the program's limit, not the reader's)": nor the writer's."""
+    rng = random.Random(16)
+    for s in LONG:
+        numbers, length = drawn(rng, s), sheet.sheet_bytes(s)
+        assert length > sheet.LARGEST_TEXT
+        assert sheet.write_into(s, numbers, marked(length - 1)) == (refused(13), 0, marked(length - 1))
+        answer, written, text = sheet.write_into(s, numbers, marked(length))
+        assert answer == ("written", 0) and written == length == len(text)
+        assert sheet.read_sheet(text) == ("read", (s, sheet.named_lists(s, numbers)))
+        assert sheet.judge(text) == refused(12)
+
+
+def test_writer_refusals():
+    """1 to 6, 7, 8, 9, 10, 13: alone, every two at once, all after each; the buffer is as it was. Sizes up to 2^64 - 1."""
+    numbers = drawn(random.Random(17), MIXED)
+
+    def refuses(number, s, given, room):
+        assert sheet.write_into(s, given, marked(room)) == (refused(number), 0, marked(room))
+        assert sheet.sheet_bytes(s) == (0 if number <= 6 else sheet.text_length(s))
+
+    assert sheet.write_into(*with_faults((), numbers)[:2], marked(sheet.text_length(MIXED)))[0] == ("written", 0)
+    for first in FAULTS:
+        for second in FAULTS:
+            refuses(min(first, second), *with_faults((first, second), numbers))
+        refuses(first, *with_faults([row for row in FAULTS if row >= first], numbers))
+    for count in (0, 1, len(numbers) - 1, len(numbers) + 1, 2 * len(numbers)):
+        refuses(7, MIXED, (numbers * 2)[:count], 0)
+    for name, sides in SIZE_SIDES.items():
+        for number, values in sides.items():
+            for value in values + (() if number == 0 else (2**63, 2**64 - 1)):
+                s = MIXED._replace(**{name: value})
+                if number:
+                    refuses(number, s, numbers, 0)
+                else:
+                    assert sheet.sheet_bytes(s) == sheet.text_length(s)
+    refuses(1, Sizes(*[2**64 - 1] * 18), [], 0)
+    refuses(2, Sizes(2, *[2**64 - 1] * 17), numbers, 5000)
+
+
+def test_texts_written_again():
+    """ "So numbers have one text, and a text that is a sheet stands for one list of numbers." Every example and stored sheet that the reader takes is
+    what the writer makes of its numbers; where it refuses the numbers, the writer does too, by the same row.
+    """
+    texts = [path.read_bytes() for path in sorted(EXAMPLES.glob("*.sheet"))] + [text for *_, text in sheet_cases.all_cases()]
+    seen = {}
+    for text in texts:
+        kind, content = sheet.read_sheet(text)
+        if kind == "read":
+            s, x = content
+            assert sheet.write_into(s, sheet.flat_numbers(x), marked(len(text))) == (("written", 0), len(text), text)
+        elif content in (8, 9, 10):
+            _, (s, position) = sheet.read_header(text)
+            numbers = sheet.flat_numbers(sheet.read_body(s, text, position))
+            assert sheet.write_into(s, numbers, marked(len(text))) == (refused(content), 0, marked(len(text)))
+        seen[kind if kind == "read" else content] = True
+    assert {"read", 8, 9, 10} <= set(seen)
 
 
 def test_sheet_length():

@@ -4,10 +4,11 @@ use crate::calls::*;
 use crate::case::{self, Lists, LARGEST_BOUND, MOST};
 use crate::next_calls::*;
 use crate::random::Random;
+use crate::small::writes;
 use lizkarg::Verdict::{Accepted, Failed};
 use plain::lists::Sizes;
 use plain::ring::{elements, flat, squared_length};
-use plain::{messages, next};
+use plain::{messages, next, sheet};
 use std::time::Instant;
 
 /// What, and its sizes; bounds are set to what the honest fold needs. Between them every limit is reached.
@@ -25,6 +26,9 @@ fn sizes() -> Vec<(&'static str, Sizes)> {
         ("no projections", s(16, 40, 9, 7, 0, 0, 2, 3, 65535, 1627, 2, 3, 2, 11)),
     ]
 }
+
+/// The longest text of a sheet that is written here, in bytes: the first two sizes have a billion.
+const LONGEST_TEXT: usize = 100_000_000;
 
 fn change(xs: &mut [i32], at: usize) {
     xs[at] = if xs[at] == 7 { 8 } else { 7 };
@@ -151,6 +155,9 @@ pub fn run(tally: &mut Tally, seed: u64) {
         let case = Case::formed(&s, &l, second);
         assert_eq!(verify(tally, &case), Judged(Accepted), "{what}");
         println!("{what}: d {} n {} r {} K {} L {} w {}: accepted, {:.1} s", s.d, s.n, s.r, s.k, s.l, s.w, from.elapsed().as_secs_f64());
+        if sheet::bytes_of(&s) <= LONGEST_TEXT {
+            writes(tally, &mut rng, &s, &l);
+        }
         damage(tally, &mut rng, &s, &l);
         again(tally, &mut rng, &case);
         if next::rank(&s) > 256 {

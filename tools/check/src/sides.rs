@@ -4,7 +4,7 @@ use crate::calls::*;
 use crate::case::{self, Lists, LARGEST_BOUND, MOST};
 use crate::next_calls::*;
 use crate::random::Random;
-use crate::small::judge;
+use crate::small::{judge, writes};
 use lizkarg::Verdict::{Accepted, Failed};
 use plain::lists::Sizes;
 use plain::{next, sheet};
@@ -115,6 +115,7 @@ fn long_sheets(tally: &mut Tally) {
         let text = sheet::write(&s, &l);
         assert_eq!(text.len(), wanted);
         assert_eq!(judge(tally, &text), if wanted == 65536 { Judged(Accepted) } else { Refused(12) });
+        writes(tally, &mut Random::new(7), &s, &l);
     }
 }
 

@@ -113,6 +113,38 @@ fn read(tally: &mut Tally, text: &[u8], length: usize) {
     assert_eq!(header, should.ok().map(|(s, _)| (sizes(&s), cut(&s))), "read_sheet");
 }
 
+/// A sheet written into a buffer of `room` bytes that hold `fill`: the answer, and every byte afterwards. The text, where there is one.
+fn write(tally: &mut Tally, s: &Sizes, numbers: &[i32], room: usize, fill: u8) -> Option<Vec<u8>> {
+    let (mut text, mut should_text) = (vec![fill; room], vec![fill; room]);
+    let answer = lizkarg::write_sheet(sizes(s), cut(s), numbers, &mut text).map_err(|refused| refused.0);
+    let should = sheet::write_into(s, numbers, &mut should_text);
+    assert_eq!(answer, should, "write_sheet: {s:?}");
+    assert!(text == should_text, "write_sheet: texts differ, {s:?}");
+    tally.count("write_sheet", answer.map_or_else(Refused, |_| Written));
+    text.truncate(answer.ok()?);
+    Some(text)
+}
+
+/// The numbers of a case, as a sheet: written into buffers of one byte less than its text has, of as many, and of more; what was written is read back.
+pub fn writes(tally: &mut Tally, rng: &mut Random, s: &Sizes, l: &Lists) {
+    let own = lizkarg::Sheet { sizes: sizes(s), cut: cut(s), numbers: l.in_sheet_order() };
+    let length = lizkarg::sheet_bytes(own.sizes, own.cut);
+    assert_eq!(length, sheet::bytes_of(s), "sheet_bytes: {s:?}");
+    // sizes that give other numbers may have a text of a billion bytes: no text of these numbers is longer than this
+    let most = 289 + 17 * own.numbers.len();
+    let (exact, more) = (length.min(most), rng.between(1, 40));
+    let mut written = |room| write(tally, s, &own.numbers, room, rng.next() as u8);
+    let texts = [written(exact.saturating_sub(1)), written(exact), written(exact + more)];
+    let text = own.write();
+    for text in texts.into_iter().flatten().chain(text.clone()) {
+        assert_eq!(text.len(), length, "write_sheet");
+        assert!(lizkarg::Sheet::read(&text).as_ref() == Ok(&own), "write_sheet: read back, the numbers differ");
+    }
+    // its own buffer is never too short
+    let should = sheet::write_into(s, &own.numbers, &mut vec![0; exact]);
+    assert_eq!(text.map(|text| text.len()).map_err(|refused| refused.0), should, "Sheet::write");
+}
+
 /// A sheet with a fault in its text, or none.
 fn damage_text(rng: &mut Random, text: &mut Vec<u8>) {
     let at = rng.below(text.len());
@@ -154,7 +186,11 @@ fn sheets(tally: &mut Tally, rng: &mut Random, s: &Sizes, l: &Lists) {
     judge(tally, &text);
     let count = lizkarg::sheet_numbers(&text);
     assert_eq!(count, sheet::count(&text), "sheet_numbers: {}", String::from_utf8_lossy(&text));
-    let read_whole = lizkarg::Sheet::read(&text).map(|read| (read.sizes, read.cut, read.numbers)).map_err(|refused| refused.0);
+    let read_whole = lizkarg::Sheet::read(&text);
+    if let Ok(read) = &read_whole {
+        assert!(read.write().as_ref() == Ok(&text), "Sheet::write: {}", String::from_utf8_lossy(&text));
+    }
+    let read_whole = read_whole.map(|read| (read.sizes, read.cut, read.numbers)).map_err(|refused| refused.0);
     assert_eq!(read_whole, sheet::read(&text, None).map(|(s, numbers)| (sizes(&s), cut(&s), numbers)), "Sheet::read");
     // a damaged header may give millions of numbers, and then the other lines are broken
     for length in [count.saturating_sub(1), count, count + 1, l.in_sheet_order().len()] {
@@ -218,6 +254,7 @@ fn statement(tally: &mut Tally, seed: u64, number: u64, sizes: fn(&mut Random) -
     next_of(tally, &mut rng, &case, answer);
     refused_next(tally, &mut rng, &s, &s, &l);
     sheets(tally, &mut rng, &s, &l);
+    writes(tally, &mut rng, &s, &l);
     products(tally, &mut rng);
     for _ in 0..3 {
         damaged(tally, &mut rng, s, l.clone());
@@ -248,6 +285,7 @@ fn damaged(tally: &mut Tally, rng: &mut Random, undamaged: Sizes, mut l: Lists) 
         _ => refused_next(tally, rng, &undamaged, &s, &l),
     }
     sheets_of_damaged(tally, rng, &s, &l);
+    writes(tally, rng, &s, &l);
 }
 
 /// `count` statements, shared out among the processors. The same seed and number give the same statement whatever their number.

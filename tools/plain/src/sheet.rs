@@ -1,4 +1,4 @@
-//! SPECIFICATION 10: the writer, and a reader.
+//! SPECIFICATION 10: a writer and a reader.
 use crate::lists::{Lists, Sizes, SIZES};
 use crate::refusals::{self, row};
 use crate::ring::MOST;
@@ -31,11 +31,11 @@ pub fn field(v: impl std::fmt::Display) -> Vec<u8> {
     format!("{v:>COLUMNS$}").into_bytes()
 }
 
-pub fn write(s: &Sizes, l: &Lists<Vec<i32>>) -> Vec<u8> {
+/// "So numbers have one text": the header and these numbers after it, laid on lines.
+fn text_of(s: &Sizes, numbers: &[i32]) -> Vec<u8> {
     let mut text = s.header().map(field).concat();
     text.push(b'\n');
-    let numbers = l.in_sheet_order();
-    let mut rest = &numbers[..];
+    let mut rest = numbers;
     for width in line_widths(s) {
         let (line, others) = rest.split_at(width);
         text.extend(line.iter().flat_map(field));
@@ -44,6 +44,28 @@ pub fn write(s: &Sizes, l: &Lists<Vec<i32>>) -> Vec<u8> {
     }
     assert!(rest.is_empty());
     text
+}
+
+/// The sheet of lists, whether or not the reader takes their numbers.
+pub fn write(s: &Sizes, l: &Lists<Vec<i32>>) -> Vec<u8> {
+    text_of(s, &l.in_sheet_order())
+}
+
+/// How many bytes the text of a sheet of these sizes has; 0 where they are refused (1 to 6).
+pub fn bytes_of(s: &Sizes) -> usize {
+    refusals::sizes(s, true).map_or(0, |()| bytes(s))
+}
+
+/// "turns the numbers of a sheet into its one text, into a lent buffer, and answers the text's length": 1 to 6 as for a header, 7 for the count of
+/// numbers, 8 to 10 for the numbers, "13, after 11, exactly when the buffer is shorter than the text". "Bytes past the text are untouched."
+pub fn write_into(s: &Sizes, numbers: &[i32], text: &mut [u8]) -> Result<usize, u8> {
+    refusals::sizes(s, true)?;
+    row(7, numbers.len() == line_widths(s).iter().sum::<usize>())?;
+    refusals::numbers(s, &Lists::from_sheet_order(s, numbers))?;
+    let length = bytes(s);
+    row(13, text.len() >= length)?;
+    text[..length].copy_from_slice(&text_of(s, numbers));
+    Ok(length)
 }
 
 /// One field: blanks, then a minus or none, then digits without a leading zero; no minus zero.
