@@ -1,7 +1,9 @@
 #!/usr/bin/env python3
 """Holds the Python calls to the second implementation (tools/reference): random small folds, refusals, sheets. python3 bindings/python/test.py"""
 
+import contextlib
 import doctest
+import io
 import os
 import random
 import re
@@ -40,6 +42,16 @@ def test_docstrings():
     os.chdir(ROOT)
     for failed, tried in (doctest.testmod(lizkarg), doctest.testfile(str(ROOT / "bindings/python/README.md"), module_relative=False)):
         assert failed == 0 and tried > 5
+
+
+def test_page_of_the_sheet():
+    """The code of docs/SHEET.md."""
+    code, names, said = re.search(r"```python\n(.*?)```", (ROOT / "docs/SHEET.md").read_text(), re.S).group(1), {}, io.StringIO()
+    os.chdir(ROOT)
+    with contextlib.redirect_stdout(said):
+        exec(code, names)
+    assert names["text"] == (ROOT / "examples/whole-case-too-long.sheet").read_bytes()
+    assert said.getvalue() == f"{Failed(9)}\n" and f"# {Failed(9)}\n" in code
 
 
 def test_example():
