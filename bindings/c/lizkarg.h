@@ -7,7 +7,8 @@
  * 0: nothing is read or written through it. So may a text or a buffer of no bytes.
  *
  * A list holds ring elements one after another, d numbers each, lowest power first, numbers from -2147483598 to 2147483598. Lengths are
- * counts of numbers (bytes for the text of a sheet). P below is r(r+1)/2, the number of pairs i <= j. No call needs more than a megabyte of stack. */
+ * counts of numbers (bytes for a sheet's text). P below is r(r+1)/2, the number of pairs i <= j. No call needs more than a megabyte of
+ * stack. */
 #ifndef LIZKARG_H
 #define LIZKARG_H
 

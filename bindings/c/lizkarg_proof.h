@@ -192,8 +192,8 @@ static inline lizkarg_list lizkarg_cut(lizkarg_list *rest, size_t length) {
     return first;
 }
 
-/* The proof whose lists stand in numbers one after another, as lizkarg_read_sheet puts them there and lizkarg_write_sheet takes them. Where numbers is not
- * lizkarg_proof_length long every list is empty, and the verifier refuses: by 7 if not by 1 to 6. */
+/* The proof whose lists stand in numbers one after another, as lizkarg_read_sheet puts them there and lizkarg_write_sheet takes them. Where
+ * numbers is not lizkarg_proof_length long every list is empty, and the verifier refuses: by 7 if not by 1 to 6. */
 static inline lizkarg_proof lizkarg_proof_of(lizkarg_sizes s, lizkarg_list numbers) {
     lizkarg_proof proof;
     if (numbers.length != lizkarg_proof_length(s)) numbers.length = 0;
