@@ -3,11 +3,12 @@
  *
  * Every call tests what it is given and refuses by a number of SPECIFICATION 7; on a refusal nothing lent is changed.
  * What no call can test is what C cannot say: each pointer must be valid and aligned for as many numbers as the length after it says,
- * and a list that a call writes must overlap no other list of the same call. A list of no numbers (k, l or w is 0) may be NULL with length
- * 0: nothing is read or written through it.
+ * and what a call writes must overlap no other list of the same call. A list of no numbers (k, l or w is 0) may be NULL with length
+ * 0: nothing is read or written through it. So may a text or a buffer of no bytes.
  *
  * A list holds ring elements one after another, d numbers each, lowest power first, numbers from -2147483598 to 2147483598. Lengths are
- * counts of numbers (bytes for a sheet). P below is r(r+1)/2, the number of pairs i <= j. No call needs more than a megabyte of stack. */
+ * counts of numbers (bytes for a sheet's text). P below is r(r+1)/2, the number of pairs i <= j. No call needs more than a megabyte of
+ * stack. */
 #ifndef LIZKARG_H
 #define LIZKARG_H
 
@@ -21,7 +22,7 @@ extern "C" {
 /* kind of an answer */
 enum { LIZKARG_ACCEPTED = 0, LIZKARG_FAILED = 1, LIZKARG_REFUSED = 2, LIZKARG_WRITTEN = 3 };
 
-/* An answer as two numbers. number: the check that failed (1..9), the refusal (1..12), else 0. */
+/* An answer as two numbers. number: the check that failed (1..9), the refusal (1..13), else 0. */
 typedef struct { uint8_t kind, number; } lizkarg_answer;
 
 /* Degree, rank, number of parts. */
@@ -51,6 +52,12 @@ typedef struct {
     size_t d, n, r, k, l, w, kappa, kappa1, kappa2, b, b1, b2, t1, t2, nu, mu;
     uint64_t bound, target;
 } lizkarg_sheet;
+
+/* The answer to the numbers of a sheet, and the length of their text in bytes (0 where refused). */
+typedef struct {
+    uint8_t kind, number;
+    size_t length;
+} lizkarg_text;
 
 /* A ring element by value: sixty-four numbers, those past d zero. */
 typedef struct { int32_t coefficients[64]; } lizkarg_element;
@@ -137,6 +144,17 @@ size_t lizkarg_sheet_numbers(const uint8_t *text, size_t text_len);
  * refused, in this order: 12 (header), 1 to 6, 12 (other lines), 7 (numbers_len is not lizkarg_sheet_numbers), 8 to 10. The text may be of
  * any length. */
 lizkarg_sheet lizkarg_read_sheet(const uint8_t *text, size_t text_len, int32_t *numbers, size_t numbers_len);
+
+/* How many bytes the text of a sheet of these sizes has: the least text_len of lizkarg_write_sheet. 0 where the sizes are refused, by 1 to
+ * 6. With e the elements of all lists, 289 + (16·d + 1)·e + 17·6·(l + w). */
+size_t lizkarg_sheet_bytes(lizkarg_sizes sizes, size_t nu, size_t mu);
+
+/* Writes a sheet. Takes the header as sizes, nu and mu, and all numbers after it in the sheet's order, as lizkarg_read_sheet puts them down;
+ * writes their text to the first lizkarg_sheet_bytes bytes of text. Those past it are not changed, and no byte 0 is put after it. Written,
+ * with the length of the text; or refused, in this order: 1 to 6, 7 (numbers_len is not what the sizes give), 8 to 10, 13 (text_len is less
+ * than lizkarg_sheet_bytes). The text may be of any length; lizkarg_judge_sheet takes 65536 bytes. */
+lizkarg_text lizkarg_write_sheet(lizkarg_sizes sizes, size_t nu, size_t mu, const int32_t *numbers, size_t numbers_len,
+    uint8_t *text, size_t text_len);
 
 #ifdef __cplusplus
 }

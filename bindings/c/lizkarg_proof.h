@@ -8,7 +8,9 @@
  *     lizkarg_proof proof = lizkarg_proof_of(sizes, numbers);
  *
  * Fill the statement; then make each message and fill the draws that come after it: prove.c. Or let lizkarg_read_sheet fill the block:
- * verdict.c. The lists may lie anywhere else, too; what lizkarg.h asks of pointers and lengths is asked of every list here. */
+ * verdict.c. The block is what lizkarg_write_sheet takes: its text is the sheet of the proof.
+ *
+ * The lists may lie anywhere else, too; what lizkarg.h asks of pointers and lengths is asked of every list here. */
 #ifndef LIZKARG_PROOF_H
 #define LIZKARG_PROOF_H
 
@@ -190,8 +192,8 @@ static inline lizkarg_list lizkarg_cut(lizkarg_list *rest, size_t length) {
     return first;
 }
 
-/* The proof whose lists stand in numbers one after another, as lizkarg_read_sheet puts them there. Where numbers is not
- * lizkarg_proof_length long every list is empty, and the verifier refuses: by 7 if not by 1 to 6. */
+/* The proof whose lists stand in numbers one after another, as lizkarg_read_sheet puts them there and lizkarg_write_sheet takes them. Where
+ * numbers is not lizkarg_proof_length long every list is empty, and the verifier refuses: by 7 if not by 1 to 6. */
 static inline lizkarg_proof lizkarg_proof_of(lizkarg_sizes s, lizkarg_list numbers) {
     lizkarg_proof proof;
     if (numbers.length != lizkarg_proof_length(s)) numbers.length = 0;

@@ -1,6 +1,7 @@
-/* Example: the proof of docs/CLASS.md, made and verified. Three slots with two readings each; the first readings add up to 3, the second
- * to 4. Prints the verdict, kind and number in 16 columns each.
- *     cc -O2 bindings/c/prove.c target/staticlib/libcapi.a -o target/prove_c */
+/* Example: the proof of docs/CLASS.md, made, verified and written down. Three slots with two readings each; the first readings add up to 3,
+ * the second to 4. Prints the verdict, kind and number in 16 columns each, and writes the sheet to the file that is named, if one is.
+ *     cc -O2 bindings/c/prove.c target/staticlib/libcapi.a -o target/prove_c
+ *     target/prove_c [FILE] */
 #include "lizkarg_proof.h"
 #include <stdio.h>
 #include <stdlib.h>
@@ -19,7 +20,25 @@ static void made(int message, lizkarg_answer answer) {
     exit(1);
 }
 
-int main(void) {
+/* Writes the sheet of these numbers to the file. nu and mu say how the next instance would cut the opening. */
+static void write_sheet(const char *path, lizkarg_sizes sizes, lizkarg_list numbers) {
+    size_t nu = 1, mu = 2, size = lizkarg_sheet_bytes(sizes, nu, mu);
+    uint8_t *text = malloc(size);
+    if (!text) exit(1);
+    lizkarg_text sheet = lizkarg_write_sheet(sizes, nu, mu, numbers.numbers, numbers.length, text, size);
+    if (sheet.kind != LIZKARG_WRITTEN) {
+        fprintf(stderr, "sheet: refused by %llu\n", (unsigned long long)sheet.number);
+        exit(1);
+    }
+    FILE *file = fopen(path, "wb");
+    if (!file || fwrite(text, 1, sheet.length, file) != sheet.length || fclose(file)) {
+        perror(path);
+        exit(1);
+    }
+    free(text);
+}
+
+int main(int argc, char **argv) {
     /* the readings: 1 + 2X, X, 2 + X */
     static const int32_t readings[] = {1, 2, 0, 1, 2, 1};
     lizkarg_list witness = lizkarg_read_only(readings, 6);
@@ -53,6 +72,7 @@ int main(void) {
 
     lizkarg_answer verdict = lizkarg_proof_verify(sizes, &proof);
     printf("%16llu%16llu\n", (unsigned long long)verdict.kind, (unsigned long long)verdict.number);
+    if (argc > 1) write_sheet(argv[1], sizes, numbers);
     free(numbers.numbers);
     return 0;
 }

@@ -7,6 +7,8 @@
     >>> sheet = lizkarg.read_sheet(text)
     >>> lizkarg.verify(sheet.sizes, sheet.proof)
     Accepted()
+    >>> lizkarg.write_sheet(sheet.sizes, sheet.nu, sheet.mu, sheet.proof) == text
+    True
     >>> print(lizkarg.judge_sheet(open("examples/class-changed-digit.sheet", "rb").read()))
     failed: check 5, A z is not the sum of the c_i t_i
 
@@ -44,6 +46,7 @@ class Refused(Exception):
         10: "a challenge is outside the rule",
         11: "the next instance has more than 256 elements to a part",
         12: "the text is no sheet, or longer than 65536 bytes",
+        13: "the buffer is shorter than the text",
     }
 
     def __init__(self, number):
@@ -195,6 +198,10 @@ class _Sheet(ctypes.Structure):
     _fields_ = _Answer._fields_ + [(f, ctypes.c_uint64 if f in ("bound", "target") else ctypes.c_size_t) for f in _HEADER]
 
 
+class _Text(ctypes.Structure):
+    _fields_ = _Answer._fields_ + [("length", ctypes.c_size_t)]
+
+
 class _Element(ctypes.Structure):
     _fields_ = [("coefficients", ctypes.c_int32 * 64)]
 
@@ -208,8 +215,11 @@ def _library():
     if not Path(path).exists():
         raise OSError(f"{path} is not there: bindings/python/build")
     library = ctypes.CDLL(str(path))
-    results = {"multiply": _Product, "next_part_refusal": ctypes.c_uint8, "next_part": _Part, "sheet_numbers": ctypes.c_size_t, "read_sheet": _Sheet}
-    for name in "multiply commit project aggregate commit_garbage amortize verify next_instance next_part_refusal next_part judge_sheet sheet_numbers read_sheet".split():
+    results = {
+        "multiply": _Product, "next_part_refusal": ctypes.c_uint8, "next_part": _Part, "sheet_numbers": ctypes.c_size_t, "read_sheet": _Sheet,
+        "sheet_bytes": ctypes.c_size_t, "write_sheet": _Text,
+    }
+    for name in [*"commit project aggregate commit_garbage amortize verify next_instance judge_sheet".split(), *results]:
         getattr(library, "lizkarg_" + name).restype = results.get(name, _Answer)
     return library
 
@@ -378,3 +388,20 @@ def read_sheet(text):
         cut.append(read[at:at + known[name]])
         at += known[name]
     return Sheet(sizes, answer.nu, answer.mu, Proof(*cut))
+
+
+def sheet_bytes(sizes, nu, mu):
+    """How many bytes the text of a sheet of these sizes has; 0 where they are refused, by 1 to 6."""
+    return _call("sheet_bytes", _sized(_Sizes, sizes), nu, mu)
+
+
+def write_sheet(sizes, nu, mu, proof):
+    """The text of a sheet, as bytes: the sizes, ν and μ are its header, the lists of the Proof its other numbers. Refused 1 to 10."""
+    known = lengths(sizes)
+    # the library counts all numbers together: where one list is too long and another too short it is given none, and refuses by 7 at the latest
+    fit = all(len(numbers) == known[name] for name, numbers in zip(Proof._fields, proof))
+    taken = _numbers([x for numbers in proof for x in numbers] if fit else [])
+    # a number takes at most 17 bytes, the header 289: too few numbers are refused by 7 before the length of the text counts
+    text = (ctypes.c_uint8 * min(sheet_bytes(sizes, nu, mu), 289 + 17 * len(taken)))()
+    _written(_call("write_sheet", _sized(_Sizes, sizes), nu, mu, taken, text))
+    return bytes(text)

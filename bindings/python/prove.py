@@ -1,8 +1,10 @@
 #!/usr/bin/env python3
-"""Makes a proof and prints the verdict: python3 bindings/python/prove.py, after bindings/python/build.
+"""Makes a proof, prints the verdict, and writes the sheet to the file that is named: python3 bindings/python/prove.py [FILE], after bindings/python/build.
 
 The case of SPECIFICATION 12.4: some s with s·s = -3 + 4X, where X·X = -1, and squared length at most 5. The witness is 1 + 2X.
 """
+
+import sys
 
 import lizkarg
 
@@ -24,3 +26,8 @@ proof = lizkarg.prove(
     c=[0, 1],
 )
 print(lizkarg.verify(sizes, proof))
+
+# ν = μ = 1 say how the next instance would cut the opening
+if len(sys.argv) > 1:
+    with open(sys.argv[1], "wb") as file:
+        file.write(lizkarg.write_sheet(sizes, 1, 1, proof))

@@ -1,18 +1,22 @@
 #!/usr/bin/env python3
 """Holds the Python calls to the second implementation (tools/reference): random small folds, refusals, sheets. python3 bindings/python/test.py"""
 
+import contextlib
 import doctest
+import io
 import os
 import random
 import re
 import subprocess
 import sys
+import tempfile
 from pathlib import Path
 
 ROOT = Path(__file__).resolve().parent.parent.parent
 sys.path[:0] = [str(Path(__file__).resolve().parent), str(ROOT / "tools/reference"), str(ROOT / "tools/class")]
 
 import case
+import examples
 import fold
 import lizkarg
 import ring
@@ -40,15 +44,30 @@ def test_docstrings():
         assert failed == 0 and tried > 5
 
 
+def test_page_of_the_sheet():
+    """The code of docs/SHEET.md."""
+    code, names, said = re.search(r"```python\n(.*?)```", (ROOT / "docs/SHEET.md").read_text(), re.S).group(1), {}, io.StringIO()
+    os.chdir(ROOT)
+    with contextlib.redirect_stdout(said):
+        exec(code, names)
+    assert names["text"] == (ROOT / "examples/whole-case-too-long.sheet").read_bytes()
+    assert said.getvalue() == f"{Failed(9)}\n" and f"# {Failed(9)}\n" in code
+
+
 def test_example():
-    example = subprocess.run([sys.executable, ROOT / "bindings/python/prove.py"], capture_output=True, text=True, check=True)
-    assert example.stdout == "accepted: all nine checks hold\n"
+    with tempfile.TemporaryDirectory() as folder:
+        path = Path(folder) / "sheet"
+        for arguments in ([], [path]):
+            example = subprocess.run([sys.executable, ROOT / "bindings/python/prove.py", *arguments], capture_output=True, text=True, check=True)
+            assert example.stdout == "accepted: all nine checks hold\n"
+        assert path.read_bytes() == (ROOT / "examples/whole-case.sheet").read_bytes()
 
 
 def test_answers():
     assert Accepted() and not Failed(3)
     assert str(Failed(9)) == "failed: check 9, the digits are longer than the target bound"
     assert str(Refused(7)) == "refused: 7, a list's length is not what the sizes give"
+    assert str(Refused(13)) == "refused: 13, the buffer is shorter than the text"
     # the command verdict --words says the same; but it knows no parts
     said = re.findall(r"[012]\.[0-9*]+\) echo (?:'([^']*)'|\"([^\"]*)\") ;;", (ROOT / "verdict").read_text())
     rows = [str(Refused(number)).replace("L, w or a part number", "L or w") for number in range(1, 13) if number not in (7, 11)]
@@ -75,6 +94,8 @@ def test_random(count=40):
         assert proof == Proof(**y)
         assert lizkarg.verify(z, proof) == library_verdict(fold.verdict(s, y))
         assert lizkarg.read_sheet(sheet.write_sheet(s, y)) == (z, s.nu, s.mu, proof)
+        assert lizkarg.write_sheet(z, s.nu, s.mu, proof) == sheet.write_sheet(s, y)
+        assert lizkarg.sheet_bytes(z, s.nu, s.mu) == sheet.text_length(s)
         assert lizkarg.next_sizes(z, s.nu, s.mu).whole == reference.LENGTHS["next_whole"](s)
         assert next_answer(z, s, proof) == fold.answer("next_instance", s, y | {"next_whole": [0] * reference.LENGTHS["next_whole"](s)})
         assert lizkarg.next_witness(z, s.nu, s.mu, proof.opening) == fold.flat(fold.flat(fold.next_witness(s, y)))
@@ -108,6 +129,49 @@ def test_refusals():
     assert refusal(lizkarg.next_witness, z, 8, 1, proof.opening) == 5
 
 
+def test_refusals_of_the_writer():
+    s, _, y = case.honest()
+    z, cut, proof = taken(s), (s.nu, s.mu), Proof(**y)
+    write = lizkarg.write_sheet
+    spoilt = proof._replace(u1=[2**70, *proof.u1[1:]], projections=[2, *proof.projections[1:]], c=[3, *proof.c[1:]])
+    for change, row in (({"d": 3, "r": 17}, 1), ({"d": -1}, 1), ({"n": 2**64, "kappa": 0}, 2), ({"kappa": 0, "b": 1}, 3), ({"b": 1, "bound": 10**15}, 4), ({"bound": -1}, 6), ({"target": 10**15}, 6), ({"r": 10**9}, 2)):
+        assert refusal(write, z._replace(**change), *cut, spoilt) == row, change
+        assert lizkarg.sheet_bytes(z._replace(**change), *cut) == 0, change
+    for other in ((0, 1), (1, 0), (8, 1), (-1, 1), (1, -1), (2**63, 2), (2**64, 1), (1, 2**70)):
+        assert refusal(write, z, *other, spoilt) == 5, other
+        assert refusal(write, z._replace(t1=9), *other, spoilt) == 4, other
+        assert lizkarg.sheet_bytes(z, *other) == 0, other
+    assert refusal(write, z, *cut, spoilt._replace(p=[])) == 7
+    # as many numbers as the sizes give, but not in their lists
+    moved = {"u1": spoilt.u1 + [0], "p": spoilt.p[:-1]}
+    assert refusal(write, z, *cut, spoilt._replace(**moved)) == 7
+    assert refusal(write, z, *cut, proof._replace(a_matrix=proof.a_matrix[:-1], b_matrix=[1, *proof.b_matrix])) == 7
+    assert refusal(write, z._replace(target=10**15), *cut, spoilt._replace(**moved)) == 6
+    assert refusal(write, z, *cut, spoilt) == 8
+    for bad in (ring.LARGEST + 1, -ring.LARGEST - 1, 2**31, 2**32, 2**32 + 1, 2**70, -2**70):
+        for name in Proof._fields:
+            if getattr(proof, name):
+                assert refusal(write, z, *cut, proof._replace(**{name: [*getattr(proof, name)[:-1], bad]})) == 8, (name, bad)
+    assert refusal(write, z, *cut, spoilt._replace(u1=proof.u1)) == 9
+    assert refusal(write, z, *cut, proof._replace(c=spoilt.c)) == 10
+    # the largest sizes, without room for their text
+    largest = z._replace(d=64, n=256, r=16, k=32, l=32, w=256, kappa=8, kappa1=8, kappa2=8, t1=8, t2=8)
+    assert lizkarg.sheet_bytes(largest, *cut) > 10**9 and refusal(write, largest, *cut, proof) == 7
+
+
+def test_long_text():
+    """Longer than the program takes: written, and read again."""
+    rng = random.Random(5)
+    s, _, _ = case.honest()
+    s = s._replace(d=32, n=8, K=2)
+    x = {name: uniform(rng, ring.LARGEST, length(s)) for name, length in reference.LENGTHS.items() if name in Proof._fields}
+    x |= {"projections": uniform(rng, 1, len(x["projections"])), "c": challenges(rng, s)}
+    text = lizkarg.write_sheet(taken(s), s.nu, s.mu, Proof(**x))
+    assert len(text) > sheet.LARGEST_TEXT and text == sheet.write_sheet(s, x)
+    assert lizkarg.read_sheet(text) == (taken(s), s.nu, s.mu, Proof(**x))
+    assert refusal(lizkarg.judge_sheet, text) == 12
+
+
 def test_product():
     assert lizkarg.multiply(2, [1, 2], [1, 2]) == [-3, 4]
     assert lizkarg.multiply(2, [0, 1], [0, 1]) == [-1, 0]
@@ -125,6 +189,23 @@ def test_examples():
             assert refusal(lizkarg.judge_sheet, path.read_bytes()) == number
         else:
             assert lizkarg.judge_sheet(path.read_bytes()) == (Failed(number) if kind else Accepted())
+
+
+def test_written_examples():
+    """The sheets of examples/ from their numbers: the writer makes the second implementation's texts, and refuses what the reader refuses."""
+    answers = []
+    for known, _, text in examples.examples():
+        assert (ROOT / f"examples/{known}.sheet").read_bytes() == text
+        s, start = sheet.read_header(text)[1]
+        try:
+            lists = sheet.read_body(s, text, start)
+        except sheet.Broken:
+            continue
+        read, write = refusal(lizkarg.read_sheet, text), refusal(lizkarg.write_sheet, taken(s), s.nu, s.mu, Proof(**lists))
+        assert read == write, known
+        assert write or lizkarg.write_sheet(taken(s), s.nu, s.mu, Proof(**lists)) == text, known
+        answers.append(write)
+    assert sorted(answers) == [0, 0, 0, 0, 0, 0, 8, 10]
 
 
 if __name__ == "__main__":

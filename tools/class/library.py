@@ -1,4 +1,4 @@
-"""The class's case through the proved library, by bindings/python: every message and every verdict of docs/CLASS.md is the second implementation's."""
+"""The class's case through the proved library, by bindings/python: every message, verdict and sheet of docs/CLASS.md is the second implementation's."""
 
 import sys
 from pathlib import Path
@@ -27,13 +27,19 @@ def library_verdict(verdict):
     return {"accepted": Accepted(), "failed": Failed(number)}[kind]
 
 
+def library_text(s, lists):
+    """The sheet of these sizes and lists, by the library's writer."""
+    return lizkarg.write_sheet(library_sizes(s), s.nu, s.mu, Proof(**lists))
+
+
 def same_fold(readings):
-    """All five messages and the verdict on one unit; how many numbers were compared."""
+    """All five messages, the verdict on one unit and its sheet; how many numbers were compared."""
     s, x, y = case.honest(readings)
     proof = lizkarg.prove(library_sizes(s), **x)
     assert proof == Proof(**y), "a message differs"
     assert lizkarg.verify(library_sizes(s), proof) == library_verdict(fold.verdict(s, y))
     assert lizkarg.read_sheet(sheet.write_sheet(s, y)) == (library_sizes(s), s.nu, s.mu, proof)
+    assert library_text(s, proof._asdict()) == sheet.write_sheet(s, y)
     return sum(len(getattr(proof, name)) for name in ("u1", "p", "second_b", "u2", "opening"))
 
 
@@ -46,6 +52,7 @@ def same_changed_digits():
         z = y | {"opening": changed}
         verdict = library_verdict(fold.verdict(s, z))
         assert lizkarg.verify(library_sizes(s), Proof(**z)) == verdict, place
+        assert library_text(s, z) == sheet.write_sheet(s, z), place
         assert lizkarg.judge_sheet(sheet.write_sheet(s, z)) == verdict, place
     return len(y["opening"])
 
@@ -66,4 +73,5 @@ def compare(sheets):
     same_next_instance()
     for known, verdict, text in sheets:
         assert lizkarg.judge_sheet(text) == library_verdict(verdict), known
-    print(f"the proved library makes the same {numbers} numbers and gives the same verdicts, also with each of {digits} digits changed")
+        assert library_text(*sheet.read_sheet(text)[1]) == text, known
+    print(f"the proved library makes the same {numbers} numbers and the same sheets and gives the same verdicts, also with each of {digits} digits changed")

@@ -124,7 +124,7 @@ def page():
     return f"""# A class with one control unit
 
 For people who know cars. You need to add, to multiply small numbers, and half an hour. Every number on this page was computed by a program
-(tools/class/page.py), every message and verdict by the proved library too, and every step can be checked with a pencil.
+(tools/class/page.py), every message, verdict and sheet by the proved library too, and every step can be checked with a pencil.
 
 ![One control unit, three slots, two stored codes](pictures/class.svg)
 

@@ -17,6 +17,7 @@ SIZE(lizkarg_sizes, 128); AT(lizkarg_sizes, kappa, 48); AT(lizkarg_sizes, b, 72)
 SIZE(lizkarg_part_sizes, 64); AT(lizkarg_part_sizes, kappa, 24); AT(lizkarg_part_sizes, nu, 48); AT(lizkarg_part_sizes, mu, 56);
 SIZE(lizkarg_sheet, 152); AT(lizkarg_sheet, kind, 0); AT(lizkarg_sheet, number, 1); AT(lizkarg_sheet, d, 8); AT(lizkarg_sheet, nu, 120);
 AT(lizkarg_sheet, mu, 128); AT(lizkarg_sheet, bound, 136); AT(lizkarg_sheet, target, 144);
+SIZE(lizkarg_text, 16); AT(lizkarg_text, kind, 0); AT(lizkarg_text, number, 1); AT(lizkarg_text, length, 8);
 SIZE(lizkarg_element, 256);
 SIZE(lizkarg_product, 260); AT(lizkarg_product, kind, 0); AT(lizkarg_product, number, 1); AT(lizkarg_product, element, 4);
 
@@ -232,7 +233,11 @@ static void sheets(const stored *s) {
         rest.at += lists[i]->length, rest.length -= lists[i]->length;
     }
     HOLD(rest.length == 0);
-    free(numbers.at), free(longer.at);
+    uint8_t *text = room(s->text_length, 1);
+    lizkarg_text written = lizkarg_write_sheet(sizes_of(s), s->h.nu, s->h.mu, LIST(numbers), text, s->text_length);
+    HOLD(written.kind == LIZKARG_WRITTEN && written.number == 0 && written.length == s->text_length && !memcmp(text, s->text, s->text_length));
+    HOLD(lizkarg_sheet_bytes(sizes_of(s), s->h.nu, s->h.mu) == s->text_length);
+    free(numbers.at), free(longer.at), free(text);
 }
 
 static lizkarg_element element(int32_t zeroth, int32_t first, int32_t second) { return (lizkarg_element){{zeroth, first, second}}; }

@@ -1,5 +1,6 @@
 /* The lengths of lizkarg_proof.h, held to the library on random sizes: each call refuses by 7 exactly where a list is not as long as its
- * function says, and lizkarg_sheet_numbers gives the sum; outside the limits every length is 0. */
+ * function says, lizkarg_sheet_numbers gives the sum, and lizkarg_sheet_bytes 16 bytes for each number and one for each line; outside the
+ * limits every length is 0. */
 #include "../lizkarg_proof.h"
 #include "held.h"
 
@@ -46,6 +47,7 @@ typedef struct {
     size_t nu, mu;
     lizkarg_proof proof;
     lizkarg_list witness, z, t, g, h, out;
+    lizkarg_list numbers; /* of the whole proof */
 } lists;
 
 #define LIST(x) (x).numbers, (x).length
@@ -77,6 +79,12 @@ static lizkarg_answer next_part(const lists *s) {
     lizkarg_answer answer = {number ? LIZKARG_REFUSED : LIZKARG_WRITTEN, number};
     return answer;
 }
+/* no buffer: where nothing else is refused the answer is 13 */
+static lizkarg_answer write_sheet(const lists *s) {
+    lizkarg_text text = lizkarg_write_sheet(s->sizes, s->nu, s->mu, LIST(s->numbers), NULL, 0);
+    lizkarg_answer answer = {text.kind, text.number};
+    return answer;
+}
 
 static lizkarg_list zeros(size_t length) {
     lizkarg_list list = {room(length + 1, sizeof(int32_t)), length};
@@ -95,7 +103,7 @@ static lists lists_of(header h) {
     s.witness = zeros(lizkarg_witness_length(sizes));
     s.z = zeros(lizkarg_z_length(sizes)), s.t = zeros(lizkarg_t_length(sizes));
     s.g = zeros(lizkarg_g_length(sizes)), s.h = zeros(lizkarg_h_length(sizes));
-    s.out = zeros(lizkarg_next_length(sizes, s.nu, s.mu));
+    s.out = zeros(lizkarg_next_length(sizes, s.nu, s.mu)), s.numbers = zeros(lizkarg_proof_length(sizes));
     return s;
 }
 
@@ -103,6 +111,7 @@ static void free_lists(lists *s) {
 #define FREE(x) free(s->proof.x.numbers);
     FIELDS(FREE)
     free(s->witness.numbers), free(s->z.numbers), free(s->t.numbers), free(s->g.numbers), free(s->h.numbers), free(s->out.numbers);
+    free(s->numbers.numbers);
 }
 
 static int refused_by_7(lizkarg_answer answer) { return answer.kind == LIZKARG_REFUSED && answer.number == 7; }
@@ -133,6 +142,8 @@ static void against_calls(header h) {
 #define TAKEN(x) &p->x,
     EXACT(verify, FIELDS(TAKEN) NULL);
     EXACT(next_part, &p->opening);
+    EXACT(write_sheet, &s.numbers);
+    ANSWER(write_sheet(&s), LIZKARG_REFUSED, 13);
     EXACT(next_instance, &p->a_matrix, &p->b_matrix, &p->c_matrix, &p->d_matrix, &p->whole, &p->constant_terms, &p->u1, &p->projections, &p->p,
         &p->psi, &p->omega, &p->second_b, &p->alpha, &p->delta, &p->u2, &p->c, &s.out);
     lizkarg_answer answer = next_instance(&s);
@@ -162,6 +173,8 @@ static size_t sheet_numbers(header h) {
     return lizkarg_sheet_numbers((uint8_t *)text, (size_t)size);
 }
 
+static size_t sheet_bytes(header h) { return lizkarg_sheet_bytes(sizes_of(h), h.number[NU], h.number[MU]); }
+
 static void all_zero(lizkarg_sizes s) {
 #define NONE(x) HOLD(lizkarg_##x##_length(s) == 0);
     FIELDS(NONE)
@@ -172,12 +185,15 @@ static void all_zero(lizkarg_sizes s) {
 static void against_header(header h) {
     size_t length = lizkarg_proof_length(sizes_of(h));
     HOLD(length > 0 && sheet_numbers(h) == length);
+    size_t alone = 6 * (h.number[L] + h.number[W]), lines = alone + (length - alone) / h.number[D];
+    HOLD(sheet_bytes(h) == 18 * 16 + 1 + 16 * length + lines);
     for (int i = D; i < NU; i++) {
         header other = h;
         size_t outside[] = {least[i] - 1, i == D ? 65 : most[i] + 1, (size_t)1 << 63, (size_t)1 << 32};
         for (int j = least[i] == 0; j < 4; j++) {
             other.number[i] = outside[j];
             if (j != 2) HOLD(sheet_numbers(other) == 0);
+            HOLD(sheet_bytes(other) == 0);
             if (i < B || i > B2) all_zero(sizes_of(other));
             else HOLD(lizkarg_proof_length(sizes_of(other)) == length);
         }
@@ -186,6 +202,7 @@ static void against_header(header h) {
     for (int i = 0; i < 8; i++) {
         lizkarg_sizes s = sizes_of(h);
         HOLD(!lizkarg_next_parts(cuts[i][0], cuts[i][1]) && !lizkarg_next_rank(s, cuts[i][0], cuts[i][1]) && !lizkarg_next_length(s, cuts[i][0], cuts[i][1]));
+        HOLD(lizkarg_sheet_bytes(s, cuts[i][0], cuts[i][1]) == 0);
     }
 }
 
@@ -194,7 +211,7 @@ static void against_degrees(void) {
     header h = draw_header();
     for (size_t d = 0; d <= 130; d++) {
         h.number[D] = d;
-        HOLD(sheet_numbers(h) == lizkarg_proof_length(sizes_of(h)));
+        HOLD(sheet_numbers(h) == lizkarg_proof_length(sizes_of(h)) && !sheet_numbers(h) == !sheet_bytes(h));
     }
 }
 

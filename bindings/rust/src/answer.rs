@@ -33,6 +33,7 @@ impl Refused {
             10 => "a challenge is outside the rule",
             11 => "the next instance has more than 256 elements to a part",
             12 => "the text is no sheet, or longer than 65536 bytes",
+            13 => "the buffer is shorter than the text",
             _ => "a row that this binding does not know",
         }
     }

@@ -13,5 +13,5 @@ pub use answer::{Next, Refused, Verdict};
 pub use element::Element;
 pub use proof::{Draws, Messages, Proof, Statement};
 pub use prover::Prover;
-pub use sheet::{judge_sheet, read_sheet, sheet_numbers, Sheet};
+pub use sheet::{judge_sheet, read_sheet, sheet_bytes, sheet_numbers, write_sheet, Sheet};
 pub use sizes::{Cut, Lengths, NextSizes, Sizes};

@@ -1,5 +1,5 @@
 use crate::sizes::room;
-use crate::{raw, Cut, Lengths, Next, Refused, Sizes, Verdict};
+use crate::{raw, Cut, Lengths, Next, Refused, Sheet, Sizes, Verdict};
 
 /// A statement: its sizes, the matrices of the commitments and the constraints. Its methods are the prover's messages, written to lent lists;
 /// [`Prover`](crate::Prover) makes them with lists of its own.
@@ -170,6 +170,48 @@ impl<'a> Proof<'a> {
             m.opening,
         )
         .judged()
+    }
+
+    /// The text of the sheet that holds this proof.
+    ///
+    /// ```
+    /// use lizkarg::Sheet;
+    ///
+    /// let text = include_bytes!("../../../examples/class.sheet");
+    /// let sheet = Sheet::read(text)?;
+    /// assert_eq!(sheet.proof().write_sheet(sheet.cut)?, text);
+    /// # Ok::<(), lizkarg::Refused>(())
+    /// ```
+    ///
+    /// # Errors
+    /// Refused 1 to 10.
+    pub fn write_sheet(&self, cut: Cut) -> Result<Vec<u8>, Refused> {
+        let Proof { statement: s, draws: v, messages: m } = self;
+        let l = s.sizes.lengths();
+        let lists = [
+            (s.a_matrix, l.a_matrix),
+            (s.b_matrix, l.b_matrix),
+            (s.c_matrix, l.c_matrix),
+            (s.d_matrix, l.d_matrix),
+            (s.whole, l.whole),
+            (s.constant_terms, l.constant_terms),
+            (m.u1, l.u1),
+            (v.projections, l.projections),
+            (m.p, l.p),
+            (v.psi, l.psi),
+            (v.omega, l.omega),
+            (m.second_b, l.second_b),
+            (v.alpha, l.alpha),
+            (v.delta, l.delta),
+            (m.u2, l.u2),
+            (v.c, l.c),
+            (m.opening, l.opening),
+        ];
+        // the library counts all numbers together: where one list is too long and another too short it is given none, and refuses by 7 at
+        // the latest
+        let fit = lists.iter().all(|(list, length)| list.len() == *length);
+        let numbers = if fit { lists.map(|(list, _)| list).concat() } else { Vec::new() };
+        Sheet { sizes: s.sizes, cut, numbers }.write()
     }
 
     /// Writes the constraints of the next instance to `out`, whose length is [`NextSizes::whole`](crate::NextSizes::whole). The opening is not looked at.

@@ -111,23 +111,29 @@ pub struct Header {
 }
 
 #[repr(C)]
+pub struct Text {
+    pub answer: Answer,
+    pub length: usize,
+}
+
+#[repr(C)]
 pub struct Product {
     pub answer: Answer,
     pub element: Element,
 }
 
-/// Calls as `NAME(sizes; lists of T that it reads; lists that it writes)`: in C each list is a pointer and a length.
+/// Calls as `NAME<T>(sizes; lists of T that it reads; lists that it writes, each with its type)`: in C each list is a pointer and a length.
 macro_rules! calls {
-    ($($name:ident<$t:ty>($($size:ident: $s:ty),*; $($list:ident),*; $($out:ident),*) -> $answer:ty;)*) => {
+    ($($name:ident<$t:ty>($($size:ident: $s:ty),*; $($list:ident),*; $($out:ident: $u:ty),*) -> $answer:ty;)*) => {
         mod c {
             use super::*;
             extern "C" {
-                $(pub fn $name($($size: $s,)* $($list: *const $t, _: usize,)* $($out: *mut i32, _: usize,)*) -> $answer;)*
+                $(pub fn $name($($size: $s,)* $($list: *const $t, _: usize,)* $($out: *mut $u, _: usize,)*) -> $answer;)*
             }
         }
         $(
             #[allow(clippy::too_many_arguments)]
-            pub fn $name($($size: $s,)* $($list: &[$t],)* $($out: &mut [i32],)*) -> $answer {
+            pub fn $name($($size: $s,)* $($list: &[$t],)* $($out: &mut [$u],)*) -> $answer {
                 // SAFETY: the library reads and writes within the lengths, which are the slices'; what it writes overlaps no other list,
                 // since the borrow is mutable. It keeps no pointer.
                 unsafe { c::$name($($size,)* $($list.as_ptr(), $list.len(),)* $($out.as_mut_ptr(), $out.len(),)*) }
@@ -138,21 +144,23 @@ macro_rules! calls {
 
 calls! {
     lizkarg_multiply<i32>(d: usize, x: Element, y: Element;;) -> Product;
-    lizkarg_commit<i32>(sizes: CommitSizes; a_matrix, b_matrix, c_matrix, witness; t, g, u1) -> Answer;
-    lizkarg_project<i32>(shape: Shape, w: usize; projections, witness; p) -> Answer;
-    lizkarg_aggregate<i32>(shape: Shape, l: usize, w: usize; constant_terms, projections, psi, omega, witness; second_b) -> Answer;
+    lizkarg_commit<i32>(sizes: CommitSizes; a_matrix, b_matrix, c_matrix, witness; t: i32, g: i32, u1: i32) -> Answer;
+    lizkarg_project<i32>(shape: Shape, w: usize; projections, witness; p: i32) -> Answer;
+    lizkarg_aggregate<i32>(shape: Shape, l: usize, w: usize; constant_terms, projections, psi, omega, witness; second_b: i32) -> Answer;
     lizkarg_commit_garbage<i32>(
-        sizes: GarbageSizes; whole, constant_terms, projections, psi, omega, alpha, delta, d_matrix, witness; h, u2) -> Answer;
-    lizkarg_amortize<i32>(shape: Shape, b: usize; c, witness; z) -> Answer;
+        sizes: GarbageSizes; whole, constant_terms, projections, psi, omega, alpha, delta, d_matrix, witness; h: i32, u2: i32) -> Answer;
+    lizkarg_amortize<i32>(shape: Shape, b: usize; c, witness; z: i32) -> Answer;
     lizkarg_verify<i32>(
         sizes: Sizes; a_matrix, b_matrix, c_matrix, d_matrix, whole, constant_terms, u1, projections, p, psi, omega, second_b, alpha, delta,
         u2, c, opening;) -> Answer;
     lizkarg_next_instance<i32>(
         sizes: Sizes, nu: usize, mu: usize; a_matrix, b_matrix, c_matrix, d_matrix, whole, constant_terms, u1, projections, p, psi, omega,
-        second_b, alpha, delta, u2, c; out) -> Answer;
+        second_b, alpha, delta, u2, c; out: i32) -> Answer;
     lizkarg_next_part_refusal<i32>(sizes: PartSizes, part: usize; opening;) -> u8;
     lizkarg_next_part<i32>(sizes: PartSizes, part: usize; opening;) -> Part;
     lizkarg_judge_sheet<u8>(; text;) -> Answer;
     lizkarg_sheet_numbers<u8>(; text;) -> usize;
-    lizkarg_read_sheet<u8>(; text; numbers) -> Header;
+    lizkarg_read_sheet<u8>(; text; numbers: i32) -> Header;
+    lizkarg_sheet_bytes<i32>(sizes: Sizes, nu: usize, mu: usize;;) -> usize;
+    lizkarg_write_sheet<i32>(sizes: Sizes, nu: usize, mu: usize; numbers; text: u8) -> Text;
 }

@@ -1,6 +1,6 @@
 use crate::{raw, Cut, Proof, Refused, Sizes, Verdict};
 
-/// A sheet that was read: its header and the numbers after it.
+/// A sheet: its header and the numbers after it.
 ///
 /// ```
 /// use lizkarg::{Sheet, Verdict};
@@ -10,6 +10,7 @@ use crate::{raw, Cut, Proof, Refused, Sizes, Verdict};
 /// assert_eq!(sheet.sizes.r, 3);
 /// assert_eq!(sheet.proof().messages.p, [2, 0]);
 /// assert_eq!(sheet.proof().verify()?, Verdict::Failed(5));
+/// assert_eq!(sheet.write()?, text);
 /// # Ok::<(), lizkarg::Refused>(())
 /// ```
 #[derive(Clone, Debug, PartialEq, Eq)]
@@ -32,6 +33,18 @@ impl Sheet {
         let mut numbers = vec![0; sheet_numbers(text).min(text.len() / 16)];
         let (sizes, cut) = read_sheet(text, &mut numbers)?;
         Ok(Sheet { sizes, cut, numbers })
+    }
+
+    /// The text of the sheet: the one that [`Sheet::read`] takes for it.
+    ///
+    /// # Errors
+    /// Refused 1 to 10.
+    pub fn write(&self) -> Result<Vec<u8>, Refused> {
+        // a number takes at most 17 bytes, the header 289: where the numbers are too few for the sizes they are refused by 7 before the
+        // length of the text counts
+        let mut text = vec![0; sheet_bytes(self.sizes, self.cut).min(289 + 17 * self.numbers.len())];
+        write_sheet(self.sizes, self.cut, &self.numbers, &mut text)?;
+        Ok(text)
     }
 
     /// The lists of the sheet.
@@ -64,4 +77,20 @@ pub fn read_sheet(text: &[u8], numbers: &mut [i32]) -> Result<(Sizes, Cut), Refu
     header.answer.written()?;
     let raw::Header { d, n, r, k, l, w, kappa, kappa1, kappa2, b, b1, b2, t1, t2, nu, mu, bound, target, .. } = header;
     Ok((Sizes { d, n, r, k, l, w, kappa, kappa1, kappa2, b, b1, b2, t1, t2, bound, target }, Cut { nu, mu }))
+}
+
+/// How many bytes the text of a sheet of these sizes has; 0 where they are refused, by 1 to 6.
+#[must_use]
+pub fn sheet_bytes(sizes: Sizes, cut: Cut) -> usize {
+    raw::lizkarg_sheet_bytes(sizes, cut.nu, cut.mu)
+}
+
+/// Writes a sheet to the first [`sheet_bytes`] bytes of `text`, and answers their number; those past them stay as they are. `numbers` are all
+/// numbers after the header, in the sheet's order. [`Sheet::write`] and [`Proof::write_sheet`] make a text of their own.
+///
+/// # Errors
+/// Refused 1 to 10; 13 where `text` is too short. Then nothing is written.
+pub fn write_sheet(sizes: Sizes, cut: Cut, numbers: &[i32], text: &mut [u8]) -> Result<usize, Refused> {
+    let written = raw::lizkarg_write_sheet(sizes, cut.nu, cut.mu, numbers, text);
+    written.answer.written().map(|()| written.length)
 }

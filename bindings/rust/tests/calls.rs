@@ -2,6 +2,8 @@
 use lizkarg::Verdict::{Accepted, Failed};
 use lizkarg::*;
 
+// without its main, which takes the program's arguments
+#[allow(dead_code)]
 #[path = "../examples/prove.rs"]
 mod prove;
 
@@ -17,14 +19,14 @@ fn products() {
     assert_eq!(Element::new([2147483598]).multiply(2, Element::ONE), Ok(Element::new([2147483598])));
 }
 
-/// The example makes a proof that is accepted, and one of another witness that is not.
+/// The example makes a proof that is accepted, and its sheet, and one of another witness that is not.
 #[test]
 fn example() {
-    assert_eq!(prove::main(), Ok(()));
-    assert_eq!(prove::verdict(&[1, 2]), Ok(Accepted));
-    assert_eq!(prove::verdict(&[2, 1]), Ok(Failed(8)));
-    assert_eq!(prove::verdict(&[1, 2, 0]), Err(Refused(7)));
-    assert_eq!(prove::verdict(&[i32::MIN, 2]), Err(Refused(8)));
+    let verdict = |witness: &[i32]| prove::prove(witness).map(|(verdict, _)| verdict);
+    assert_eq!(prove::prove(&[1, 2]), Ok((Accepted, include_bytes!("../../../examples/whole-case.sheet").to_vec())));
+    assert_eq!(verdict(&[2, 1]), Ok(Failed(8)));
+    assert_eq!(verdict(&[1, 2, 0]), Err(Refused(7)));
+    assert_eq!(verdict(&[i32::MIN, 2]), Err(Refused(8)));
 }
 
 const CASE: &str = "2 1 1 1 0 0 1 1 1 4 8 4 2 2 1 1 5 13/1 0/1 0/0 0/1 0/0 0/1 0/1 0/1 0/0 0/-3 4/2 2/0 0/0 0/0 0/0 0/0 0/1 0/0 0/0 0/0 0/0 0/0 0/0 0/0 1/-2 1/0 0/1 2/0 0/1 0/-1 1/0 0/0 0";
@@ -63,6 +65,7 @@ fn words() {
     let error: Box<dyn std::error::Error> = Refused(7).into();
     assert_eq!(error.to_string(), "refused: 7, a list's length is not what the sizes give");
     assert_ne!(Refused(11).reason(), Refused(99).reason());
+    assert_eq!(Refused(13).to_string(), "refused: 13, the buffer is shorter than the text");
 }
 
 /// The command `verdict --words` says the same; but it knows no parts.
@@ -137,11 +140,94 @@ fn huge_sizes() {
         assert_eq!(proof.verify(), Err(Refused(number)));
         assert_eq!(proof.next_instance(sheet.cut), Err(Refused(number)));
         assert_eq!(proof.next_witness(sheet.cut), Err(Refused(number)));
+        assert_eq!(proof.write_sheet(sheet.cut), Err(Refused(number)));
+        assert_eq!(sheet_bytes(changed, sheet.cut), 0);
     }
     for cut in [Cut { nu: huge, mu: 1 }, Cut { nu: 1, mu: huge }, Cut { nu: 0, mu: 1 }, Cut { nu: 1, mu: 0 }, Cut { nu: 8, mu: 1 }] {
         assert_eq!(sheet.proof().next_instance(cut), Err(Refused(5)));
         assert!(sheet.proof().next_witness(cut).is_err());
+        assert_eq!(sheet.proof().write_sheet(cut), Err(Refused(5)));
+        assert_eq!(sheet_bytes(sizes, cut), 0);
     }
+}
+
+/// A buffer that is too short, one of the text's length, and one of five bytes more, which stay as they are.
+#[test]
+fn buffers() {
+    let (text, sheet) = (text(CASE), Sheet::read(&text(CASE)).unwrap());
+    assert_eq!(sheet_bytes(sheet.sizes, sheet.cut), 1345);
+    for (length, answer) in [(0, Err(Refused(13))), (1344, Err(Refused(13))), (1345, Ok(1345)), (1350, Ok(1345))] {
+        let mut buffer = vec![b'#'; length];
+        assert_eq!(write_sheet(sheet.sizes, sheet.cut, &sheet.numbers, &mut buffer), answer);
+        let written = answer.unwrap_or(0);
+        assert_eq!(buffer[..written], text[..written]);
+        assert!(buffer[written..].iter().all(|byte| *byte == b'#'));
+    }
+}
+
+/// The first row that refuses: sizes, the count of the numbers, the numbers, the buffer.
+#[test]
+fn refusals_of_the_writer() {
+    let Sheet { sizes, cut, numbers } = Sheet::read(&text(CASE)).unwrap();
+    let changed = |place: usize, number: i32| [&numbers[..place], &[number], &numbers[place + 1..]].concat();
+    let wide = Cut { nu: 8, mu: 1 };
+    for (sizes, cut, numbers, number) in [
+        (Sizes { d: 3, r: 17, ..sizes }, cut, vec![], 1),
+        (Sizes { r: 17, kappa: 0, ..sizes }, cut, vec![], 2),
+        (Sizes { kappa: 0, t2: 9, ..sizes }, cut, vec![], 3),
+        (Sizes { t2: 9, ..sizes }, wide, vec![], 4),
+        (Sizes { bound: 1_000_000_000_000_000, ..sizes }, wide, vec![], 5),
+        (Sizes { target: 1_000_000_000_000_000, ..sizes }, cut, vec![], 6),
+        (sizes, cut, vec![i32::MIN; 63], 7),
+        (sizes, cut, vec![i32::MIN; 65], 7),
+        (sizes, cut, changed(46, i32::MIN), 8),
+        (sizes, cut, changed(46, 3), 10),
+        (sizes, cut, numbers.clone(), 13),
+    ] {
+        let mut buffer = [b'#'; 1344];
+        assert_eq!(write_sheet(sizes, cut, &numbers, &mut buffer), Err(Refused(number)));
+        assert_eq!(buffer, [b'#'; 1344]);
+        assert_eq!(Sheet { sizes, cut, numbers }.write().err(), (number != 13).then_some(Refused(number)));
+    }
+}
+
+/// Lists of wrong lengths are no sheet, also where all are as many numbers as its sizes give.
+#[test]
+fn lists_of_wrong_lengths() {
+    let sheet = Sheet::read(&text(CASE)).unwrap();
+    let (proof, cut, numbers) = (sheet.proof(), sheet.cut, &sheet.numbers);
+    fn shifted(sizes: Sizes, numbers: &[i32]) -> Proof<'_> {
+        let proof = Proof::of_numbers(sizes, numbers);
+        Proof { statement: Statement { a_matrix: &numbers[..3], b_matrix: &numbers[3..6], ..proof.statement }, ..proof }
+    }
+    assert_eq!(shifted(sheet.sizes, numbers).write_sheet(cut), Err(Refused(7)));
+    assert_eq!(shifted(sheet.sizes, &[i32::MIN; 64]).write_sheet(cut), Err(Refused(7)));
+    assert_eq!(shifted(Sizes { bound: u64::MAX, ..sheet.sizes }, numbers).write_sheet(cut), Err(Refused(6)));
+    let empty = Proof { messages: Messages { u1: &[], ..proof.messages }, ..proof };
+    assert_eq!(empty.write_sheet(cut), Err(Refused(7)));
+    assert_eq!(proof.write_sheet(cut), Ok(text(CASE)));
+}
+
+/// The largest sizes have a text of more than a thousand million bytes: too few numbers are refused without room for it.
+#[test]
+fn numbers_of_the_largest_sizes() {
+    let Sheet { sizes, cut, numbers } = Sheet::read(&text(CASE)).unwrap();
+    let largest = Sizes { d: 64, n: 256, r: 16, k: 32, l: 32, w: 256, kappa: 8, kappa1: 8, kappa2: 8, t1: 8, t2: 8, ..sizes };
+    assert!(sheet_bytes(largest, cut) > 1_000_000_000);
+    assert_eq!(Sheet { sizes: largest, cut, numbers }.write(), Err(Refused(7)));
+}
+
+/// The writer has no limit of 65536 bytes, nor has the reader.
+#[test]
+fn long_text() {
+    let Sheet { sizes, cut, .. } = Sheet::read(&text(CASE)).unwrap();
+    let sizes = Sizes { d: 32, n: 16, r: 3, l: 1, w: 2, ..sizes };
+    let numbers = sheet_numbers(&text("32 16 3 1 1 2 1 1 1 4 8 4 2 2 1 1 5 13"));
+    let sheet = Sheet { sizes, cut, numbers: (0..numbers as i32).map(|number| number % 2).collect() };
+    let text = sheet.write().unwrap();
+    assert!(text.len() > 65536);
+    assert_eq!(judge_sheet(&text), Err(Refused(12)));
+    assert_eq!(Sheet::read(&text), Ok(sheet));
 }
 
 /// n' = 6, r' = 3, K' = 6: the constraints of the whole case in the order 5, 6, 7, 8, 3, 4, each 25 elements: 6 of a, 18 of φ, b.

@@ -1,4 +1,5 @@
-// The messages, the verifier and the next instance on the stored cases of bindings/c/tests: each number that a call writes is the second implementation's.
+// The messages, the verifier, the next instance and the writer of sheets on the stored cases of bindings/c/tests: each number and each text that a call
+// writes is the second implementation's.
 use lizkarg::Verdict::{Accepted, Failed};
 use lizkarg::*;
 use std::path::Path;
@@ -23,7 +24,8 @@ fn with_sizes<'a>(proof: &Proof<'a>, sizes: Sizes) -> Proof<'a> {
 }
 
 fn run(name: &str) {
-    let (sheet, more) = (Sheet::read(&file(&format!("{name}.sheet"))).unwrap(), numbers(&format!("{name}.more")));
+    let (text, more) = (file(&format!("{name}.sheet")), numbers(&format!("{name}.more")));
+    let sheet = Sheet::read(&text).unwrap();
     let (proof, sizes, cut) = (sheet.proof(), sheet.sizes, sheet.cut);
     let Proof { statement, draws, messages } = &proof;
     let (lengths, after) = (sizes.lengths(), sizes.next(cut));
@@ -51,6 +53,8 @@ fn run(name: &str) {
     }
     assert_eq!(next.len(), after.whole);
     assert_eq!(proof.next_instance(cut), Ok(Next::Written(next.to_vec())));
+    assert_eq!((sheet.write().as_ref(), proof.write_sheet(cut).as_ref()), (Ok(&text), Ok(&text)));
+    assert_eq!(sheet_bytes(sizes, cut), text.len());
     writes([next], |[out]| proof.write_next_instance(cut, out).map(|answer| assert_eq!(answer, Next::Written(()))));
 }
 
@@ -67,4 +71,19 @@ fn sizes_apart() {
 #[test]
 fn empty_lists() {
     run("empty");
+}
+
+/// Each sheet of examples/ that can be read is written again byte for byte.
+#[test]
+fn examples() {
+    let mut written = 0;
+    for entry in std::fs::read_dir(Path::new(env!("CARGO_MANIFEST_DIR")).join("../../examples")).unwrap() {
+        let text = std::fs::read(entry.unwrap().path()).unwrap();
+        if let Ok(sheet) = Sheet::read(&text) {
+            assert_eq!(sheet.write().as_ref(), Ok(&text));
+            assert_eq!(sheet.proof().write_sheet(sheet.cut), Ok(text));
+            written += 1;
+        }
+    }
+    assert_eq!(written, 9);
 }

@@ -202,77 +202,151 @@ static void growth_line(const char *what, size_t v, lizkarg_sizes s, int repetit
     free_case(&l);
 }
 
-/* A sheet as the program of verdicts reads it: read, and judged as a whole by the call that the program makes. */
-static void sheet_line(const char *what, const char *text, size_t length, lizkarg_answer expected) {
-    static int32_t numbers[8192];
-    size_t count = lizkarg_sheet_numbers((const uint8_t *)text, length);
-    if (count > 8192) differ("sheet", "ours");
-    double read = 1e30, judge = 1e30;
-    for (int round = 0; round < 100; round++) {
-        double from = now();
-        lizkarg_sheet h = lizkarg_read_sheet((const uint8_t *)text, length, numbers, count);
-        double middle = now();
-        lizkarg_answer x = lizkarg_judge_sheet((const uint8_t *)text, length);
-        double end = now();
-        if (h.kind != LIZKARG_WRITTEN || x.kind != expected.kind || x.number != expected.number) differ("sheet", "ours");
-        if (middle - from < read) read = middle - from;
-        if (end - middle < judge) judge = end - middle;
-    }
-    printf("| %s | %zu |", what, length);
-    show(read);
-    printf(" | %.1f ns |", read / length);
-    show(judge);
-    printf(" |\n");
+/* ---- sheets */
+
+enum { NU = 1, MU = 1, PROGRAM = 65536 };
+
+/* A field as one writes it first in C, and as one writes it by hand. */
+static inline char *printed_field(char *at, int64_t x) { return at + sprintf(at, "%16lld", (long long)x); }
+
+static inline char *field_by_hand(char *at, int64_t x) {
+    uint64_t rest = x < 0 ? -(uint64_t)x : (uint64_t)x;
+    char *to = at + 16;
+    memset(at, ' ', 16);
+    do *--to = (char)('0' + rest % 10);
+    while (rest /= 10);
+    if (x < 0) *--to = '-';
+    return at + 16;
 }
 
-static size_t put_line(char *text, const int32_t *xs, size_t n) {
-    size_t at = 0;
-    for (size_t k = 0; k < n; k++) at += sprintf(text + at, "%16d", xs[k]);
-    text[at++] = '\n';
+typedef char *put_field(char *at, int64_t x);
+#define INLINED static inline __attribute__((always_inline))
+
+/* The next lines of `width` numbers each. */
+INLINED char *put_lines(put_field *put, char *at, const int32_t **xs, size_t lines, size_t width) {
+    for (size_t i = 0; i < lines; i++) {
+        for (size_t k = 0; k < width; k++) at = put(at, *(*xs)++);
+        *at++ = '\n';
+    }
     return at;
+}
+
+/* The sheet of these numbers, which nothing is asked of; how long it is. */
+INLINED size_t put_sheet(put_field *put, const lizkarg_sizes *s, const int32_t *xs, char *text) {
+    size_t d = s->d, t = s->r * s->t1 * s->kappa, g = pairs(s->r) * s->t2, h = pairs(s->r) * s->t1, phi = s->r * s->n, f = pairs(s->r) + phi;
+    uint64_t header[] = {d, s->n, s->r, s->k, s->l, s->w, s->kappa, s->kappa1, s->kappa2, s->b, s->b1, s->b2, s->t1, s->t2, NU, MU, s->bound, s->target};
+    char *at = text;
+    for (int i = 0; i < 18; i++) at = put(at, (int64_t)header[i]);
+    *at++ = '\n';
+    at = put_lines(put, at, &xs, s->kappa * s->n + s->kappa1 * (t + g) + s->kappa2 * h + s->k * (f + 1), d);
+    for (size_t k = 0; k < s->l; k++) {
+        at = put_lines(put, at, &xs, f, d);
+        at = put_lines(put, at, &xs, 1, 1);
+    }
+    at = put_lines(put, at, &xs, s->kappa1 + s->w * phi, d);
+    at = put_lines(put, at, &xs, s->w + 5 * s->l + 5 * s->w, 1);
+    at = put_lines(put, at, &xs, 5 + s->k + 5 + s->kappa2 + s->r + 2 * s->n + t + g + h, d);
+    return (size_t)(at - text);
+}
+
+static size_t by_printf(const lizkarg_sizes *s, const int32_t *xs, size_t count, char *text, size_t room) {
+    (void)count, (void)room;
+    return put_sheet(printed_field, s, xs, text);
+}
+
+static size_t by_hand(const lizkarg_sizes *s, const int32_t *xs, size_t count, char *text, size_t room) {
+    (void)count, (void)room;
+    return put_sheet(field_by_hand, s, xs, text);
+}
+
+static size_t by_ours(const lizkarg_sizes *s, const int32_t *xs, size_t count, char *text, size_t room) {
+    return lizkarg_write_sheet(*s, NU, MU, xs, count, (uint8_t *)text, room).length;
+}
+
+typedef size_t writer(const lizkarg_sizes *s, const int32_t *xs, size_t count, char *text, size_t room);
+static writer *const writers[] = {by_ours, by_printf, by_hand};
+static const char *const writer_names[] = {"ours", "printf", "C by hand"};
+enum { WRITERS = sizeof writers / sizeof *writers };
+
+static void lessen(double *least, double from) {
+    double ns = now() - from;
+    if (ns < *least) *least = ns;
+}
+
+/* The sheet of an accepted proof, written by each writer, read, and judged by the call that the program makes. */
+static void sheet_line(const char *what, const lizkarg_sizes *s, const int32_t *numbers, size_t count) {
+    size_t size = lizkarg_sheet_bytes(*s, NU, MU);
+    char *text = malloc(size + 1), *other = malloc(size + 1);
+    int32_t *back = malloc(count * sizeof *back);
+    double read = 1e30, judge = 1e30, write[WRITERS];
+    for (int i = 0; i < WRITERS; i++) write[i] = 1e30;
+    if (by_ours(s, numbers, count, text, size) != size) differ("sheet", "ours");
+    for (int round = 0; round < (size > PROGRAM ? 9 : 100); round++) {
+        for (int i = 0; i < WRITERS; i++) {
+            memset(other, 0x55, size);
+            double from = now();
+            size_t length = writers[i](s, numbers, count, other, size);
+            lessen(&write[i], from);
+            if (length != size || memcmp(text, other, size)) differ("sheet", writer_names[i]);
+        }
+        memset(back, 0x55, count * sizeof *back);
+        double from = now();
+        lizkarg_sheet h = lizkarg_read_sheet((const uint8_t *)text, size, back, count);
+        lessen(&read, from);
+        if (h.kind != LIZKARG_WRITTEN || memcmp(back, numbers, count * sizeof *back)) differ("numbers of a sheet", "ours");
+        if (size > PROGRAM) continue;
+        from = now();
+        lizkarg_answer x = lizkarg_judge_sheet((const uint8_t *)text, size);
+        lessen(&judge, from);
+        if (x.kind != LIZKARG_ACCEPTED) differ("verdict on a sheet", "ours");
+    }
+    printf("| %s | %zu |", what, size);
+    show(read);
+    printf(" | %.1f ns |", read / size);
+    if (size > PROGRAM) printf(" none |");
+    else show(judge), printf(" |");
+    show(write[0]);
+    printf(" | %.1f ns |", write[0] / size);
+    for (int i = 1; i < WRITERS; i++) printf(" %.2f |", write[i] / write[0]);
+    printf("\n");
+    fflush(stdout);
+    free(text), free(other), free(back);
 }
 
 /* The whole case of SPECIFICATION 12.4. */
-static size_t whole_case(char *text) {
-    static const int32_t header[] = {2, 1, 1, 1, 0, 0, 1, 1, 1, 4, 8, 4, 2, 2, 1, 1, 5, 13};
-    static const int32_t lines[][2] = {{1, 0}, {1, 0}, {0, 0}, {1, 0}, {0, 0}, {1, 0}, {1, 0}, {1, 0}, {0, 0}, {-3, 4}, {2, 2}, {0, 0}, {0, 0},
-        {0, 0}, {0, 0}, {0, 0}, {1, 0}, {0, 0}, {0, 0}, {0, 0}, {0, 0}, {0, 0}, {0, 0}, {0, 1}, {-2, 1}, {0, 0}, {1, 2}, {0, 0}, {1, 0},
-        {-1, 1}, {0, 0}, {0, 0}};
-    size_t at = put_line(text, header, 18);
-    for (size_t i = 0; i < sizeof lines / sizeof *lines; i++) at += put_line(text + at, lines[i], 2);
-    return at;
+static void whole_case_line(void) {
+    lizkarg_sizes s = {2, 1, 1, 1, 0, 0, 1, 1, 1, 4, 8, 4, 2, 2, 5, 13};
+    static const int32_t numbers[] = {1, 0, 1, 0, 0, 0, 1, 0, 0, 0, 1, 0, 1, 0, 1, 0, 0, 0, -3, 4, 2, 2, 0, 0, 0, 0, 0, 0, 0, 0, 0, 0, 1, 0, 0, 0,
+        0, 0, 0, 0, 0, 0, 0, 0, 0, 0, 0, 1, -2, 1, 0, 0, 1, 2, 0, 0, 1, 0, -1, 1, 0, 0, 0, 0};
+    sheet_line("whole case", &s, numbers, sizeof numbers / sizeof *numbers);
 }
 
-/* l is 1 */
-static size_t write_sheet(const lizkarg_sizes *s, const lists *l, char *text) {
-    size_t at = 0, d = s->d, size = function(s);
-    uint64_t header[] = {d, s->n, s->r, s->k, s->l, s->w, s->kappa, s->kappa1, s->kappa2, s->b, s->b1, s->b2, s->t1, s->t2, 1, 1, s->bound, s->target};
-    for (int i = 0; i < 18; i++) at += sprintf(text + at, "%16llu", (unsigned long long)header[i]);
-    text[at++] = '\n';
-#define LINES(x, width) {l->x, l->n.x, width}
-    struct { const int32_t *numbers; size_t count, width; } blocks[] = {LINES(a_matrix, d), LINES(b_matrix, d), LINES(c_matrix, d),
-        LINES(d_matrix, d), LINES(whole, d), {l->constant_terms, size, d}, {l->constant_terms + size, 1, 1}, LINES(u1, d), LINES(projections, d),
-        LINES(p, 1), LINES(psi, 1), LINES(omega, 1), LINES(second_b, d), LINES(alpha, d), LINES(delta, d), LINES(u2, d), LINES(c, d),
-        {l->z, l->n.opening, d}};
-    for (size_t i = 0; i < sizeof blocks / sizeof *blocks; i++)
-        for (size_t k = 0; k < blocks[i].count; k += blocks[i].width) at += put_line(text + at, blocks[i].numbers + k, blocks[i].width);
-    return at;
+/* The lists of an honest proof one after another. */
+static void honest_line(const char *what, lizkarg_sizes s) {
+    lists l;
+    make_case(&s, &l, 1);
+    for (int x = 0; x < 5; x++) step(&ours, x, &s, &l);
+#define OF(x) {l.x, l.n.x}
+    struct { const int32_t *numbers; size_t count; } all_lists[] = {OF(a_matrix), OF(b_matrix), OF(c_matrix), OF(d_matrix), OF(whole), OF(constant_terms), OF(u1),
+        OF(projections), OF(p), OF(psi), OF(omega), OF(second_b), OF(alpha), OF(delta), OF(u2), OF(c), {l.z, l.n.opening}};
+    size_t count = 0, at = 0, parts = sizeof all_lists / sizeof *all_lists;
+    for (size_t i = 0; i < parts; i++) count += all_lists[i].count;
+    int32_t *numbers = malloc(count * sizeof *numbers);
+    for (size_t i = 0; i < parts; at += all_lists[i++].count) memcpy(numbers + at, all_lists[i].numbers, all_lists[i].count * sizeof *numbers);
+    sheet_line(what, &s, numbers, count);
+    free(numbers);
+    free_case(&l);
 }
 
 static void sheets(void) {
-    static char text[70000];
-    lizkarg_answer accepted = {LIZKARG_ACCEPTED, 0};
-    lizkarg_sizes both[] = {{8, 2, 2, 1, 1, 8, 1, 1, 1, 16, 256, 256, 4, 4, 0, 0}, {32, 2, 2, 1, 1, 10, 2, 1, 2, 16, 65536, 65536, 2, 2, 0, 0}};
-    printf("\nSheets through the C interface: lizkarg_read_sheet, and lizkarg_judge_sheet, which reads and judges\n\n");
-    printf("| | bytes | reading | a byte | verdict, reading included |\n|---|---|---|---|---|\n");
-    sheet_line("whole case", text, whole_case(text), accepted);
-    for (int i = 0; i < 2; i++) {
-        lists l;
-        make_case(&both[i], &l, 1);
-        for (int x = 0; x < 5; x++) step(&ours, x, &both[i], &l);
-        sheet_line(i ? "d = 32, n = 2, r = 2, w = 10" : "d = 8, n = 2, r = 2, w = 8", text, write_sheet(&both[i], &l, text), accepted);
-        free_case(&l);
-    }
+    printf("\nSheets through the C interface: lizkarg_read_sheet, lizkarg_judge_sheet, which reads and judges, and lizkarg_write_sheet, with the times of two writers in C divided by its\n\n");
+    printf("| | bytes | reading | reading, a byte | verdict, reading included | writing | writing, a byte |");
+    for (int i = 1; i < WRITERS; i++) printf(" %s |", writer_names[i]);
+    printf("\n|---|---|---|---|---|---|---|---|---|\n");
+    whole_case_line();
+    honest_line("d = 8, n = 2, r = 2, w = 8", (lizkarg_sizes){8, 2, 2, 1, 1, 8, 1, 1, 1, 16, 256, 256, 4, 4, 0, 0});
+    honest_line("d = 32, n = 2, r = 2, w = 10", (lizkarg_sizes){32, 2, 2, 1, 1, 10, 2, 1, 2, 16, 65536, 65536, 2, 2, 0, 0});
+    honest_line("d = 64, n = 64, r = 8, w = 2", (lizkarg_sizes){64, 64, 8, 2, 2, 2, 4, 4, 4, 16, 256, 256, 4, 4, 0, 0});
 }
 
 int main(int argc, char **argv) {
