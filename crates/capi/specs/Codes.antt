@@ -9,11 +9,15 @@ use Rattle.fold.specs.Answers.{kindOf, numberOf, written}
 use Rattle.sheet.specs.declared.header.SheetSizes.{SheetSizes}
 use Rattle.sheet.specs.declared.reader.SheetAnswer.{SheetAnswer}
 use Rattle.sheet.specs.Reading.{headerNumbers, sizesOf, bodyNumbers, reading, readingRefusal, answerOf, headerOf}
+use Rattle.writer.specs.declared.WriteAnswer.{WriteAnswer}
+use Rattle.writer.specs.Writing.{lengthOf, SheetWritten}
+use Rattle.writer.specs.Writing as writing
 use Rattle.lizkarg.specs.declared.Product.{Product}
 use Rattle.capi.specs.declared.types.CAnswer.{CAnswer}
 use Rattle.capi.specs.declared.types.CProduct.{CProduct}
 use Rattle.capi.specs.declared.types.CHeader.{CHeader}
 use Rattle.capi.specs.declared.types.CSheet.{CSheet}
+use Rattle.capi.specs.declared.write.CText.{CText}
 
 abbrev pub codeOf : Answer → CAnswer
 codeOf answer = record { kind = kindOf answer; number = numberOf answer }
@@ -51,6 +55,10 @@ headerCode h =
 abbrev pub sheetCode : SheetAnswer → CSheet
 sheetCode a = record { kind = kindOf (answerOf a); number = numberOf (answerOf a); header = headerCode (headerOf a) }
 
+-- kind and number of the writer's answer, and the text's length
+abbrev pub textCode : WriteAnswer → CText
+textCode a = record { kind = kindOf (writing.answerOf a); number = numberOf (writing.answerOf a); length = lengthOf a }
+
 -- a library call's promise on its answer, for a code
 pub record Coded (promise : Answer → Type 0) (code : CAnswer) : Type 0 where
   pub answer : Answer
@@ -61,3 +69,9 @@ pub record Coded (promise : Answer → Type 0) (code : CAnswer) : Type 0 where
 pub record SheetCoded (text : List ℕ) (before : List ℤ) (code : CSheet) (after : List ℤ) : Type 0 where
   pub code-is : code ≡ sheetCode (reading (length before) text)
   pub numbers-are : after ≡ written (readingRefusal text before) (bodyNumbers (sizesOf (headerNumbers text)) text) before
+
+-- the writer's promise, for a code
+pub record TextCoded (h : SheetSizes) (xs : List ℤ) (before : List ℕ) (code : CText) (after : List ℕ) : Type 0 where
+  pub wrote : WriteAnswer
+  pub code-is : code ≡ textCode wrote
+  pub promised : SheetWritten h xs before wrote after

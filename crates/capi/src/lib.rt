@@ -17,6 +17,7 @@ use types::CSheet;
 pub mod multiply;
 pub mod next;
 pub mod types;
+pub mod write;
 
 // Message 1: `lizkarg::commit`.
 #[no_mangle]

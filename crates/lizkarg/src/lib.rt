@@ -1,5 +1,5 @@
-// The library's calls: the ring product, the five messages, the verifier, the next instance and the sheet. None has a `requires`: what it
-// cannot take it refuses by number.
+// The library's calls: the ring product, the five messages, the verifier, the next instance, and the sheet, read, written and judged. None has a
+// `requires`: what it cannot take it refuses by number.
 ghost use mathlib.Core.Path.{_≡_};
 ghost use Rattle.lizkarg.specs.Calls.{productOf, Committed, Projected, Aggregated, GarbageCommitted, Amortized};
 use fold::Answer;
@@ -15,6 +15,8 @@ use ring::element::Element;
 pub use sheet::reader::read_sheet;
 pub use sheet::reader::sheet_numbers;
 pub use verifier::verify;
+pub use writer::sheet_bytes;
+pub use writer::write_sheet;
 
 // An answer and a ring element, which is zero where the call is refused.
 pub struct Product {
