@@ -1,1 +1,2 @@
 pub mod LengthLaws
+pub mod AnswerLaws
