@@ -4,6 +4,7 @@
 --     numbers-passed, passed-numbers     rows 1 to 10 refuse exactly what is not the numbers of a sheet
 --     writing-passed, passed-writing     no test fails exactly where they are and the buffer has room for the text
 --     writing-short, short-writing       13 is the refusal exactly where they are and it has not
+--     is-length, is-refused              what an answer says of the refusal
 --     write-is                           the promise fixes the answer
 use mathlib.Core.Path.{_≡_, refl, sym, ap, _∙_}
 use mathlib.Core.Bool.{Bool, true, false, cond}
@@ -237,6 +238,14 @@ module _ (room : ℕ) (h : SheetSizes) (xs : List ℤ) where
 abbrev pub lengthAnswer : ℕ → ℕ → WriteAnswer
 lengthAnswer zero m = Length m
 lengthAnswer (suc n) m = Refused (suc n)
+
+pub is-length : (n k m : ℕ) → lengthAnswer n k ≡ Length m → (n ≡ 0) × (m ≡ k)
+is-length zero k m e = (refl, cc)
+is-length (suc n) k m e = let f : _≡_ {A = ℕ} 0 1 = cc in absurd (omega arith)
+
+pub is-refused : (n k r : ℕ) → lengthAnswer n k ≡ Refused r → (n ≡ r) × (0 < r)
+is-refused zero k r e = let f : _≡_ {A = ℕ} 0 1 = cc in absurd (omega arith)
+is-refused (suc n) k r e = let f : suc n ≡ r = cc in (f, omega arith)
 
 pub write-is : (h : SheetSizes) (xs : List ℤ) (before : List ℕ) {wrote : WriteAnswer} {after : List ℕ} → SheetWritten h xs before wrote after
     → wrote ≡ lengthAnswer (writingRefusal h xs before) (length (writtenText h xs))
