@@ -2,3 +2,5 @@ pub mod LengthLaws
 pub mod FieldLaws
 pub mod LineLaws
 pub mod RefusalLaws
+pub mod AnswerLaws
+pub mod ReadLaws

@@ -1,7 +1,8 @@
 -- How long the text of numbers is.
 --     line-length, lines-length    of one line, and of numbers on lines
 --     body-length                  of the lines after the header, with the header's: `textBytes`
---     length-fields, sizes-back    a header has 18 numbers, and they give its sizes back
+--     length-fields                a header has 18 numbers
+--     sizes-back, sizes-given      they give the header back, and the sizes in it
 --     text-length                  of the whole text
 --     fields-place, place-end      the text of numbers ends at the place after them, and that is `textBytes` after the last
 use mathlib.Core.Path.{_≡_, refl, sym, ap, _∙_}
@@ -16,12 +17,10 @@ use Rattle.integers.specs.Lists.{tab}
 use Rattle.integers.specs.Flat.{flat}
 use Rattle.integers.specs.Laws.ListLaws.{length-tab}
 use Rattle.integers.specs.Laws.FlatLaws.{length-flat}
-use Rattle.fold.specs.Sizes.{functionSize}
-use Rattle.fold.specs.declared.Shape.{Shape}
 use Rattle.fold.specs.declared.Sizes.{Sizes}
 use Rattle.fields.specs.Field.{fieldText, headerBytes}
 use Rattle.fields.specs.Laws.FieldLaws.{length-field}
-use Rattle.fields.specs.Sections.{matrixCount, wholeCount, rowCount, lastCount, termSize, onesCount, sectionsOf, total, endsLine}
+use Rattle.fields.specs.Sections.{termSize, onesCount, sectionsOf, total, endsLine}
 use Rattle.fields.specs.Place.{fieldWidth, feed, lineFields, place}
 use Rattle.sheet.specs.declared.header.SheetSizes.{SheetSizes}
 use Rattle.sheet.specs.Reading.{size, sizesOf, sheetSizesOf}
@@ -62,8 +61,7 @@ unfolding elements
 length-elements d c = length-copies c (d ∷ []) ∙ mul-one c
 
 module _ (s : Sizes) where
-  open Sizes s using (shape, l, w)
-  open Shape shape using (d, n, r)
+  open Sizes s using (l, w)
 
   -- "6·(L + w)" lines of one number, beside those of d numbers
   pub body-lines : length (bodyLines s) ≡ elementLines s + 6 * (l + w)
@@ -86,11 +84,14 @@ pub sizes-back : (h : SheetSizes) → sheetSizesOf (headerFields h) ≡ h
 unfolding headerFields headerWords sizesOf size
 sizes-back h = refl
 
+pub sizes-given : (h : SheetSizes) → sizesOf (headerFields h) ≡ h .sizes
+unfolding headerFields headerWords sizesOf size
+sizes-given h = refl
+
 pub text-length : (h : SheetSizes) (xs : List ℤ) → length xs ≡ total (h .sizes) → length (writtenText h xs) ≡ textBytes (h .sizes)
 unfolding writtenText sheetText
 text-length h xs e =
-    let back : sizesOf (headerFields h) ≡ h .sizes = ap (λ (h : SheetSizes). h .sizes) (sizes-back h) in
-    rw back
+    rw (sizes-given h)
     (omega (
       arith,
       length-append (lineText (headerFields h)) (textOf (bodyLines (h .sizes)) xs),
