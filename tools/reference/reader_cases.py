@@ -1,6 +1,6 @@
-"""Stored input and output of the test program for the reader's call, crates/sheet_cases.
+"""Stored input and output of the test program for the calls that read and write a sheet, crates/sheet_cases.
 
-Input: stored.sheets_text. Output: five lines for each case.
+Input: stored.sheets_text, then the cases of writer_cases.py. Output: five lines for each case here, then those of writer_cases.py.
 
     count                           how many numbers the header's sizes give
     kind number header shown(X)     three times, for a slice of one number less than the count, of as many, and of one more: the reader's
@@ -15,6 +15,7 @@ import random
 import sys
 
 import sheet
+import writer_cases
 from fixtures import SMALL, honest, replaced, whole_case_text
 from sheet_faults import ROWS, header_with
 from stored import FILL, answer_numbers, numbers_text, sheets_text, shown, write
@@ -72,8 +73,9 @@ def all_cases():
 
 def files():
     texts = [text for _, text in all_cases()]
-    yield "crates/sheet_cases/stdin", sheets_text(texts)
-    yield "crates/sheet_cases/stdout", numbers_text(line for text in texts for line in case_lines(text))
+    writer_input, writer_output = writer_cases.stored_texts()
+    yield "crates/sheet_cases/stdin", sheets_text(texts) + writer_input
+    yield "crates/sheet_cases/stdout", numbers_text(line for text in texts for line in case_lines(text)) + writer_output
 
 
 def print_names():

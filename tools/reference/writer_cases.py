@@ -1,4 +1,4 @@
-"""Stored input and output of the test program for the writer's call, crates/writer_cases.
+"""The cases of the writer's call: reader_cases.py puts their input and output behind those of the reader's.
 
 Input: a line with the count of cases, then two lines for each case. Every number stands in a field of 16 columns, as on a sheet.
 
@@ -12,12 +12,11 @@ Output, for each case:
                                           before the call; summed(X) as in stored.py
     X                                     these bytes as they are, where they are at most SHOWN_BYTES, else none; then a line feed
 
-With the argument `names` the script prints a line for each case: its number, its answer, its length, its count of numbers, its room, its group
+The script prints a line for each case: its number, its answer, its length, its count of numbers, its room, its group
 and name; last the count of cases by answer.
 """
 
 import random
-import sys
 from collections import Counter
 
 import ring
@@ -26,7 +25,7 @@ from fixtures import OPEN, SMALL, challenges, counted, uniform, whole_case
 from sheet_faults import SIZE_SIDES
 from sheet_numbers import ONE_MORE
 from sizes import LARGEST_BOUND, LENGTHS, SHEET_LISTS, Sizes
-from stored import FILL, answer_numbers, numbers_text, summed, write
+from stored import FILL, answer_numbers, numbers_text, summed
 
 # Longer buffers are shown by their sum only.
 SHOWN_BYTES = 4096
@@ -276,11 +275,11 @@ def output_text(s, numbers, room):
     return numbers_text([line]) + (buffer if len(buffer) <= SHOWN_BYTES else b"") + b"\n"
 
 
-def files():
+def stored_texts():
+    """Input and output of all cases."""
     cases = [case for _, _, *case in all_cases()]
     assert len(cases) <= MOST_CASES
-    yield "crates/writer_cases/stdin", sheet.line_text([len(cases)]) + b"".join(input_text(*case) for case in cases)
-    yield "crates/writer_cases/stdout", b"".join(output_text(*case) for case in cases)
+    return sheet.line_text([len(cases)]) + b"".join(input_text(*case) for case in cases), b"".join(output_text(*case) for case in cases)
 
 
 def print_names():
@@ -294,4 +293,4 @@ def print_names():
 
 
 if __name__ == "__main__":
-    print_names() if sys.argv[1:] == ["names"] else write(files)
+    print_names()

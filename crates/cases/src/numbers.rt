@@ -8,7 +8,7 @@ ghost use Rattle.cases.specs.Numbers.{word, sizeAt};
 use residues::range;
 
 // The nearest number of 32 bits.
-fn word(x: i64) -> i32
+pub fn word(x: i64) -> i32
     ensures { λ r. ⌜ r ≡ word x ⌝ }
 {
     if x > 2147483647 {

@@ -27,7 +27,7 @@ fn residue(x: i32) -> u64
 }
 
 // The sum with the number x, counted `times` times, modulo the checksums' modulus.
-fn with_number(sum: u64, times: u64, x: i32) -> u64
+pub fn with_number(sum: u64, times: u64, x: i32) -> u64
     requires { ⌜ sum < 2147483647 ⌝ }
     ensures { λ r. ⌜ r ≡ emod (pos sum +ℤ pos times *ℤ x) 2147483647 ⌝ }
 {

@@ -1,7 +1,7 @@
-// Reads the sheets of a corpus through the calls for C. Standard input has a line with the number of cases, then for each case a line with its
-// number of bytes, the bytes, and a line feed; these numbers stand in 16 columns, as on a sheet. Standard output gets five lines for each case:
-// how many numbers the sheet holds; three times what the reader answers, with a slice of one number less than that, of as many, and of one
-// more; and what the judge answers.
+// Reads the sheets of a corpus through the calls for C, and then writes sheets. Standard input has a line with the number of cases, then for each
+// case a line with its number of bytes, the bytes, and a line feed; these numbers stand in 16 columns, as on a sheet. Standard output gets five
+// lines for each case: how many numbers the sheet holds; three times what the reader answers, with a slice of one number less than that, of as
+// many, and of one more; and what the judge answers. The cases of the writer follow: src/writer.rt.
 ghost use mathlib.Core.Path.{_≡_};
 ghost use Prim.Native.Nat.{_≤_, min, _-_};
 ghost use lib.ListN.{take};
@@ -12,6 +12,8 @@ use cases::printing::print_gap;
 use cases::printing::print_line_end;
 use cases::sums::print_shown;
 use fields::walk::number_size;
+
+mod writer;
 
 // Most cases.
 const CASES: usize = 1000;
@@ -177,7 +179,9 @@ fn run_cases(text: &mut [u8], cases: usize) -> usize
 }
 
 fn main() {
-    let mut text = [0u8; 65538];
+    let mut text = [0u8; 131073];
     let cases = read_number(CASES);
     run_cases(&mut text, cases);
+    let written = read_number(CASES);
+    writer::run_cases(&mut text, written);
 }

@@ -21,6 +21,10 @@ use Rattle.fold.specs.declared.PartSizes.{PartSizes}
 use Rattle.fold.specs.Arguments.{partRefusalOf, nextPartOf}
 use Rattle.sheet.specs.declared.reader.SheetAnswer.{SheetAnswer}
 use Rattle.sheet.specs.Reading.{headerTests, numberTests, bodyTests, readingTests, answerOf, SheetRead}
+use Rattle.sheet.specs.declared.header.SheetSizes.{SheetSizes}
+use Rattle.writer.specs.declared.WriteAnswer.{WriteAnswer}
+use Rattle.writer.specs.Writing.{writingTests, SheetWritten}
+use Rattle.writer.specs.Writing as writing
 use Rattle.lizkarg.specs.Calls.{productOf, Committed, Projected, Aggregated, GarbageCommitted, Amortized}
 use Rattle.next_instance.specs.Calls.{NextCalled}
 use Rattle.fold.specs.Theorems.FirstRefusal.{FirstFails, Refuses, message-refuses, judgement-refuses, next-call-refuses, number-refuses}
@@ -29,7 +33,7 @@ use Rattle.fold.specs.Sizes.{zCount}
 -- the ring product, which is lent nothing to write to
 pub multiply-refuses : (d : ℕ) (x y : List ℤ) → Refuses (productTests d x y) (productOf d x y .answer) Unit
 unfolding productTests
-multiply-refuses d x y = message-refuses _ refl refl (λ kept. tt)
+multiply-refuses d x y = message-refuses _ refl {A = ℤ} refl (λ kept. tt)
 
 -- messages 1 to 5
 pub commit-refuses : {m : CommitSizes} {A B C s t g u t′ g′ u′ : List ℤ} {answer : Answer} → Committed m A B C s t g u answer t′ g′ u′
@@ -84,3 +88,9 @@ pub read-refuses : {text : List ℕ} {numbers numbers′ : List ℤ} {read : She
     → Refuses (readingTests (length numbers) text) (answerOf read) (numbers′ ≡ numbers)
 unfolding readingTests headerTests bodyTests numberTests
 read-refuses call = message-refuses _ refl (call .answer-is) (λ kept. call .numbers-are ∙ kept _ _)
+
+-- the writer of a sheet
+pub write-refuses : {h : SheetSizes} {numbers : List ℤ} {text text′ : List ℕ} {wrote : WriteAnswer} → SheetWritten h numbers text wrote text′
+    → Refuses (writingTests (length text) h numbers) (writing.answerOf wrote) (text′ ≡ text)
+unfolding writingTests headerTests numberTests
+write-refuses call = message-refuses _ refl (call .answer-is) (λ kept. call .bytes-are ∙ kept _ _)

@@ -64,14 +64,14 @@ module _ (tests : List (ℕ × Bool)) (l : numbered tests ≡ true) (other : Ans
   back k zero q f = absurd (omega (arith, q, fails-first tests k f, positive tests k l f))
   back k (suc n) q f = ap Refused (sym q ∙ fails-first tests k f)
 
-  kept : (k n : ℕ) → answered n other ≡ Refused k → (new old : List ℤ) → written n new old ≡ old
+  kept : (k n : ℕ) → answered n other ≡ Refused k → {A : Type 0} (new old : List A) → written n new old ≡ old
   unfolding answered written
   kept k zero e new old = absurd (no-refusal (ap kindOf e))
   kept k (suc n) e new old = refl
 
   -- `same` follows where every list that was lent is as it was
-  refuses : {answer : Answer} {same : Type 0} → answer ≡ answered (firstFailing tests) other
-      → (((new old : List ℤ) → written (firstFailing tests) new old ≡ old) → same) → Refuses tests answer same
+  refuses : {answer : Answer} {A same : Type 0} → answer ≡ answered (firstFailing tests) other
+      → (((new old : List A) → written (firstFailing tests) new old ≡ old) → same) → Refuses tests answer same
   refuses is unchanged =
       record {
         exactly = λ k. (λ e. to k (firstFailing tests) refl (sym is ∙ e), λ f. is ∙ back k (firstFailing tests) refl f);
@@ -89,17 +89,17 @@ checked-no-refusal (suc k) e = omega arith
 
 module _ (tests : List (ℕ × Bool)) (l : numbered tests ≡ true) {answer : Answer} where
   -- a call that answers `Written`
-  pub message-refuses : {same : Type 0} → answer ≡ answered (firstFailing tests) Written
-      → (((new old : List ℤ) → written (firstFailing tests) new old ≡ old) → same) → Refuses tests answer same
+  pub message-refuses : {A same : Type 0} → answer ≡ answered (firstFailing tests) Written
+      → (((new old : List A) → written (firstFailing tests) new old ≡ old) → same) → Refuses tests answer same
   message-refuses is unchanged = refuses tests l Written (λ e. omega arith) is unchanged
 
   -- one that answers a judgement, and is lent nothing to write to
   pub judgement-refuses : (v : Verdict) → answer ≡ answered (firstFailing tests) (Judged v) → Refuses tests answer Unit
-  judgement-refuses v is = refuses tests l (Judged v) (judged-no-refusal v) is (λ kept. tt)
+  judgement-refuses v is = refuses tests l (Judged v) (judged-no-refusal v) is (λ (kept : (new old : List ℤ) → written (firstFailing tests) new old ≡ old). tt)
 
   -- the next instance, whose check k may fail
-  pub next-call-refuses : (k : ℕ) {same : Type 0} → answer ≡ answered (firstFailing tests) (checked k Written)
-      → (((new old : List ℤ) → written (firstFailing tests) new old ≡ old) → same) → Refuses tests answer same
+  pub next-call-refuses : (k : ℕ) {A same : Type 0} → answer ≡ answered (firstFailing tests) (checked k Written)
+      → (((new old : List A) → written (firstFailing tests) new old ≡ old) → same) → Refuses tests answer same
   next-call-refuses k is unchanged = refuses tests l (checked k Written) (checked-no-refusal k) is unchanged
 
 -- a call that answers the number itself and hands back a list, empty where it is refused

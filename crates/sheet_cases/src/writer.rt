@@ -1,0 +1,157 @@
+// The cases of the writer. Standard input has a line with their number, then for each a line of 20 numbers, the header's 18, how many numbers follow
+// and the length of the buffer, and a line with these numbers; each stands in 16 columns. Standard output gets for each case how many bytes the text
+// has, the writer's answer, the length and the checksum of the buffer, on one line, and the buffer where it is not too long, and a line feed.
+ghost use Prim.Native.Nat.{_≤_, _<_};
+ghost use lib.ListN.{length};
+use capi::write::CText;
+use capi::write::lizkarg_sheet_bytes;
+use capi::write::lizkarg_write_sheet;
+use cases::numbers::word;
+use cases::printing::print_line_end;
+use cases::sums::with_number;
+use crate::front;
+use crate::lesser;
+use crate::print_number;
+use crate::read_case;
+use fields::walk::number_at;
+use fields::walk::number_size;
+use fold::Shape;
+use fold::Sizes;
+
+// Most numbers of a case.
+const NUMBERS: usize = 8192;
+
+// Most bytes of a buffer.
+const BYTES: usize = 140000;
+
+// The longest buffer that is printed.
+const SHOWN: usize = 4096;
+
+fn size_at(line: &[u8], at: usize) -> usize {
+    number_size(line, at) as usize
+}
+
+// The sizes on the line of a case.
+fn sizes_on(line: &[u8]) -> Sizes {
+    let shape = Shape {
+        d: size_at(line, 0),
+        n: size_at(line, 16),
+        r: size_at(line, 32),
+    };
+    Sizes {
+        shape,
+        k: size_at(line, 48),
+        l: size_at(line, 64),
+        w: size_at(line, 80),
+        kappa: size_at(line, 96),
+        kappa1: size_at(line, 112),
+        kappa2: size_at(line, 128),
+        b: size_at(line, 144),
+        b1: size_at(line, 160),
+        b2: size_at(line, 176),
+        t1: size_at(line, 192),
+        t2: size_at(line, 208),
+        bound: number_size(line, 256),
+        target: number_size(line, 272),
+    }
+}
+
+// The numbers of a text.
+fn numbers_on(text: &[u8], numbers: &mut [i32])
+    requires { ⌜ length (now numbers) ≤ 8192 ⌝ }
+{
+    let mut i = 0;
+    while i < numbers.len() {
+        numbers[i] = word(number_at(text, 16 * i));
+        i += 1;
+    }
+}
+
+// The first byte once, the second twice, and so on, modulo 2^31 - 1.
+fn byte_sum(text: &[u8]) -> u64
+    ensures { λ r. ⌜ r < 2147483647 ⌝ }
+{
+    let mut sum: u64 = 0;
+    let mut i = 0;
+    while i < text.len() {
+        let x = text[i];
+        i += 1;
+        sum = with_number(sum, i as u64, x as i32);
+    }
+    sum
+}
+
+// The length and the checksum of a buffer, and its bytes where they are not too many.
+fn print_buffer(text: &[u8]) -> bool {
+    let count = text.len();
+    print_number(count as u64);
+    print_number(byte_sum(text));
+    print_line_end();
+    if count <= SHOWN {
+        io::write_all(1, text);
+    }
+    print_line_end();
+    true
+}
+
+fn print_answer(wrote: CText) -> bool {
+    print_number(wrote.kind as u64);
+    print_number(wrote.number as u64);
+    print_number(wrote.length as u64);
+    true
+}
+
+// Writes a sheet into a buffer, and prints the answer and the buffer afterwards.
+fn print_written(line: &[u8], numbers: &[i32], text: &mut [u8]) -> bool {
+    let sizes = sizes_on(line);
+    let nu = size_at(line, 224);
+    let mu = size_at(line, 240);
+    let bytes = lizkarg_sheet_bytes(sizes, nu, mu);
+    io::print_decimal(1, bytes as u64);
+    let wrote = lizkarg_write_sheet(sizes, nu, mu, numbers, text);
+    print_answer(wrote);
+    print_buffer(text)
+}
+
+// The same with the numbers of a text, and a buffer of `room` bytes, each 77 before.
+fn run_write(line: &[u8], text: &[u8], count: usize, room: usize) -> bool {
+    let mut numbers = [0i32; 8192];
+    let mut buffer = [77u8; 140000];
+    if NUMBERS < count {
+        return false;
+    }
+    if BYTES < room {
+        return false;
+    }
+    numbers_on(text, &mut numbers[..count]);
+    print_written(line, &numbers[..count], &mut buffer[..room])
+}
+
+// Reads a case and prints its lines.
+fn run_case(text: &mut [u8]) -> bool {
+    let mut line = [0u8; 321];
+    let got = io::read_full(0, &mut line);
+    if got != 321 {
+        return false;
+    }
+    let count = lesser(size_at(&line, 288), NUMBERS);
+    let room = lesser(size_at(&line, 304), BYTES);
+    if !read_case(text, 16 * count) {
+        return false;
+    }
+    run_write(&line, front(text, 16 * count), count, room)
+}
+
+// Runs cases until one fails, and answers how many it ran.
+pub fn run_cases(text: &mut [u8], cases: usize) -> usize
+    ensures { λ r. ⌜ r ≤ cases ⌝ }
+{
+    let mut i = 0;
+    while i < cases {
+        if !run_case(text) {
+            return i;
+        }
+        i += 1;
+    }
+    i
+}
