@@ -1,6 +1,5 @@
--- SPECIFICATION 10.12 to 10.15: "a writer that turns the numbers of a sheet into its one text, into a lent buffer, and answers the text's length".
--- It makes the tests that the reader makes of the same numbers, 1 to 6 and 7 to 10, and "13, after 11, exactly when the buffer is shorter than the
--- text".
+-- SPECIFICATION 10.12 to 10.15: "A writer turns the numbers of a sheet into its one text, into a lent buffer, and answers the text's length." It makes
+-- the tests that the reader makes of the same numbers, 1 to 6 and 7 to 10, and "13, after 11, exactly when the buffer is shorter than the text".
 --     headerFields, writtenText   the numbers of a header, and the text
 --     elementLines, textBytes     how many bytes the text has, by the sizes
 --     writingTests                the tests in their order, for a buffer of `room` bytes
@@ -66,7 +65,7 @@ writtenText h xs = sheetText (headerFields h) xs
 unfoldable pub elementLines : Sizes → ℕ
 elementLines s = matrixCount s + (wholeCount s + (s .l * functionSize (s .shape .n) (s .shape .r) + (rowCount s + lastCount s)))
 
--- "With E the sum of the second column, the text has 289 + (16d + 1)·E + 17·6·(L + w) bytes."
+-- "With E lines of d fields, the text has 289 + (16d + 1)·E + 17·6·(L + w) bytes"
 unfoldable pub textBytes : Sizes → ℕ
 textBytes s = headerBytes + ((16 * s .shape .d + 1) * elementLines s + 17 * (6 * (s .l + s .w)))
 

@@ -36,7 +36,7 @@ module _ {h : SheetSizes} {xs : List ℤ} {before after : List ℕ} {wrote : Wri
   is : wrote ≡ lengthAnswer (writingRefusal h xs before) (length (writtenText h xs))
   is = write-is h xs before call
 
-  -- "turns the numbers of a sheet into its one text, into a lent buffer, and answers the text's length"
+  -- "A writer turns the numbers of a sheet into its one text, into a lent buffer, and answers the text's length."
   pub written-exactly : (m : ℕ) → (wrote ≡ Length m) ↔ (SheetNumbers (headerFields h) xs × (m ≡ length (writtenText h xs)) × (m ≤ length before))
   written-exactly m = (
     λ e.
