@@ -183,5 +183,5 @@ fn main() {
     let cases = read_number(CASES);
     run_cases(&mut text, cases);
     let written = read_number(CASES);
-    writer::run_cases(&mut text, written);
+    writer::run_writer(&mut text, written);
 }

@@ -21,9 +21,6 @@ use fold::Sizes;
 // Most numbers of a case.
 const NUMBERS: usize = 8192;
 
-// Most bytes of a buffer.
-const BYTES: usize = 140000;
-
 // The longest buffer that is printed.
 const SHOWN: usize = 4096;
 
@@ -67,6 +64,10 @@ fn numbers_on(text: &[u8], numbers: &mut [i32])
     }
 }
 
+fn byte_number(x: u8) -> i32 {
+    x as i32
+}
+
 // The first byte once, the second twice, and so on, modulo 2^31 - 1.
 fn byte_sum(text: &[u8]) -> u64
     ensures { λ r. ⌜ r < 2147483647 ⌝ }
@@ -76,7 +77,7 @@ fn byte_sum(text: &[u8]) -> u64
     while i < text.len() {
         let x = text[i];
         i += 1;
-        sum = with_number(sum, i as u64, x as i32);
+        sum = with_number(sum, i as u64, byte_number(x));
     }
     sum
 }
@@ -113,45 +114,79 @@ fn print_written(line: &[u8], numbers: &[i32], text: &mut [u8]) -> bool {
     print_buffer(text)
 }
 
-// The same with the numbers of a text, and a buffer of `room` bytes, each 77 before.
-fn run_write(line: &[u8], text: &[u8], count: usize, room: usize) -> bool {
-    let mut numbers = [0i32; 8192];
-    let mut buffer = [77u8; 140000];
+// Each byte becomes 77.
+fn refill(buffer: &mut [u8]) {
+    let mut i = 0;
+    while i < buffer.len() {
+        buffer[i] = 77;
+        i += 1;
+    }
+}
+
+// The same with the numbers of a text, and a buffer whose bytes are 77 before.
+fn run_write(line: &[u8], text: &[u8], numbers: &mut [i32], buffer: &mut [u8]) -> bool
+    requires { ⌜ length (now numbers) ≤ 8192 ⌝ }
+{
+    numbers_on(text, numbers);
+    refill(buffer);
+    print_written(line, numbers, buffer)
+}
+
+// The same with `count` numbers and a buffer of `room` bytes, where there is room for them.
+fn run_sized(
+    line: &[u8],
+    text: &[u8],
+    numbers: &mut [i32],
+    buffer: &mut [u8],
+    count: usize,
+    room: usize,
+) -> bool {
     if NUMBERS < count {
         return false;
     }
-    if BYTES < room {
+    if numbers.len() < count {
         return false;
     }
-    numbers_on(text, &mut numbers[..count]);
-    print_written(line, &numbers[..count], &mut buffer[..room])
+    if buffer.len() < room {
+        return false;
+    }
+    run_write(line, text, &mut numbers[..count], &mut buffer[..room])
 }
 
 // Reads a case and prints its lines.
-fn run_case(text: &mut [u8]) -> bool {
+fn run_case(text: &mut [u8], numbers: &mut [i32], buffer: &mut [u8]) -> bool {
     let mut line = [0u8; 321];
     let got = io::read_full(0, &mut line);
     if got != 321 {
         return false;
     }
     let count = lesser(size_at(&line, 288), NUMBERS);
-    let room = lesser(size_at(&line, 304), BYTES);
+    let room = size_at(&line, 304);
     if !read_case(text, 16 * count) {
         return false;
     }
-    run_write(&line, front(text, 16 * count), count, room)
+    run_sized(&line, front(text, 16 * count), numbers, buffer, count, room)
 }
 
 // Runs cases until one fails, and answers how many it ran.
-pub fn run_cases(text: &mut [u8], cases: usize) -> usize
+fn run_cases(text: &mut [u8], numbers: &mut [i32], buffer: &mut [u8], cases: usize) -> usize
     ensures { λ r. ⌜ r ≤ cases ⌝ }
 {
     let mut i = 0;
     while i < cases {
-        if !run_case(text) {
+        if !run_case(text, numbers, buffer) {
             return i;
         }
         i += 1;
     }
     i
+}
+
+// The same, with room for the numbers and for the buffer.
+pub fn run_writer(text: &mut [u8], cases: usize) -> usize
+    ensures { λ r. ⌜ r ≤ cases ⌝ }
+{
+    let mut numbers = [0i32; 8192];
+    let mut buffer = [0u8; 140000];
+    run_cases(text, &mut numbers, &mut buffer, cases)
 }
