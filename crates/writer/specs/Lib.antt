@@ -6,3 +6,5 @@ pub mod Known
 pub mod Theorems
 -- Laws
 pub mod Laws
+-- Closed cases
+pub mod Cases

@@ -1,13 +1,10 @@
 // The number with which the writer refuses, 0 where it does not.
 ghost use mathlib.Core.Path.{_≡_};
-ghost use mathlib.Core.Bool.{Bool};
-ghost use mathlib.Core.List.{[], _∷_, _++_};
-ghost use lib.Dec.{leb};
 ghost use lib.ListN.{length};
 ghost use Rattle.fold.specs.Answers.{firstFailing};
 ghost use Rattle.fold.specs.Arguments.{VerifySized};
 ghost use Rattle.sheet.specs.Reading.{numberTests, sliceTests};
-ghost use Rattle.writer.specs.Writing.{textBytes, writingTests};
+ghost use Rattle.writer.specs.Writing.{writingTests};
 ghost use Rattle.writer.specs.Known.Writing.{Counted};
 use crate::bytes::text_bytes;
 use fields::sizes::challenges_from;

@@ -199,10 +199,25 @@ module _ (room : ℕ) (h : SheetSizes) (xs : List ℤ) where
   unfolding writingTests roomTest
   last = sym (append-assoc (headerTests (headerFields h)) (sliceTests (length xs) (h .sizes) xs) roomTest)
 
-  room-refusal : SheetNumbers (headerFields h) xs → firstFailing (writingTests room h xs) ≡ cond (leb (length (writtenText h xs)) room) 0 13
+  pub room-refusal : SheetNumbers (headerFields h) xs → firstFailing (writingTests room h xs) ≡ cond (leb (length (writtenText h xs)) room) 0 13
   unfolding headerTests numberTests roomTest firstFailing
   room-refusal n =
       ap firstFailing last ∙ refusal-rest (allNumberTests h xs) roomTest (refusal-passes (allNumberTests h xs) refl (passed-numbers h xs n))
+
+  -- a refusal by rows 1 to 10 comes first
+  pub early-first : 0 < firstFailing (allNumberTests h xs) → firstFailing (allNumberTests h xs) ≡ firstFailing (writingTests room h xs)
+  early-first some = refusal-first (allNumberTests h xs) roomTest some ∙ ap firstFailing (sym last)
+
+  pub early-refusal : {n : ℕ} → firstFailing (allNumberTests h xs) ≡ suc n → firstFailing (writingTests room h xs) ≡ suc n
+  early-refusal e = sym (early-first (omega (arith, e))) ∙ e
+
+  -- the numbers of a sheet are refused by 13 alone
+  pub room-alone : SheetNumbers (headerFields h) xs → {n : ℕ} → firstFailing (writingTests room h xs) ≡ n → 0 < n → n ≡ 13
+  room-alone s {n} e some = step (leb (length (writtenText h xs)) room) (sym (room-refusal s) ∙ e)
+    where
+      step : (t : Bool) → cond t 0 13 ≡ n → n ≡ 13
+      step true q = let never : ⊥ = omega (arith, q, some) in absurd never
+      step false q = sym q
 
   pub passed-writing : SheetNumbers (headerFields h) xs → length (writtenText h xs) ≤ room → firstFailing (writingTests room h xs) ≡ 0
   passed-writing n fits = room-refusal n ∙ rw (le-leb (length (writtenText h xs)) room fits) refl

@@ -104,7 +104,10 @@ unfolding fieldWidth
 laid-room at n true h = omega arith
 laid-room at n false h = h
 
-pub length-laid : (minus : Bool) (m : ℕ) (last : Bool) → length (signedText minus m ++ feed last) ≡ fieldWidth last
+length-feed : (last : Bool) → 16 + length (feed last) ≡ fieldWidth last
 unfolding feed fieldWidth
-length-laid minus m true = omega (arith, length-append (signedText minus m) (10 ∷ []), length-signed minus m)
-length-laid minus m false = omega (arith, length-append (signedText minus m) [], length-signed minus m)
+length-feed true = refl
+length-feed false = refl
+
+pub length-laid : (minus : Bool) (m : ℕ) (last : Bool) → length (signedText minus m ++ feed last) ≡ fieldWidth last
+length-laid minus m last = omega (arith, length-append (signedText minus m) (feed last), length-signed minus m, length-feed last)

@@ -6,28 +6,29 @@
 --     text-length                  of the whole text
 --     fields-place, place-end      the text of numbers ends at the place after them, and that is `textBytes` after the last
 use mathlib.Core.Path.{_≡_, refl, sym, ap, _∙_}
-use mathlib.Core.Bool.{Bool, true, false}
+use mathlib.Core.Bool.{Bool}
 use mathlib.Core.List.{List, [], _∷_, _++_}
 use Prim.Native.Nat.{ℕ, zero, suc, _+_, _*_, _<_}
 use native.Mathlib.Nat.{zero-mul, suc-mul, mul-one}
 use native.Mathlib.Omega.{arith}
 use lib.ListN.{length, getD, take, drop, length-append, length-take, length-drop}
-use lib.IntN.{ℤ, pos}
+use lib.IntN.{ℤ, pos, natAbs}
 use Rattle.integers.specs.Lists.{tab}
 use Rattle.integers.specs.Flat.{flat}
 use Rattle.integers.specs.Laws.ListLaws.{length-tab}
 use Rattle.integers.specs.Laws.FlatLaws.{length-flat}
 use Rattle.fold.specs.declared.Sizes.{Sizes}
-use Rattle.fields.specs.Field.{fieldText, headerBytes}
+use Rattle.fields.specs.Field.{negative, fieldText, headerBytes}
 use Rattle.fields.specs.Laws.FieldLaws.{length-field}
 use Rattle.fields.specs.Sections.{termSize, onesCount, sectionsOf, total, endsLine}
-use Rattle.fields.specs.Place.{fieldWidth, feed, lineFields, place}
+use Rattle.fields.specs.Place.{feed, lineFields, place}
 use Rattle.sheet.specs.declared.header.SheetSizes.{SheetSizes}
 use Rattle.sheet.specs.Reading.{size, sizesOf, sheetSizesOf}
 use Rattle.sheet.specs.Layout.{copies, elements, fields, bodyLines, lineText, textOf, sheetText}
 use Rattle.sheet.specs.Laws.BodyLaws.{termPart, middlePart, body-merged, body-total}
 use Rattle.sheet.specs.Laws.SheetLaws.{body-fields}
 use Rattle.writer.specs.Writing.{headerWords, headerFields, writtenText, elementLines, textBytes}
+use Rattle.writer.specs.Laws.FieldLaws.{length-laid}
 
 -- ---- numbers on lines
 
@@ -64,15 +65,15 @@ module _ (s : Sizes) where
   open Sizes s using (l, w)
 
   -- "6·(L + w)" lines of one number, beside those of d numbers
-  pub body-lines : length (bodyLines s) ≡ elementLines s + 6 * (l + w)
+  line-count : length (bodyLines s) ≡ elementLines s + 6 * (l + w)
   unfolding termPart middlePart elementLines onesCount
-  body-lines =
+  line-count =
       ap length (body-merged s) ∙ simp (length-append, length-copies, length-elements) (omega arith)
 
   pub body-length : (xs : List ℤ) → length xs ≡ total s → headerBytes + length (textOf (bodyLines s) xs) ≡ textBytes s
   unfolding textBytes total termSize elementLines onesCount
   body-length xs e =
-      omega (arith, lines-length (bodyLines s) xs (e ∙ sym (body-total s)), body-lines, body-total s)
+      omega (arith, lines-length (bodyLines s) xs (e ∙ sym (body-total s)), line-count, body-total s)
 
 -- ---- the whole text
 
@@ -102,22 +103,15 @@ text-length h xs e =
 
 -- ---- by place
 
-length-feed : (last : Bool) → 16 + length (feed last) ≡ fieldWidth last
-unfolding feed fieldWidth
-length-feed true = refl
-length-feed false = refl
-
 pub fields-place : (ends : ℕ → Bool) (x : ℕ → ℤ) (at n : ℕ) → at + length (lineFields ends x n) ≡ place ends at n
-unfolding lineFields flat place
+unfolding lineFields flat place fieldText
 fields-place ends x at zero = omega arith
 fields-place ends x at (suc n) =
     let F : ℕ → List ℕ = λ i. fieldText (x i) ++ feed (ends i) in
     omega (
       arith,
       length-append (flat n F) (F n),
-      length-append (fieldText (x n)) (feed (ends n)),
-      length-field (x n),
-      length-feed (ends n),
+      length-laid (negative (x n)) (natAbs (x n)) (ends n),
       fields-place ends x at n,
     )
 

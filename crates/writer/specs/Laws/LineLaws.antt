@@ -4,9 +4,9 @@
 --     body-field, body-lines      the field of a number, and all lines after the header: `write_lines`
 --     header-fits, body-fits, both-written    the header, and the other lines after it: `write_sheet`
 use mathlib.Core.Path.{_≡_, refl, sym, ap, subst, _∙_}
-use mathlib.Core.Bool.{Bool, true, false}
-use mathlib.Core.List.{List, [], _∷_, _++_, map}
-use Prim.Native.Nat.{ℕ, zero, suc, _+_, _*_, _≤_, _<_}
+use mathlib.Core.Bool.{Bool, false}
+use mathlib.Core.List.{List, _++_}
+use Prim.Native.Nat.{ℕ, _+_, _*_, _≤_, _<_}
 use native.Mathlib.Numerals.{add-one}
 use native.Mathlib.Omega.{arith}
 use lib.Dec.{eqb}
@@ -20,13 +20,13 @@ use Rattle.integers.specs.Laws.OverLaws.{over-nil, over-over, length-over}
 use Rattle.integers.specs.Laws.FlatLaws.{flat-suc}
 use Rattle.fold.specs.declared.Sizes.{Sizes}
 use Rattle.fields.specs.declared.sizes.Sections.{Sections}
-use Rattle.fields.specs.Field.{negative, signedText, fieldText, headerBytes}
-use Rattle.fields.specs.Sections.{Sectioned, sectionsOf, total, endsLine}
+use Rattle.fields.specs.Field.{signedText, fieldText, headerBytes}
+use Rattle.fields.specs.Sections.{Sectioned, sectionsOf, endsLine}
 use Rattle.fields.specs.Place.{fieldWidth, feed, place, lineFields}
 use Rattle.fields.specs.Laws.PlaceLaws.{place-next, place-mono}
 use Rattle.sheet.specs.declared.header.SheetSizes.{SheetSizes}
-use Rattle.sheet.specs.Layout.{fields, bodyLines, lineText, textOf, sheetText}
-use Rattle.sheet.specs.Reading.{headerSections, sizesOf}
+use Rattle.sheet.specs.Layout.{bodyLines, lineText, textOf, sheetText}
+use Rattle.sheet.specs.Reading.{headerSections}
 use Rattle.sheet.specs.Laws.BodyLaws.{body-total}
 use Rattle.sheet.specs.Laws.EndLaws.{header-ends, header-place, header-end}
 use Rattle.sheet.specs.Laws.LayoutLaws.{fields-cong}
@@ -34,7 +34,7 @@ use Rattle.sheet.specs.Laws.SheetLaws.{header-fields, body-fields}
 use Rattle.writer.specs.Writing.{headerWords, headerFields, writtenText, textBytes}
 use Rattle.writer.specs.Known.Writing.{Counted, Roomy}
 use Rattle.writer.specs.Laws.FieldLaws.{length-laid}
-use Rattle.writer.specs.Laws.LengthLaws.{line-length, length-fields, sizes-back, fields-place, place-end}
+use Rattle.writer.specs.Laws.LengthLaws.{line-length, length-fields, sizes-given, fields-place, place-end}
 
 -- the first i numbers of x are written from `at` on, and the next one stands at `here`
 pub record Lined (ends : ℕ → Bool) (x : ℕ → ℤ) (at : ℕ) (out₀ out : List ℕ) (here i : ℕ) : Type 0 where
@@ -87,12 +87,11 @@ header-last k h = ap (λ (i : ℕ). eqb i 18) (add-one k) ∙ header-ends k h
 pub record HeaderWritten (words : List ℕ) (out₀ out : List ℕ) (k : ℕ) : Type 0 where
   pub below : k ≤ 18
   pub lines : Lined (endsLine headerSections) (λ i. pos (getD words i 0)) 0 out₀ out (place (endsLine headerSections) 0 k) k
-  pub size : length out ≡ length out₀
 
 module _ (words : List ℕ) where
   pub header-start : (out : List ℕ) → HeaderWritten words out out 0
   unfolding place
-  header-start out = record { below = omega arith; lines = lined-start (endsLine headerSections) (λ i. pos (getD words i 0)) 0 out; size = refl }
+  header-start out = record { below = omega arith; lines = lined-start (endsLine headerSections) (λ i. pos (getD words i 0)) 0 out }
 
   module _ {out₀ out : List ℕ} {k : ℕ} (inv : HeaderWritten words out₀ out k) (more : k < 18) (room : headerBytes ≤ length out₀) where
     here : place (endsLine headerSections) 0 k ≡ 16 * k
@@ -118,7 +117,6 @@ module _ (words : List ℕ) where
         record {
           below = omega arith;
           lines = subst (λ (a : ℕ). Lined ends x 0 out₀ out′ a (k + 1)) place-k next;
-          size = next .size;
         }
 
   pub header-done : (h : SheetSizes) → words ≡ headerWords h → {out₀ out : List ℕ} {k : ℕ} → HeaderWritten words out₀ out k → 18 ≤ k
@@ -192,6 +190,5 @@ pub both-written : (h : SheetSizes) (xs : List ℤ) (out : List ℕ) {head both 
     → both ≡ over head headerBytes (textOf (bodyLines (h .sizes)) xs) → both ≡ over out 0 (writtenText h xs)
 unfolding writtenText sheetText
 both-written h xs out e f =
-    let same : sizesOf (headerFields h) ≡ h .sizes = ap (λ (t : SheetSizes). t .sizes) (sizes-back h) in
     let head-length : headerBytes ≡ 0 + length (lineText (headerFields h)) = omega (arith, line-length (headerFields h), length-fields h) in
-    f ∙ rw (e, head-length, same) (over-over out 0 (lineText (headerFields h)) (textOf (bodyLines (h .sizes)) xs) (omega arith))
+    f ∙ rw (e, head-length, sizes-given h) (over-over out 0 (lineText (headerFields h)) (textOf (bodyLines (h .sizes)) xs) (omega arith))

@@ -4,21 +4,21 @@
 --     good-sizes, refused-header, refused-slice, last-refusal     all tests, one after the other
 --     bytes-refused, bytes-good                                   `sheet_bytes`
 --     write-refused, written-counted, written-room, write-done    the writer's promise, refused or not
-use mathlib.Core.Path.{_≡_, refl, sym, ap, subst, _∙_}
-use mathlib.Core.Bool.{Bool, true, false, cond}
-use mathlib.Core.List.{List, [], _∷_, _++_}
+use mathlib.Core.Path.{_≡_, refl, sym, ap, _∙_}
+use mathlib.Core.Bool.{Bool, cond}
+use mathlib.Core.List.{List, [], _∷_}
 use Prim.Native.Nat.{ℕ, zero, suc, _+_, _*_, _-_, _≤_, _<_}
 use native.Mathlib.Omega.{arith}
-use lib.Dec.{eqb, leb}
+use lib.Dec.{leb}
 use lib.ListN.{length, take, drop}
 use lib.IntN.{ℤ}
-use borrow.Author.Tests.{eqb-true, eq-eqb, ne-eqb, leb-true}
+use borrow.Author.Tests.{eq-eqb, ne-eqb}
 use Rattle.integers.specs.Over.{over}
 use Rattle.residues.specs.Range.{coefficients, projectionEntries}
 use Rattle.fold.specs.declared.Answer.the-variants as answer
 use Rattle.fold.specs.Answers.{firstFailing, answered, written}
 use Rattle.fold.specs.Arguments.{VerifySized}
-use Rattle.fold.specs.Laws.RefusalLaws.{Passes, refusal-passes, passes-front, passes-back}
+use Rattle.fold.specs.Laws.RefusalLaws.{refusal-passes}
 use Rattle.fold.specs.Refusals.{challenges, projectionLength}
 use Rattle.fold.specs.Sizes.{zCount}
 use Rattle.fold.specs.declared.Sizes.{Sizes}
@@ -35,7 +35,9 @@ use Rattle.writer.specs.declared.WriteAnswer.{WriteAnswer}
 use Rattle.writer.specs.declared.WriteAnswer.the-variants.{Length, Refused}
 use Rattle.writer.specs.Writing.{headerFields, writtenText, textBytes, sheetBytes, writingTests, writingRefusal, answerOf, lengthOf, lengthIf, SheetWritten}
 use Rattle.writer.specs.Known.Writing.{Counted}
-use Rattle.writer.specs.Laws.LengthLaws.{sizes-back, text-length}
+use Rattle.writer.specs.Laws.LengthLaws.{sizes-back, sizes-given, text-length}
+use Rattle.writer.specs.Laws.AnswerLaws.{allNumberTests, numbers-passed, count-total, early-first, room-refusal, writing-passed}
+use Rattle.sheet.specs.Layout.{SheetNumbers}
 
 -- ---- rows 7 to 10
 
@@ -87,34 +89,26 @@ module _ (room : ℕ) (h : SheetSizes) (xs : List ℤ) {header : ℕ} (e : heade
   pub good-sizes : header ≤ 0 → VerifySized (h .sizes)
   good-sizes none = next-sized zCount (h .sizes) (h .nu) (h .mu) refl (sym e ∙ omega (arith, none))
 
-  rest : List (ℕ × Bool)
-  rest = sliceTests (length xs) (h .sizes) xs ++ ((13, leb (length (writtenText h xs)) room) ∷ [])
-
   pub refused-header : 0 < header → header ≡ firstFailing (writingTests room h xs)
-  unfolding writingTests rest
-  refused-header some = header-is ∙ refusal-first (headerTests (headerFields h)) rest (rw header-is at some)
+  refused-header some =
+      let first = refusal-first (headerTests (headerFields h)) (sliceTests (length xs) (h .sizes) xs) (rw header-is at some) in
+      header-is ∙ first ∙ early-first room h xs (omega (arith, header-is, first, some))
 
   module _ (none : header ≤ 0) {slice : ℕ} (f : slice ≡ firstFailing (sliceTests (length xs) (h .sizes) xs)) where
-    past-header : firstFailing (writingTests room h xs) ≡ firstFailing rest
-    unfolding writingTests rest headerTests
-    past-header = refusal-rest (headerTests (headerFields h)) rest (refusal-passes (headerTests (headerFields h)) refl (sym header-is ∙ omega (arith, none)))
+    numbers-are : firstFailing (allNumberTests h xs) ≡ slice
+    unfolding headerTests
+    numbers-are =
+        refusal-rest (headerTests (headerFields h)) (sliceTests (length xs) (h .sizes) xs)
+        (refusal-passes (headerTests (headerFields h)) refl (sym header-is ∙ omega (arith, none))) ∙ sym f
 
     pub refused-slice : 0 < slice → slice ≡ firstFailing (writingTests room h xs)
-    unfolding rest
-    refused-slice some =
-        f ∙ refusal-first (sliceTests (length xs) (h .sizes) xs) ((13, leb (length (writtenText h xs)) room) ∷ []) (rw f at some) ∙ sym past-header
+    refused-slice some = sym numbers-are ∙ early-first room h xs (omega (arith, numbers-are, some))
 
-    module _ (few : slice ≤ 0) where
-      slice-passes : Passes (sliceTests (length xs) (h .sizes) xs)
-      unfolding numberTests
-      slice-passes = refusal-passes (sliceTests (length xs) (h .sizes) xs) refl (sym f ∙ omega (arith, few))
-
-      pub last-refusal : {bytes r : ℕ} → bytes ≡ textBytes (h .sizes) → r ≡ cond (leb bytes room) 0 13 → r ≡ firstFailing (writingTests room h xs)
-      unfolding firstFailing rest
-      last-refusal b g =
-          let count = eqb-true (length xs) (total (h .sizes)) (slice-passes .0) in
-          g ∙ rw (b ∙ sym (text-length h xs count)) refl
-          ∙ sym (past-header ∙ refusal-rest (sliceTests (length xs) (h .sizes) xs) ((13, leb (length (writtenText h xs)) room) ∷ []) slice-passes)
+    pub last-refusal : slice ≤ 0 → {bytes r : ℕ} → bytes ≡ textBytes (h .sizes) → r ≡ cond (leb bytes room) 0 13
+        → r ≡ firstFailing (writingTests room h xs)
+    last-refusal few b g =
+        let n = numbers-passed h xs (numbers-are ∙ omega (arith, few)) in
+        g ∙ rw (b ∙ sym (text-length h xs (count-total h xs n))) refl ∙ sym (room-refusal room h xs n)
 
 -- ---- the writer's promise
 
@@ -137,33 +131,19 @@ module _ (h : SheetSizes) (xs : List ℤ) (before : List ℕ) where
       none-refused : writingRefusal h xs before ≡ 0
       none-refused = omega (arith, e, none)
 
-      passes : Passes (writingTests (length before) h xs)
-      unfolding writingTests headerTests numberTests
-      passes = refusal-passes (writingTests (length before) h xs) refl none-refused
-
-      later : Passes (sliceTests (length xs) (h .sizes) xs ++ ((13, leb (length (writtenText h xs)) (length before)) ∷ []))
-      unfolding writingTests
-      later =
-          passes-back (headerTests (headerFields h)) (sliceTests (length xs) (h .sizes) xs ++ ((13, leb (length (writtenText h xs)) (length before)) ∷ []))
-          passes
-
-      header-passes : Passes (headerTests (headerFields h))
-      unfolding writingTests
-      header-passes =
-          passes-front (headerTests (headerFields h)) (sliceTests (length xs) (h .sizes) xs ++ ((13, leb (length (writtenText h xs)) (length before)) ∷ []))
-          passes
+      passed : SheetNumbers (headerFields h) xs × (length (writtenText h xs) ≤ length before)
+      passed = writing-passed (length before) h xs none-refused
 
       pub written-counted : Counted (h .sizes) xs
+      unfolding headerTests
       written-counted = record {
-        bounded = subst (λ (t : SheetSizes). VerifySized (t .sizes)) (sizes-back h) (header-bounded (headerFields h) header-passes);
-        count = eqb-true (length xs) (total (h .sizes)) (later .0);
+        bounded =
+            rw (sizes-given h) at (header-bounded (headerFields h) (refusal-passes (headerTests (headerFields h)) refl (passed .0 .sizes)));
+        count = count-total h xs (passed .0);
       }
 
       pub written-room : textBytes (h .sizes) ≤ length before
-      unfolding numberTests
-      written-room =
-          let fits = leb-true (length (writtenText h xs)) (length before) (later .1 .1 .1 .1 .0) in
-          omega (arith, text-length h xs (written-counted .count), fits)
+      written-room = omega (arith, text-length h xs (written-counted .count), passed .1)
 
       pub write-done : {bytes : ℕ} {after : List ℕ} → bytes ≡ textBytes (h .sizes) → after ≡ over before 0 (writtenText h xs)
           → SheetWritten h xs before (Length bytes) after

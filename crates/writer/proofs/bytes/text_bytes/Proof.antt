@@ -3,7 +3,6 @@ use mathlib.Core.Path.{refl}
 use Prim.Native.Nat.{_+_, _*_, _≤_}
 use native.Mathlib.Nat.{mul-le-mul}
 use native.Mathlib.Omega.{arith}
-use Rattle.fields.specs.Field.{headerBytes}
 use Rattle.writer.specs.Writing.{textBytes}
 use borrow.Author.Needs.{needs}
 use Rattle.writer.proofs.bytes.text_bytes.Statement.{statement}

@@ -1,5 +1,4 @@
 -- `writer::field::write_laid` meets its contract.
-use native.Mathlib.Omega.{arith}
 use Rattle.writer.specs.Laws.FieldLaws.{laid-inner, laid-last, laid-room, laid-inside}
 use borrow.Author.Needs.{needs}
 use Rattle.writer.proofs.field.write_laid.Statement.{statement}

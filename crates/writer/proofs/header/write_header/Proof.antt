@@ -1,13 +1,6 @@
 -- `writer::header::write_header` meets its contract.
-use mathlib.Core.Path.{_≡_, refl, sym, ap, _∙_}
-use mathlib.Core.List.{List}
-use Prim.Native.Nat.{ℕ, _+_, _*_, _-_, _≤_, _<_}
+use Prim.Native.Nat.{_-_}
 use native.Mathlib.Omega.{arith}
-use lib.IntN.{pos}
-use lib.ListN.{length, getD}
-use Rattle.integers.specs.Over.{over}
-use Rattle.fields.specs.Sections.{endsLine}
-use Rattle.sheet.specs.Reading.{headerSections}
 use Rattle.writer.specs.Laws.LineLaws.{HeaderWritten, header-start, header-room, header-step, header-done}
 use Rattle.writer.proofs.header.write_header.Statement.{statement}
 use Rattle.writer.proofs.header.write_header.Tie as tie
@@ -40,5 +33,5 @@ write-header-spec =
     (λ c. omega (arith, c .before .before .before .before .loop-test .taken))
     (λ c. omega (arith, c .before .before .before .before .loop-test .taken))
     loop-again
-    (λ c. c .before .loop .inv .size)
+    (λ c. c .before .loop .inv .lines .size)
     (λ c. header-done _ _ (c .before .before .header-words .ensures) (c .before .loop .inv) (c .loop-test .left)))

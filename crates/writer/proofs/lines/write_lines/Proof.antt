@@ -7,7 +7,6 @@ use lib.Signed.{ltZ}
 use lib.ListN.{length, getD}
 use Rattle.residues.specs.Laws.Words.{word}
 use Rattle.fields.specs.Sections.{endsLine}
-use Rattle.fields.specs.Field.{headerBytes}
 use borrow.Author.Needs.{needs}
 use Rattle.writer.specs.Laws.LineLaws.{BodyWritten, body-start, body-room, body-step, body-done}
 use Rattle.writer.proofs.lines.write_lines.Statement.{statement}

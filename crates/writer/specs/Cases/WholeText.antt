@@ -1,0 +1,40 @@
+-- The whole case of SPECIFICATION 12.4 written: its text has 1345 bytes, and row 13's example is one byte less.
+use mathlib.Core.Path.{_≡_, refl}
+use mathlib.Core.Logic.{_↔_}
+use mathlib.Core.List.{List}
+use Prim.Native.Nat.{ℕ, _≤_, _<_}
+use lib.ListN.{length}
+use Rattle.algebra.specs.Triangle.{start, pairs-count}
+use Rattle.fold.specs.Answers.{firstFailing}
+use Rattle.fold.specs.Refusals.{allOf, anyOf, between, degree, rank, parts, constraintCount, projectionCount, commitmentRank, base, digitCount}
+use Rattle.fold.specs.Refusals.{chunks, lengthBound}
+use Rattle.fold.specs.Sizes.{pairs, functionSize, tSize, garbageSize, restSize, openingSize}
+use Rattle.fields.specs.Sections.{matrixCount, wholeCount, rowCount, lastCount}
+use Rattle.sheet.specs.declared.header.SheetSizes.{SheetSizes}
+use Rattle.sheet.specs.Reading.{headerTests, size, sizesOf, sheetSizesOf}
+use Rattle.sheet.specs.Layout.{SheetNumbers}
+use Rattle.sheet.specs.Cases.WholeSheet.{header, numbers, whole-numbers, second}
+use Rattle.writer.specs.declared.WriteAnswer.{WriteAnswer}
+use Rattle.writer.specs.declared.WriteAnswer.the-variants.{Length, Refused}
+use Rattle.writer.specs.Writing.{headerWords, headerFields, elementLines, textBytes, sheetBytes, SheetWritten}
+use Rattle.writer.specs.Theorems.WriterTheorems.{least-buffer}
+
+whole-bytes : sheetBytes (sheetSizesOf header) ≡ 1345
+unfolding sheetBytes textBytes elementLines headerFields headerWords headerTests firstFailing size sizesOf allOf anyOf between degree rank parts
+    constraintCount projectionCount commitmentRank base digitCount chunks lengthBound matrixCount wholeCount rowCount lastCount
+    pairs pairs-count start functionSize tSize garbageSize restSize openingSize
+whole-bytes = refl
+
+whole-sheet : SheetNumbers (headerFields (sheetSizesOf header)) numbers
+unfolding headerFields headerWords size sizesOf
+whole-sheet = whole-numbers
+
+-- 1344 bytes are refused by 13, 1345 are taken
+pub whole-buffer : {before after : List ℕ} {wrote : WriteAnswer} → SheetWritten (sheetSizesOf header) numbers before wrote after
+    → ((wrote ≡ Length 1345) ↔ (1345 ≤ length before)) × ((wrote ≡ Refused 13) ↔ (length before < 1345))
+whole-buffer call = rw whole-bytes at (least-buffer call whole-sheet)
+
+-- two constant-term constraints and a projection row: 99 lines of two fields and 18 of one; the second implementation gives the same
+pub second-bytes : textBytes second ≡ 3862
+unfolding textBytes elementLines matrixCount wholeCount rowCount lastCount pairs pairs-count start functionSize tSize garbageSize restSize openingSize
+second-bytes = refl
