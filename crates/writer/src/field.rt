@@ -2,27 +2,51 @@
 ghost use mathlib.Core.Path.{_≡_};
 ghost use mathlib.Core.List.{_++_};
 ghost use Prim.Native.Nat.{_+_, _≤_};
-ghost use lib.ListN.{length};
+ghost use lib.ListN.{length, take, drop};
 ghost use Rattle.integers.specs.Over.{over};
-ghost use Rattle.fields.specs.Field.{signedText};
+ghost use Rattle.fields.specs.Field.{columns, signedText};
 ghost use Rattle.fields.specs.Place.{fieldWidth, feed};
+ghost use Rattle.writer.specs.Known.Writing.{blanks};
 use fields::field::column_byte;
-use fields::field::minus_due;
+
+// The 16 bytes from `at` on become blanks.
+fn write_blanks(text: &mut [u8], at: usize)
+    requires { ⌜ at + 16 ≤ length (now text) ⌝ }
+    ensures { λ r. ⌜ now (text .exit) ≡ over (now (text .entry)) at (blanks 16) ⌝ }
+{
+    let mut k = 0;
+    while k < 16 {
+        text[at + k] = 32;
+        k += 1;
+    }
+}
+
+// Of 15 blanks from `at` on, the last become the digits of m and the minus before them; none where m is 0.
+fn write_columns(text: &mut [u8], at: usize, minus: bool, m: u64)
+    requires { ⌜ (at + 15 ≤ length (now text)) × (take 15 (drop at (now text)) ≡ blanks 15) ⌝ }
+    ensures { λ r. ⌜ now (text .exit) ≡ over (now (text .entry)) at (columns 15 minus m) ⌝ }
+{
+    let sign = column_byte(minus, 0);
+    let mut left = 15;
+    let mut rest = m;
+    while 0 < left {
+        if rest == 0 {
+            text[at + left - 1] = sign;
+            return;
+        }
+        text[at + left - 1] = 48 + ((rest % 10) as u8);
+        rest = rest / 10;
+        left -= 1;
+    }
+}
 
 // The 16 bytes from `at` on become the field of m, or of its opposite.
 fn write_field(text: &mut [u8], at: usize, minus: bool, m: u64)
     requires { ⌜ at + 16 ≤ length (now text) ⌝ }
     ensures { λ r. ⌜ now (text .exit) ≡ over (now (text .entry)) at (signedText minus m) ⌝ }
 {
-    let mut left = 15;
-    let mut rest = m / 10;
-    let mut due = minus;
-    while 0 < left {
-        text[at + left - 1] = column_byte(due, rest);
-        due = minus_due(due, rest);
-        rest = rest / 10;
-        left -= 1;
-    }
+    write_blanks(text, at);
+    write_columns(text, at, minus, m / 10);
     text[at + 15] = 48 + ((m % 10) as u8);
 }
 

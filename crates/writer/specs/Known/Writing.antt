@@ -1,8 +1,8 @@
--- What is known of numbers that the writer lays on lines.
+-- What is known of numbers that the writer lays on lines, and blanks.
 use mathlib.Core.Path.{_≡_}
 use mathlib.Core.Bool.{Bool}
-use mathlib.Core.List.{List}
-use Prim.Native.Nat.{ℕ, _≤_}
+use mathlib.Core.List.{List, [], _∷_, _++_}
+use Prim.Native.Nat.{ℕ, zero, suc, _≤_}
 use lib.ListN.{length}
 use lib.IntN.{ℤ}
 use Rattle.fold.specs.Arguments.{VerifySized}
@@ -19,3 +19,8 @@ pub record Counted (s : Sizes) (xs : List ℤ) : Type 0 where
 -- n numbers after a header, on lines that end where `ends` says, lie within the buffer
 abbrev pub Roomy : (ℕ → Bool) → ℕ → List ℕ → Type 0
 Roomy ends n out = place ends headerBytes n ≤ length out
+
+-- k blanks
+unfoldable pub blanks : ℕ → List ℕ
+blanks zero = []
+blanks (suc k) = blanks k ++ (32 ∷ [])

@@ -1,45 +1,43 @@
--- `writer::field::write_field` meets its contract. The loop's invariant: the columns from `left` on are written.
+-- `writer::field::write_field` meets its contract.
 use mathlib.Core.Path.{_∙_}
-use native.Mathlib.Omega.{arith}
 use lib.ListN.{length-set}
-use Rattle.writer.specs.Laws.FieldLaws.{Columns, columns-start, columns-step, columns-end}
+use Rattle.writer.specs.Laws.FieldLaws.{blank-front, same-room, field-written}
+use borrow.Author.Needs.{needs}
 use Rattle.writer.proofs.field.write_field.Statement.{statement}
 use Rattle.writer.proofs.field.write_field.Tie as tie
 
-abbrev Inv-loop : tie.InvT-loop
-Inv-loop text₀ at minus m left₀ rest₀ due₀ text left rest due = Columns text₀ text at minus m left rest due
+write-columns-requires : tie.Need-write-columns-requires
+write-columns-requires c κs =
+    let start = c .before .before .before .before .before .before in
+    let a = start .args in
+    blank-front (a .text .now) (a .at) (a .minus) (a .m) (start .pre) (c .before .before .before .write-blanks .ensures)
 
-abbrev μ-loop : tie.MeasureT-loop
-μ-loop text₀ at minus m left₀ rest₀ due₀ text left rest due = left
+same-length : tie.Need-same-length
+same-length c =
+    let put = c .before .before in
+    let start = put .before .before .before .before .before .before .before in
+    let a = start .args in
+    length-set (put .write-columns .last .0) _ _
+    ∙ same-room (a .text .now) (a .at) (a .minus) (a .m) (start .pre) (put .before .before .before .before .write-blanks .ensures)
+    (put .write-columns .ensures)
 
-loop-again : tie.Need-loop-again Inv-loop μ-loop
-loop-again c =
-    let test = c .before .before in
-    let at = test .before in
-    columns-step _ _ (at .before .before .pre) _ _ _ _ (at .loop .inv) (test .loop-test .taken) (c .before .column-byte .ensures)
-    (c .minus-due .ensures)
-
-returns : tie.Need-returns Inv-loop μ-loop
-returns c = columns-end _ _ (c .before .before .before .pre) _ _ _ _ (c .before .loop .inv) (c .loop-test .left)
+returns : tie.Need-returns
+returns c =
+    let put = c .before .before in
+    let start = put .before .before .before .before .before .before .before in
+    let a = start .args in
+    field-written (a .text .now) (a .at) (a .minus) (a .m) (start .pre) (put .before .before .before .before .write-blanks .ensures)
+    (put .write-columns .ensures)
 
 pub write-field-spec : {M : Type 1} → statement M
 write-field-spec =
     tie.close
     (tie.spec
-    Inv-loop
-    μ-loop
-    (λ c. columns-start _ _ _ _)
-    (λ c κs. tt)
-    (λ c. omega (arith, c .before .before .before .before .pre, c .before .before .loop .inv .small))
-    (λ c. omega arith)
-    (λ c. omega (arith, c .before .before .before .before .pre, c .before .before .loop .inv .small, c .before .before .loop .inv .size))
-    (λ c κs. tt)
-    (λ c. omega (arith, c .before .before .loop-test .taken))
-    (λ c. omega (arith, c .before .before .loop-test .taken))
-    loop-again
-    (λ c. omega arith)
-    (λ c. omega arith)
-    (λ c. omega (arith, c .before .before .before .pre))
-    (λ c. omega (arith, c .before .before .before .pre, c .before .loop .inv .size))
-    (λ c. length-set (c .before .loop .text) _ _ ∙ c .before .loop .inv .size)
+    (λ c κs. search needs)
+    write-columns-requires
+    (λ c. search needs)
+    (λ c. search needs)
+    (λ c. search needs)
+    (λ c. search needs)
+    same-length
     returns)
