@@ -208,6 +208,24 @@ def test_written_examples():
     assert sorted(answers) == [0, 0, 0, 0, 0, 0, 8, 10]
 
 
+def test_written_corpus():
+    """Every text of crates/verdict_cases that the reader takes is written again, byte by byte; above 65536 bytes too, where the judge says 12."""
+    cases, lines = ((ROOT / "crates/verdict_cases" / name).read_bytes() for name in ("stdin", "stdout"))
+    at, written = 17, 0
+    for number in range(int(cases[:16])):
+        count = int(cases[at:at + 16])
+        text, kind = cases[at + 17:at + 17 + count], int(lines[33 * number:33 * number + 16])
+        at += count + 18
+        if refusal(lizkarg.read_sheet, text):
+            assert kind == 2, number
+            continue
+        assert kind < 2 or count > 65536, number
+        read = lizkarg.read_sheet(text)
+        assert lizkarg.write_sheet(read.sizes, read.nu, read.mu, read.proof) == text, number
+        written += 1
+    assert at == len(cases) and written == 237
+
+
 if __name__ == "__main__":
     tests = [value for name, value in sorted(globals().items()) if name.startswith("test_")]
     for test in tests:
