@@ -5,6 +5,7 @@
 --     written-read                     "What the writer puts down, the reader gives back"
 --     written-count                    how many numbers the reader gives back, by the text alone
 --     text-bytes, refused-bytes        the length by the sizes alone
+--     most-bytes                       "at most 1384691915 within the limits of the sizes"
 --     least-buffer                     "A buffer of that length is the least that the writer takes."
 use mathlib.Core.Path.{_≡_, refl, sym, ap, subst, _∙_}
 use mathlib.Core.Logic.{_↔_}
@@ -17,17 +18,19 @@ use borrow.Author.Tests.{ne-eqb}
 use Rattle.integers.specs.Over.{over}
 use Rattle.integers.specs.Laws.OverLaws.{length-over, drop-over, part-over}
 use Rattle.fold.specs.Answers.{firstFailing, written}
+use Rattle.fold.specs.Laws.RefusalLaws.{refusal-passes}
 use Rattle.sheet.specs.declared.header.SheetSizes.{SheetSizes}
 use Rattle.sheet.specs.declared.reader.SheetAnswer.{SheetAnswer}
 use Rattle.sheet.specs.declared.reader.SheetAnswer.the-variants.{Sheet}
 use Rattle.sheet.specs.Reading.{headerNumbers, headerTests, sizesOf, bodyNumbers, numberCount, SheetRead}
 use Rattle.sheet.specs.Layout.{SheetNumbers}
 use Rattle.sheet.specs.Laws.AnswerLaws.{read-is}
+use Rattle.sheet.specs.Laws.HeaderLaws.{header-bounded}
 use Rattle.sheet.specs.Theorems.SheetTheorems.{Read, sheet-exactly, sheet-count}
 use Rattle.writer.specs.declared.WriteAnswer.{WriteAnswer}
 use Rattle.writer.specs.declared.WriteAnswer.the-variants.{Length, Refused}
 use Rattle.writer.specs.Writing.{headerFields, writtenText, sheetBytes, writingRefusal, SheetWritten}
-use Rattle.writer.specs.Laws.LengthLaws.{sizes-back, text-length}
+use Rattle.writer.specs.Laws.LengthLaws.{sizes-back, sizes-given, text-length, bytes-most}
 use Rattle.writer.specs.Laws.AnswerLaws.{lengthAnswer, is-length, is-refused, write-is, fields-back, count-total}
 use Rattle.writer.specs.Laws.AnswerLaws.{writing-passed, passed-writing, writing-short, short-writing}
 use Rattle.writer.specs.Laws.ReadLaws.{read-header, read-numbers}
@@ -145,6 +148,17 @@ text-bytes h xs n = text-length h xs (count-total h xs n) ∙ rw (n .sizes) refl
 pub refused-bytes : (h : SheetSizes) (n : ℕ) → firstFailing (headerTests (headerFields h)) ≡ suc n → sheetBytes h ≡ 0
 unfolding sheetBytes
 refused-bytes h n e = rw (e, ne-eqb (suc n) 0 (λ q. omega arith)) refl
+
+-- "at most 1384691915 within the limits of the sizes"
+pub most-bytes : (h : SheetSizes) → sheetBytes h ≤ 1384691915
+unfolding sheetBytes headerTests
+most-bytes h = step (firstFailing (headerTests (headerFields h))) refl
+  where
+    step : (n : ℕ) → firstFailing (headerTests (headerFields h)) ≡ n → sheetBytes h ≤ 1384691915
+    step zero e =
+        let sized = header-bounded (headerFields h) (refusal-passes (headerTests (headerFields h)) refl e) in
+        rw e (bytes-most (h .sizes) (rw (sizes-given h) at sized))
+    step (suc n) e = omega (arith, refused-bytes h n e)
 
 -- "A buffer of that length is the least that the writer takes."
 pub least-buffer : {h : SheetSizes} {xs : List ℤ} {before after : List ℕ} {wrote : WriteAnswer} → SheetWritten h xs before wrote after
