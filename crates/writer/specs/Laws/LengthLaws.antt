@@ -41,7 +41,7 @@ line-length xs =
     let F : ℕ → List ℕ = λ i. fieldText (getD xs i (pos 0)) in
     omega (arith, length-append (flat (length xs) F) (10 ∷ []), length-flat (length xs) 16 F (λ i h. length-field (getD xs i (pos 0))))
 
-pub lines-length : (ws : List ℕ) (xs : List ℤ) → length xs ≡ fields ws → length (textOf ws xs) ≡ 16 * fields ws + length ws
+lines-length : (ws : List ℕ) (xs : List ℤ) → length xs ≡ fields ws → length (textOf ws xs) ≡ 16 * fields ws + length ws
 unfolding textOf fields
 lines-length [] xs e = omega arith
 lines-length (w ∷ ws) xs e =
@@ -73,7 +73,7 @@ module _ (s : Sizes) where
   line-count =
       ap length (body-merged s) ∙ simp (length-append, length-copies, length-elements) (omega arith)
 
-  pub body-length : (xs : List ℤ) → length xs ≡ total s → headerBytes + length (textOf (bodyLines s) xs) ≡ textBytes s
+  body-length : (xs : List ℤ) → length xs ≡ total s → headerBytes + length (textOf (bodyLines s) xs) ≡ textBytes s
   unfolding textBytes total termSize elementLines onesCount
   body-length xs e =
       omega (arith, lines-length (bodyLines s) xs (e ∙ sym (body-total s)), line-count, body-total s)
