@@ -1,5 +1,6 @@
 -- SPECIFICATION 10.12 to 10.15: "A writer turns the numbers of a sheet into its one text, into a lent buffer, and answers the text's length." It
--- makes the tests that the reader makes of the same numbers, 1 to 6 and 7 to 10, and "13, after 11, exactly when the buffer is shorter than the text".
+-- makes the tests that the reader makes of the same numbers, 1 to 6 and 7 to 10, and "13, after 11, exactly when the buffer is shorter than the
+-- text".
 --     headerWords, headerFields, writtenText    the numbers of a header, and the text
 --     elementLines, textBytes                   how many bytes the text has, by the sizes
 --     sheetBytes                                the same, 0 for sizes that are refused: the question beside the writer

@@ -35,7 +35,8 @@ loop-again c =
     let x = getD (test .before .before .before .args .numbers .now) (test .before .loop .i) (pos 0) in
     let read = word x (call .before .before .before .x .given) in
     body-step _ _ _ (test .before .loop .inv) (test .loop-test .taken) (test .before .before .before .pre .1)
-    (call .before .before .ends-line .ensures) _ _ (ap (λ (z : ℤ). ltZ z (pos 0)) read) (call .magnitude .ensures ∙ ap natAbs read) (wrote .write-laid .ensures) (c .field-width .ensures)
+    (call .before .before .ends-line .ensures) _ _ (ap (λ (z : ℤ). ltZ z (pos 0)) read)
+    (call .magnitude .ensures ∙ ap natAbs read) (wrote .write-laid .ensures) (c .field-width .ensures)
 
 pub write-lines-spec : {M : Type 1} → statement M
 write-lines-spec =
