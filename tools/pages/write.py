@@ -28,7 +28,7 @@ def table(*rows):
 def rows(text):
     """The rows of a table below its head, as cells."""
     lines = [line for line in text.split("\n") if line.startswith("|")]
-    return [line[1:-1].strip().split(" | ") for line in lines[2:]]
+    return [[cell.strip() for cell in line[1:-1].split(" | ")] for line in lines[2:]]
 
 
 # ---- declarations

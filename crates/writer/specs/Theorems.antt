@@ -1,1 +1,2 @@
 pub mod WriterTheorems
+pub mod SameRefusal

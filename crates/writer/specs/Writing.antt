@@ -1,10 +1,12 @@
--- SPECIFICATION 10.12 to 10.15: "A writer turns the numbers of a sheet into its one text, into a lent buffer, and answers the text's length." It makes
--- the tests that the reader makes of the same numbers, 1 to 6 and 7 to 10, and "13, after 11, exactly when the buffer is shorter than the text".
---     headerFields, writtenText   the numbers of a header, and the text
---     elementLines, textBytes     how many bytes the text has, by the sizes
---     writingTests                the tests in their order, for a buffer of `room` bytes
---     answerOf, lengthOf          number and values of each answer: SPECIFICATION 13.7
---     SheetWritten                the writer's promise
+-- SPECIFICATION 10.12 to 10.15: "A writer turns the numbers of a sheet into its one text, into a lent buffer, and answers the text's length." It
+-- makes the tests that the reader makes of the same numbers, 1 to 6 and 7 to 10, and "13, after 11, exactly when the buffer is shorter than the
+-- text".
+--     headerWords, headerFields, writtenText    the numbers of a header, and the text
+--     elementLines, textBytes                   how many bytes the text has, by the sizes
+--     sheetBytes                                the same, 0 for sizes that are refused: the question beside the writer
+--     writingTests, writingRefusal              the tests in their order, for a buffer of `room` bytes, and the first that fails
+--     answerOf, lengthOf, lengthIf              number and length of each answer (SPECIFICATION 13.7), and the length by the refusal
+--     SheetWritten                              the writer's promise
 use mathlib.Core.Path.{_≡_}
 use mathlib.Core.Bool.{Bool, cond}
 use mathlib.Core.List.{List, [], _∷_, _++_, map}

@@ -1,6 +1,5 @@
 // How many bytes a sheet has.
 ghost use mathlib.Core.Path.{_≡_};
-ghost use Prim.Native.Nat.{_≤_};
 ghost use Rattle.fold.specs.Arguments.{VerifySized};
 ghost use Rattle.writer.specs.Writing.{elementLines, textBytes};
 use fields::sizes::HEADER_BYTES;
@@ -14,7 +13,7 @@ use fold::counts::function_size;
 // The lines of d numbers after the header.
 fn element_lines(s: Sizes) -> usize
     requires { ⌜ VerifySized s ⌝ }
-    ensures { λ p. ⌜ (p ≡ elementLines s) × (p ≤ 1350890) ⌝ }
+    ensures { λ p. ⌜ p ≡ elementLines s ⌝ }
 {
     let matrices = matrix_count(s);
     let whole = whole_count(s);

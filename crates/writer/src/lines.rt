@@ -8,7 +8,7 @@ ghost use Rattle.fields.specs.Field.{headerBytes};
 ghost use Rattle.fields.specs.Sections.{endsLine, sectionsOf};
 ghost use Rattle.fields.specs.Place.{lineFields};
 ghost use Rattle.sheet.specs.Layout.{textOf, bodyLines};
-ghost use Rattle.writer.specs.Known.Writing.{Counted, Roomy};
+ghost use Rattle.writer.specs.Known.Writing.{Counted, LinesFit};
 use crate::field::write_laid;
 use fields::sizes::HEADER_BYTES;
 use fields::sizes::Sections;
@@ -21,7 +21,7 @@ use residues::range::magnitude;
 // All numbers, each followed by a line feed where a line ends.
 fn write_lines(q: Sections, numbers: &[i32], text: &mut [u8])
     requires { ⌜ (0 < q .d) × (0 < q .period) ⌝ }
-    requires { ⌜ Roomy (endsLine q) (length (now numbers)) (now text) ⌝ }
+    requires { ⌜ LinesFit (endsLine q) (length (now numbers)) (now text) ⌝ }
     ensures { λ r.
         ⌜ now (text .exit) ≡ over (now (text .entry)) headerBytes
         (lineFields (endsLine q) (λ i. getD (now (numbers .entry)) i (pos 0)) (length (now (numbers .entry)))) ⌝ }
@@ -40,7 +40,7 @@ fn write_lines(q: Sections, numbers: &[i32], text: &mut [u8])
 // The lines that the sizes give.
 pub fn write_body(s: Sizes, numbers: &[i32], text: &mut [u8])
     requires { ⌜ Counted s (now numbers) ⌝ }
-    requires { ⌜ Roomy (endsLine (sectionsOf s)) (length (now numbers)) (now text) ⌝ }
+    requires { ⌜ LinesFit (endsLine (sectionsOf s)) (length (now numbers)) (now text) ⌝ }
     ensures { λ r. ⌜ now (text .exit) ≡ over (now (text .entry)) headerBytes (textOf (bodyLines s) (now (numbers .entry))) ⌝ }
 {
     let q = sections_of(s);

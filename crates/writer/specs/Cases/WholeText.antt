@@ -10,7 +10,6 @@ use Rattle.fold.specs.Refusals.{allOf, anyOf, between, degree, rank, parts, con
 use Rattle.fold.specs.Refusals.{chunks, lengthBound}
 use Rattle.fold.specs.Sizes.{pairs, functionSize, tSize, garbageSize, restSize, openingSize}
 use Rattle.fields.specs.Sections.{matrixCount, wholeCount, rowCount, lastCount}
-use Rattle.sheet.specs.declared.header.SheetSizes.{SheetSizes}
 use Rattle.sheet.specs.Reading.{headerTests, size, sizesOf, sheetSizesOf}
 use Rattle.sheet.specs.Layout.{SheetNumbers}
 use Rattle.sheet.specs.Cases.WholeSheet.{header, numbers, whole-numbers, second}

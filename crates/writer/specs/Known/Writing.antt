@@ -17,8 +17,8 @@ pub record Counted (s : Sizes) (xs : List ℤ) : Type 0 where
   pub count : length xs ≡ total s
 
 -- n numbers after a header, on lines that end where `ends` says, lie within the buffer
-abbrev pub Roomy : (ℕ → Bool) → ℕ → List ℕ → Type 0
-Roomy ends n out = place ends headerBytes n ≤ length out
+abbrev pub LinesFit : (ℕ → Bool) → ℕ → List ℕ → Type 0
+LinesFit ends n out = place ends headerBytes n ≤ length out
 
 -- k blanks
 unfoldable pub blanks : ℕ → List ℕ

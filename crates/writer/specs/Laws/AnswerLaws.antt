@@ -2,6 +2,9 @@
 --     header-small                       a header that is not refused has no number below zero, and none of more than 15 digits
 --     fields-back, fields-fit            so its sizes give its numbers back, and they fit their columns
 --     numbers-passed, passed-numbers     rows 1 to 10 refuse exactly what is not the numbers of a sheet
+--     count-total                        the numbers of a sheet are as many as the sizes give
+--     room-refusal, room-alone           13 is their only refusal, made where the buffer has not room for the text
+--     early-first, early-refusal         a refusal by rows 1 to 10 comes before it
 --     writing-passed, passed-writing     no test fails exactly where they are and the buffer has room for the text
 --     writing-short, short-writing       13 is the refusal exactly where they are and it has not
 --     is-length, is-refused              what an answer says of the refusal
@@ -43,7 +46,7 @@ use Rattle.writer.specs.Laws.LengthLaws.{length-fields, sizes-given}
 -- ---- the numbers of a header that is not refused
 
 -- not below zero, and at most 15 digits
-abbrev pub Small : List ℤ → Type 0
+abbrev Small : List ℤ → Type 0
 Small [] = Unit {0}
 Small (x ∷ xs) = (between 0 mostBound x ≡ true) × Small xs
 
@@ -66,7 +69,7 @@ chunks-small (pos ν) (pos μ) e =
 chunks-small (pos ν) (negsuc μ) e = contradiction e refl
 chunks-small (negsuc ν) μ e = contradiction e refl
 
--- the numbers of a header, and that there are 18
+-- a header of 18 numbers is the list of its numbers by place
 header-numbers : (h : List ℤ) → length h ≡ 18 → tab 18 (λ i. getD h i (pos 0)) ≡ h
 header-numbers h e = ap (λ (n : ℕ). tab n (λ i. getD h i (pos 0))) (sym e) ∙ tab-getD h (pos 0)
 
@@ -98,7 +101,7 @@ tests-small h (one, (two, (three, (four, (five, (six, end)))))) =
     & β′²
     & tt
 
-pub header-small : (h : List ℤ) → length h ≡ 18 → firstFailing (headerTests h) ≡ 0 → Small h
+header-small : (h : List ℤ) → length h ≡ 18 → firstFailing (headerTests h) ≡ 0 → Small h
 unfolding headerTests
 header-small h n e = rw (header-numbers h n) at (tests-small h (refusal-passes (headerTests h) refl e))
 
@@ -129,7 +132,7 @@ listed h = refl
 pub fields-back : (h : List ℤ) → length h ≡ 18 → firstFailing (headerTests h) ≡ 0 → headerFields (sheetSizesOf h) ≡ h
 fields-back h n e = listed h ∙ rw (header-numbers h n) (small-back h (header-small h n e))
 
-pub fields-fit : (h : SheetSizes) → firstFailing (headerTests (headerFields h)) ≡ 0 → AllFit (headerFields h)
+fields-fit : (h : SheetSizes) → firstFailing (headerTests (headerFields h)) ≡ 0 → AllFit (headerFields h)
 fields-fit h e = small-fit (headerFields h) (header-small (headerFields h) (length-fields h) e)
 
 -- ---- rows 1 to 10, and 13 after them
@@ -156,7 +159,7 @@ numbers-passed h xs e =
 pub count-total : (h : SheetSizes) (xs : List ℤ) → SheetNumbers (headerFields h) xs → length xs ≡ total (h .sizes)
 count-total h xs n = n .count ∙ ap (λ (s : Sizes). fields (bodyLines s)) (sizes-given h) ∙ body-total (h .sizes)
 
-pub passed-numbers : (h : SheetSizes) (xs : List ℤ) → SheetNumbers (headerFields h) xs → firstFailing (allNumberTests h xs) ≡ 0
+passed-numbers : (h : SheetSizes) (xs : List ℤ) → SheetNumbers (headerFields h) xs → firstFailing (allNumberTests h xs) ≡ 0
 unfolding headerTests numberTests
 passed-numbers h xs n =
     let rows = headerTests (headerFields h) in
@@ -166,7 +169,7 @@ passed-numbers h xs n =
     (eq-eqb (length xs) (total (h .sizes)) (count-total h xs n), numbers))
 
 -- each of these tests has a number below k; computes on a list of tests
-abbrev pub numberedBelow : ℕ → List (ℕ × Bool) → Bool
+abbrev numberedBelow : ℕ → List (ℕ × Bool) → Bool
 numberedBelow k [] = true
 numberedBelow k (test ∷ tests) = cond (ltb (test .0) k) (numberedBelow k tests) false
 

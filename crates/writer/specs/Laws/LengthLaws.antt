@@ -4,12 +4,13 @@
 --     length-fields                a header has 18 numbers
 --     sizes-back, sizes-given      they give the header back, and the sizes in it
 --     text-length                  of the whole text
+--     lines-most, bytes-most       at most, within the limits of the sizes
 --     fields-place, place-end      the text of numbers ends at the place after them, and that is `textBytes` after the last
 use mathlib.Core.Path.{_≡_, refl, sym, ap, _∙_}
 use mathlib.Core.Bool.{Bool}
 use mathlib.Core.List.{List, [], _∷_, _++_}
-use Prim.Native.Nat.{ℕ, zero, suc, _+_, _*_, _<_}
-use native.Mathlib.Nat.{zero-mul, suc-mul, mul-one}
+use Prim.Native.Nat.{ℕ, zero, suc, _+_, _*_, _≤_, _<_}
+use native.Mathlib.Nat.{zero-mul, suc-mul, mul-one, mul-le-mul}
 use native.Mathlib.Omega.{arith}
 use lib.ListN.{length, getD, take, drop, length-append, length-take, length-drop}
 use lib.IntN.{ℤ, pos, natAbs}
@@ -17,10 +18,12 @@ use Rattle.integers.specs.Lists.{tab}
 use Rattle.integers.specs.Flat.{flat}
 use Rattle.integers.specs.Laws.ListLaws.{length-tab}
 use Rattle.integers.specs.Laws.FlatLaws.{length-flat}
+use Rattle.fold.specs.Arguments.{VerifySized}
 use Rattle.fold.specs.declared.Sizes.{Sizes}
 use Rattle.fields.specs.Field.{negative, fieldText, headerBytes}
 use Rattle.fields.specs.Laws.FieldLaws.{length-field}
-use Rattle.fields.specs.Sections.{termSize, onesCount, sectionsOf, total, endsLine}
+use Rattle.fields.specs.Sections.{matrixCount, wholeCount, rowCount, lastCount, termSize, onesCount, sectionsOf, total, endsLine}
+use Rattle.fields.specs.Laws.SectionLaws.{le-one, function-few, opening-few, matrices-few}
 use Rattle.fields.specs.Place.{feed, lineFields, place}
 use Rattle.sheet.specs.declared.header.SheetSizes.{SheetSizes}
 use Rattle.sheet.specs.Reading.{size, sizesOf, sheetSizesOf}
@@ -38,7 +41,7 @@ line-length xs =
     let F : ℕ → List ℕ = λ i. fieldText (getD xs i (pos 0)) in
     omega (arith, length-append (flat (length xs) F) (10 ∷ []), length-flat (length xs) 16 F (λ i h. length-field (getD xs i (pos 0))))
 
-pub lines-length : (ws : List ℕ) (xs : List ℤ) → length xs ≡ fields ws → length (textOf ws xs) ≡ 16 * fields ws + length ws
+lines-length : (ws : List ℕ) (xs : List ℤ) → length xs ≡ fields ws → length (textOf ws xs) ≡ 16 * fields ws + length ws
 unfolding textOf fields
 lines-length [] xs e = omega arith
 lines-length (w ∷ ws) xs e =
@@ -70,7 +73,7 @@ module _ (s : Sizes) where
   line-count =
       ap length (body-merged s) ∙ simp (length-append, length-copies, length-elements) (omega arith)
 
-  pub body-length : (xs : List ℤ) → length xs ≡ total s → headerBytes + length (textOf (bodyLines s) xs) ≡ textBytes s
+  body-length : (xs : List ℤ) → length xs ≡ total s → headerBytes + length (textOf (bodyLines s) xs) ≡ textBytes s
   unfolding textBytes total termSize elementLines onesCount
   body-length xs e =
       omega (arith, lines-length (bodyLines s) xs (e ∙ sym (body-total s)), line-count, body-total s)
@@ -100,6 +103,32 @@ text-length h xs e =
       length-fields h,
       body-length (h .sizes) xs e,
     ))
+
+-- ---- at most
+
+module _ (s : Sizes) (b : VerifySized s) where
+  pub lines-most : elementLines s ≤ 1350890
+  unfolding elementLines matrixCount wholeCount rowCount lastCount
+  lines-most =
+      omega (
+        arith,
+        matrices-few s b refl refl refl,
+        mul-le-mul (b .K-small) (le-one (function-few s b refl)),
+        mul-le-mul (b .L-small) (function-few s b refl),
+        mul-le-mul (b .w-small) (mul-le-mul (b .shaped .parts-small) (b .shaped .rank-small)),
+        b .shaped .parts-small,
+        b .K-small,
+        b .κ₁-small,
+        b .κ₂-small,
+        opening-few s b refl,
+      )
+
+  -- "at most 1384691915 within the limits of the sizes"
+  pub bytes-most : textBytes s ≤ 1384691915
+  unfolding textBytes
+  bytes-most =
+      let line : 16 * s .shape .d + 1 ≤ 1025 = omega (arith, b .shaped .degree .small) in
+      omega (arith, mul-le-mul line lines-most, b .L-small, b .w-small)
 
 -- ---- by place
 

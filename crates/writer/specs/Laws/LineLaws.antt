@@ -1,7 +1,8 @@
 -- Numbers written on lines, field by field.
 --     Lined                       the first i numbers are written; its start, its step and its end: `write_header`, `write_lines`
---     HeaderWritten               the loop of `write_header`
---     body-field, body-lines      the field of a number, and all lines after the header: `write_lines`
+--     HeaderWritten               the first k numbers of the header are written: the loop of `write_header`
+--     BodyWritten                 the first i numbers after it are written: the loop of `write_lines`
+--     body-field, body-lines      the field of a number, and all lines after the header: `write_lines`, `write_body`
 --     header-fits, body-fits, both-written    the header, and the other lines after it: `write_sheet`
 use mathlib.Core.Path.{_≡_, refl, sym, ap, subst, _∙_}
 use mathlib.Core.Bool.{Bool, false}
@@ -32,7 +33,7 @@ use Rattle.sheet.specs.Laws.EndLaws.{header-ends, header-place, header-end}
 use Rattle.sheet.specs.Laws.LayoutLaws.{fields-cong}
 use Rattle.sheet.specs.Laws.SheetLaws.{header-fields, body-fields}
 use Rattle.writer.specs.Writing.{headerWords, headerFields, writtenText, textBytes}
-use Rattle.writer.specs.Known.Writing.{Counted, Roomy}
+use Rattle.writer.specs.Known.Writing.{Counted, LinesFit}
 use Rattle.writer.specs.Laws.FieldLaws.{length-laid}
 use Rattle.writer.specs.Laws.LengthLaws.{line-length, length-fields, sizes-given, fields-place, place-end}
 
@@ -47,18 +48,18 @@ unfolding place
 place-first ends at = refl
 
 module _ (ends : ℕ → Bool) (x : ℕ → ℤ) (at : ℕ) (out₀ : List ℕ) where
-  pub lined-start : Lined ends x at out₀ out₀ at 0
+  lined-start : Lined ends x at out₀ out₀ at 0
   unfolding lineFields flat place
   lined-start = record { is = sym (over-nil out₀ at); here-is = refl; size = refl }
 
   module _ {out : List ℕ} {here i : ℕ} (inv : Lined ends x at out₀ out here i) where
     -- the field and its line feed lie within the buffer
-    pub lined-room : {n : ℕ} → i < n → place ends at n ≤ length out₀ → {last : Bool} → last ≡ ends i → here + fieldWidth last ≤ length out
+    lined-room : {n : ℕ} → i < n → place ends at n ≤ length out₀ → {last : Bool} → last ≡ ends i → here + fieldWidth last ≤ length out
     lined-room {n} h room e =
         let next : here + fieldWidth (ends i) ≡ place ends at (i + 1) = rw (inv .here-is) (sym (place-next ends at i)) in
         rw e (omega (arith, next, place-mono ends at (i + 1) n (omega arith), inv .size))
 
-    pub lined-step : {n : ℕ} → i < n → place ends at n ≤ length out₀ → {last : Bool} → last ≡ ends i → (minus : Bool) (m : ℕ)
+    lined-step : {n : ℕ} → i < n → place ends at n ≤ length out₀ → {last : Bool} → last ≡ ends i → (minus : Bool) (m : ℕ)
         → signedText minus m ≡ fieldText (x i) → {out′ : List ℕ} → out′ ≡ over out here (signedText minus m ++ feed last)
         → {width : ℕ} → width ≡ fieldWidth last → Lined ends x at out₀ out′ (here + width) (i + 1)
     unfolding lineFields
@@ -75,12 +76,12 @@ module _ (ends : ℕ → Bool) (x : ℕ → ℤ) (at : ℕ) (out₀ : List ℕ) 
           size = ap length w ∙ length-over out here (signedText minus m ++ feed last) inside ∙ inv .size;
         }
 
-  pub lined-end : {out : List ℕ} {here i : ℕ} → Lined ends x at out₀ out here i → (n : ℕ) → i ≡ n → out ≡ over out₀ at (lineFields ends x n)
+  lined-end : {out : List ℕ} {here i : ℕ} → Lined ends x at out₀ out here i → (n : ℕ) → i ≡ n → out ≡ over out₀ at (lineFields ends x n)
   lined-end inv n e = inv .is ∙ ap (λ (k : ℕ). over out₀ at (lineFields ends x k)) e
 
 -- ---- the header's line
 
-pub header-last : (k : ℕ) → k < 18 → eqb (k + 1) 18 ≡ endsLine headerSections k
+header-last : (k : ℕ) → k < 18 → eqb (k + 1) 18 ≡ endsLine headerSections k
 header-last k h = ap (λ (i : ℕ). eqb i 18) (add-one k) ∙ header-ends k h
 
 -- the first k numbers of the header are written
@@ -133,7 +134,7 @@ module _ (words : List ℕ) where
 
 -- ---- the other lines
 
-pub body-field : (x : ℤ) {minus : Bool} {m : ℕ} → minus ≡ ltZ x (pos 0) → m ≡ natAbs x → signedText minus m ≡ fieldText x
+body-field : (x : ℤ) {minus : Bool} {m : ℕ} → minus ≡ ltZ x (pos 0) → m ≡ natAbs x → signedText minus m ≡ fieldText x
 unfolding fieldText
 body-field (pos n) e f = rw (e, f, le-ltb n 0 (omega arith)) refl
 body-field (negsuc n) e f = rw (e, f) refl
@@ -147,7 +148,7 @@ module _ (ends : ℕ → Bool) (xs : List ℤ) (out₀ : List ℕ) where
   pub body-start : BodyWritten ends xs out₀ out₀ headerBytes 0
   body-start = record { below = omega arith; lines = lined-start ends (λ k. getD xs k (pos 0)) headerBytes out₀ }
 
-  module _ {out : List ℕ} {here i : ℕ} (inv : BodyWritten ends xs out₀ out here i) (more : i < length xs) (room : Roomy ends (length xs) out₀)
+  module _ {out : List ℕ} {here i : ℕ} (inv : BodyWritten ends xs out₀ out here i) (more : i < length xs) (room : LinesFit ends (length xs) out₀)
       {last : Bool} (told : last ≡ ends i) where
     pub body-room : here + fieldWidth last ≤ length out
     body-room = lined-room ends (λ k. getD xs k (pos 0)) headerBytes out₀ (inv .lines) more room told
@@ -179,7 +180,7 @@ header-fits s h = omega (arith, h)
 
 -- the buffer with the header on it has room for the other lines
 pub body-fits : (h : SheetSizes) (xs : List ℤ) (out : List ℕ) → Counted (h .sizes) xs → textBytes (h .sizes) ≤ length out → {head : List ℕ}
-    → head ≡ over out 0 (lineText (headerFields h)) → Roomy (endsLine (sectionsOf (h .sizes))) (length xs) head
+    → head ≡ over out 0 (lineText (headerFields h)) → LinesFit (endsLine (sectionsOf (h .sizes))) (length xs) head
 body-fits h xs out c room {head} e =
     let line : length (lineText (headerFields h)) ≡ headerBytes = omega (arith, line-length (headerFields h), length-fields h) in
     let fits : 0 + length (lineText (headerFields h)) ≤ length out = omega (arith, line, header-fits (h .sizes) room) in

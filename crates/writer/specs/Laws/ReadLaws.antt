@@ -13,7 +13,7 @@ use Rattle.sheet.specs.declared.reader.SheetAnswer.the-variants.{Sheet}
 use Rattle.sheet.specs.Reading.{headerNumbers, sizesOf, sheetSizesOf, bodyNumbers, readingRefusal, SheetRead}
 
 module _ {text : List ℕ} {numbers : List ℤ} {h : SheetSizes} {xs : List ℤ} (call : SheetRead text numbers (Sheet h) xs) where
-  pub read-passed : readingRefusal text numbers ≡ 0
+  read-passed : readingRefusal text numbers ≡ 0
   unfolding answered
   read-passed = step (readingRefusal text numbers) (call .answer-is)
     where

@@ -6,7 +6,7 @@
 --     write-refused, written-counted, written-room, write-done    the writer's promise, refused or not
 use mathlib.Core.Path.{_≡_, refl, sym, ap, _∙_}
 use mathlib.Core.Bool.{Bool, cond}
-use mathlib.Core.List.{List, [], _∷_}
+use mathlib.Core.List.{List, []}
 use Prim.Native.Nat.{ℕ, zero, suc, _+_, _*_, _-_, _≤_, _<_}
 use native.Mathlib.Omega.{arith}
 use lib.Dec.{leb}
@@ -27,23 +27,25 @@ use Rattle.limits.specs.Bounds.{nextBoundsOf}
 use Rattle.limits.specs.Known.StageLimits.{next-sized}
 use Rattle.sheet.specs.declared.header.SheetSizes.{SheetSizes}
 use Rattle.sheet.specs.Reading.{headerTests, numberTests, sliceTests, projectionsIn, challengesIn, sizesOf, sheetSizesOf}
+use Rattle.sheet.specs.Layout.{SheetNumbers}
 use Rattle.sheet.specs.Laws.AnswerLaws.{refusal-first, refusal-rest}
 use Rattle.sheet.specs.Laws.HeaderLaws.{header-sizes, header-bounded}
 use Rattle.sheet.specs.Laws.ListLaws.{rows-part, challenges-part}
 use Rattle.sheet.specs.Laws.ReadingLaws.{projections-end, challenges-end}
 use Rattle.writer.specs.declared.WriteAnswer.{WriteAnswer}
 use Rattle.writer.specs.declared.WriteAnswer.the-variants.{Length, Refused}
-use Rattle.writer.specs.Writing.{headerFields, writtenText, textBytes, sheetBytes, writingTests, writingRefusal, answerOf, lengthOf, lengthIf, SheetWritten}
+use Rattle.writer.specs.Writing.{headerFields, writtenText, textBytes, sheetBytes, writingTests, writingRefusal}
+use Rattle.writer.specs.Writing.{answerOf, lengthOf, lengthIf, SheetWritten}
 use Rattle.writer.specs.Known.Writing.{Counted}
 use Rattle.writer.specs.Laws.LengthLaws.{sizes-back, sizes-given, text-length}
 use Rattle.writer.specs.Laws.AnswerLaws.{allNumberTests, numbers-passed, count-total, early-first, room-refusal, writing-passed}
-use Rattle.sheet.specs.Layout.{SheetNumbers}
 
 -- ---- rows 7 to 10
 
 module _ (s : Sizes) (xs : List ℤ) where
   module _ (c : Counted s xs) {start count : ℕ} where
-    pub rows-inside : start ≡ projectionsFrom s → count ≡ projectionLength (s .shape .d) (s .shape .n) (s .shape .r) (s .w) → start + count ≤ length xs
+    pub rows-inside : start ≡ projectionsFrom s → count ≡ projectionLength (s .shape .d) (s .shape .n) (s .shape .r) (s .w)
+        → start + count ≤ length xs
     rows-inside e f = omega (arith, projections-end s, c .count)
 
     pub challenges-inside : start ≡ challengesFrom s → count ≡ s .shape .r * s .shape .d → start + count ≤ length xs
@@ -79,7 +81,7 @@ module _ (s : Sizes) (xs : List ℤ) where
 -- ---- all tests
 
 module _ (room : ℕ) (h : SheetSizes) (xs : List ℤ) {header : ℕ} (e : header ≡ firstFailing (nextBoundsOf zCount (h .sizes) (h .nu) (h .mu))) where
-  pub header-is : header ≡ firstFailing (headerTests (headerFields h))
+  header-is : header ≡ firstFailing (headerTests (headerFields h))
   header-is = e ∙ ap firstFailing (sym same ∙ header-sizes (headerFields h))
     where
       same : nextBoundsOf zCount (sizesOf (headerFields h)) (sheetSizesOf (headerFields h) .nu) (sheetSizesOf (headerFields h) .mu)

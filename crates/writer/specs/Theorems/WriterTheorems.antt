@@ -1,9 +1,12 @@
 -- The writer: SPECIFICATION 10. All from its promise `SheetWritten`, and what joins it to the reader also from the reader's, `SheetRead`.
 --     written-exactly, short-buffer    what it answers
 --     text-put, nothing-put            what stands in the buffer afterwards
---     written-read                     "What the writer puts down, the reader gives back"
 --     read-text, read-written          "a text the reader takes is the text the writer makes of its numbers"
+--     written-read                     "What the writer puts down, the reader gives back"
+--     written-count                    how many numbers the reader gives back, by the text alone
 --     text-bytes, refused-bytes        the length by the sizes alone
+--     most-bytes                       "at most 1384691915 within the limits of the sizes"
+--     least-buffer                     "A buffer of that length is the least that the writer takes."
 use mathlib.Core.Path.{_≡_, refl, sym, ap, subst, _∙_}
 use mathlib.Core.Logic.{_↔_}
 use mathlib.Core.List.{List}
@@ -11,27 +14,24 @@ use Prim.Native.Nat.{ℕ, zero, suc, _+_, _≤_, _<_}
 use native.Mathlib.Omega.{arith}
 use lib.ListN.{length, take, drop}
 use lib.IntN.{ℤ}
-use borrow.Author.Tests.{eq-eqb, ne-eqb}
+use borrow.Author.Tests.{ne-eqb}
 use Rattle.integers.specs.Over.{over}
 use Rattle.integers.specs.Laws.OverLaws.{length-over, drop-over, part-over}
 use Rattle.fold.specs.Answers.{firstFailing, written}
+use Rattle.fold.specs.Laws.RefusalLaws.{refusal-passes}
 use Rattle.sheet.specs.declared.header.SheetSizes.{SheetSizes}
 use Rattle.sheet.specs.declared.reader.SheetAnswer.{SheetAnswer}
 use Rattle.sheet.specs.declared.reader.SheetAnswer.the-variants.{Sheet}
-use Rattle.sheet.specs.declared.reader.SheetAnswer.the-variants as reader
-use Rattle.sheet.specs.Reading.{headerNumbers, headerTests, sizesOf, sheetSizesOf, bodyNumbers, numberTests, sliceTests, numberCount, reading, SheetRead}
-use Rattle.sheet.specs.Layout.{fields, bodyLines, textOf, sheetText, AllFit, SheetNumbers}
-use Rattle.sheet.specs.Laws.AnswerLaws.{read-is, refusal-first, refusal-rest}
-use Rattle.sheet.specs.Laws.BodyLaws.{body-total}
-use Rattle.fields.specs.Sections.{total}
-use Rattle.fold.specs.declared.Sizes.{Sizes}
-use Rattle.fold.specs.Laws.RefusalLaws.{refusal-passes}
-use Rattle.sheet.specs.Theorems.SheetTheorems.{Read, sheet-exactly, refused-header, refused-numbers, sheet-count}
+use Rattle.sheet.specs.Reading.{headerNumbers, headerTests, sizesOf, bodyNumbers, numberCount, SheetRead}
+use Rattle.sheet.specs.Layout.{SheetNumbers}
+use Rattle.sheet.specs.Laws.AnswerLaws.{read-is}
+use Rattle.sheet.specs.Laws.HeaderLaws.{header-bounded}
+use Rattle.sheet.specs.Theorems.SheetTheorems.{Read, sheet-exactly, sheet-count}
 use Rattle.writer.specs.declared.WriteAnswer.{WriteAnswer}
 use Rattle.writer.specs.declared.WriteAnswer.the-variants.{Length, Refused}
 use Rattle.writer.specs.Writing.{headerFields, writtenText, sheetBytes, writingRefusal, SheetWritten}
-use Rattle.writer.specs.Laws.LengthLaws.{sizes-back, sizes-given, length-fields, text-length}
-use Rattle.writer.specs.Laws.AnswerLaws.{lengthAnswer, is-length, is-refused, write-is, fields-back, count-total, allNumberTests, early-refusal, room-alone}
+use Rattle.writer.specs.Laws.LengthLaws.{sizes-back, sizes-given, text-length, bytes-most}
+use Rattle.writer.specs.Laws.AnswerLaws.{lengthAnswer, is-length, is-refused, write-is, fields-back, count-total}
 use Rattle.writer.specs.Laws.AnswerLaws.{writing-passed, passed-writing, writing-short, short-writing}
 use Rattle.writer.specs.Laws.ReadLaws.{read-header, read-numbers}
 
@@ -137,64 +137,6 @@ unfolding writtenText
 written-count {h} {xs} {before} {after} {m} write =
     ap numberCount (text-put write .0) ∙ sheet-count (headerFields h) xs (written-exactly write m .0 refl .0)
 
--- "the writer refuses what the reader would": numbers that have a text are refused by the same of rows 1 to 10
-module _ {h : SheetSizes} {xs : List ℤ} {before after : List ℕ} {wrote : WriteAnswer} {numbers numbers′ : List ℤ} {read : SheetAnswer}
-    (write : SheetWritten h xs before wrote after) (call : SheetRead (writtenText h xs) numbers read numbers′)
-    (fit : AllFit (headerFields h)) (others-fit : AllFit xs) (count : length xs ≡ total (h .sizes)) (room : length numbers ≡ length xs) where
-  both : (k : ℕ) → firstFailing (allNumberTests h xs) ≡ suc k → reading (length numbers) (writtenText h xs) ≡ reader.Refused (suc k)
-      → (n : ℕ) → (wrote ≡ Refused n) ↔ (read ≡ reader.Refused n)
-  both k e f n =
-      let w : wrote ≡ Refused (suc k) = is write ∙ rw (early-refusal (length before) h xs e) refl in
-      let r : read ≡ reader.Refused (suc k) = read-is (writtenText h xs) numbers call ∙ f in
-      (λ q. r ∙ ap reader.Refused (same-number (suc k) n (sym w ∙ q)), λ q. w ∙ ap Refused (same-read (suc k) n (sym r ∙ q)))
-    where
-      same-number : (a b : ℕ) → Refused a ≡ Refused b → a ≡ b
-      same-number a b e = cc
-
-      same-read : (a b : ℕ) → reader.Refused a ≡ reader.Refused b → a ≡ b
-      same-read a b e = cc
-
-  neither : SheetNumbers (headerFields h) xs → (n : ℕ) → n < 13 → (wrote ≡ Refused n) ↔ (read ≡ reader.Refused n)
-  unfolding writtenText
-  neither sheet n small =
-      let given = sheet-exactly (length numbers) (writtenText h xs) (headerFields h) xs .1 (refl, sheet, sym room) in
-      let r : read ≡ Sheet (sheetSizesOf (headerFields h)) = read-is (writtenText h xs) numbers call ∙ given .answer in (
-        λ q.
-            let (same, some) = is-refused (writingRefusal h xs before) (length (writtenText h xs)) n (sym (is write) ∙ q) in
-            absurd (omega (arith, room-alone (length before) h xs sheet same some, small)),
-        λ q. let never : _≡_ {A = ℕ} 0 1 = apart _ n (sym r ∙ q) in absurd (omega (arith, never)),
-      )
-    where
-      apart : (s : SheetSizes) (n : ℕ) → Sheet s ≡ reader.Refused n → _≡_ {A = ℕ} 0 1
-      apart s n e = cc
-
-  fields-count : length xs ≡ fields (bodyLines (sizesOf (headerFields h)))
-  fields-count = count ∙ sym (ap (λ (s : Sizes). fields (bodyLines s)) (sizes-given h) ∙ body-total (h .sizes))
-
-  by-numbers : firstFailing (headerTests (headerFields h)) ≡ 0 → (k : ℕ) → firstFailing (numberTests (h .sizes) xs) ≡ k → (n : ℕ) → n < 13
-      → (wrote ≡ Refused n) ↔ (read ≡ reader.Refused n)
-  unfolding writtenText sheetText headerTests firstFailing
-  by-numbers e zero f n small =
-      neither (record { header = length-fields h; fit = fit; sizes = e; count = fields-count; numbers = rw (sizes-given h) f }) n small
-  by-numbers e (suc k) f n small =
-      let H = headerFields h in
-      both k
-      (refusal-rest (headerTests H) (sliceTests (length xs) (h .sizes) xs) (refusal-passes (headerTests H) refl e)
-      ∙ rw (eq-eqb (length xs) (total (h .sizes)) count) f)
-      (refused-numbers (length numbers) (writtenText h xs) H (textOf (bodyLines (sizesOf H)) xs) (length-fields h) fit refl e xs fields-count others-fit
-      refl (sym room) k (rw (sizes-given h) f)) n
-
-  by-header : (k : ℕ) → firstFailing (headerTests (headerFields h)) ≡ k → (n : ℕ) → n < 13 → (wrote ≡ Refused n) ↔ (read ≡ reader.Refused n)
-  unfolding writtenText sheetText
-  by-header zero e n small = by-numbers e (firstFailing (numberTests (h .sizes) xs)) refl n small
-  by-header (suc k) e n small =
-      let H = headerFields h in
-      both k (sym (refusal-first (headerTests H) (sliceTests (length xs) (h .sizes) xs) (omega (arith, e))) ∙ e)
-      (refused-header (length numbers) (writtenText h xs) H (textOf (bodyLines (sizesOf H)) xs) (length-fields h) fit refl k e) n
-
-  pub same-refusal : (n : ℕ) → n < 13 → (wrote ≡ Refused n) ↔ (read ≡ reader.Refused n)
-  same-refusal = by-header (firstFailing (headerTests (headerFields h))) refl
-
 -- ---- the length by the sizes alone
 
 -- the text of a sheet has as many bytes as its sizes give
@@ -206,6 +148,17 @@ text-bytes h xs n = text-length h xs (count-total h xs n) ∙ rw (n .sizes) refl
 pub refused-bytes : (h : SheetSizes) (n : ℕ) → firstFailing (headerTests (headerFields h)) ≡ suc n → sheetBytes h ≡ 0
 unfolding sheetBytes
 refused-bytes h n e = rw (e, ne-eqb (suc n) 0 (λ q. omega arith)) refl
+
+-- "at most 1384691915 within the limits of the sizes"
+pub most-bytes : (h : SheetSizes) → sheetBytes h ≤ 1384691915
+unfolding sheetBytes headerTests
+most-bytes h = step (firstFailing (headerTests (headerFields h))) refl
+  where
+    step : (n : ℕ) → firstFailing (headerTests (headerFields h)) ≡ n → sheetBytes h ≤ 1384691915
+    step zero e =
+        let sized = header-bounded (headerFields h) (refusal-passes (headerTests (headerFields h)) refl e) in
+        rw e (bytes-most (h .sizes) (rw (sizes-given h) at sized))
+    step (suc n) e = omega (arith, refused-bytes h n e)
 
 -- "A buffer of that length is the least that the writer takes."
 pub least-buffer : {h : SheetSizes} {xs : List ℤ} {before after : List ℕ} {wrote : WriteAnswer} → SheetWritten h xs before wrote after

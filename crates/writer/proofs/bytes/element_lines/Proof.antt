@@ -1,43 +1,36 @@
 -- `writer::bytes::element_lines` meets its contract.
-use mathlib.Core.Path.{refl}
-use Prim.Native.Nat.{_*_, _≤_}
-use native.Mathlib.Nat.{mul-le-mul}
+use mathlib.Core.Path.{_≡_, refl}
+use Prim.Native.Nat.{_+_, _*_, _≤_}
 use native.Mathlib.Omega.{arith}
-use Rattle.fields.specs.Laws.SectionLaws.{function-few}
 use Rattle.writer.specs.Writing.{elementLines}
+use Rattle.writer.specs.Laws.LengthLaws.{lines-most}
 use borrow.Author.Needs.{needs}
 use Rattle.writer.proofs.bytes.element_lines.Statement.{statement}
 use Rattle.writer.proofs.bytes.element_lines.Tie as tie
 
--- the lines of the constant-term constraints
-few : (c : tie.After-function-size) → c .before .before .before .before .before .args .s .l * c .function-size .result ≤ 135424
-few c =
-    let start = c .before .before .before .before .before in
-    omega (arith, mul-le-mul (start .pre .L-small) (function-few (start .args .s) (start .pre) (c .function-size .ensures)))
-
-returns : tie.Need-returns
-unfolding elementLines
-returns c =
-    let last = c .before .before in
+lines : (c : tie.After-function-size)
+    → let last = c .before in
     let rows = last .before in
     let whole = rows .before in
-    let matrices = whole .before in (
-      rw (
-        matrices .matrix-count .ensures .0,
-        whole .whole-count .ensures .0,
-        rows .row-count .ensures .0,
-        last .last-count .ensures .0,
-        c .before .function-size .ensures,
-      ) refl,
-      omega (
-        arith,
-        matrices .matrix-count .ensures .1,
-        whole .whole-count .ensures .1,
-        rows .row-count .ensures .1,
-        last .last-count .ensures .1,
-        few (c .before),
-      ),
-    )
+    let matrices = whole .before in
+    let s = matrices .before .args .s in
+    matrices .matrix-count .result
+    + (whole .whole-count .result + (s .l * c .function-size .result + (rows .row-count .result + last .last-count .result))) ≡ elementLines s
+unfolding elementLines
+lines c =
+    let last = c .before in
+    let rows = last .before in
+    let whole = rows .before in
+    rw (
+      whole .before .matrix-count .ensures .0,
+      whole .whole-count .ensures .0,
+      rows .row-count .ensures .0,
+      last .last-count .ensures .0,
+      c .function-size .ensures,
+    ) refl
+
+most : (c : tie.After-function-size) → elementLines (c .before .before .before .before .before .args .s) ≤ 1350890
+most c = lines-most _ (c .before .before .before .before .before .pre)
 
 pub element-lines-spec : {M : Type 1} → statement M
 element-lines-spec =
@@ -48,22 +41,9 @@ element-lines-spec =
     (λ c κs. search needs)
     (λ c κs. search needs)
     (λ c κs. search needs)
-    (λ c. omega (arith, few (c .before)))
+    (λ c. omega (arith, lines (c .before), most (c .before)))
     (λ c. search needs)
-    (λ c. omega (arith, few (c .before), c .before .before .before .row-count .ensures .1, c .before .before .last-count .ensures .1))
-    (λ c. omega (
-      arith,
-      few (c .before),
-      c .before .before .before .before .whole-count .ensures .1,
-      c .before .before .before .row-count .ensures .1,
-      c .before .before .last-count .ensures .1,
-    ))
-    (λ c. omega (
-      arith,
-      few (c .before),
-      c .before .before .before .before .before .matrix-count .ensures .1,
-      c .before .before .before .before .whole-count .ensures .1,
-      c .before .before .before .row-count .ensures .1,
-      c .before .before .last-count .ensures .1,
-    ))
-    returns)
+    (λ c. omega (arith, lines (c .before), most (c .before)))
+    (λ c. omega (arith, lines (c .before), most (c .before)))
+    (λ c. omega (arith, lines (c .before), most (c .before)))
+    (λ c. lines (c .before)))

@@ -1,22 +1,22 @@
 -- `writer::bytes::text_bytes` meets its contract.
-use mathlib.Core.Path.{refl}
+use mathlib.Core.Path.{_≡_, refl}
 use Prim.Native.Nat.{_+_, _*_, _≤_}
-use native.Mathlib.Nat.{mul-le-mul}
 use native.Mathlib.Omega.{arith}
+use Rattle.fields.specs.Field.{headerBytes}
 use Rattle.writer.specs.Writing.{textBytes}
+use Rattle.writer.specs.Laws.LengthLaws.{bytes-most}
 use borrow.Author.Needs.{needs}
 use Rattle.writer.proofs.bytes.text_bytes.Statement.{statement}
 use Rattle.writer.proofs.bytes.text_bytes.Tie as tie
 
-few : (c : tie.After-element-lines) → (16 * c .before .args .s .shape .d + 1) * c .element-lines .result ≤ 1025 * 1350890
-few c =
-    let start = c .before in
-    let line : 16 * start .args .s .shape .d + 1 ≤ 1025 = omega (arith, start .pre .shaped .degree .small) in
-    mul-le-mul line (c .element-lines .ensures .1)
-
-returns : tie.Need-returns
+bytes : (c : tie.After-element-lines)
+    → let s = c .before .args .s in
+    headerBytes + ((16 * s .shape .d + 1) * c .element-lines .result + 17 * (6 * (s .l + s .w))) ≡ textBytes s
 unfolding textBytes
-returns c = rw (c .before .before .element-lines .ensures .0) refl
+bytes c = rw (c .element-lines .ensures) refl
+
+most : (c : tie.After-element-lines) → textBytes (c .before .args .s) ≤ 1384691915
+most c = bytes-most _ (c .before .pre)
 
 pub text-bytes-spec : {M : Type 1} → statement M
 text-bytes-spec =
@@ -27,8 +27,8 @@ text-bytes-spec =
     (λ c. search needs)
     (λ c. search needs)
     (λ c. search needs)
-    (λ c. omega (arith, few (c .before .before)))
+    (λ c. omega (arith, bytes (c .before .before), most (c .before .before)))
     (λ c. search needs)
-    (λ c. omega (arith, few (c .before .before), c .before .before .before .pre .L-small, c .before .before .before .pre .w-small))
-    (λ c. omega (arith, few (c .before .before), c .before .before .before .pre .L-small, c .before .before .before .pre .w-small))
-    returns)
+    (λ c. omega (arith, bytes (c .before .before), most (c .before .before)))
+    (λ c. omega (arith, bytes (c .before .before), most (c .before .before)))
+    (λ c. bytes (c .before .before)))

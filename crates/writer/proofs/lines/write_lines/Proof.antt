@@ -22,7 +22,9 @@ add-here : tie.Need-add-here Inv-loop μ-loop
 add-here c =
     let call = c .before .before .before .before in
     let test = call .before .before .before .before in
-    let room = body-room _ _ _ (test .before .loop .inv) (test .loop-test .taken) (test .before .before .before .pre .1) (call .before .before .ends-line .ensures) in
+    let room =
+        body-room _ _ _ (test .before .loop .inv) (test .loop-test .taken) (test .before .before .before .pre .1)
+        (call .before .before .ends-line .ensures) in
     omega (arith, room, c .field-width .ensures)
 
 loop-again : tie.Need-loop-again Inv-loop μ-loop
@@ -32,8 +34,9 @@ loop-again c =
     let test = call .before .before .before .before in
     let x = getD (test .before .before .before .args .numbers .now) (test .before .loop .i) (pos 0) in
     let read = word x (call .before .before .before .x .given) in
-    body-step _ _ _ (test .before .loop .inv) (test .loop-test .taken) (test .before .before .before .pre .1) (call .before .before .ends-line .ensures)
-    _ _ (ap (λ (z : ℤ). ltZ z (pos 0)) read) (call .magnitude .ensures ∙ ap natAbs read) (wrote .write-laid .ensures) (c .field-width .ensures)
+    body-step _ _ _ (test .before .loop .inv) (test .loop-test .taken) (test .before .before .before .pre .1)
+    (call .before .before .ends-line .ensures) _ _ (ap (λ (z : ℤ). ltZ z (pos 0)) read)
+    (call .magnitude .ensures ∙ ap natAbs read) (wrote .write-laid .ensures) (c .field-width .ensures)
 
 pub write-lines-spec : {M : Type 1} → statement M
 write-lines-spec =
@@ -48,7 +51,8 @@ write-lines-spec =
     (λ c κs. tt)
     (λ c κs.
       let test = c .before .before .before .before in
-      body-room _ _ _ (test .before .loop .inv) (test .loop-test .taken) (test .before .before .before .pre .1) (c .before .before .ends-line .ensures))
+      body-room _ _ _ (test .before .loop .inv) (test .loop-test .taken) (test .before .before .before .pre .1)
+      (c .before .before .ends-line .ensures))
     (λ c κs. tt)
     add-here
     (λ c. search needs)

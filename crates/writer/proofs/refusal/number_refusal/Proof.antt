@@ -10,10 +10,12 @@ use borrow.Author.Needs.{needs}
 use Rattle.writer.proofs.refusal.number_refusal.Statement.{statement}
 use Rattle.writer.proofs.refusal.number_refusal.Tie as tie
 
-rows : (c : tie.After-projection-length) → c .before .projections-from .result + c .projection-length .result ≤ length (c .before .before .args .numbers .now)
+rows : (c : tie.After-projection-length)
+    → c .before .projections-from .result + c .projection-length .result ≤ length (c .before .before .args .numbers .now)
 rows c = rows-inside _ _ (c .before .before .pre) (c .before .projections-from .ensures) (c .projection-length .ensures)
 
-cs : (c : tie.After-list-length) → c .before .challenges-from .result + c .list-length .result ≤ length (c .before .before .before .before .args .numbers .now)
+cs : (c : tie.After-list-length)
+    → c .before .challenges-from .result + c .list-length .result ≤ length (c .before .before .before .before .args .numbers .now)
 cs c = challenges-inside _ _ (c .before .before .before .before .pre) (c .before .challenges-from .ensures) (c .list-length .ensures)
 
 returns : tie.Need-returns
