@@ -89,8 +89,7 @@ sheetText h xs = lineText h ++ textOf (bodyLines (sizesOf h)) xs
 abbrev pub AllFit : List ℤ → Type 0
 AllFit xs = (i : ℕ) → i < length xs → Fits16 (getD xs i (pos 0))
 
--- the numbers of a sheet: rows 1 to 6 do not refuse the header's, the others are as many as the sizes give (row 7), and rows 8 to 10 do not refuse
--- these
+-- the numbers of a sheet: rows 1 to 6 do not refuse the header's, and the others, as many as the sizes give (row 7), are not refused by 8 to 10
 pub record SheetNumbers (h xs : List ℤ) : Type 0 where
   pub header : length h ≡ 18
   pub fit : AllFit h
