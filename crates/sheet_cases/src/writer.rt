@@ -3,16 +3,16 @@
 // has, the writer's answer, the length and the checksum of the buffer, on one line, and the buffer where it is not too long, and a line feed.
 ghost use Prim.Native.Nat.{_≤_, _<_};
 ghost use lib.ListN.{length};
+use crate::front;
+use crate::lesser;
+use crate::print_number;
+use crate::read_case;
 use capi::write::CText;
 use capi::write::lizkarg_sheet_bytes;
 use capi::write::lizkarg_write_sheet;
 use cases::numbers::word;
 use cases::printing::print_line_end;
 use cases::sums::with_number;
-use crate::front;
-use crate::lesser;
-use crate::print_number;
-use crate::read_case;
 use fields::walk::number_at;
 use fields::walk::number_size;
 use fold::Shape;

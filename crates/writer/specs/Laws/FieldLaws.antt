@@ -57,7 +57,8 @@ pub blanked-start : (out : List ℕ) (at : ℕ) → Blanked out out at 0
 unfolding blanks
 blanked-start out at = record { below = omega arith; is = sym (over-nil out at); size = refl }
 
-pub blanked-step : {out₀ out : List ℕ} (at k : ℕ) → at + 16 ≤ length out₀ → Blanked out₀ out at k → k < 16 → Blanked out₀ (set out (at + k) 32) at (k + 1)
+pub blanked-step : {out₀ out : List ℕ} (at k : ℕ) → at + 16 ≤ length out₀ → Blanked out₀ out at k → k < 16
+    → Blanked out₀ (set out (at + k) 32) at (k + 1)
 blanked-step {out₀} {out} at k inside inv more =
     let end : at + k ≡ at + length (blanks k) = omega (arith, length-blanks k) in
     record {
@@ -88,8 +89,8 @@ kept-blanks : (l : List ℕ) (n k : ℕ) → k ≤ n → take n l ≡ blanks n �
 kept-blanks l n k h e =
     let sum : n ≡ k + (n - k) = omega arith in
     let whole : l ≡ blanks k ++ (blanks (n - k) ++ drop n l) =
-        sym (take-append-drop n l) ∙ ap (λ (f : List ℕ). f ++ drop n l) (e ∙ ap blanks sum ∙ blanks-add k (n - k))
-        ∙ append-assoc (blanks k) (blanks (n - k)) (drop n l) in
+    sym (take-append-drop n l) ∙ ap (λ (f : List ℕ). f ++ drop n l) (e ∙ ap blanks sum ∙ blanks-add k (n - k))
+    ∙ append-assoc (blanks k) (blanks (n - k)) (drop n l) in
     ap (take k) whole ∙ take-at (blanks k) (blanks (n - k) ++ drop n l) k (length-blanks k)
 
 -- what is written over a front that is there already
@@ -143,7 +144,7 @@ module _ (out₀ : List ℕ) (at : ℕ) (minus : Bool) (m : ℕ) (inside : at + 
       let sign = columnByte minus 0 in
       let fits : k ≤ 15 = omega (arith, inv .small) in
       let all : columns 15 minus m ≡ blanks k ++ (sign ∷ inv .right) =
-          inv .whole ∙ append-assoc (columns k false 0) (sign ∷ []) (inv .right) ∙ ap (λ (l : List ℕ). l ++ (sign ∷ inv .right)) (blank-columns k) in
+      inv .whole ∙ append-assoc (columns k false 0) (sign ∷ []) (inv .right) ∙ ap (λ (l : List ℕ). l ++ (sign ∷ inv .right)) (blank-columns k) in
       put-left out k (inv .right) sign (omega (arith, inv .small)) (inv .is)
       ∙ over-kept out₀ at k (blanks k) (sign ∷ inv .right) (length-blanks k) (kept-blanks (drop at out₀) 15 k fits blank)
       ∙ ap (over out₀ at) (sym all)
@@ -166,7 +167,7 @@ module _ (out₀ : List ℕ) (at : ℕ) (minus : Bool) (m : ℕ) (inside : at + 
 over-again : (out : List ℕ) (at : ℕ) (l r : List ℕ) → at ≤ length out → length l ≡ length r → over (over out at l) at r ≡ over out at r
 over-again out at l r h n =
     let front : take at (over out at l) ≡ take at out =
-        ap (take at) (over-is out at l) ∙ take-at (take at out) (l ++ drop (at + length l) out) at (length-take-le at out h) in
+    ap (take at) (over-is out at l) ∙ take-at (take at out) (l ++ drop (at + length l) out) at (length-take-le at out h) in
     let rest : drop (at + length r) (over out at l) ≡ drop (at + length r) out = rw (← n) (drop-over out at l h) in
     over-is (over out at l) at r ∙ rw (front, rest) (sym (over-is out at r))
 
@@ -214,7 +215,8 @@ module _ (out₀ : List ℕ) (at : ℕ) (minus : Bool) (m : ℕ) {out : List ℕ
       let same = ap length is ∙ length-over out₀ at (signedText minus m) (omega (arith, length-signed minus m)) in
       omega (arith, same)
 
-  pub laid-last : {last : Bool} → last ≡ true → at + fieldWidth last ≤ length out₀ → set out (at + 16) 10 ≡ over out₀ at (signedText minus m ++ feed last)
+  pub laid-last : {last : Bool} → last ≡ true → at + fieldWidth last ≤ length out₀
+      → set out (at + 16) 10 ≡ over out₀ at (signedText minus m ++ feed last)
   unfolding feed fieldWidth
   laid-last e inside =
       let wide : at + 17 ≤ length out₀ = rw e at inside in

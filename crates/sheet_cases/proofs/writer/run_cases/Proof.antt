@@ -13,6 +13,21 @@ Inv-loop text₀ numbers₀ buffer₀ cases i₀ text numbers buffer i =
 abbrev μ-loop : tie.MeasureT-loop
 μ-loop text₀ numbers₀ buffer₀ cases i₀ text numbers buffer i = cases - i
 
+same-length : tie.Need-same-length Inv-loop μ-loop
+same-length c =
+    let ran = c .before .before .before .before .before .before in
+    ran .run-case .kept .0 ∙ ran .before .before .before .before .before .loop .inv .1
+
+same-length-2 : tie.Need-same-length-2 Inv-loop μ-loop
+same-length-2 c =
+    let ran = c .before .before .before .before .before .before in
+    ran .run-case .kept .1 .0 ∙ ran .before .before .before .before .before .loop .inv .2
+
+same-length-3 : tie.Need-same-length-3 Inv-loop μ-loop
+same-length-3 c =
+    let ran = c .before .before .before .before .before .before in
+    ran .run-case .kept .1 .1 .0 ∙ ran .before .before .before .before .before .loop .inv .3
+
 loop-again : tie.Need-loop-again Inv-loop μ-loop
 loop-again c =
     let ran = c .before .before .before .before .before .before in
@@ -27,9 +42,9 @@ run-cases-spec =
     μ-loop
     (λ c. (omega arith, refl, refl, refl))
     (λ c κs. tt)
-    (λ c. let ran = c .before .before .before .before .before .before in ran .run-case .kept .0 ∙ ran .before .before .before .before .before .loop .inv .1)
-    (λ c. let ran = c .before .before .before .before .before .before in ran .run-case .kept .1 .0 ∙ ran .before .before .before .before .before .loop .inv .2)
-    (λ c. let ran = c .before .before .before .before .before .before in ran .run-case .kept .1 .1 .0 ∙ ran .before .before .before .before .before .loop .inv .3)
+    same-length
+    same-length-2
+    same-length-3
     (λ c. c .before .before .before .before .before .before .before .before .before .before .before .loop .inv .0)
     (λ c. omega arith)
     (λ c. omega arith)

@@ -43,13 +43,13 @@ write-columns-spec =
     (λ c. omega (arith, c .before .before .before .before .before .pre .0, c .before .before .loop .inv .small))
     (λ c. omega (arith, c .before .loop-test .taken))
     (λ c.
-      omega (
-        arith,
-        c .before .before .before .before .before .pre .0,
-        c .before .loop-test .taken,
-        c .before .before .loop .inv .small,
-        c .before .before .loop .inv .size,
-      ))
+    omega (
+      arith,
+      c .before .before .before .before .before .pre .0,
+      c .before .loop-test .taken,
+      c .before .before .loop .inv .small,
+      c .before .before .loop .inv .size,
+    ))
     (λ c. length-set (c .before .before .loop .text) _ _ ∙ c .before .before .loop .inv .size)
     returns
     (λ c. omega arith)
@@ -57,13 +57,13 @@ write-columns-spec =
     (λ c. omega (arith, c .before .before .before .before .before .pre .0, c .before .before .loop .inv .small))
     (λ c. omega (arith, c .before .loop-test .taken))
     (λ c.
-      omega (
-        arith,
-        c .before .before .before .before .before .pre .0,
-        c .before .loop-test .taken,
-        c .before .before .loop .inv .small,
-        c .before .before .loop .inv .size,
-      ))
+    omega (
+      arith,
+      c .before .before .before .before .before .pre .0,
+      c .before .loop-test .taken,
+      c .before .before .loop .inv .small,
+      c .before .before .loop .inv .size,
+    ))
     (λ c. omega (arith, c .before .loop-test .taken))
     (λ c. omega (arith, c .before .loop-test .taken))
     loop-again

@@ -23,9 +23,9 @@ write-laid-spec =
     (λ c κs. laid-room _ _ _ (c .before .before .pre))
     (λ c. search needs)
     (λ c.
-      let start = c .before .before .before .before .before .before in
-      laid-inside (start .args .text .now) (start .args .at) (start .args .minus) (start .args .m) (c .before .before .before .write-field .ensures)
-      (c .if1 .taken) (start .pre))
+    let start = c .before .before .before .before .before .before in
+    laid-inside (start .args .text .now) (start .args .at) (start .args .minus) (start .args .m) (c .before .before .before .write-field .ensures)
+    (c .if1 .taken) (start .pre))
     (λ c. search needs)
     returns
     (λ c. search needs)

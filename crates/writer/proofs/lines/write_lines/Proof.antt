@@ -23,8 +23,8 @@ add-here c =
     let call = c .before .before .before .before in
     let test = call .before .before .before .before in
     let room =
-        body-room _ _ _ (test .before .loop .inv) (test .loop-test .taken) (test .before .before .before .pre .1)
-        (call .before .before .ends-line .ensures) in
+    body-room _ _ _ (test .before .loop .inv) (test .loop-test .taken) (test .before .before .before .pre .1)
+    (call .before .before .ends-line .ensures) in
     omega (arith, room, c .field-width .ensures)
 
 loop-again : tie.Need-loop-again Inv-loop μ-loop
@@ -50,9 +50,9 @@ write-lines-spec =
     (λ c κs. c .before .before .before .before .pre .0)
     (λ c κs. tt)
     (λ c κs.
-      let test = c .before .before .before .before in
-      body-room _ _ _ (test .before .loop .inv) (test .loop-test .taken) (test .before .before .before .pre .1)
-      (c .before .before .ends-line .ensures))
+    let test = c .before .before .before .before in
+    body-room _ _ _ (test .before .loop .inv) (test .loop-test .taken) (test .before .before .before .pre .1)
+    (c .before .before .ends-line .ensures))
     (λ c κs. tt)
     add-here
     (λ c. search needs)
