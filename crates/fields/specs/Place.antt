@@ -1,6 +1,6 @@
 -- Numbers on lines, by place. The numbers are counted from 0, `ends i` says that number i is the last of its line, and the first field
 -- starts at byte `at` of the text.
---     fieldWidth, feed            the bytes of a field with its line feed or without, and what follows it
+--     fieldWidth, feed            how many bytes a field takes, with a line feed if it ends a line, and that line feed
 --     place ends at i             the byte where number i starts
 --     laid ends at text n         the first n fields are numbers, with a line feed after the last of each line
 --     numberAt, numbersFrom       the number at a place, and `count` numbers from number `from` on

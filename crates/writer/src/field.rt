@@ -21,7 +21,7 @@ fn write_blanks(text: &mut [u8], at: usize)
     }
 }
 
-// Of 15 blanks from `at` on, the last become the digits of m and the minus before them; none where m is 0.
+// Of 15 blanks from `at` on, the last become the digits of m, of which 0 has none, and before them a minus if `minus`.
 fn write_columns(text: &mut [u8], at: usize, minus: bool, m: u64)
     requires { ⌜ (at + 15 ≤ length (now text)) × (take 15 (drop at (now text)) ≡ blanks 15) ⌝ }
     ensures { λ r. ⌜ now (text .exit) ≡ over (now (text .entry)) at (columns 15 minus m) ⌝ }

@@ -1,4 +1,4 @@
--- The bytes of one field, written from the right.
+-- The bytes of one field: blanks, then its digits from the right.
 --     over-left         one more element before what is written
 --     Blanked           the loop of `write_blanks`
 --     Columns           the loop of `write_columns`: the columns from `left` on are written; its start, its step and its ends

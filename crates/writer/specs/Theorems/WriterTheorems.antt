@@ -1,5 +1,5 @@
 -- The writer: SPECIFICATION 10. All from its promise `SheetWritten`, and what joins it to the reader also from the reader's, `SheetRead`.
---     written-exactly, short-buffer    what it answers
+--     written-exactly, short-buffer, writing-rising    what it answers
 --     text-put, nothing-put            what stands in the buffer afterwards
 --     read-text, read-written          "a text the reader takes is the text the writer makes of its numbers"
 --     written-read                     "What the writer puts down, the reader gives back"
@@ -18,18 +18,19 @@ use borrow.Author.Tests.{ne-eqb}
 use Rattle.integers.specs.Over.{over}
 use Rattle.integers.specs.Laws.OverLaws.{length-over, drop-over, part-over}
 use Rattle.fold.specs.Answers.{firstFailing, written}
+use Rattle.fold.specs.Laws.TestLaws.{rising}
 use Rattle.fold.specs.Laws.RefusalLaws.{refusal-passes}
 use Rattle.sheet.specs.declared.header.SheetSizes.{SheetSizes}
 use Rattle.sheet.specs.declared.reader.SheetAnswer.{SheetAnswer}
 use Rattle.sheet.specs.declared.reader.SheetAnswer.the-variants.{Sheet}
-use Rattle.sheet.specs.Reading.{headerNumbers, headerTests, sizesOf, bodyNumbers, numberCount, SheetRead}
+use Rattle.sheet.specs.Reading.{headerNumbers, headerTests, sizesOf, bodyNumbers, numberTests, numberCount, SheetRead}
 use Rattle.sheet.specs.Layout.{SheetNumbers}
 use Rattle.sheet.specs.Laws.AnswerLaws.{read-is}
 use Rattle.sheet.specs.Laws.HeaderLaws.{header-bounded}
 use Rattle.sheet.specs.Theorems.SheetTheorems.{Read, sheet-exactly, sheet-count}
 use Rattle.writer.specs.declared.WriteAnswer.{WriteAnswer}
 use Rattle.writer.specs.declared.WriteAnswer.the-variants.{Length, Refused}
-use Rattle.writer.specs.Writing.{headerFields, writtenText, sheetBytes, writingRefusal, SheetWritten}
+use Rattle.writer.specs.Writing.{headerFields, writtenText, sheetBytes, writingTests, writingRefusal, SheetWritten}
 use Rattle.writer.specs.Laws.LengthLaws.{sizes-back, sizes-given, text-length, bytes-most}
 use Rattle.writer.specs.Laws.AnswerLaws.{lengthAnswer, is-length, is-refused, write-is, fields-back, count-total}
 use Rattle.writer.specs.Laws.AnswerLaws.{writing-passed, passed-writing, writing-short, short-writing}
@@ -57,6 +58,11 @@ module _ {h : SheetSizes} {xs : List ℤ} {before after : List ℕ} {wrote : Wri
     λ e. writing-short (length before) h xs (is-refused (writingRefusal h xs before) (length (writtenText h xs)) 13 (sym is ∙ e) .0),
     λ e. is ∙ rw (short-writing (length before) h xs (e .0) (e .1)) refl,
   )
+
+-- "13, after 11": the numbers of the tests rise, so that the lowest of those that fail is named: `lowest-first` of crates/fold
+pub writing-rising : (room : ℕ) (h : SheetSizes) (xs : List ℤ) → rising 0 (writingTests room h xs) ≡ true
+unfolding writingTests headerTests numberTests
+writing-rising room h xs = refl
 
 -- ---- the buffer
 
