@@ -8,6 +8,7 @@
 --     most-bytes                       "at most 1384691915 within the limits of the sizes"
 --     least-buffer                     "A buffer of that length is the least that the writer takes."
 use mathlib.Core.Path.{_≡_, refl, sym, ap, subst, _∙_}
+use mathlib.Core.Bool.{true}
 use mathlib.Core.Logic.{_↔_}
 use mathlib.Core.List.{List}
 use Prim.Native.Nat.{ℕ, zero, suc, _+_, _≤_, _<_}
