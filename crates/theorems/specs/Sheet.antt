@@ -2,13 +2,16 @@
 -- For the answers of `judge_sheet`, whose promise is `answer ≡ judgedText text`.
 --     sheet-judged      the sheet of numbers h, xs is judged by the verdict on them: the verifier refuses nothing that the reader took
 --     judged-sheet      a text that is judged is the sheet of the numbers read from it
+--     written-judged    what `write_sheet` put down is judged by the verdict on the numbers that it was given
 --     text-refuses      a text of at most 65536 bytes is refused by the first of the reader's tests that fails; a longer one by 12
 --     verify-refuses    `verify` refuses the numbers of a sheet exactly as the reader does: by the first of rows 8 to 10 that fails
--- What the reader takes is `sheet-exactly` (crates/sheet/specs/Theorems/SheetTheorems.antt); its refusals are `read-refuses` (Refusals.antt).
-use mathlib.Core.Path.{_≡_, refl, sym, _∙_}
+-- What the reader takes is `sheet-exactly` (crates/sheet/specs/Theorems/SheetTheorems.antt); that reader and writer undo each other is `written-read`
+-- and `read-written` (crates/writer/specs/Theorems/WriterTheorems.antt); their refusals are `read-refuses` and `write-refuses` (Refusals.antt).
+use mathlib.Core.Path.{_≡_, refl, sym, ap, _∙_}
 use mathlib.Core.List.{List}
 use Prim.Native.Nat.{ℕ, _≤_, _<_}
-use lib.ListN.{length}
+use native.Mathlib.Omega.{arith}
+use lib.ListN.{length, take}
 use lib.IntN.{ℤ}
 use Rattle.fold.specs.declared.Answer.{Answer}
 use Rattle.fold.specs.declared.Answer.the-variants.{Refused, Judged}
@@ -17,6 +20,11 @@ use Rattle.fold.specs.Answers.{firstFailing}
 use Rattle.fold.specs.Theorems.FirstRefusal.{Refuses, judgement-refuses}
 use Rattle.sheet.specs.Layout.{fields, bodyLines, sheetText, SheetNumbers}
 use Rattle.sheet.specs.Reading.{headerTests, sizesOf, numberTests, bodyTests, readingTests}
+use Rattle.sheet.specs.declared.header.SheetSizes.{SheetSizes}
+use Rattle.writer.specs.declared.WriteAnswer.the-variants.{Length}
+use Rattle.writer.specs.Writing.{headerFields, writtenText, SheetWritten}
+use Rattle.writer.specs.Laws.LengthLaws.{sizes-given}
+use Rattle.writer.specs.Theorems.WriterTheorems.{written-exactly, text-put}
 use Rattle.judge.specs.Judging.{judgedNumbers, judgedText}
 use Rattle.judge.specs.Theorems.JudgeTheorem.{sheetVerdict, roomOf, Sheet, numbers-answer}
 use Rattle.judge.specs.Theorems.JudgeTheorem as judge
@@ -27,6 +35,14 @@ sheet-judged h xs numbers fits answer is = is ∙ judge.sheet-judged h xs number
 
 pub judged-sheet : (text : List ℕ) (answer : Answer) → answer ≡ judgedText text → (v : Verdict) → answer ≡ Judged v → Sheet text v
 judged-sheet text answer is v e = judge.judged-sheet text v (sym is ∙ e)
+
+pub written-judged : {h : SheetSizes} {xs : List ℤ} {before after : List ℕ} {m : ℕ} → SheetWritten h xs before (Length m) after → m ≤ 65536
+    → (answer : Answer) → answer ≡ judgedText (take m after) → answer ≡ Judged (sheetVerdict (h .sizes) xs)
+unfolding writtenText
+written-judged {h} {xs} {m = m} call fits answer is =
+    let (numbers, same, room) = written-exactly call m .0 refl in
+    rw (sizes-given h) at
+    (sheet-judged (headerFields h) xs numbers (omega (arith, same, fits)) answer (is ∙ ap judgedText (text-put call .0)))
 
 pub text-refuses : (text : List ℕ) → length text ≤ 65536 → (answer : Answer) → answer ≡ judgedText text
     → Refuses (readingTests (roomOf text) text) answer Unit
