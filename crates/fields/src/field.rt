@@ -57,7 +57,7 @@ pub fn column_byte(minus: bool, m: u64) -> u8
 }
 
 // A minus is due after that byte.
-pub fn minus_due(minus: bool, m: u64) -> bool
+fn minus_due(minus: bool, m: u64) -> bool
     ensures { λ r. ⌜ r ≡ minusDue minus m ⌝ }
 {
     if 0 < m {

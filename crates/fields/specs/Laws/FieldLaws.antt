@@ -1,7 +1,7 @@
 -- Laws of fields: the reader takes exactly the fields of the numbers that fit, and gives them back.
---     read-written     readField (fieldText z) ≡ Number z, where z fits
---     read-text        readField l ≡ Number z → l ≡ fieldText z
---     read-fits        readField l ≡ Number z → Fits16 z
+--     field-given-back    readField (fieldText z) ≡ Number z, where z fits
+--     field-is-text       readField l ≡ Number z → l ≡ fieldText z
+--     read-fits           readField l ≡ Number z → Fits16 z
 use mathlib.Core.Path.{_≡_, refl, sym, ap, _∙_, subst}
 use mathlib.Core.Bool.{Bool, true, false, cond}
 use mathlib.Core.List.{List, [], _∷_, _++_}
@@ -175,11 +175,11 @@ pub fieldOf-other : (l : List ℕ) (z : ℤ) (other : Field) → (l ≡ fieldTex
 unfolding fieldOf
 fieldOf-other l z other differ = rw (same-false l (fieldText z) differ) refl
 
-pub read-written : (z : ℤ) → Fits16 z → readField (fieldText z) ≡ Number z
+pub field-given-back : (z : ℤ) → Fits16 z → readField (fieldText z) ≡ Number z
 unfolding readField fieldText
-read-written (pos n) f =
+field-given-back (pos n) f =
     rw (value-signed false n (omega (zarith, f .most))) (fieldOf-same (pos n) _)
-read-written (negsuc n) f =
+field-given-back (negsuc n) f =
     let small : suc n < 10 ^ 15 = omega (zarith, f .least) in
     rw (
       value-signed true (suc n) (omega arith),
@@ -213,8 +213,8 @@ read-cases l z e = first (sameBytes l (fieldText plain)) refl e
     first true q e = let w : z ≡ plain = cc in inl (w, rw w (same-true l _ q))
     first false q e = second (sameBytes l (fieldText (negℤ plain))) refl (λ s. differs (same-equal l (fieldText plain) s) q) e
 
-pub read-text : (l : List ℕ) (z : ℤ) → readField l ≡ Number z → l ≡ fieldText z
-read-text l z e = text (read-cases l z e)
+pub field-is-text : (l : List ℕ) (z : ℤ) → readField l ≡ Number z → l ≡ fieldText z
+field-is-text l z e = text (read-cases l z e)
   where
     text : ((z ≡ pos (valueFrom 0 l)) × (l ≡ fieldText z))
         ⊎ ((z ≡ negℤ (pos (valueFrom 0 l))) × (l ≡ fieldText z) × (l ≡ fieldText (pos (valueFrom 0 l)) → ⊥))

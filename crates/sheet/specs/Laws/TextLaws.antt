@@ -18,7 +18,7 @@ use Rattle.fields.specs.declared.field.Field.{Field}
 use Rattle.fields.specs.declared.field.Field.the-variants.{Number, Broken}
 use Rattle.fields.specs.Field.{fieldText, Fits16}
 use Rattle.fields.specs.Fields.{readField, fieldAt, isNumber, numberIn}
-use Rattle.fields.specs.Laws.FieldLaws.{read-text, read-written, length-field}
+use Rattle.fields.specs.Laws.FieldLaws.{field-is-text, field-given-back, length-field}
 use Rattle.fields.specs.Place.{fieldWidth, feed, lineFields, place, laidField, laid, numberAt}
 use Rattle.fields.specs.Laws.PlaceLaws.{contradiction, laidField-number, laidField-feed, laidField-fits, laid-zero, laid-suc}
 
@@ -29,7 +29,7 @@ unfolding fieldAt numberAt
 number-text text p e = step (readField (take 16 (drop p text))) refl e
   where
     step : (f : Field) → readField (take 16 (drop p text)) ≡ f → isNumber f ≡ true → take 16 (drop p text) ≡ fieldText (numberIn f)
-    step (Number z) q e = read-text (take 16 (drop p text)) z q
+    step (Number z) q e = field-is-text (take 16 (drop p text)) z q
     step Broken q e = contradiction e refl
 
 after-field : (text : List ℕ) (p : ℕ) (last : Bool) → laidField text p last ≡ true
@@ -57,7 +57,7 @@ module _ (text : List ℕ) (p : ℕ) (last : Bool) (z : ℤ) (rest : List ℕ) (
 
   field-is : fieldAt text p ≡ Number z
   unfolding fieldAt
-  field-is = rw (split, take-at (fieldText z) (feed last ++ rest) 16 (length-field z)) (read-written z fits)
+  field-is = rw (split, take-at (fieldText z) (feed last ++ rest) 16 (length-field z)) (field-given-back z fits)
 
   pub text-number : numberAt text p ≡ z
   unfolding numberAt

@@ -4,7 +4,7 @@
 --     other-lines        "then the other lines (12)": they pass exactly if the rest of the text is that of as many numbers as the sizes give
 --     broken-header .. refused-numbers    what the answer is in each other case; one of the cases holds of every text
 --     sheet-count        a sheet has as many numbers as its header gives; none where the header is refused
--- A field: `read-written`, `read-text` and `read-fits` of FieldLaws.
+-- A field: `field-given-back`, `field-is-text` and `read-fits` of FieldLaws.
 use mathlib.Core.Path.{_≡_, refl, sym, ap, _∙_}
 use mathlib.Core.Bool.{Bool, true, false}
 use mathlib.Core.Logic.{_↔_}
