@@ -4,13 +4,14 @@ use mathlib.Core.List.{List}
 use Prim.Native.Nat.{ℕ}
 use lib.ListN.{length}
 use lib.IntN.{ℤ}
+use Rattle.integers.specs.Over.{over}
 use Rattle.fold.specs.declared.Answer.{Answer}
 use Rattle.fold.specs.Answers.{kindOf, numberOf, written}
 use Rattle.sheet.specs.declared.header.SheetSizes.{SheetSizes}
 use Rattle.sheet.specs.declared.reader.SheetAnswer.{SheetAnswer}
 use Rattle.sheet.specs.Reading.{headerNumbers, sizesOf, bodyNumbers, reading, readingRefusal, answerOf, headerOf}
 use Rattle.writer.specs.declared.WriteAnswer.{WriteAnswer}
-use Rattle.writer.specs.Writing.{lengthOf, SheetWritten}
+use Rattle.writer.specs.Writing.{writtenText, writingRefusal, lengthAnswer, lengthOf}
 use Rattle.writer.specs.Writing as writing
 use Rattle.lizkarg.specs.declared.Product.{Product}
 use Rattle.capi.specs.declared.types.CAnswer.{CAnswer}
@@ -70,8 +71,7 @@ pub record SheetCoded (text : List ℕ) (before : List ℤ) (code : CSheet) (aft
   pub code-is : code ≡ sheetCode (reading (length before) text)
   pub numbers-are : after ≡ written (readingRefusal text before) (bodyNumbers (sizesOf (headerNumbers text)) text) before
 
--- the writer's promise, for a code
+-- the writer's promise: its answer as a code, and the bytes of the lent buffer afterwards
 pub record TextCoded (h : SheetSizes) (xs : List ℤ) (before : List ℕ) (code : CText) (after : List ℕ) : Type 0 where
-  pub wrote : WriteAnswer
-  pub code-is : code ≡ textCode wrote
-  pub promised : SheetWritten h xs before wrote after
+  pub code-is : code ≡ textCode (lengthAnswer (writingRefusal h xs before) (length (writtenText h xs)))
+  pub bytes-are : after ≡ written (writingRefusal h xs before) (over before 0 (writtenText h xs)) before

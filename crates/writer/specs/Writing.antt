@@ -5,6 +5,7 @@
 --     elementLines, textBytes                   how many bytes the text has, by the sizes
 --     sheetBytes                                the same, 0 for sizes that are refused: the question beside the writer
 --     writingTests, writingRefusal              the tests in their order, for a buffer of `room` bytes, and the first that fails
+--     lengthAnswer                              the answer by the refusal and the length
 --     answerOf, lengthOf, lengthIf              number and length of each answer (SPECIFICATION 13.7), and the length by the refusal
 --     SheetWritten                              the writer's promise
 use mathlib.Core.Path.{_≡_}
@@ -84,6 +85,11 @@ writingTests room h xs =
 -- the refusal of a writer whose buffer holds `before`; 0 where there is none
 abbrev pub writingRefusal : SheetSizes → List ℤ → List ℕ → ℕ
 writingRefusal h xs before = firstFailing (writingTests (length before) h xs)
+
+-- a length, or the refusal where there is one
+abbrev pub lengthAnswer : ℕ → ℕ → WriteAnswer
+lengthAnswer zero m = Length m
+lengthAnswer (suc n) m = Refused (suc n)
 
 -- ---- what the answer says
 

@@ -40,7 +40,7 @@ use Rattle.sheet.specs.Laws.AnswerLaws.{refusal-first, refusal-rest}
 use Rattle.writer.specs.declared.WriteAnswer.{WriteAnswer}
 use Rattle.writer.specs.declared.WriteAnswer.the-variants.{Length, Refused}
 use Rattle.writer.specs.Writing.{headerWords, headerFields, writtenText, writingTests, writingRefusal}
-use Rattle.writer.specs.Writing.{answerOf, lengthOf, lengthIf, SheetWritten}
+use Rattle.writer.specs.Writing.{lengthAnswer, answerOf, lengthOf, lengthIf, SheetWritten}
 use Rattle.writer.specs.Laws.LengthLaws.{length-fields, sizes-given}
 
 -- ---- the numbers of a header that is not refused
@@ -251,11 +251,6 @@ module _ (room : ℕ) (h : SheetSizes) (xs : List ℤ) where
       step false q e = leb-false (length (writtenText h xs)) room q
 
 -- ---- the answer
-
--- the answer by the number of the refusal, 0 where there is none
-abbrev pub lengthAnswer : ℕ → ℕ → WriteAnswer
-lengthAnswer zero m = Length m
-lengthAnswer (suc n) m = Refused (suc n)
 
 pub is-length : (n k m : ℕ) → lengthAnswer n k ≡ Length m → (n ≡ 0) × (m ≡ k)
 is-length zero k m e = (refl, cc)

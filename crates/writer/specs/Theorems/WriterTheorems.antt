@@ -31,9 +31,9 @@ use Rattle.sheet.specs.Laws.HeaderLaws.{header-bounded}
 use Rattle.sheet.specs.Theorems.SheetTheorems.{Read, sheet-exactly, sheet-count}
 use Rattle.writer.specs.declared.WriteAnswer.{WriteAnswer}
 use Rattle.writer.specs.declared.WriteAnswer.the-variants.{Length, Refused}
-use Rattle.writer.specs.Writing.{headerFields, writtenText, sheetBytes, writingTests, writingRefusal, SheetWritten}
+use Rattle.writer.specs.Writing.{headerFields, writtenText, sheetBytes, writingTests, writingRefusal, lengthAnswer, SheetWritten}
 use Rattle.writer.specs.Laws.LengthLaws.{sizes-back, sizes-given, text-length, bytes-most}
-use Rattle.writer.specs.Laws.AnswerLaws.{lengthAnswer, is-length, is-refused, write-is, fields-back, count-total}
+use Rattle.writer.specs.Laws.AnswerLaws.{is-length, is-refused, write-is, fields-back, count-total}
 use Rattle.writer.specs.Laws.AnswerLaws.{writing-passed, passed-writing, writing-short, short-writing}
 use Rattle.writer.specs.Laws.ReadLaws.{read-header, read-numbers}
 
