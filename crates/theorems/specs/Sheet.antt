@@ -2,7 +2,7 @@
 -- For the answers of `judge_sheet`, whose promise is `answer ≡ judgedText text`.
 --     sheet-judged      the sheet of numbers h, xs is judged by the verdict on them: the verifier refuses nothing that the reader took
 --     judged-sheet      a text that is judged is the sheet of the numbers read from it
---     written-judged    what `write_sheet` put down is judged by the verdict on the numbers that it was given
+--     written-judged    what `write_sheet` put down, of at most 65536 bytes, is judged by the verdict on the numbers that it was given
 --     text-refuses      a text of at most 65536 bytes is refused by the first of the reader's tests that fails; a longer one by 12
 --     verify-refuses    `verify` refuses the numbers of a sheet exactly as the reader does: by the first of rows 8 to 10 that fails
 -- What the reader takes is `sheet-exactly` (crates/sheet/specs/Theorems/SheetTheorems.antt); that reader and writer undo each other is `written-read`
