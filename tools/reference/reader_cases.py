@@ -1,6 +1,7 @@
 """Stored input and output of the test program for the calls that read and write a sheet, crates/sheet_cases.
 
 Input: stored.sheets_text, then the cases of writer_cases.py. Output: five lines for each case here, then those of writer_cases.py.
+Honest sheets are kept ones: their openings are by the older rule of the low digit (ring.kept_rule).
 
     count                           how many numbers the header's sizes give
     kind number header shown(X)     three times, for a slice of one number less than the count, of as many, and of one more: the reader's
@@ -14,6 +15,7 @@ With the argument `names` the script prints a line for each case: its name and i
 import random
 import sys
 
+import ring
 import sheet
 import writer_cases
 from fixtures import SMALL, honest, replaced, whole_case_text
@@ -68,7 +70,8 @@ def case_lines(text):
 
 def all_cases():
     rng = random.Random(14)
-    return [case for group in (good_sheets, refused_sheets) for case in group(rng)]
+    with ring.kept_rule():
+        return [case for group in (good_sheets, refused_sheets) for case in group(rng)]
 
 
 def files():

@@ -4,6 +4,8 @@ An element is a list of d centred numbers, lowest power first; d is the length o
 Schoolbook arithmetic on whole numbers of any size; nothing is tuned. Quotations are from docs/SPECIFICATION.md.
 """
 
+from contextlib import contextmanager
+
 # "q = 4294967197 = 2^32 - 99."
 Q = 4294967197
 
@@ -113,19 +115,46 @@ def inner_product(d, u, v):
 # Digits
 
 def low_digit(base, x):
-    """ "each low digit is at least -B/2 and below B/2 (integers, for odd B as well), congruent to the value modulo B"
-
-    B/2 is not rounded: the digit is the integer e with -B <= 2e < B.
+    """ "each low digit is at least -B/2 and at most B/2 (integers, for odd B as well), congruent to the value modulo B";
+    "When a value lies exactly half a base from two multiples, the low digit is the one of +B/2 and -B/2 that leaves an even
+    quotient." "B/2 is not rounded: the low digit is an integer e with -B ≤ 2e ≤ B, so that only an even B has halves."
     """
     residue = x % base
+    candidates = [e for e in (residue, residue - base) if -base <= 2 * e <= base]
+    if len(candidates) == 2:
+        candidates = [e for e in candidates if (x - e) // base % 2 == 0]
+    [digit] = candidates
+    return digit
+
+
+def low_digit_of_kept(base, x):
+    """The low digit by the "older rule, by which each half became -B/2". """
+    residue = x % base
     return residue if 2 * residue < base else residue - base
+
+
+# The rule that `digits` goes by.
+digit_rule = low_digit
+
+
+@contextmanager
+def kept_rule():
+    """Within it `digits` goes by the older rule, so that kept openings can be made: "Openings kept under an older rule, by
+    which each half became -B/2, are judged as before, since the verifier only recomposes."
+    """
+    global digit_rule
+    outside, digit_rule = digit_rule, low_digit_of_kept
+    try:
+        yield
+    finally:
+        digit_rule = outside
 
 
 def digits(base, count, x):
     """ "subtract it, divide by B, repeat. The last digit is what is left." """
     result = []
     for _ in range(count - 1):
-        digit = low_digit(base, x)
+        digit = digit_rule(base, x)
         result.append(digit)
         x = (x - digit) // base
     result.append(x)

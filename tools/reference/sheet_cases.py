@@ -6,6 +6,8 @@
 The input of all cases: stored.sheets_text. With the argument `names` the script prints a line for each case: its number, its answer, its
 count of bytes, its group and name; last the count of cases by answer.
 
+Honest sheets are kept ones: their openings are by the older rule of the low digit (ring.kept_rule).
+
 Groups, in sheet_checks.py, sheet_numbers.py and sheet_faults.py; a case's name says what is changed.
 
     whole_case             the whole case of SPECIFICATION 12.4
@@ -34,6 +36,7 @@ import random
 import sys
 from collections import Counter
 
+import ring
 import sheet
 import sheet_checks
 import sheet_faults
@@ -42,20 +45,25 @@ import stored
 from fixtures import ACCEPTED, whole_case_text
 
 
+def judged(group, *arguments):
+    """The cases of a group as (group, name, answer, text). Where the script states an answer, the judgement is compared with it."""
+    for name, stated, given in group(*arguments):
+        text = given if isinstance(given, bytes) else sheet.write_sheet(*given)
+        answer = sheet.judge(text)
+        assert stated in (None, answer), (group, name, stated, answer)
+        yield group.__name__, name, answer, text
+
+
 def all_cases():
-    """The cases as (group, name, answer, text). Where the script states an answer, the judgement is compared with it."""
+    """The cases of all groups."""
     rng = random.Random(12)
     groups = [(group, rng) for group in sheet_checks.GROUPS + sheet_numbers.GROUPS] + [(group,) for group in sheet_faults.GROUPS]
-    for group, *arguments in groups:
-        for name, stated, given in group(*arguments):
-            text = given if isinstance(given, bytes) else sheet.write_sheet(*given)
-            answer = sheet.judge(text)
-            assert stated in (None, answer), (group, name, stated, answer)
-            yield group.__name__, name, answer, text
+    with ring.kept_rule():
+        return [case for group in groups for case in judged(*group)]
 
 
 def files():
-    cases = list(all_cases())
+    cases = all_cases()
     yield "crates/verdict_cases/stdin", stored.sheets_text([text for _, _, _, text in cases])
     yield "crates/verdict_cases/stdout", b"".join(sheet.output_line(answer) for _, _, answer, _ in cases)
     yield "crates/verdict/stdin", whole_case_text()
@@ -63,7 +71,7 @@ def files():
 
 
 def print_names():
-    cases = list(all_cases())
+    cases = all_cases()
     for number, (group, name, answer, text) in enumerate(cases, start=1):
         print(number, *answer, len(text), f"{group}: {name}")
     for (kind, number), count in sorted(Counter(answer for _, _, answer, _ in cases).items()):
