@@ -40,6 +40,13 @@ def digits(base, count, e):
     return "; ".join(pair(digit) for digit in ring.element_digits(base, count, e))
 
 
+def both_ways(base, number):
+    """How a number half a base from two multiples is cut, and how not."""
+    low, high = ring.digits(base, 2, number)
+    assert 2 * abs(low) == base and high % 2 == 0, "the page says that the high digit is even"
+    return f"{low} + {high}·{base} and not {-low} + {(number + low) // base}·{base}"
+
+
 # ---- the sheets
 
 def sheets():
@@ -64,6 +71,7 @@ def page():
     t = [row[0] for row in verifier.recomposed_t(s, y)]
     g, h = verifier.recomposed_g(s, y), verifier.recomposed_h(s, y)
     z = verifier.recomposed_z(s, y)[0]
+    two, six = g[1, 2][1], h[0, 0][0]
     phi = [row[0] for row in fold.aggregate(s, x).phi]
     second_b = fold.elements(s.d, y["second_b"])
     second_phi = [[row[0] for row in f.phi] for f in fold.second_functions(s, x)]
@@ -184,7 +192,8 @@ Everybody knows A = {pair(a)}. The maker forms t = A·s for each slot (t1 is the
 
 {table([name("g", i, j) for i, j in pairs(3)], [[pair(g[p]) for p in pairs(3)]])}
 
-Long numbers are cut into digits, to base {s.b1}: a low digit is -2, -1, 0 or 1, and what is left is divided by {s.b1}. So 3 is -1 + 1·{s.b1}: low digit -1, high digit 1. Each place of a pair is cut
+Long numbers are cut into digits, to base {s.b1}: a low digit is -2, -1, 0, 1 or 2, and what is left is divided by {s.b1}. So 3 is -1 + 1·{s.b1}: low digit -1, high digit 1. Where both 2 and -2
+would do, take the one that leaves an even high digit: {two}, as in g23, is {both_ways(s.b1, two)}; {six}, as in h11 below, is {both_ways(s.b1, six)}. Each place of a pair is cut
 for itself: t1 = {pair(t[0])} has the low digits {pair(ring.element_digits(s.b1, s.t1, t[0])[0])} and the high digits {pair(ring.element_digits(s.b1, s.t1, t[0])[1])}. All t and g as digits, low; high:
 
 {table([f"t{i + 1}" for i in range(3)] + [name("g", i, j) for i, j in pairs(3)], [[digits(s.b1, s.t1, e) for e in t] + [digits(s.b2, s.t2, g[p]) for p in pairs(3)]])}
