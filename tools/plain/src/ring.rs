@@ -74,8 +74,15 @@ pub fn sigma(x: &[i32]) -> El {
     (0..d).map(|i| if i == 0 { x[0] as i64 } else { -(x[d - i] as i64) }).collect()
 }
 
-/// "each low digit is at least -B/2 and below B/2 (integers, for odd B as well), congruent to the value modulo B; subtract it, divide by B,
-/// repeat. The last digit is what is left." The digits of an element, lowest first.
+/// "each low digit is at least -B/2 and at most B/2 (integers, for odd B as well), congruent to the value modulo B"; "When a value lies
+/// exactly half a base from two multiples, the low digit is the one of +B/2 and -B/2 that leaves an even quotient."
+fn low_digit(base: i64, x: i64) -> i64 {
+    let low = x.rem_euclid(base);
+    let odd_quotient = (x - low) / base % 2 != 0;
+    if 2 * low > base || 2 * low == base && odd_quotient { low - base } else { low }
+}
+
+/// "subtract it, divide by B, repeat. The last digit is what is left." The digits of an element, lowest first.
 pub fn digits(base: usize, count: usize, x: &El) -> Vec<El> {
     let base = base as i64;
     let mut rest = x.clone();
@@ -83,10 +90,7 @@ pub fn digits(base: usize, count: usize, x: &El) -> Vec<El> {
     for _ in 1..count {
         let mut low = zero(x.len());
         for (low, rest) in low.iter_mut().zip(&mut rest) {
-            *low = rest.rem_euclid(base);
-            if 2 * *low >= base {
-                *low -= base;
-            }
+            *low = low_digit(base, *rest);
             *rest = (*rest - *low) / base;
         }
         all.push(low);
