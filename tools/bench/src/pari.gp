@@ -12,7 +12,7 @@ best = 10^30;
   for(round = 1, 5, from = spent(); for(k = 1, 5, x * y~); best = min(best, (spent() - from) * 10^6 / 1000.));
   print("inner ", best);
 }
-digit(v, b) = { my(m = v % b); if(2 * m >= b, m - b, m) };
+digit(v, b) = { my(m = v % b); if(2 * m > b || (2 * m == b && (v - m) / b % 2), m - b, m) };
 digits4(e, b) = {
   my(c = vector(64, i, centerlift(polcoeff(lift(e), i - 1))), out = vector(4));
   for(k = 1, 3, my(low = vector(64, i, digit(c[i], b))); out[k] = low; c = (c - low) / b);

@@ -198,18 +198,20 @@ static element recompose(size_t d, int64_t base, size_t t, const int32_t *xs, si
 
 static int same(size_t d, element x, element y) { return memcmp(x.v, y.v, d * sizeof(int32_t)) == 0; }
 
-/* digits of the numbers in the last of t blocks of `width` */
+/* digits of the numbers in the last of t blocks of `width`; a half leaves an even quotient */
 static void split(int32_t base, size_t t, size_t width, int32_t *block) {
     int32_t *rest = block + (t - 1) * width;
     for (size_t k = 0; k + 1 < t; k++)
         for (size_t i = 0; i < width; i++) {
             int64_t x = rest[i];
 #if KERNEL == 1
-            int64_t low = (x % base + (base + base / 2)) % base - base / 2;
+            /* centred modulo two bases, and a base less or more where that is beyond a half */
+            int64_t w = (x % (2 * base) + 3 * base) % (2 * base) - base;
+            int64_t low = w - 2 * w / (base + 1) * base;
 #else
             int64_t low = x % base;
             if (low < 0) low += base;
-            if (2 * low >= base) low -= base;
+            if (2 * low > base || (2 * low == base && (x - low) / base % 2 != 0)) low -= base;
 #endif
             block[k * width + i] = (int32_t)low;
             rest[i] = (int32_t)((x - low) / base);
