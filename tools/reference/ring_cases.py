@@ -178,6 +178,19 @@ def digit_cases(rng):
     return cases
 
 
+def half_cases():
+    """Operations 9 and 10 on ±B/2, ±3B/2 and ±B²/2, for odd B rounded toward 0, and on both ends of the range."""
+    cases = []
+    for base in (2, 3, 4, 6, 255, 256, 65535, 65536):
+        halves = [x for x in (base // 2, 3 * base // 2, base * base // 2, LARGEST) if ring.in_range([x])]
+        values = [sign * x for x in halves for sign in (1, -1)]
+        for count in COUNTS:
+            if base % 2 == 0:
+                cases += [(9, base, count, x) for x in values]
+            cases.append((10, 8, base, count, *(values + [0, 0])[:8]))
+    return cases
+
+
 def inner_product_cases(rng):
     """Operation 12."""
     cases = []
@@ -267,7 +280,7 @@ def c_product_cases(rng):
 
 
 def all_cases():
-    """Every case, in the order of the operations."""
+    """Every case, in the order of the operations; last those on halves that are not among them."""
     rng = random.Random(20)
     cases = []
     for group in (
@@ -275,7 +288,7 @@ def all_cases():
         c_product_cases,
     ):
         cases += group(rng)
-    return cases
+    return cases + [case for case in half_cases() if case not in cases]
 
 
 def files():
