@@ -6,7 +6,7 @@
 The input of all cases: stored.sheets_text. With the argument `names` the script prints a line for each case: its number, its answer, its
 count of bytes, its group and name; last the count of cases by answer.
 
-Honest sheets are kept ones: their openings are by the older rule of the low digit (ring.kept_rule).
+Honest sheets are kept ones, but for even_halves: their openings are by the older rule of the low digit (ring.kept_rule).
 
 Groups, in sheet_checks.py, sheet_numbers.py and sheet_faults.py; a case's name says what is changed.
 
@@ -30,6 +30,7 @@ Groups, in sheet_checks.py, sheet_numbers.py and sheet_faults.py; a case's name 
     header_sides           each size on both sides of its limits, over a broken body
     header_over_a_body     the same over a good body
     header_order           two rows of the header at once; a row and the layout
+    even_halves            z, t, g and h with numbers half a base from two multiples; honest sheets by the rule, and by the older one
 """
 
 import random
@@ -59,7 +60,8 @@ def all_cases():
     rng = random.Random(12)
     groups = [(group, rng) for group in sheet_checks.GROUPS + sheet_numbers.GROUPS] + [(group,) for group in sheet_faults.GROUPS]
     with ring.kept_rule():
-        return [case for group in groups for case in judged(*group)]
+        kept = [case for group in groups for case in judged(*group)]
+    return kept + list(judged(sheet_checks.even_halves, random.Random(15)))
 
 
 def files():

@@ -8,8 +8,8 @@ import fold
 import ring
 import sheet
 from fixtures import (
-    ACCEPTED, OPEN, SMALL, block_starts, bounded, failed, honest, least_bounds, moved, random_lists, replaced, uniform, whole_case_text,
-    with_commitments, with_constraints,
+    ACCEPTED, OPEN, SMALL, block_starts, bounded, challenge, failed, honest, least_bounds, moved, random_lists, replaced, uniform,
+    whole_case_text, with_commitments, with_constraints,
 )
 from sizes import LARGEST_BOUND, Sizes, constant_term_constraint_length, whole_constraint_length
 
@@ -235,6 +235,41 @@ def changed_numbers(rng):
         for value in values:
             if y[name][1] != value:
                 yield f"{name}[1] = {value}", None, (s, replaced(y, name, 1, value))
+
+
+# Halves
+
+def half_lists(rng, s):
+    """A prover's lists for d = n = r = 2. c_1 s_11 in z, A s_2 in t, <s_1,s_2> in g and <φ_2,s_2> in h are B/2 + (3B/2)X, each with its
+    own base.
+    """
+
+    def halves(base):
+        return [base // 2, 3 * base // 2]
+
+    x = random_lists(rng, s, True) | {"alpha": ring.one(s.d), "c": ring.one(s.d) + challenge(rng, s.d)}
+    x["witness"] = halves(s.b) + halves(s.b2) + ring.zero(s.d) + ring.one(s.d)
+    x["a_matrix"] = ring.zero(s.d) + halves(s.b1)
+    return with_constraints(s, x, lambda count: [0] * (count - s.d) + halves(s.b1))
+
+
+def even_halves(rng):
+    """Openings of one witness by the rule and by the older one: they differ in z, t, g and h, which recompose to the same."""
+    for b, b1, b2, t1, t2 in ((2, 4, 65536, 3, 2), (4, 6, 2, 3, 3), (6, 256, 4, 2, 3), (256, 65536, 6, 2, 3), (65536, 2, 256, 3, 2)):
+        s = SMALL._replace(n=2, r=2, b=b, b1=b1, b2=b2, t1=t1, t2=t2, mu=2)
+        x = half_lists(rng, s)
+        even = fold.honest(s, x)
+        with ring.kept_rule():
+            kept = fold.honest(s, x)
+        assert all(digits != older for digits, older in zip(fold.read_opening(s, even), fold.read_opening(s, kept), strict=True))
+        for recomposed in (fold.recomposed_z, fold.recomposed_t, fold.recomposed_g, fold.recomposed_h):
+            assert recomposed(s, even) == recomposed(s, kept)
+        for rule, y in (("", even), (", the older rule", kept)):
+            name = f"b = {b}, b1 = {b1}, b2 = {b2}{rule}"
+            bounds = least_bounds(s, y)
+            yield name, ACCEPTED, (bounds, y)
+            if b == 2:
+                yield f"{name}, β'² one less", failed(9), (bounds._replace(target_beta_squared=bounds.target_beta_squared - 1), y)
 
 
 GROUPS = (
