@@ -1,18 +1,21 @@
--- SPECIFICATION 2.8: "Digits to base B, t of them: each low digit is at least -B/2 and below B/2 (integers, for odd B as well), congruent to
--- the value modulo B; subtract it, divide by B, repeat. The last digit is what is left. Recomposition is modulo q."
---     low B z           the low digit: the one definition of the digit rule
---     rest B z          what is left after it
+-- SPECIFICATION 2.8: "Digits to base B, t of them: each low digit is at least -B/2 and at most B/2 (integers, for odd B as well), congruent to
+-- the value modulo B; subtract it, divide by B, repeat. The last digit is what is left. When a value lies exactly half a base from two
+-- multiples, the low digit is the one of +B/2 and -B/2 that leaves an even quotient."
+-- "Recomposition is modulo q."
+--     low b z           the low digit: the one definition of the digit rule
+--     rest b z          what is left after it
 --     digit B t e z     digit e of t
 --     split B t xs      the digits of a list of numbers, digit by digit
 --     value B t f       f 0 + B · f 1 + .. + B^(t-1) · f (t-1), of integers
-use mathlib.Core.Bool.{cond}
+use mathlib.Core.Path.{_≡_}
+use mathlib.Core.Bool.{Bool, true, cond}
 use mathlib.Core.List.{List, map}
-use Prim.Native.Nat.{ℕ, zero, suc, _^_, _≤_}
-use lib.Dec.{ltb}
-use lib.IntN.{ℤ, pos, _+ℤ_, _-ℤ_, _*ℤ_}
+use Prim.Native.Nat.{ℕ, zero, suc, _*_, _/_, _%_, _^_, _≤_}
+use lib.Dec.{eqb, ltb}
+use lib.IntN.{ℤ, pos, negℤ, natAbs, _+ℤ_, _-ℤ_, _*ℤ_}
 use lib.Signed.{quotZ}
 use Rattle.integers.specs.Flat.{flat}
-use Rattle.integers.specs.Remainder.{centre}
+use Rattle.integers.specs.Remainder.{emod, centre}
 
 -- "b, b1, b2 not 2..65536" is refused
 abbrev pub leastBase : ℕ
@@ -25,8 +28,26 @@ pub record Base (b : ℕ) : Type 0 where
   pub least : leastBase ≤ b
   pub most : b ≤ mostBase
 
+-- z "lies exactly half a base from two multiples"
+unfoldable pub halfway : ℕ → ℤ → Bool
+halfway b z = eqb (emod z b * 2) b
+
+-- the low digit e of z "leaves an even quotient"
+unfoldable pub leavesEven : ℕ → ℤ → ℤ → Bool
+leavesEven b z e = eqb (natAbs (quotZ (z -ℤ e) (pos b)) % 2) 0
+
+-- "the one of +B/2 and -B/2 that leaves an even quotient"
+unfoldable pub evenHalf : ℕ → ℤ → ℤ
+evenHalf b z = cond (leavesEven b z (pos (b / 2))) (pos (b / 2)) (negℤ (pos (b / 2)))
+
 unfoldable pub low : ℕ → ℤ → ℤ
-low b z = centre b z
+low b z = cond (halfway b z) (evenHalf b z) (centre b z)
+
+-- the rule as a property of e: what low-exactly says of `low`
+pub record LowDigit (b : ℕ) (z e : ℤ) : Type 0 where
+  pub congruent : emod e b ≡ emod z b
+  pub narrow : natAbs e * 2 ≤ b
+  pub even : natAbs e * 2 ≡ b → leavesEven b z e ≡ true
 
 unfoldable pub rest : ℕ → ℤ → ℤ
 rest b z = quotZ (z -ℤ low b z) (pos b)

@@ -3,6 +3,7 @@ pub mod Words
 pub mod Centring
 pub mod ResidueSteps
 pub mod StraightLineLaws
+pub mod DigitRule
 pub mod DigitLaws
 pub mod DigitSteps
 pub mod DigitBlockLaws

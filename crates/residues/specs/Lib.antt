@@ -6,5 +6,7 @@ pub mod Range
 pub mod StraightLine
 -- What the code forms
 pub mod DigitBlocks
+-- Theorems
+pub mod Theorems
 -- Laws
 pub mod Laws

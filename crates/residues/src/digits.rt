@@ -8,27 +8,31 @@ ghost use Rattle.residues.specs.Digits.{Base, low, rest, split, value};
 ghost use Rattle.residues.specs.DigitBlocks.{Peeled};
 use crate::modulus::centre;
 
-// The low digit of x: congruent to x modulo the base, at least -base/2 and below base/2.
-fn low_digit(base: usize, x: i32) -> i32
-    requires { ⌜ Base base ⌝ }
-    ensures { λ r. ⌜ r ≡ low base x ⌝ }
-{
-    let b = base as i64;
-    let half = b / 2;
-    let remainder = x as i64 % b;
-    let shifted = remainder + (b + half);
-    let digit = shifted % b;
-    (digit - half) as i32
-}
+// So many bases are added to a number before it is divided: it is not negative then, and its quotient stays even or odd.
+const BASES_ADDED: i64 = 2147483648;
 
-// What is left of x after its low digit: their difference divided by the base.
+// What is left of x after its low digit: x divided by the base, rounded to the nearest whole number, a half to the even one. `up` is 1
+// where the remainder is above half the base, or is half of it and `down` is odd: there the sum reaches 131072. Elsewhere it is 0.
 fn quotient(base: usize, x: i32) -> i32
     requires { ⌜ Base base ⌝ }
     ensures { λ r. ⌜ r ≡ rest base x ⌝ }
 {
-    let digit = low_digit(base, x);
-    let difference = x as i64 - digit as i64;
-    (difference / base as i64) as i32
+    let b = base as i64;
+    let raised = x as i64 + b * BASES_ADDED;
+    let down = (raised / b) as usize;
+    let remainder = (raised % b) as usize;
+    let up = (2 * remainder + down % 2 + (131071 - base)) / 131072;
+    let rounded = (down + up) as i64;
+    (rounded - BASES_ADDED) as i32
+}
+
+// The low digit of x: x less the base times what is left.
+fn low_digit(base: usize, x: i32) -> i32
+    requires { ⌜ Base base ⌝ }
+    ensures { λ r. ⌜ r ≡ low base x ⌝ }
+{
+    let left = quotient(base, x) as i64;
+    (x as i64 - left * base as i64) as i32
 }
 
 // One digit of each number from `from` on, `width` of them: the low digits go to `to` on, what is left stays.

@@ -44,10 +44,14 @@ pub record WorkedValues : Type 0 where
   pub half-of-1 : coeffs 2 (R 2 .mul (half 2) (R 2 .one)) ≡ - 2147483598 ∷ + 0 ∷ []
   -- "Base 4, two digits: -3 is (1,-1);"
   pub digits-of-minus-3 : split 4 2 (- 3 ∷ []) ≡ + 1 ∷ - 1 ∷ []
-  -- "2 is (-2,1);"
-  pub digits-of-2 : split 4 2 (+ 2 ∷ []) ≡ - 2 ∷ + 1 ∷ []
-  -- "-2 is (-2,0)."
+  -- "2 is (2,0);"
+  pub digits-of-2 : split 4 2 (+ 2 ∷ []) ≡ + 2 ∷ + 0 ∷ []
+  -- "-2 is (-2,0);"
   pub digits-of-minus-2 : split 4 2 (- 2 ∷ []) ≡ - 2 ∷ + 0 ∷ []
+  -- "6 is (-2,2)."
+  pub digits-of-6 : split 4 2 (+ 6 ∷ []) ≡ - 2 ∷ + 2 ∷ []
+  -- "Base 2, three digits: 3 is (-1,0,1)."
+  pub binary-digits-of-3 : split 2 3 (+ 3 ∷ []) ≡ - 1 ∷ + 0 ∷ + 1 ∷ []
   -- "65536² is 99."
   pub square-of-65536 : centred (+ (65536 ^ 2)) ≡ + 99
   -- "Whole case: z = -2+X, squared length 13;" that of all digits
@@ -70,6 +74,8 @@ worked-values =
       digits-of-minus-3 = refl;
       digits-of-2 = refl;
       digits-of-minus-2 = refl;
+      digits-of-6 = refl;
+      binary-digits-of-3 = refl;
       square-of-65536 = refl;
       folded = (refl, refl);
       failed = refl;

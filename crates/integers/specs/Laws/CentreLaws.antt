@@ -33,7 +33,7 @@ module _ (m : ℕ) (m>0 : 0 < m) where
 
   -- ---- the congruence
 
-  pub centre-quotient : (z : ℤ) → z -ℤ centre m z ≡ ediv (z +ℤ pos (m / 2)) m *ℤ pos m
+  centre-quotient : (z : ℤ) → z -ℤ centre m z ≡ ediv (z +ℤ pos (m / 2)) m *ℤ pos m
   unfolding centre
   centre-quotient z =
       let x : ℤ = z +ℤ pos (m / 2) in

@@ -6,9 +6,8 @@ use native.Mathlib.Omega.{arith}
 use lib.IntN.{ℤ, pos, negsuc, negℤ, natAbs, _+ℤ_, _-ℤ_, _*ℤ_}
 use lib.Signed.{quotZ, remZ}
 use Rattle.integers.specs.Laws.Bridge.{N, pn-min, natAbs-pn, add-pn, neg-pn, sub-pn, mul-pn, zarith}
-use Rattle.integers.specs.Remainder.{emod, ediv, centre}
+use Rattle.integers.specs.Remainder.{emod, centre}
 use Rattle.integers.specs.Laws.RemainderLaws.{emod-eq}
-use Rattle.integers.specs.Laws.CentreLaws.{centre-quotient}
 
 pub quotZ-remZ : (m : ℕ) (x : ℤ) → x ≡ quotZ x (pos m) *ℤ pos m +ℤ remZ x (pos m)
 quotZ-remZ m (pos a) = ap pos (sym (div-add-mod' a m))
@@ -45,10 +44,6 @@ module _ (m : ℕ) (m>0 : 0 < m) where
   pub quotZ-exact : (k : ℤ) → quotZ (k *ℤ pos m) (pos m) ≡ k
   quotZ-exact (pos k) = ap pos (mul-div-cancel k m>0)
   quotZ-exact (negsuc k) = quotZ-neg (suc k * m) ∙ ap (λ t. negℤ (pos t)) (mul-div-cancel (suc k) m>0)
-
-  -- the high part of a number split into centred remainder and multiple
-  pub quotZ-centre : (z : ℤ) → quotZ (z -ℤ centre m z) (pos m) ≡ ediv (z +ℤ pos (m / 2)) m
-  quotZ-centre z = ap (λ t. quotZ t (pos m)) (centre-quotient m m>0 z) ∙ quotZ-exact (ediv (z +ℤ pos (m / 2)) m)
 
   -- the centred remainder without a branch
   pub centre-remZ : (x : ℤ) → remZ (remZ x (pos m) +ℤ pos m +ℤ pos (m / 2)) (pos m) -ℤ pos (m / 2) ≡ centre m x

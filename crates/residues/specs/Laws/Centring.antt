@@ -41,11 +41,11 @@ module _ (m : ℕ) (m>0 : 0 < m) (small : m ≤ 4294967296) (x : ℤ) where
   pub shifted-fits : SFits w64 (remZ x (pos m) +ℤ pos (m + m / 2))
   shifted-fits = omega (zarith, remZ-lt m m>0 x, natAbs-pn (remZ x (pos m)), add-pn (remZ x (pos m)) (pos (m + m / 2)))
 
-  pub low-fits : SFits w64 (remZ (remZ x (pos m) +ℤ pos (m + m / 2)) (pos m))
+  low-fits : SFits w64 (remZ (remZ x (pos m) +ℤ pos (m + m / 2)) (pos m))
   low-fits = let y = remZ x (pos m) +ℤ pos (m + m / 2) in omega (zarith, remZ-lt m m>0 y, natAbs-pn (remZ y (pos m)))
 
   -- the steps' outcome
-  pub centring : remZ (remZ x (pos m) +ℤ pos (m + m / 2)) (pos m) -ℤ pos (m / 2) ≡ centre m x
+  centring : remZ (remZ x (pos m) +ℤ pos (m + m / 2)) (pos m) -ℤ pos (m / 2) ≡ centre m x
   centring = ap (λ (t : ℤ). remZ t (pos m) -ℤ pos (m / 2)) (sum m (m / 2)) ∙ centre-remZ m m>0 x
     where
       sum : (a b : ℕ) → remZ x (pos m) +ℤ pos (a + b) ≡ remZ x (pos m) +ℤ pos a +ℤ pos b

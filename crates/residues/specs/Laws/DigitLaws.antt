@@ -1,5 +1,5 @@
--- Laws of the digits of integers, to any base from 2 on. Only the two laws under 'the digit rule', and the machine's steps in
--- DigitSteps, look into the rule; all else, here and in the callers, follows from these laws.
+-- Laws of the digits of integers, to any base from 2 on. The two laws under 'the digit rule' follow from what DigitRule proves; all else, here
+-- and in the callers, follows from these laws.
 --     rest-low, low-bound                   the digit rule
 --     rests-bound, digit-bound, digit-small how long digits are
 --     recompose                             the digits' value is the number
@@ -11,15 +11,14 @@ use native.Mathlib.Decide.{decLe}
 use native.Mathlib.Nat.{mul-le-mul-right, mul-le-mul-left, mul-zero, pow-zero, pow-suc, pow-succ', le-step, lt-suc-self}
 use native.Mathlib.Omega.{arith}
 use lib.ListN.{length, getD, length-map}
-use lib.IntN.{ℤ, pos, natAbs, _+ℤ_, _*ℤ_, +ℤ-idl, +ℤ-idr}
+use lib.IntN.{ℤ, pos, natAbs, _+ℤ_, _-ℤ_, _*ℤ_, +ℤ-idl, +ℤ-idr}
 use borrow.Author.Tests.{lt-ltb, le-ltb}
 use Rattle.integers.specs.Laws.Bridge.{pn-min, natAbs-pn, add-pn, sub-pn, abs-mul, zarith}
 use Rattle.integers.specs.Laws.FlatLaws.{length-flat, getD-flat}
-use Rattle.integers.specs.Remainder.{ediv, centre}
+use Rattle.integers.specs.Remainder.{ediv}
 use Rattle.integers.specs.Laws.Identities.{*ℤ-idl, ring-order}
-use Rattle.integers.specs.Laws.CentreLaws.{centre-abs, centre-quotient}
-use Rattle.integers.specs.Laws.MachineDivision.{quotZ-centre}
 use Rattle.residues.specs.Digits.{low, rest, rests, digit, split, value}
+use Rattle.residues.specs.Laws.DigitRule.{quotient-exact, congruent-quotient, low-is}
 
 regroup : (v l r p b : ℤ) → v +ℤ p *ℤ l +ℤ p *ℤ b *ℤ r ≡ v +ℤ p *ℤ (r *ℤ b +ℤ l)
 regroup v l r p b = simp ring-order
@@ -44,19 +43,13 @@ module _ (b : ℕ) (b>1 : 2 ≤ b) where
   -- ---- the digit rule
 
   pub low-bound : (z : ℤ) → natAbs (low b z) * 2 ≤ b
-  unfolding low
-  low-bound z = omega (arith, centre-abs b (omega arith) z)
+  low-bound z = low-is b b>1 z .narrow
 
   pub rest-low : (z : ℤ) → z ≡ rest b z *ℤ pos b +ℤ low b z
-  unfolding low rest
+  unfolding rest
   rest-low z =
-      let k = ediv (z +ℤ pos (b / 2)) b in
-      rw (quotZ-centre b (omega arith) z) (omega (
-        zarith,
-        centre-quotient b (omega arith) z,
-        sub-pn z (centre b z),
-        add-pn (k *ℤ pos b) (centre b z),
-      ))
+      let whole = congruent-quotient b b>1 z (low b z) (low-is b b>1 z .congruent) in
+      rw (quotient-exact b b>1 z (ediv z b -ℤ ediv (low b z) b) (low b z) whole) whole
 
   -- ---- what is left
 

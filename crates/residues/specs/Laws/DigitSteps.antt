@@ -1,32 +1,42 @@
 -- The low digit and what is left as the machine computes them: each step is in range, and together they give `low` and `rest`.
-use mathlib.Core.Path.{_≡_}
-use Prim.Native.Nat.{ℕ, _+_, _/_, _≤_, _<_}
-use native.Mathlib.Nat.{mul-le-mul-left}
+use mathlib.Core.Path.{_≡_, sym, ap, _∙_}
+use Prim.Native.Nat.{ℕ, _+_, _-_, _*_, _/_, _%_, _≤_, _<_}
+use native.Mathlib.Decide.{decLe}
+use native.Mathlib.Nat.{mul-le-mul-left, mod-lt, div-add-mod', div-lt-iff-lt-mul}
 use native.Mathlib.Omega.{arith}
-use lib.IntN.{ℤ, pos, natAbs, _+ℤ_, _-ℤ_, _*ℤ_}
+use lib.IntN.{ℤ, pos, negℤ, natAbs, _+ℤ_, _-ℤ_, _*ℤ_}
 use lib.Signed.{quotZ, remZ}
 use mir.Syntax.{w32, w64}
 use mir.Val.{SFits, toZ, ofZ}
 use mir.Facts.{toZ-ofZ, toZ-pos}
-use Rattle.integers.specs.Laws.Bridge.{P, N, pn-min, natAbs-pn, bnd, abs-bnd, add-pn, sub-pn, mul-bnd, zarith}
+use Rattle.integers.specs.Laws.Bridge.{P, N, pn-min, natAbs-pn, bnd, abs-bnd, add-pn, neg-pn, sub-pn, mul-pn, mul-bnd, zarith}
 use Rattle.residues.specs.Digits.{Base, low, rest}
-use Rattle.residues.specs.Laws.DigitLaws.{low-bound, rest-size}
+use Rattle.residues.specs.Laws.DigitRule.{rest-from}
+use Rattle.residues.specs.Laws.DigitLaws.{low-bound, rest-low, rest-size}
 use Rattle.residues.specs.Laws.Words.{held, widen, wide}
-use Rattle.residues.specs.Laws.Centring.{quotZ-fits, remainder-fits, shifted-fits, low-fits as centre-low-fits, centring}
+use Rattle.residues.specs.Laws.Centring.{quotZ-fits, remainder-fits}
 
--- the locals of `low_digit`
-abbrev half : ℕ → ℤ
-half b = held (quotZ (toZ w64 b) (pos 2))
+-- the constant of `quotient`
+abbrev pub basesAdded : ℕ
+basesAdded = 2147483648
 
-abbrev offset : ℕ → ℤ
-offset b = held (toZ w64 b +ℤ half b)
+-- the locals of `quotient`: the number that is divided
+abbrev pub raised : ℕ → ℤ → ℕ
+raised b x = natAbs (x +ℤ pos (b * basesAdded))
 
-abbrev remainder : ℕ → ℤ → ℤ
-remainder b x = held (remZ (held (toZ w32 (ofZ w32 x))) (toZ w64 b))
+-- 1 where the remainder r of the quotient q is above half of b, or is half of it and q is odd; else 0
+abbrev pub upward : (b q r : ℕ) → ℕ
+upward b q r = (2 * r + q % 2 + (131071 - b)) / 131072
 
--- the quotient in `quotient`, where r is the low digit
-abbrev quotient : ℕ → ℤ → ℤ → ℤ
-quotient b x r = quotZ (held (held (toZ w32 (ofZ w32 x)) -ℤ held (toZ w32 (ofZ w32 r)))) (toZ w64 b)
+-- the same as the machine holds them
+abbrev pub dividend : ℕ → ℤ → ℤ
+dividend b x = held (held (toZ w32 (ofZ w32 x)) +ℤ held (toZ w64 b *ℤ pos basesAdded))
+
+abbrev pub down : ℕ → ℤ → ℕ
+down b x = natAbs (held (quotZ (dividend b x) (toZ w64 b)))
+
+abbrev pub remainder : ℕ → ℤ → ℕ
+remainder b x = natAbs (held (remZ (dividend b x) (toZ w64 b)))
 
 module _ {b : ℕ} (base : Base b) where
   above : 0 < b
@@ -38,85 +48,115 @@ module _ {b : ℕ} (base : Base b) where
   pub base-held : toZ w64 b ≡ pos b
   base-held = toZ-pos w64 (omega (arith, base .most))
 
-  half-fits : SFits w64 (pos (b / 2))
-  half-fits = omega (zarith, base .most)
+  multiple-fits : SFits w64 (pos (b * basesAdded))
+  multiple-fits = omega (zarith, base .most)
 
-  offset-fits : SFits w64 (pos (b + b / 2))
-  offset-fits = omega (zarith, base .most)
+  pub product-fits : SFits w64 (toZ w64 b *ℤ pos basesAdded)
+  product-fits = rw base-held multiple-fits
 
-  pub half-held : half b ≡ pos (b / 2)
-  half-held = rw base-held (toZ-ofZ half-fits)
+  pub multiple-held : held (toZ w64 b *ℤ pos basesAdded) ≡ pos (b * basesAdded)
+  multiple-held = rw base-held (toZ-ofZ multiple-fits)
 
-  pub half-quotient-fits : SFits w64 (quotZ (toZ w64 b) (pos 2))
-  half-quotient-fits = rw base-held half-fits
+  -- ---- what is left: rounded down, then up
 
-  pub sum-half-fits : SFits w64 (toZ w64 b +ℤ half b)
-  sum-half-fits = rw (half-held, base-held) offset-fits
+  upward-small : (q r : ℕ) → r < b → upward b q r ≤ 1
+  upward-small q r h = omega (arith, base .most)
 
-  pub offset-held : offset b ≡ pos (b + b / 2)
-  offset-held = rw (half-held, base-held) (toZ-ofZ offset-fits)
+  module _ (x : ℤ) (q r : ℕ) (below : r < b) (whole : x +ℤ pos (b * basesAdded) ≡ pos (q * b + r)) where
+    rounded-down : x ≡ (pos q -ℤ pos basesAdded) *ℤ pos b +ℤ pos r
+    rounded-down =
+        let k = pos q -ℤ pos basesAdded in
+        omega (zarith, whole, add-pn x (pos (b * basesAdded)), add-pn (k *ℤ pos b) (pos r), mul-pn k (pos b), ap (λ (t : ℕ). t * b) (sub-pn (pos q) (pos basesAdded)))
+
+    rounded-up : x ≡ (pos (q + 1) -ℤ pos basesAdded) *ℤ pos b +ℤ negℤ (pos (b - r))
+    rounded-up =
+        let k = pos (q + 1) -ℤ pos basesAdded in
+        omega (
+          zarith,
+          whole,
+          add-pn x (pos (b * basesAdded)),
+          add-pn (k *ℤ pos b) (negℤ (pos (b - r))),
+          neg-pn (pos (b - r)),
+          mul-pn k (pos b),
+          ap (λ (t : ℕ). t * b) (sub-pn (pos (q + 1)) (pos basesAdded)),
+        )
+
+    pub rounded : rest b x ≡ pos (q + upward b q r) -ℤ pos basesAdded
+    rounded = cases (decLe (2 * r + q % 2) b)
+      where
+        cases : Dec (2 * r + q % 2 ≤ b) → rest b x ≡ pos (q + upward b q r) -ℤ pos basesAdded
+        cases (yes h) =
+            let none : q + upward b q r ≡ q = omega (arith, base .most) in
+            rw none (rest-from b (base .least) x (pos q -ℤ pos basesAdded) (pos r) rounded-down (omega arith)
+            (λ e. omega (arith, e, natAbs-pn (pos q -ℤ pos basesAdded), pn-min (pos q -ℤ pos basesAdded), sub-pn (pos q) (pos basesAdded))))
+        cases (no h) =
+            let one : q + upward b q r ≡ q + 1 = omega (arith, base .most) in
+            let k = pos (q + 1) -ℤ pos basesAdded in
+            rw one (rest-from b (base .least) x k (negℤ (pos (b - r))) rounded-up
+            (omega (arith, natAbs-pn (negℤ (pos (b - r))), neg-pn (pos (b - r))))
+            (λ e. omega (arith, e, natAbs-pn (negℤ (pos (b - r))), neg-pn (pos (b - r)), natAbs-pn k, pn-min k, sub-pn (pos (q + 1)) (pos basesAdded))))
+
+  pub rest-fits : {x : ℤ} → SFits w32 x → SFits w32 (rest b x)
+  rest-fits {x} f = omega (
+    zarith,
+    bnd x,
+    natAbs-pn x,
+    pn-min x,
+    natAbs-pn (rest b x),
+    rest-size b (base .least) x,
+    low-bound b (base .least) x,
+    base .most,
+    mul-le-mul-left (natAbs (rest b x)) (base .least),
+  )
 
   module _ {x : ℤ} (fits : SFits w32 x) where
-    pub remainder-held : remainder b x ≡ remZ x (pos b)
-    remainder-held = rw (wide fits, base-held) (toZ-ofZ (remainder-fits b above limit x))
+    raised-natural : x +ℤ pos (b * basesAdded) ≡ pos (raised b x)
+    raised-natural =
+        let y = x +ℤ pos (b * basesAdded) in
+        omega (zarith, bnd x, add-pn x (pos (b * basesAdded)), natAbs-pn y, pn-min y, base .least)
 
-    pub remainder-quotient-fits : SFits w64 (quotZ (held (toZ w32 (ofZ w32 x))) (toZ w64 b))
-    remainder-quotient-fits = rw (wide fits, base-held) (quotZ-fits b x (widen fits))
+    pub sum-fits : SFits w64 (x +ℤ pos (b * basesAdded))
+    sum-fits = omega (zarith, bnd x, add-pn x (pos (b * basesAdded)), base .most)
 
-    pub sum-offset-fits : SFits w64 (remainder b x +ℤ offset b)
-    sum-offset-fits = rw (remainder-held, offset-held) (shifted-fits b above limit x)
+    dividend-held : dividend b x ≡ pos (raised b x)
+    dividend-held = rw (wide fits, multiple-held) (toZ-ofZ sum-fits ∙ raised-natural)
 
-    shifted-held : held (remainder b x +ℤ offset b) ≡ remZ x (pos b) +ℤ pos (b + b / 2)
-    shifted-held = rw (remainder-held, offset-held) (toZ-ofZ (shifted-fits b above limit x))
+    raised-fits : SFits w64 (pos (raised b x))
+    raised-fits = rw (← raised-natural) sum-fits
 
-    pub digit-quotient-fits : SFits w64 (quotZ (held (remainder b x +ℤ offset b)) (toZ w64 b))
-    digit-quotient-fits = rw (shifted-held, base-held) (quotZ-fits b _ (shifted-fits b above limit x))
+    -- below 2^32 bases
+    raised-bound : raised b x < 4294967296 * b
+    raised-bound =
+        let y = x +ℤ pos (b * basesAdded) in
+        omega (zarith, bnd x, add-pn x (pos (b * basesAdded)), natAbs-pn y, pn-min y, base .least)
+
+    down-bound : raised b x / b < 4294967296
+    down-bound = div-lt-iff-lt-mul above .1 raised-bound
+
+    pub down-fits : SFits w64 (quotZ (dividend b x) (toZ w64 b))
+    down-fits = rw (dividend-held, base-held) (quotZ-fits b (pos (raised b x)) raised-fits)
+
+    pub down-held : held (quotZ (dividend b x) (toZ w64 b)) ≡ pos (raised b x / b)
+    down-held = rw (dividend-held, base-held) (toZ-ofZ (quotZ-fits b (pos (raised b x)) raised-fits))
+
+    pub remainder-held : held (remZ (dividend b x) (toZ w64 b)) ≡ pos (raised b x % b)
+    remainder-held = rw (dividend-held, base-held) (toZ-ofZ (remainder-fits b above limit (pos (raised b x))))
+
+    pub down-small : down b x < 4294967296
+    down-small = rw down-held down-bound
+
+    pub remainder-small : remainder b x < b
+    remainder-small = rw remainder-held (mod-lt (raised b x) above)
+
+    pub up-small : upward b (down b x) (remainder b x) ≤ 1
+    up-small = upward-small (down b x) (remainder b x) remainder-small
 
     -- all the steps
-    pub digit-held : held (remZ (held (remainder b x +ℤ offset b)) (toZ w64 b)) -ℤ half b ≡ low b x
-    unfolding low
-    digit-held = rw (shifted-held, half-held, base-held, toZ-ofZ (centre-low-fits b above limit x)) (centring b above limit x)
-
-  pub low-fits : (x : ℤ) → SFits w32 (low b x)
-  low-fits x = omega (zarith, low-bound b (base .least) x, natAbs-pn (low b x), base .most)
-
-  -- ---- what is left
-
-  pub difference-fits : {x : ℤ} → SFits w32 x → SFits w64 (x -ℤ low b x)
-  difference-fits {x} f = omega (zarith, bnd x, bnd (low b x), low-fits x, sub-pn x (low b x))
-
-  module _ {x r : ℤ} (fits : SFits w32 x) (r-fits : SFits w32 r) (learnt : r ≡ low b (toZ w32 (ofZ w32 x))) where
-    is-low : r ≡ low b x
-    is-low = rw (toZ-ofZ fits) at learnt
-
-    pub sub-low-fits : SFits w64 (held (toZ w32 (ofZ w32 x)) -ℤ held (toZ w32 (ofZ w32 r)))
-    sub-low-fits = rw (wide fits, wide r-fits, is-low) (difference-fits fits)
-
-    rest-quotient-held : quotient b x r ≡ rest b x
-    unfolding rest
-    rest-quotient-held = rw (wide fits, wide r-fits, is-low, toZ-ofZ (difference-fits fits), base-held)
-
-    rest-fits : SFits w32 (rest b x)
-    rest-fits = omega (
-      zarith,
-      bnd x,
-      natAbs-pn x,
-      pn-min x,
-      natAbs-pn (rest b x),
-      rest-size b (base .least) x,
-      low-bound b (base .least) x,
-      base .most,
-      mul-le-mul-left (natAbs (rest b x)) (base .least),
-    )
-
-    pub rest-quotient-fits : SFits w64 (quotient b x r)
-    rest-quotient-fits = rw rest-quotient-held (widen rest-fits)
-
-    pub rest-narrow-fits : SFits w32 (held (quotient b x r))
-    rest-narrow-fits = rw (rest-quotient-held, toZ-ofZ (widen rest-fits)) rest-fits
-
-    pub rest-held : toZ w32 (ofZ w32 (held (quotient b x r))) ≡ rest b x
-    rest-held = rw (rest-quotient-held, toZ-ofZ (widen rest-fits)) (toZ-ofZ rest-fits)
+    pub rest-held : toZ w64 (down b x + upward b (down b x) (remainder b x)) -ℤ pos basesAdded ≡ rest b x
+    rest-held =
+        let n = raised b x in
+        rw (down-held, remainder-held, toZ-pos w64 {n = n / b + upward b (n / b) (n % b)} (omega (arith, upward-small (n / b) (n % b) (mod-lt n above), down-bound)))
+        (sym (rounded x (n / b) (n % b) (mod-lt n above) (raised-natural ∙ ap pos (sym (div-add-mod' n b)))))
 
   -- ---- a step of Horner's rule
 
@@ -128,3 +168,25 @@ module _ {b : ℕ} (base : Base b) where
 
   pub horner-fits : {x y : ℤ} → SFits w32 x → SFits w32 y → SFits w64 (x *ℤ pos b +ℤ y)
   horner-fits {x} {y} f g = omega (zarith, mul-bnd x (pos b) (abs-bnd f) base-size, bnd y, add-pn (x *ℤ pos b) y)
+
+  -- ---- the low digit
+
+  pub low-fits : (x : ℤ) → SFits w32 (low b x)
+  low-fits x = omega (zarith, low-bound b (base .least) x, natAbs-pn (low b x), base .most)
+
+  module _ {x r : ℤ} (fits : SFits w32 x) (r-fits : SFits w32 r) (learnt : r ≡ rest b (toZ w32 (ofZ w32 x))) where
+    is-rest : r ≡ rest b x
+    is-rest = rw (toZ-ofZ fits) at learnt
+
+    pub multiple-low-fits : SFits w64 (held (toZ w32 (ofZ w32 r)) *ℤ toZ w64 b)
+    multiple-low-fits = rw (wide r-fits, base-held) (base-product-fits r-fits)
+
+    -- all the steps
+    pub digit-held : held (toZ w32 (ofZ w32 x)) -ℤ held (held (toZ w32 (ofZ w32 r)) *ℤ toZ w64 b) ≡ low b x
+    digit-held =
+        rw (wide fits, wide r-fits, base-held, toZ-ofZ (base-product-fits r-fits), is-rest) (omega (
+          zarith,
+          rest-low b (base .least) x,
+          add-pn (rest b x *ℤ pos b) (low b x),
+          sub-pn x (rest b x *ℤ pos b),
+        ))

@@ -14,7 +14,7 @@ use Rattle.algebra.specs.Conjugation.{reflected, conjugate}
 use Rattle.algebra.specs.DotProduct.{inner, value, mixed, folded, garbage}
 use Rattle.residues.specs.Modulus.{q, red, cent, centred}
 use Rattle.ring.specs.Element.{every, lift, el, coeffs, array, number, same}
-use Rattle.residues.specs.Digits.{low, rest, rests, digit, split}
+use Rattle.residues.specs.Digits.{halfway, leavesEven, evenHalf, low, rest, rests, digit, split}
 use Rattle.ring.specs.Joined.{joined}
 use Rattle.residues.specs.Range.{allWithin, coefficients, projectionEntries, challenge}
 
@@ -43,7 +43,7 @@ unfolding q red cent centred every lift el coeffs array number same
 elements-compute = tt
 
 unfoldable pub digits-compute : Unit {0}
-unfolding low rest rests digit split joined allWithin coefficients projectionEntries challenge
+unfolding halfway leavesEven evenHalf low rest rests digit split joined allWithin coefficients projectionEntries challenge
 digits-compute = tt
 
 unfoldable pub ring-computes : Unit {0}
