@@ -13,7 +13,7 @@ import stored
 from fixtures import ACCEPTED, OPEN, failed, least_bounds, moved, random_lists, with_commitments
 from sizes import LENGTHS, Sizes
 
-SEED = 1
+SEED = 3
 COLUMNS = 130
 
 # 5 elements of z are cut into chunks of 2, 2, 1 and 0, 42 of the rest into 14, 14 and 14.

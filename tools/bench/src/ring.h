@@ -205,16 +205,18 @@ static void split(int32_t base, size_t t, size_t width, int32_t *block) {
         for (size_t i = 0; i < width; i++) {
             int64_t x = rest[i];
 #if KERNEL == 1
-            /* centred modulo two bases, and a base less or more where that is beyond a half */
-            int64_t w = (x % (2 * base) + 3 * base) % (2 * base) - base;
-            int64_t low = w - 2 * w / (base + 1) * base;
+            /* 2^31 bases are added, so that no number is negative; the remainder is rounded up where it is above half the base, or half of it and the quotient odd */
+            int64_t raised = x + 2147483648 * base, down = raised / base, remainder = raised % base;
+            int64_t left = down + (2 * remainder + down % 2 + (131071 - base)) / 131072 - 2147483648;
+            int64_t low = x - left * base;
 #else
             int64_t low = x % base;
             if (low < 0) low += base;
             if (2 * low > base || (2 * low == base && (x - low) / base % 2 != 0)) low -= base;
+            int64_t left = (x - low) / base;
 #endif
             block[k * width + i] = (int32_t)low;
-            rest[i] = (int32_t)((x - low) / base);
+            rest[i] = (int32_t)left;
         }
 }
 #endif
