@@ -43,7 +43,7 @@ int main(int argc, char **argv) {
     static const int32_t readings[] = {1, 2, 0, 1, 2, 1};
     lizkarg_list witness = lizkarg_read_only(readings, 6);
     lizkarg_sizes sizes = {.d = 2, .n = 1, .r = 3, .l = 2, .w = 2, .kappa = 1, .kappa1 = 1, .kappa2 = 1, .b = 4, .b1 = 4, .b2 = 4,
-        .t1 = 2, .t2 = 2, .bound = 11, .target = 103};
+        .t1 = 2, .t2 = 2, .bound = 11, .target = 101};
 
     lizkarg_list numbers = {NULL, lizkarg_proof_length(sizes)};
     numbers.numbers = calloc(numbers.length, sizeof *numbers.numbers);

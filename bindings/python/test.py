@@ -223,7 +223,7 @@ def test_written_corpus():
         read = lizkarg.read_sheet(text)
         assert lizkarg.write_sheet(read.sizes, read.nu, read.mu, read.proof) == text, number
         written += 1
-    assert at == len(cases) and written == 237
+    assert at == len(cases) and written == 249
 
 
 if __name__ == "__main__":
