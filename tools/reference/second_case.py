@@ -2,12 +2,13 @@
 they are the definitions'.
 
 Sizes are small, with odd and even bases; matrices, constraints and draws have coefficients of
-every size; the witness is short and meets its constraints.
+every size; the witness is short and meets its constraints. In z to base 4 there are halves, so that the rule of the low digit counts.
 """
 
 import random
 
 import fold
+import ring
 import sizes
 import stored
 from fixtures import ACCEPTED, OPEN, failed, least_bounds, moved, random_lists, with_commitments
@@ -140,6 +141,8 @@ def check_verdicts(s, y, changed):
 def files():
     x = random_lists(random.Random(SEED), SIZES, short_witness=True)
     y = fold.honest(SIZES, x)
+    with ring.kept_rule():
+        assert y["opening"] != fold.honest(SIZES, x)["opening"], "z has no halves"
     s = least_bounds(SIZES, y)
     changed = {block: moved(y, "opening", place) for block, place in PLACES.items()}
     check_verdicts(s, y, changed)

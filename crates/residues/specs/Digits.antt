@@ -2,11 +2,12 @@
 -- the value modulo B; subtract it, divide by B, repeat. The last digit is what is left. When a value lies exactly half a base from two
 -- multiples, the low digit is the one of +B/2 and -B/2 that leaves an even quotient."
 -- "Recomposition is modulo q."
---     low b z           the low digit: the one definition of the digit rule
---     rest b z          what is left after it
---     digit B t e z     digit e of t
---     split B t xs      the digits of a list of numbers, digit by digit
---     value B t f       f 0 + B · f 1 + .. + B^(t-1) · f (t-1), of integers
+--     low b z            the low digit: the one definition of the digit rule, by halfway, leavesEven and evenHalf
+--     LowDigit b z e     the same rule as a property of e
+--     rest b z           what is left after the low digit
+--     digit b t e z      digit e of t
+--     split b t xs       the digits of a list of numbers, digit by digit
+--     value b t f        f 0 + b · f 1 + .. + b^(t-1) · f (t-1), of integers
 use mathlib.Core.Path.{_≡_}
 use mathlib.Core.Bool.{Bool, true, cond}
 use mathlib.Core.List.{List, map}
@@ -32,7 +33,7 @@ pub record Base (b : ℕ) : Type 0 where
 unfoldable pub halfway : ℕ → ℤ → Bool
 halfway b z = eqb (emod z b * 2) b
 
--- the low digit e of z "leaves an even quotient"
+-- e, taken from z, "leaves an even quotient"; asked only of an e that is congruent to z, so that the division is exact
 unfoldable pub leavesEven : ℕ → ℤ → ℤ → Bool
 leavesEven b z e = eqb (natAbs (quotZ (z -ℤ e) (pos b)) % 2) 0
 
@@ -43,7 +44,7 @@ evenHalf b z = cond (leavesEven b z (pos (b / 2))) (pos (b / 2)) (negℤ (pos (b
 unfoldable pub low : ℕ → ℤ → ℤ
 low b z = cond (halfway b z) (evenHalf b z) (centre b z)
 
--- the rule as a property of e: what low-exactly says of `low`
+-- e is congruent to z, in range, and leaves an even quotient where it is a half: by `low-exactly` the low digit and no other number
 pub record LowDigit (b : ℕ) (z e : ℤ) : Type 0 where
   pub congruent : emod e b ≡ emod z b
   pub narrow : natAbs e * 2 ≤ b

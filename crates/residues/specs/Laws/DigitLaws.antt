@@ -1,5 +1,5 @@
--- Laws of the digits of integers, to any base from 2 on. The two laws under 'the digit rule' follow from what DigitRule proves; all else, here
--- and in the callers, follows from these laws.
+-- Laws of the digits of integers, to any base from 2 on. The two laws under 'the digit rule' follow from those of DigitRule; all else, here
+-- and in the callers, follows from these two.
 --     rest-low, low-bound                   the digit rule
 --     rests-bound, digit-bound, digit-small how long digits are
 --     recompose                             the digits' value is the number
@@ -13,7 +13,7 @@ use native.Mathlib.Omega.{arith}
 use lib.ListN.{length, getD, length-map}
 use lib.IntN.{ℤ, pos, natAbs, _+ℤ_, _-ℤ_, _*ℤ_, +ℤ-idl, +ℤ-idr}
 use borrow.Author.Tests.{lt-ltb, le-ltb}
-use Rattle.integers.specs.Laws.Bridge.{pn-min, natAbs-pn, add-pn, sub-pn, abs-mul, zarith}
+use Rattle.integers.specs.Laws.Bridge.{pn-min, natAbs-pn, add-pn, abs-mul, zarith}
 use Rattle.integers.specs.Laws.FlatLaws.{length-flat, getD-flat}
 use Rattle.integers.specs.Remainder.{ediv}
 use Rattle.integers.specs.Laws.Identities.{*ℤ-idl, ring-order}

@@ -1,20 +1,22 @@
--- The low digit has the property LowDigit, and no other number has it. All other laws of digits rest on these two.
---     quotient-exact    what is left of z, from z = k·b + e
---     low-is, low-only  the low digit has the property, and it alone
---     rest-from         what is left, from z = k·b + e
+-- The low digit has the property LowDigit, and no other number has it. No other law opens `low`.
+--     quotient-exact        the quotient of z - e, where z = k·b + e
+--     congruent-quotient    where z and e are congruent, z = k·b + e with this k
+--     leaves-even           where z = k·b + e, e leaves an even quotient exactly if k is even
+--     low-is, low-only      the low digit has the property, and it alone
+--     rest-from             what is left is k, where z = k·b + e, e is narrow, and k is even if e is a half
 use mathlib.Core.Path.{_≡_, refl, sym, ap, _∙_}
 use mathlib.Core.Bool.{Bool, true, false, cond}
-use Prim.Native.Nat.{ℕ, _+_, _-_, _*_, _/_, _%_, _≤_, _<_}
+use Prim.Native.Nat.{ℕ, _+_, _*_, _/_, _%_, _≤_, _<_}
 use native.Mathlib.Decide.{decLt}
 use native.Mathlib.Nat.{mod-eq-of-lt}
 use native.Mathlib.Omega.{arith}
 use lib.Dec.{eqb}
 use lib.IntN.{ℤ, pos, negsuc, negℤ, natAbs, _+ℤ_, _-ℤ_, _*ℤ_}
 use lib.Signed.{quotZ}
-use borrow.Author.Tests.{eq-eqb, ne-eqb, eqb-true, eqb-false}
+use borrow.Author.Tests.{eq-eqb, eqb-true, eqb-false}
 use Rattle.integers.specs.Laws.Bridge.{P, N, pn-min, natAbs-pn, add-pn, neg-pn, sub-pn, mul-pn, zarith}
 use Rattle.integers.specs.Remainder.{emod, ediv, centre}
-use Rattle.integers.specs.Laws.RemainderLaws.{emod-lt, emod-eq, division-pn}
+use Rattle.integers.specs.Laws.RemainderLaws.{emod-eq, division-pn}
 use Rattle.integers.specs.Laws.CentreLaws.{centre-range, centre-emod}
 use Rattle.integers.specs.Laws.MachineDivision.{quotZ-exact}
 use Rattle.residues.specs.Digits.{halfway, leavesEven, evenHalf, low, LowDigit, rest}
@@ -82,7 +84,7 @@ module _ (b : ℕ) (b>1 : 2 ≤ b) where
         add-pn k (pos 1),
       )
 
-  -- the base beside the half: a quotient more
+  -- k·b + b/2 is also (k+1)·b - b/2
   other-half : (z k : ℤ) (n : ℕ) → n * 2 ≡ b → z ≡ k *ℤ pos b +ℤ pos n → z ≡ (k +ℤ pos 1) *ℤ pos b +ℤ negℤ (pos n)
   other-half z k n h e =
       omega (
@@ -181,7 +183,7 @@ module _ (b : ℕ) (b>1 : 2 ≤ b) where
         cases (no h) (yes k) = absurd (opposites x y (omega arith) k)
         cases (yes h) (no k) = absurd (opposites y x (omega arith) h)
 
-    -- ---- from what is left: z = k·b + e with e narrow, and k even where e is a half
+    -- ---- what is left
 
     pub rest-from : (k e : ℤ) → z ≡ k *ℤ pos b +ℤ e → natAbs e * 2 ≤ b → (natAbs e * 2 ≡ b → natAbs k % 2 ≡ 0) → rest b z ≡ k
     unfolding rest

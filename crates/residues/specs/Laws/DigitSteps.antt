@@ -13,29 +13,29 @@ use Rattle.integers.specs.Laws.Bridge.{P, N, pn-min, natAbs-pn, bnd, abs-bnd, a
 use Rattle.residues.specs.Digits.{Base, low, rest}
 use Rattle.residues.specs.Laws.DigitRule.{rest-from}
 use Rattle.residues.specs.Laws.DigitLaws.{low-bound, rest-low, rest-size}
-use Rattle.residues.specs.Laws.Words.{held, widen, wide}
+use Rattle.residues.specs.Laws.Words.{held, wide}
 use Rattle.residues.specs.Laws.Centring.{quotZ-fits, remainder-fits}
 
 -- the constant of `quotient`
-abbrev pub basesAdded : ℕ
+abbrev basesAdded : ℕ
 basesAdded = 2147483648
 
 -- the locals of `quotient`: the number that is divided
-abbrev pub raised : ℕ → ℤ → ℕ
+abbrev raised : ℕ → ℤ → ℕ
 raised b x = natAbs (x +ℤ pos (b * basesAdded))
 
--- 1 where the remainder r of the quotient q is above half of b, or is half of it and q is odd; else 0
-abbrev pub upward : (b q r : ℕ) → ℕ
-upward b q r = (2 * r + q % 2 + (131071 - b)) / 131072
+-- 1 where the remainder r of the quotient k is above half of b, or is half of it and k is odd; else 0
+abbrev upward : (b k r : ℕ) → ℕ
+upward b k r = (2 * r + k % 2 + (131071 - b)) / 131072
 
 -- the same as the machine holds them
-abbrev pub dividend : ℕ → ℤ → ℤ
+abbrev dividend : ℕ → ℤ → ℤ
 dividend b x = held (held (toZ w32 (ofZ w32 x)) +ℤ held (toZ w64 b *ℤ pos basesAdded))
 
-abbrev pub down : ℕ → ℤ → ℕ
+abbrev down : ℕ → ℤ → ℕ
 down b x = natAbs (held (quotZ (dividend b x) (toZ w64 b)))
 
-abbrev pub remainder : ℕ → ℤ → ℕ
+abbrev remainder : ℕ → ℤ → ℕ
 remainder b x = natAbs (held (remZ (dividend b x) (toZ w64 b)))
 
 module _ {b : ℕ} (base : Base b) where
@@ -48,53 +48,61 @@ module _ {b : ℕ} (base : Base b) where
   pub base-held : toZ w64 b ≡ pos b
   base-held = toZ-pos w64 (omega (arith, base .most))
 
-  multiple-fits : SFits w64 (pos (b * basesAdded))
-  multiple-fits = omega (zarith, base .most)
+  added-fits : SFits w64 (pos (b * basesAdded))
+  added-fits = omega (zarith, base .most)
 
-  pub product-fits : SFits w64 (toZ w64 b *ℤ pos basesAdded)
-  product-fits = rw base-held multiple-fits
+  pub added-product-fits : SFits w64 (toZ w64 b *ℤ pos basesAdded)
+  added-product-fits = rw base-held added-fits
 
-  pub multiple-held : held (toZ w64 b *ℤ pos basesAdded) ≡ pos (b * basesAdded)
-  multiple-held = rw base-held (toZ-ofZ multiple-fits)
+  pub added-held : held (toZ w64 b *ℤ pos basesAdded) ≡ pos (b * basesAdded)
+  added-held = rw base-held (toZ-ofZ added-fits)
 
   -- ---- what is left: rounded down, then up
 
-  upward-small : (q r : ℕ) → r < b → upward b q r ≤ 1
-  upward-small q r h = omega (arith, base .most)
+  upward-small : (k r : ℕ) → r < b → upward b k r ≤ 1
+  upward-small k r h = omega (arith, base .most)
 
-  module _ (x : ℤ) (q r : ℕ) (below : r < b) (whole : x +ℤ pos (b * basesAdded) ≡ pos (q * b + r)) where
-    rounded-down : x ≡ (pos q -ℤ pos basesAdded) *ℤ pos b +ℤ pos r
+  module _ (x : ℤ) (k r : ℕ) (below : r < b) (whole : x +ℤ pos (b * basesAdded) ≡ pos (k * b + r)) where
+    rounded-down : x ≡ (pos k -ℤ pos basesAdded) *ℤ pos b +ℤ pos r
     rounded-down =
-        let k = pos q -ℤ pos basesAdded in
-        omega (zarith, whole, add-pn x (pos (b * basesAdded)), add-pn (k *ℤ pos b) (pos r), mul-pn k (pos b), ap (λ (t : ℕ). t * b) (sub-pn (pos q) (pos basesAdded)))
-
-    rounded-up : x ≡ (pos (q + 1) -ℤ pos basesAdded) *ℤ pos b +ℤ negℤ (pos (b - r))
-    rounded-up =
-        let k = pos (q + 1) -ℤ pos basesAdded in
+        let left = pos k -ℤ pos basesAdded in
         omega (
           zarith,
           whole,
           add-pn x (pos (b * basesAdded)),
-          add-pn (k *ℤ pos b) (negℤ (pos (b - r))),
-          neg-pn (pos (b - r)),
-          mul-pn k (pos b),
-          ap (λ (t : ℕ). t * b) (sub-pn (pos (q + 1)) (pos basesAdded)),
+          add-pn (left *ℤ pos b) (pos r),
+          mul-pn left (pos b),
+          ap (λ (t : ℕ). t * b) (sub-pn (pos k) (pos basesAdded)),
         )
 
-    pub rounded : rest b x ≡ pos (q + upward b q r) -ℤ pos basesAdded
-    rounded = cases (decLe (2 * r + q % 2) b)
+    rounded-up : x ≡ (pos (k + 1) -ℤ pos basesAdded) *ℤ pos b +ℤ negℤ (pos (b - r))
+    rounded-up =
+        let left = pos (k + 1) -ℤ pos basesAdded in
+        omega (
+          zarith,
+          whole,
+          add-pn x (pos (b * basesAdded)),
+          add-pn (left *ℤ pos b) (negℤ (pos (b - r))),
+          neg-pn (pos (b - r)),
+          mul-pn left (pos b),
+          ap (λ (t : ℕ). t * b) (sub-pn (pos (k + 1)) (pos basesAdded)),
+        )
+
+    rounded : rest b x ≡ pos (k + upward b k r) -ℤ pos basesAdded
+    rounded = cases (decLe (2 * r + k % 2) b)
       where
-        cases : Dec (2 * r + q % 2 ≤ b) → rest b x ≡ pos (q + upward b q r) -ℤ pos basesAdded
+        cases : Dec (2 * r + k % 2 ≤ b) → rest b x ≡ pos (k + upward b k r) -ℤ pos basesAdded
         cases (yes h) =
-            let none : q + upward b q r ≡ q = omega (arith, base .most) in
-            rw none (rest-from b (base .least) x (pos q -ℤ pos basesAdded) (pos r) rounded-down (omega arith)
-            (λ e. omega (arith, e, natAbs-pn (pos q -ℤ pos basesAdded), pn-min (pos q -ℤ pos basesAdded), sub-pn (pos q) (pos basesAdded))))
+            let none : k + upward b k r ≡ k = omega (arith, base .most) in
+            let left = pos k -ℤ pos basesAdded in
+            rw none (rest-from b (base .least) x left (pos r) rounded-down (omega arith)
+            (λ e. omega (arith, e, natAbs-pn left, pn-min left, sub-pn (pos k) (pos basesAdded))))
         cases (no h) =
-            let one : q + upward b q r ≡ q + 1 = omega (arith, base .most) in
-            let k = pos (q + 1) -ℤ pos basesAdded in
-            rw one (rest-from b (base .least) x k (negℤ (pos (b - r))) rounded-up
-            (omega (arith, natAbs-pn (negℤ (pos (b - r))), neg-pn (pos (b - r))))
-            (λ e. omega (arith, e, natAbs-pn (negℤ (pos (b - r))), neg-pn (pos (b - r)), natAbs-pn k, pn-min k, sub-pn (pos (q + 1)) (pos basesAdded))))
+            let one : k + upward b k r ≡ k + 1 = omega (arith, base .most) in
+            let left = pos (k + 1) -ℤ pos basesAdded in
+            let size = natAbs-pn (negℤ (pos (b - r))) in
+            rw one (rest-from b (base .least) x left (negℤ (pos (b - r))) rounded-up (omega (arith, size, neg-pn (pos (b - r))))
+            (λ e. omega (arith, e, size, neg-pn (pos (b - r)), natAbs-pn left, pn-min left, sub-pn (pos (k + 1)) (pos basesAdded))))
 
   pub rest-fits : {x : ℤ} → SFits w32 x → SFits w32 (rest b x)
   rest-fits {x} f = omega (
@@ -119,7 +127,7 @@ module _ {b : ℕ} (base : Base b) where
     sum-fits = omega (zarith, bnd x, add-pn x (pos (b * basesAdded)), base .most)
 
     dividend-held : dividend b x ≡ pos (raised b x)
-    dividend-held = rw (wide fits, multiple-held) (toZ-ofZ sum-fits ∙ raised-natural)
+    dividend-held = rw (wide fits, added-held) (toZ-ofZ sum-fits ∙ raised-natural)
 
     raised-fits : SFits w64 (pos (raised b x))
     raised-fits = rw (← raised-natural) sum-fits
@@ -178,8 +186,8 @@ module _ {b : ℕ} (base : Base b) where
     is-rest : r ≡ rest b x
     is-rest = rw (toZ-ofZ fits) at learnt
 
-    pub multiple-low-fits : SFits w64 (held (toZ w32 (ofZ w32 r)) *ℤ toZ w64 b)
-    multiple-low-fits = rw (wide r-fits, base-held) (base-product-fits r-fits)
+    pub left-product-fits : SFits w64 (held (toZ w32 (ofZ w32 r)) *ℤ toZ w64 b)
+    left-product-fits = rw (wide r-fits, base-held) (base-product-fits r-fits)
 
     -- all the steps
     pub digit-held : held (toZ w32 (ofZ w32 x)) -ℤ held (held (toZ w32 (ofZ w32 r)) *ℤ toZ w64 b) ≡ low b x

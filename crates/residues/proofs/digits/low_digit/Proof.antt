@@ -3,13 +3,13 @@ use mir.Syntax.{w32}
 use mir.Val.{SFits}
 use mir.Facts.{toZ-ofZ}
 use Rattle.residues.specs.Laws.Words.{widen}
-use Rattle.residues.specs.Laws.DigitSteps.{multiple-low-fits, digit-held, low-fits}
+use Rattle.residues.specs.Laws.DigitSteps.{left-product-fits, digit-held, low-fits}
 use borrow.Author.Needs.{needs}
 use Rattle.residues.proofs.digits.low_digit.Statement.{statement}
 use Rattle.residues.proofs.digits.low_digit.Tie as tie
 
 mul-result : tie.Need-mul-result
-mul-result c = multiple-low-fits (c .before .pre) (c .before .fits .x) (record { sfits = c .quotient .ok }) (c .quotient .ensures)
+mul-result c = left-product-fits (c .before .pre) (c .before .fits .x) (record { sfits = c .quotient .ok }) (c .quotient .ensures)
 
 sub-result : tie.Need-sub-result
 sub-result c =

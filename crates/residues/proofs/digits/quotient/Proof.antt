@@ -2,7 +2,7 @@
 use native.Mathlib.Omega.{arith}
 use mir.Facts.{toZ-ofZ}
 use Rattle.residues.specs.Laws.Words.{widen, wide}
-use Rattle.residues.specs.Laws.DigitSteps.{product-fits, multiple-held, sum-fits, down-fits, down-held, remainder-held, down-small, remainder-small, up-small}
+use Rattle.residues.specs.Laws.DigitSteps.{added-product-fits, added-held, sum-fits, down-fits, down-held, remainder-held, down-small, remainder-small, up-small}
 use Rattle.residues.specs.Laws.DigitSteps.{rest-held, rest-fits}
 use borrow.Author.Needs.{needs}
 use Rattle.residues.proofs.digits.quotient.Statement.{statement}
@@ -44,8 +44,8 @@ returns c = let rest = rest-fits (c .pre) (c .fits .x) in rw (rest-held (c .pre)
 pub quotient-spec : {M : Type 1} → statement M
 quotient-spec =
     tie.close
-    (tie.spec (λ c. search needs) (λ c. rw (toZ-ofZ (c .fits .x)) (widen (c .fits .x))) (λ c. product-fits (c .pre))
-    (λ c. rw (wide (c .fits .x), multiple-held (c .pre)) (sum-fits (c .pre) (c .fits .x)))
+    (tie.spec (λ c. search needs) (λ c. rw (toZ-ofZ (c .fits .x)) (widen (c .fits .x))) (λ c. added-product-fits (c .pre))
+    (λ c. rw (wide (c .fits .x), added-held (c .pre)) (sum-fits (c .pre) (c .fits .x)))
     (λ c. (omega (arith, c .pre .least), down-fits (c .pre) (c .fits .x))) cast-down
     (λ c. (omega (arith, c .pre .least), down-fits (c .pre) (c .fits .x))) cast-remainder mul-up add-up sub-up add-up-2
     add-rounded cast-rounded sub-result cast-result returns)
