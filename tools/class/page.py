@@ -192,9 +192,9 @@ Everybody knows A = {pair(a)}. The maker forms t = A·s for each slot (t1 is the
 
 {table([name("g", i, j) for i, j in pairs(3)], [[pair(g[p]) for p in pairs(3)]])}
 
-Long numbers are cut into digits, to base {s.b1}: a low digit is -2, -1, 0, 1 or 2, and what is left is divided by {s.b1}. So 3 is -1 + 1·{s.b1}: low digit -1, high digit 1. Where both 2 and -2
-would do, take the one that leaves an even high digit: {two}, as in g23, is {both_ways(s.b1, two)}; {six}, as in h11 below, is {both_ways(s.b1, six)}. Each place of a pair is cut
-for itself: t1 = {pair(t[0])} has the low digits {pair(ring.element_digits(s.b1, s.t1, t[0])[0])} and the high digits {pair(ring.element_digits(s.b1, s.t1, t[0])[1])}. All t and g as digits, low; high:
+Numbers are cut into two digits, to base {s.b1}. The low digit is the one of -2, -1, 0, 1 and 2 that, taken away, leaves a multiple of {s.b1}; the high digit says how many fours are left. So 3 is
+-1 + 1·{s.b1}: low digit -1, high digit 1. Where both 2 and -2 would do, take the one with an even high digit (0 is even): {two}, as in g23, is {both_ways(s.b1, two)};
+{six}, as in h11 below, is {both_ways(s.b1, six)}. Each place of a pair is cut for itself: t1 = {pair(t[0])} has the low digits {pair(ring.element_digits(s.b1, s.t1, t[0])[0])} and the high digits {pair(ring.element_digits(s.b1, s.t1, t[0])[1])}. All t and g as digits, low; high:
 
 {table([f"t{i + 1}" for i in range(3)] + [name("g", i, j) for i, j in pairs(3)], [[digits(s.b1, s.t1, e) for e in t] + [digits(s.b2, s.t2, g[p]) for p in pairs(3)]])}
 

@@ -117,7 +117,8 @@ def inner_product(d, u, v):
 def low_digit(base, x):
     """ "each low digit is at least -B/2 and at most B/2 (integers, for odd B as well), congruent to the value modulo B";
     "When a value lies exactly half a base from two multiples, the low digit is the one of +B/2 and -B/2 that leaves an even
-    quotient." "B/2 is not rounded: the low digit is an integer e with -B ≤ 2e ≤ B, so that only an even B has halves."
+    quotient." "B/2 is not rounded: the low digit is an integer e with -B ≤ 2e ≤ B, so that only for an even B a value
+    can lie halfway."
     """
     residue = x % base
     candidates = [e for e in (residue, residue - base) if -base <= 2 * e <= base]
@@ -128,7 +129,7 @@ def low_digit(base, x):
 
 
 def low_digit_of_kept(base, x):
-    """The low digit by the "older rule, by which each half became -B/2". """
+    """The low digit by the "older rule, by which such a value always had the low digit -B/2". """
     residue = x % base
     return residue if 2 * residue < base else residue - base
 
@@ -140,7 +141,7 @@ digit_rule = low_digit
 @contextmanager
 def kept_rule():
     """Within it `digits` goes by the older rule, so that kept openings can be made: "Openings kept under an older rule, by
-    which each half became -B/2, are judged as before, since the verifier only recomposes."
+    which such a value always had the low digit -B/2, are judged as before, since the verifier only recomposes."
     """
     global digit_rule
     outside, digit_rule = digit_rule, low_digit_of_kept

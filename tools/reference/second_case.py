@@ -2,7 +2,7 @@
 they are the definitions'.
 
 Sizes are small, with odd and even bases; matrices, constraints and draws have coefficients of
-every size; the witness is short and meets its constraints. In z to base 4 there are halves, so that the rule of the low digit counts.
+every size; the witness is short and meets its constraints. In z to base 4 some numbers lie halfway, so that the rule for halves matters.
 """
 
 import random
@@ -142,7 +142,7 @@ def files():
     x = random_lists(random.Random(SEED), SIZES, short_witness=True)
     y = fold.honest(SIZES, x)
     with ring.kept_rule():
-        assert y["opening"] != fold.honest(SIZES, x)["opening"], "z has no halves"
+        assert y["opening"] != fold.honest(SIZES, x)["opening"], "no number of z lies halfway"
     s = least_bounds(SIZES, y)
     changed = {block: moved(y, "opening", place) for block, place in PLACES.items()}
     check_verdicts(s, y, changed)

@@ -33,7 +33,7 @@ pub record Base (b : ℕ) : Type 0 where
 unfoldable pub halfway : ℕ → ℤ → Bool
 halfway b z = eqb (emod z b * 2) b
 
--- e, taken from z, "leaves an even quotient"; asked only of an e that is congruent to z, so that the division is exact
+-- e, subtracted from z, "leaves an even quotient"; it counts only where e is congruent to z, and there the division is exact
 unfoldable pub leavesEven : ℕ → ℤ → ℤ → Bool
 leavesEven b z e = eqb (natAbs (quotZ (z -ℤ e) (pos b)) % 2) 0
 
@@ -44,7 +44,8 @@ evenHalf b z = cond (leavesEven b z (pos (b / 2))) (pos (b / 2)) (negℤ (pos (b
 unfoldable pub low : ℕ → ℤ → ℤ
 low b z = cond (halfway b z) (evenHalf b z) (centre b z)
 
--- e is congruent to z, in range, and leaves an even quotient where it is a half: by `low-exactly` the low digit and no other number
+-- e is congruent to z, at most half the base in absolute value, and where it is half the base it leaves an even quotient: by `low-exactly` this is
+-- the low digit and no other number
 pub record LowDigit (b : ℕ) (z e : ℤ) : Type 0 where
   pub congruent : emod e b ≡ emod z b
   pub narrow : natAbs e * 2 ≤ b

@@ -205,7 +205,7 @@ static void split(int32_t base, size_t t, size_t width, int32_t *block) {
         for (size_t i = 0; i < width; i++) {
             int64_t x = rest[i];
 #if KERNEL == 1
-            /* rounded to the nearest, a half to the even number; 2^31 bases are added, so that nothing is negative */
+            /* rounded to the nearest, a half to the even number; 2^31 bases are added, so that the dividend is not negative */
             int64_t raised = x + 2147483648 * base, down = raised / base, remainder = raised % base;
             int64_t left = down + (2 * remainder + down % 2 + (131071 - base)) / 131072 - 2147483648;
             int64_t low = x - left * base;

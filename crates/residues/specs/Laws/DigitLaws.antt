@@ -1,5 +1,4 @@
--- Laws of the digits of integers, to any base from 2 on. The two laws under 'the digit rule' follow from those of DigitRule; all else, here
--- and in the callers, follows from these two.
+-- Laws of the digits of integers, to any base from 2 on. Of these only the two under 'the digit rule' use DigitRule.
 --     rest-low, low-bound                   the digit rule
 --     rests-bound, digit-bound, digit-small how long digits are
 --     recompose                             the digits' value is the number
@@ -67,7 +66,7 @@ module _ (b : ℕ) (b>1 : 2 ≤ b) where
         ap (λ (t : ℕ). t * b) (natAbs-pn k),
       )
 
-  pub rest-bound : (z : ℤ) → natAbs (rest b z) ≤ natAbs z
+  rest-bound : (z : ℤ) → natAbs (rest b z) ≤ natAbs z
   rest-bound z = cases (decLe (natAbs (rest b z)) (natAbs z))
     where
       cases : Dec (natAbs (rest b z) ≤ natAbs z) → natAbs (rest b z) ≤ natAbs z
@@ -77,7 +76,7 @@ module _ (b : ℕ) (b>1 : 2 ≤ b) where
           let no : ⊥ = omega (arith, rest-size z, low-bound z, mul-le-mul-right b more, mul-le-mul-left (natAbs z) b>1) in
           absurd no
 
-  pub rests-bound : (e : ℕ) (z : ℤ) → natAbs (rests b e z) ≤ natAbs z
+  rests-bound : (e : ℕ) (z : ℤ) → natAbs (rests b e z) ≤ natAbs z
   unfolding rests
   rests-bound zero z = omega arith
   rests-bound (suc e) z = omega (arith, rest-bound (rests b e z), rests-bound e z)
@@ -141,7 +140,7 @@ module _ (b t : ℕ) (xs : List ℤ) where
   unfolding split
   length-split = length-flat t (length xs) (λ e. map (digit b t e) xs) width
 
-  pub getD-digits : (e i : ℕ) → i < length xs → getD (map (digit b t e) xs) i (pos 0) ≡ digit b t e (getD xs i (pos 0))
+  getD-digits : (e i : ℕ) → i < length xs → getD (map (digit b t e) xs) i (pos 0) ≡ digit b t e (getD xs i (pos 0))
   getD-digits e i h = getD-map (digit b t e) xs i h
 
   pub getD-split : (e i : ℕ) → e < t → i < length xs → getD (split b t xs) (e * length xs + i) (pos 0) ≡ digit b t e (getD xs i (pos 0))

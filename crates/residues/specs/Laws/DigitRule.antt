@@ -1,6 +1,6 @@
 -- The low digit has the property LowDigit, and no other number has it. No other law opens `low`.
---     quotient-exact        the quotient of z - e, where z = k·b + e
---     congruent-quotient    where z and e are congruent, z = k·b + e with this k
+--     quotient-exact        where z = k·b + e, the quotient of z - e by b is k
+--     congruent-quotient    where z and e are congruent, z = k·b + e for a k
 --     leaves-even           where z = k·b + e, e leaves an even quotient exactly if k is even
 --     low-is, low-only      the low digit has the property, and it alone
 --     rest-from             what is left is k, where z = k·b + e, e is narrow, and k is even if e is a half
@@ -25,7 +25,7 @@ module _ (b : ℕ) (b>1 : 2 ≤ b) where
   above : 0 < b
   above = omega arith
 
-  -- ---- what is left
+  -- ---- exact quotients
 
   pub quotient-exact : (z k e : ℤ) → z ≡ k *ℤ pos b +ℤ e → quotZ (z -ℤ e) (pos b) ≡ k
   quotient-exact z k e h =
@@ -123,15 +123,17 @@ module _ (b : ℕ) (b>1 : 2 ≤ b) where
               ∙ next-even k (sym (leaves-even z k (pos (b / 2)) whole) ∙ e);
         }
 
+    centre-narrow : natAbs (centre b z) * 2 ≤ b
+    centre-narrow = omega (arith, centre-range b above z .low, centre-range b above z .high, natAbs-pn (centre b z), pn-min (centre b z))
+
     centre-is : (emod z b * 2 ≡ b → ⊥) → LowDigit b z (centre b z)
     centre-is h =
         let c = centre b z in
         let range = centre-range b above z in
-        let narrow : natAbs c * 2 ≤ b = omega (arith, range .low, range .high, natAbs-pn c, pn-min c) in
-        let remainder = narrow-remainder c narrow in
+        let remainder = narrow-remainder c centre-narrow in
         record {
           congruent = centre-emod b above z;
-          narrow = narrow;
+          narrow = centre-narrow;
           even = λ t. absurd (h (omega (arith, t, range .high, centre-emod b above z, remainder .1 (omega (arith, t, range .high, natAbs-pn c, pn-min c)), natAbs-pn c, pn-min c)));
         }
 

@@ -24,11 +24,11 @@ basesAdded = 2147483648
 abbrev raised : ℕ → ℤ → ℕ
 raised b x = natAbs (x +ℤ pos (b * basesAdded))
 
--- 1 where the remainder r of the quotient k is above half of b, or is half of it and k is odd; else 0
+-- 1 where the remainder r is above half of b, or is half of it and k, the quotient rounded down, is odd; else 0
 abbrev upward : (b k r : ℕ) → ℕ
 upward b k r = (2 * r + k % 2 + (131071 - b)) / 131072
 
--- the same as the machine holds them
+-- `raised`, `down` and `remainder` of `quotient` as the machine holds them
 abbrev dividend : ℕ → ℤ → ℤ
 dividend b x = held (held (toZ w32 (ofZ w32 x)) +ℤ held (toZ w64 b *ℤ pos basesAdded))
 

@@ -16,7 +16,7 @@ unfoldable pub tail : (b t : ℕ) → (ℕ → ℤ) → ℕ → ℤ
 tail b t f k = value b (t - k) (λ e. f (k + e))
 
 module _ (b t : ℕ) (f : ℕ → ℤ) where
-  pub tail-start : centred (tail b t f t) ≡ pos 0
+  tail-start : centred (tail b t f t) ≡ pos 0
   unfolding tail value
   tail-start = rw sub-self (centred-fixed (omega arith))
 
@@ -32,7 +32,7 @@ module _ (b t : ℕ) (f : ℕ → ℤ) where
       (+ℤ-comm (f k) (pos b *ℤ next) ∙ ap (λ (z : ℤ). z +ℤ f k) (*ℤ-comm (pos b) next ∙ ap (λ (z : ℤ). z *ℤ pos b) same))
 
   -- one step modulo q
-  pub tail-centred : (k : ℕ) → k < t → centred (centred (tail b t f (k + 1)) *ℤ pos b +ℤ f k) ≡ centred (tail b t f k)
+  tail-centred : (k : ℕ) → k < t → centred (centred (tail b t f (k + 1)) *ℤ pos b +ℤ f k) ≡ centred (tail b t f k)
   tail-centred k h =
       let z = tail b t f (k + 1) in
       centred-eq (centred z *ℤ pos b +ℤ f k) (tail b t f k)
@@ -42,7 +42,7 @@ module _ (b t : ℕ) (f : ℕ → ℤ) where
       ∙ sym (red-add (z *ℤ pos b) (f k))
       ∙ ap red (sym (tail-step k h)))
 
-  pub tail-end : tail b t f 0 ≡ value b t f
+  tail-end : tail b t f 0 ≡ value b t f
   unfolding tail
   tail-end = rw (sub-zero t) (value-cong b t (λ e. f (0 + e)) f (λ e h. ap f (zero-add e)))
 
