@@ -2,6 +2,7 @@
 --     quotient-exact        where z = k·b + e, the quotient of z - e by b is k
 --     congruent-quotient    where z and e are congruent, z = k·b + e for a k
 --     leaves-even           where z = k·b + e, e leaves an even quotient exactly if k is even
+--     centre-is             where z does not lie halfway, its centred remainder has the property
 --     low-is, low-only      the low digit has the property, and it alone
 --     rest-from             what is left is k, where z = k·b + e, e is narrow, and k is even if e is a half
 use mathlib.Core.Path.{_≡_, refl, sym, ap, _∙_}
@@ -58,31 +59,15 @@ module _ (b : ℕ) (b>1 : 2 ≤ b) where
   unfolding leavesEven
   leaves-even z k e h = ap (λ (t : ℤ). eqb (natAbs t % 2) 0) (quotient-exact z k e h)
 
-  -- of two neighbours one is even
+  -- of two neighbours one is even and one is odd
+  neighbours : (k : ℤ) → natAbs k % 2 + natAbs (k +ℤ pos 1) % 2 ≡ 1
+  neighbours k = omega (arith, natAbs-pn k, pn-min k, natAbs-pn (k +ℤ pos 1), pn-min (k +ℤ pos 1), add-pn k (pos 1))
+
   next-even : (k : ℤ) → eqb (natAbs k % 2) 0 ≡ false → eqb (natAbs (k +ℤ pos 1) % 2) 0 ≡ true
-  next-even k h =
-      eq-eqb (natAbs (k +ℤ pos 1) % 2) 0 (omega (
-        arith,
-        eqb-false (natAbs k % 2) 0 h,
-        natAbs-pn k,
-        pn-min k,
-        natAbs-pn (k +ℤ pos 1),
-        pn-min (k +ℤ pos 1),
-        add-pn k (pos 1),
-      ))
+  next-even k h = eq-eqb (natAbs (k +ℤ pos 1) % 2) 0 (omega (arith, neighbours k, eqb-false (natAbs k % 2) 0 h))
 
   next-odd : (k : ℤ) → eqb (natAbs k % 2) 0 ≡ true → eqb (natAbs (k +ℤ pos 1) % 2) 0 ≡ true → ⊥
-  next-odd k h l =
-      omega (
-        arith,
-        eqb-true (natAbs k % 2) 0 h,
-        eqb-true (natAbs (k +ℤ pos 1) % 2) 0 l,
-        natAbs-pn k,
-        pn-min k,
-        natAbs-pn (k +ℤ pos 1),
-        pn-min (k +ℤ pos 1),
-        add-pn k (pos 1),
-      )
+  next-odd k h l = omega (arith, neighbours k, eqb-true (natAbs k % 2) 0 h, eqb-true (natAbs (k +ℤ pos 1) % 2) 0 l)
 
   -- k·b + b/2 is also (k+1)·b - b/2
   other-half : (z k : ℤ) (n : ℕ) → n * 2 ≡ b → z ≡ k *ℤ pos b +ℤ pos n → z ≡ (k +ℤ pos 1) *ℤ pos b +ℤ negℤ (pos n)
@@ -126,7 +111,7 @@ module _ (b : ℕ) (b>1 : 2 ≤ b) where
     centre-narrow : natAbs (centre b z) * 2 ≤ b
     centre-narrow = omega (arith, centre-range b above z .low, centre-range b above z .high, natAbs-pn (centre b z), pn-min (centre b z))
 
-    centre-is : (emod z b * 2 ≡ b → ⊥) → LowDigit b z (centre b z)
+    pub centre-is : (emod z b * 2 ≡ b → ⊥) → LowDigit b z (centre b z)
     centre-is h =
         let c = centre b z in
         let range = centre-range b above z in
@@ -158,7 +143,7 @@ module _ (b : ℕ) (b>1 : 2 ≤ b) where
         let j = ediv z b -ℤ ediv e b in
         let whole = congruent-quotient z e (x .congruent) in
         let first = sym (leaves-even z j e whole) ∙ x .even (omega (arith, natAbs-pn e, pn-min e)) in
-        let below : z ≡ (j +ℤ pos 1) *ℤ pos b +ℤ l = rw (is-other) (other-half z j (P e) half (whole ∙ ap (λ (t : ℤ). j *ℤ pos b +ℤ t) is-half)) in
+        let below : z ≡ (j +ℤ pos 1) *ℤ pos b +ℤ l = rw is-other (other-half z j (P e) half (whole ∙ ap (λ (t : ℤ). j *ℤ pos b +ℤ t) is-half)) in
         let second = sym (leaves-even z (j +ℤ pos 1) l below) ∙ y .even (omega (arith, natAbs-pn l, pn-min l)) in
         next-odd j first second
 

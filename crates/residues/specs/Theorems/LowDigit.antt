@@ -11,12 +11,11 @@ use native.Mathlib.Numerals.{add-one}
 use native.Mathlib.Omega.{arith}
 use lib.IntN.{ℤ, pos, negsuc, negℤ, natAbs, _+ℤ_, _-ℤ_, _*ℤ_}
 use borrow.Author.Tests.{eq-eqb, eqb-true}
-use Rattle.integers.specs.Laws.Bridge.{pn-min, natAbs-pn, add-pn, neg-pn, mul-pn, zarith}
+use Rattle.integers.specs.Laws.Bridge.{natAbs-pn, add-pn, neg-pn, mul-pn, zarith}
 use Rattle.integers.specs.Remainder.{ediv, emod, centre}
 use Rattle.integers.specs.Laws.RemainderLaws.{emod-neg}
-use Rattle.integers.specs.Laws.CentreLaws.{centre-range, centre-emod}
 use Rattle.residues.specs.Digits.{leavesEven, low, LowDigit, rest, rests, digit}
-use Rattle.residues.specs.Laws.DigitRule.{congruent-quotient, leaves-even, low-is, low-only}
+use Rattle.residues.specs.Laws.DigitRule.{congruent-quotient, leaves-even, centre-is, low-is, low-only}
 use Rattle.residues.specs.Laws.DigitLaws.{digit-low}
 
 module _ (b : ℕ) (b>1 : 2 ≤ b) where
@@ -24,14 +23,7 @@ module _ (b : ℕ) (b>1 : 2 ≤ b) where
   low-exactly z e = (λ h. rw h (low-is b b>1 z), λ d. low-only b b>1 z d (low-is b b>1 z))
 
   pub odd-base : b % 2 ≡ 1 → (z : ℤ) → low b z ≡ centre b z
-  odd-base odd z =
-      let c = centre b z in
-      let range = centre-range b (omega arith) z in
-      sym (low-exactly z c .1 (record {
-        congruent = centre-emod b (omega arith) z;
-        narrow = omega (arith, range .low, range .high, natAbs-pn c, pn-min c);
-        even = λ half. let no : ⊥ = omega arith in absurd no;
-      }))
+  odd-base odd z = low-only b b>1 z (low-is b b>1 z) (centre-is b b>1 z (λ half. let no : ⊥ = omega arith in no))
 
   pub opposite : (z : ℤ) → low b (negℤ z) ≡ negℤ (low b z)
   opposite z =
@@ -70,9 +62,9 @@ unfolding emod
 even-remainder (pos n) h = h
 even-remainder (negsuc n) h = omega arith
 
-neighbours : (z : ℤ) → (low 2 z ≡ pos 0) ⊎ (low 2 (rest 2 z) ≡ pos 0)
+one-is-zero : (z : ℤ) → (low 2 z ≡ pos 0) ⊎ (low 2 (rest 2 z) ≡ pos 0)
 unfolding leavesEven rest
-neighbours z = cases (decLt 0 (natAbs (low 2 z)))
+one-is-zero z = cases (decLt 0 (natAbs (low 2 z)))
   where
     d : LowDigit 2 z (low 2 z)
     d = low-is 2 (omega arith) z
@@ -92,4 +84,4 @@ neighbours z = cases (decLt 0 (natAbs (low 2 z)))
 
 pub base-2 : (t e : ℕ) (z : ℤ) → e + 2 < t → (digit 2 t e z ≡ pos 0) ⊎ (digit 2 t (e + 1) z ≡ pos 0)
 unfolding rests
-base-2 t e z h = rw (digit-low 2 (omega arith) t e z (omega arith), digit-low 2 (omega arith) t (e + 1) z (omega arith), add-one e) (neighbours (rests 2 e z))
+base-2 t e z h = rw (digit-low 2 (omega arith) t e z (omega arith), digit-low 2 (omega arith) t (e + 1) z (omega arith), add-one e) (one-is-zero (rests 2 e z))
