@@ -13,7 +13,7 @@ import fold
 import sheet
 import sizes
 import stored
-from fixtures import ACCEPTED, OPEN, challenges, least_bounds, uniform, with_constraints
+from fixtures import ACCEPTED, OPEN, least_bounds, short_lists
 from sizes import LENGTHS, Sizes
 
 CASES = {
@@ -21,15 +21,6 @@ CASES = {
     "apart": Sizes(d=2, n=2, r=3, K=2, L=1, w=2, kappa=1, kappa1=3, kappa2=4, b=9, b1=250, b2=30, t1=3, t2=4, nu=1, mu=1, **OPEN),
     "empty": Sizes(d=2, n=2, r=2, K=0, L=0, w=0, kappa=1, kappa1=2, kappa2=1, b=5, b1=200, b2=20, t1=2, t2=3, nu=1, mu=3, **OPEN),
 }
-
-
-def lists(rng, s):
-    """A prover's lists of short numbers."""
-    names = "a_matrix b_matrix c_matrix d_matrix psi omega alpha delta witness".split()
-    x = {name: uniform(rng, 9, LENGTHS[name](s)) for name in names}
-    x["projections"] = uniform(rng, 1, LENGTHS["projections"](s))
-    x["c"] = challenges(rng, s)
-    return with_constraints(s, x, lambda count: uniform(rng, 9, count))
 
 
 def places(s, y):
@@ -45,7 +36,7 @@ def files():
     assert len(set(zip(CASES["alike"][:-2], CASES["apart"][:-2]))) == len(Sizes._fields) - 2
     rng = random.Random(13)
     for name, s in CASES.items():
-        x = lists(rng, s)
+        x = short_lists(rng, s)
         y = fold.honest(s, x)
         s = least_bounds(s, y)
         assert fold.answer("verify", s, y) == ACCEPTED

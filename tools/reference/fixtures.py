@@ -4,6 +4,8 @@
 stored cases.
 """
 
+from contextlib import contextmanager
+
 import fold
 import ring
 import sheet
@@ -93,17 +95,97 @@ def counted(rng, d, twos, ones):
     return c
 
 
-def challenge(rng, d):
-    """A challenge by the rule of SPECIFICATION 5.1."""
+def counted_challenge(rng, d):
+    """A challenge of degree 64: the right counts, shuffled."""
+    return counted(rng, d, ring.CHALLENGE_TWOS, ring.CHALLENGE_ONES)
+
+
+def short_challenge(rng, d):
+    """A challenge by the rule of the smaller degrees, drawn again until it keeps it."""
     while True:
         c = uniform(rng, ring.CHALLENGE_COEFFICIENT, d)
-        if ring.is_challenge(c):
+        if ring.is_short_challenge(c):
             return c
+
+
+# How `challenge` draws at degree 64.
+draw_at_64 = counted_challenge
+
+
+@contextmanager
+def kept_draws():
+    """Within it challenges of degree 64 are drawn by the rule of the smaller degrees, as they were for the stored cases that are kept, so
+    that these stay byte for byte.
+    """
+    global draw_at_64
+    outside, draw_at_64 = draw_at_64, short_challenge
+    try:
+        yield
+    finally:
+        draw_at_64 = outside
+
+
+def challenge(rng, d):
+    """A challenge by the rule of SPECIFICATION 5.1."""
+    return draw_at_64(rng, d) if d == ring.COUNTED_DEGREE else short_challenge(rng, d)
 
 
 def challenges(rng, s):
     """c_1..c_r."""
     return fold.flat(challenge(rng, s.d) for _ in range(s.r))
+
+
+# Both sides of the rule for challenges
+
+# Zeros, ones and twos at degree 64: one more of one of them and one less of another; squared length 71 by other counts.
+MOVED_COUNTS = ((24, 30, 10), (22, 32, 10), (24, 31, 9), (22, 31, 11), (23, 32, 9), (23, 30, 11))
+COUNTS_OF_71 = ((20, 35, 9), (26, 27, 11), (32, 19, 13), (44, 3, 17))
+FEW_COUNTS = ((22, 32, 10), (23, 30, 11), (20, 35, 9), (44, 3, 17))
+
+
+def in_place_of(c, size, number):
+    """The list with another number in place of its first of this absolute value."""
+    place = [abs(x) for x in c].index(size)
+    return c[:place] + [number] + c[place + 1 :]
+
+
+def sides_at_64(rng, few):
+    """Lists of 64 numbers: name, whether it is a challenge, the list."""
+    c = challenge(rng, 64)
+    yield "drawn", True, c
+    yield "c = 0", False, ring.zero(64)
+    for zeros, ones, twos in FEW_COUNTS if few else MOVED_COUNTS + COUNTS_OF_71:
+        yield f"{zeros} zeros, {ones} ones, {twos} twos", False, counted(rng, 64, twos, ones)
+    for size, number in ((2, 3),) if few else ((2, 3), (2, -3), (1, 3), (0, -3)):
+        yield f"{number} in place of a {size}", False, in_place_of(c, size, number)
+    if not few:
+        yield "only +1 and +2", True, [abs(x) for x in c]
+        yield "only -1 and -2", True, [-abs(x) for x in c]
+
+
+def two_at_64(rng):
+    """The same for two lists, one after the other: both drawn; the first or the last with a one more and a zero less."""
+    first, last, wrong = challenge(rng, 64), challenge(rng, 64), counted(rng, 64, 10, 32)
+    yield "both drawn", True, first + last
+    yield "the first with 32 ones", False, wrong + last
+    yield "the last with 32 ones", False, first + wrong
+
+
+def sides_at_32(rng):
+    """The same for lists of 32 numbers."""
+    yield "squared length 71", True, counted(rng, 32, 17, 3)
+    yield "squared length 72", False, counted(rng, 32, 18, 0)
+    yield "c = 0", True, ring.zero(32)
+    yield "32 ones", True, counted(rng, 32, 0, 32)
+
+
+def sides_of_challenges(rng, few=False):
+    """Both sides of SPECIFICATION 5.1: name, d and r, whether the rule takes c, and c; `few` of them where a case is long."""
+    for shape, sides in (
+        ({"d": 64, "r": 1}, sides_at_64(rng, few)), ({"d": 64, "r": 2}, two_at_64(rng)), ({"d": 32, "r": 1}, sides_at_32(rng)),
+    ):
+        for name, taken, c in sides:
+            yield f"d = {shape['d']}, {name}", shape, taken, c
 
 
 # Lists of a prover
@@ -129,6 +211,15 @@ def random_lists(rng, s, short_witness):
     x["c"] = challenges(rng, s)
     x["witness"] = uniform(rng, 2 if short_witness else ring.LARGEST, LENGTHS["witness"](s))
     return with_constraints(s, x, lambda count: coefficients(rng, count))
+
+
+def short_lists(rng, s):
+    """A prover's lists of short numbers."""
+    names = "a_matrix b_matrix c_matrix d_matrix psi omega alpha delta witness".split()
+    x = {name: uniform(rng, 9, LENGTHS[name](s)) for name in names}
+    x["projections"] = uniform(rng, 1, LENGTHS["projections"](s))
+    x["c"] = challenges(rng, s)
+    return with_constraints(s, x, lambda count: uniform(rng, 9, count))
 
 
 # Bounds

@@ -12,7 +12,9 @@ import random
 import fold
 import ring
 import stored
-from fixtures import check_faults, honest_case, moved, random_lists, random_sizes
+from fixtures import (
+    SMALL, challenge, check_faults, honest_case, kept_draws, moved, random_lists, random_sizes, replaced, short_lists, sides_of_challenges, uniform,
+)
 from sizes import CALLS, LARGEST_BOUND, LENGTHS, Sizes
 
 # the program's room
@@ -46,7 +48,7 @@ def run(s, x):
 
 
 def every_degree(rng):
-    """Honest runs at every degree, with sizes that differ from one another."""
+    """Honest runs at every degree, with sizes that differ from one another; those of degree 64 have kept challenges (kept_draws)."""
     for d in ring.DEGREES:
         for _ in range(2 if d > 8 else 4):
             s = random_sizes(rng)._replace(
@@ -138,10 +140,51 @@ def refusals(rng):
         yield case(5, wide, z | {"c": c + c})
 
 
+def honest_at_64(rng):
+    """Honest runs of degree 64 with drawn challenges, of one part and of two."""
+    for changes in ({"L": 1, "w": 1}, {"r": 2, "K": 0}):
+        s = SMALL._replace(d=64, **changes)
+        yield from run(s, short_lists(rng, s))
+
+
+def challenge_sides(rng):
+    """Both sides of the rule for challenges at degrees 64 and 32 in message 5 and in the verifier, which takes those of degree 64 in
+    honest_at_64; at 64, 8 and 9 come before 10.
+    """
+
+    def lists(s, c):
+        x = {name: [0] * LENGTHS[name](s) for name in CALLS["verify"].reads}
+        return x | {"a_matrix": uniform(rng, 1, s.d), "witness": uniform(rng, 2, s.r * s.d), "c": c}
+
+    def checked(number, s, x, taken):
+        line, output = case(number, s, x)
+        assert (output[:2] == [2, 10]) == (not taken)
+        return line, output
+
+    for _, shape, taken, c in sides_of_challenges(rng):
+        s = SMALL._replace(K=0, **shape)
+        yield checked(5, s, lists(s, c), taken)
+    for _, shape, taken, c in sides_of_challenges(rng, few=True):
+        s = SMALL._replace(K=0, **shape)
+        if s.d == 32 or not taken:
+            yield checked(VERIFY, s, fold.honest(s, lists(s, c)), taken)
+    s = SMALL._replace(d=64, K=0, w=1)
+    x = lists(s, challenge(rng, 64))
+    for number in (ring.LARGEST, ring.LARGEST + 1):
+        yield case(5, s, replaced(x, "c", -1, number))
+    x |= {"c": ring.zero(64)}
+    yield case(5, s, replaced(x, "witness", -1, ring.LARGEST + 1))
+    yield case(VERIFY, s, replaced(x, "projections", -1, 2))
+
+
 def files():
+    """Input and output. Of the first groups the challenges of degree 64 are kept ones."""
     rng = random.Random(20)
     groups = (every_degree, near_bounds, any_witness, failing_checks, corrupted_numbers, refusals)
-    cases = [line for group in groups for line in group(rng)]
+    with kept_draws():
+        cases = [line for group in groups for line in group(rng)]
+    rng = random.Random(21)
+    cases += [line for group in (honest_at_64, challenge_sides) for line in group(rng)]
     stdin = stored.numbers_text(line for line, _ in cases)
     assert len(stdin) <= LARGEST_INPUT_BYTES, len(stdin)
     assert max(len(line) for line, _ in cases) <= LARGEST_LINE_NUMBERS

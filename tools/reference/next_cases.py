@@ -38,6 +38,7 @@ import random
 
 import fold
 import next_groups
+from fixtures import kept_draws
 from next_fixtures import second_lists
 from sizes import CALLS, LENGTHS
 from stored import FILL, answer_numbers, numbers_text, shown, summed, write
@@ -46,6 +47,9 @@ MESSAGES = ("message_1", "message_2", "message_3", "message_4", "message_5")
 FOLD_READS = "a_matrix b_matrix c_matrix d_matrix whole constant_terms projections psi omega alpha delta c witness".split()
 NOT_DRAWN = {"whole": [], "constant_terms": [], "psi": [], "witness": []}
 FOLD_WRITES = "z_digits t_digits g_digits h_digits u1 p second_b u2".split()
+
+# The program's room.
+LARGEST_LINE_NUMBERS = 4096
 
 # The longest list that is written, by kind.
 LONGEST = {1: 24840, 3: 2408}
@@ -117,9 +121,15 @@ def twice(s, x, following, draws, expected):
 RUNS = {1: next_instance, 2: part, 3: twice}
 
 
+def run_groups(groups, rng):
+    return [RUNS[kind](*case) for group in groups for kind, *case in group(rng)]
+
+
 def files():
-    rng = random.Random(30)
-    cases = [RUNS[kind](*case) for group in next_groups.GROUPS for kind, *case in group(rng)]
+    with kept_draws():
+        cases = run_groups(next_groups.KEPT_GROUPS, random.Random(30))
+    cases += run_groups(next_groups.GROUPS, random.Random(31))
+    assert max(len(line) for line, _ in cases) <= LARGEST_LINE_NUMBERS
     yield "crates/next_cases/stdin", numbers_text(line for line, _ in cases)
     yield "crates/next_cases/stdout", numbers_text(output for _, output in cases)
 

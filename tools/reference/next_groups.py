@@ -1,8 +1,9 @@
 """The cases of next_cases.py: kind, and then what its function there takes."""
 
+import fold
 import ring
 import sizes
-from fixtures import least_beta_squared, moved, replaced, whole_case
+from fixtures import least_beta_squared, moved, replaced, short_lists, sides_of_challenges, whole_case
 from next_fixtures import FIRST, honest_lists, two_folds
 from sizes import CALLS, LENGTHS
 
@@ -120,6 +121,21 @@ def refused(rng):
     yield (1, s._replace(nu=8), y | {"c": y["c"] + [3]}, room)
 
 
+def challenge_sides(rng):
+    """Both sides of the rule for challenges at degrees 64 and 32; at 64, 8 and 9 come before 10."""
+    lists = {}
+    for _, shape, _, c in sides_of_challenges(rng):
+        s = FIRST._replace(K=0, **shape)
+        if (s.d, s.r) not in lists:
+            lists[s.d, s.r] = fold.honest(s, short_lists(rng, s))
+        yield (1, s, lists[s.d, s.r] | {"c": c})
+    s = FIRST._replace(d=64, K=0, w=1)
+    y = {name: [0] * LENGTHS[name](s) for name in CALLS["next_instance"].reads}
+    yield (1, s, y)
+    yield (1, s, replaced(y, "projections", -1, 2))
+    yield (1, s, replaced(y, "u1", 0, -ring.LARGEST - 1))
+
+
 # Cases of kind 2
 
 def places(s):
@@ -181,4 +197,6 @@ def folded_twice(rng):
         yield (3, *case)
 
 
-GROUPS = (whole_case_cut, every_degree, bases, sides, judged, refused, all_parts, refused_parts, folded_twice)
+# Those whose challenges of degree 64 are kept ones (kept_draws), and the others.
+KEPT_GROUPS = (whole_case_cut, every_degree, bases, sides, judged, refused, all_parts, refused_parts, folded_twice)
+GROUPS = (challenge_sides,)

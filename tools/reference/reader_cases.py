@@ -1,7 +1,7 @@
 """Stored input and output of the test program for the calls that read and write a sheet, crates/sheet_cases.
 
 Input: stored.sheets_text, then the cases of writer_cases.py. Output: five lines for each case here, then those of writer_cases.py.
-Honest sheets are kept ones: their openings are by the older rule of the low digit (ring.kept_rule).
+Honest sheets are kept ones, but for challenge_sides: their openings are by the older rule of the low digit (ring.kept_rule).
 
     count                           how many numbers the header's sizes give
     kind number header shown(X)     three times, for a slice of one number less than the count, of as many, and of one more: the reader's
@@ -18,7 +18,7 @@ import sys
 import ring
 import sheet
 import writer_cases
-from fixtures import SMALL, honest, replaced, whole_case_text
+from fixtures import SMALL, honest, replaced, sides_of_challenges, whole_case_text
 from sheet_faults import ROWS, header_with
 from stored import FILL, answer_numbers, numbers_text, sheets_text, shown, write
 
@@ -58,6 +58,14 @@ def refused_sheets(rng):
         yield f"numbers refused by {name}, a byte more", sheet.write_sheet(s, numbers) + b" "
 
 
+def challenge_sides(rng):
+    """Both sides of the rule for challenges at degrees 64 and 32; 8 before 10."""
+    for name, shape, _, c in sides_of_challenges(rng, few=True):
+        yield name, sheet.write_sheet(*honest(rng, SMALL._replace(K=0, **shape), c=c))
+    s, y = honest(rng, SMALL._replace(d=64, K=0), c=ring.zero(64))
+    yield "d = 64, numbers refused by 8, 10", sheet.write_sheet(s, replaced(y, "opening", -1, 2147483599))
+
+
 def case_lines(text):
     """The output of a case, as lists of numbers."""
     count = sheet.sheet_numbers(text)
@@ -71,7 +79,8 @@ def case_lines(text):
 def all_cases():
     rng = random.Random(14)
     with ring.kept_rule():
-        return [case for group in (good_sheets, refused_sheets) for case in group(rng)]
+        cases = [case for group in (good_sheets, refused_sheets) for case in group(rng)]
+    return cases + list(challenge_sides(random.Random(17)))
 
 
 def files():

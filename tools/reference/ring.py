@@ -18,7 +18,13 @@ LARGEST = 2147483598
 # "Half of a value is its product with 2147483599 modulo q."
 INVERSE_OF_TWO = 2147483599
 
-# "A challenge c has coefficients -2 to 2 and squared length at most 71."
+# "at degree 64, exactly 23 coefficients are zero, 31 are +1 or -1, and 10 are +2 or -2."
+COUNTED_DEGREE = 64
+CHALLENGE_ZEROS = 23
+CHALLENGE_ONES = 31
+CHALLENGE_TWOS = 10
+
+# "At each smaller degree, a challenge c has coefficients -2 to 2 and squared length at most 71."
 CHALLENGE_COEFFICIENT = 2
 CHALLENGE_SQUARED_NORM = 71
 
@@ -200,6 +206,19 @@ def are_projection_entries(numbers):
     return all(x in (-1, 0, 1) for x in numbers)
 
 
-def is_challenge(c):
-    """ "A challenge c has coefficients -2 to 2 and squared length at most 71." """
+def is_counted_challenge(c):
+    """ "at degree 64, exactly 23 coefficients are zero, 31 are +1 or -1, and 10 are +2 or -2." """
+    counts = [sum(abs(x) == size for x in c) for size in (0, 1, 2)]
+    return counts == [CHALLENGE_ZEROS, CHALLENGE_ONES, CHALLENGE_TWOS]
+
+
+def is_short_challenge(c):
+    """ "At each smaller degree, a challenge c has coefficients -2 to 2 and squared length at most 71." Kept openings of degree 64 "were made
+    under the rule of the smaller degrees".
+    """
     return all(abs(x) <= CHALLENGE_COEFFICIENT for x in c) and squared_norm(c) <= CHALLENGE_SQUARED_NORM
+
+
+def is_challenge(c):
+    """Row 10: "challenge outside the rule (5.1)"; true where c, a list of d numbers, keeps it."""
+    return is_counted_challenge(c) if len(c) == COUNTED_DEGREE else is_short_challenge(c)

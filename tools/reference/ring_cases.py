@@ -11,7 +11,7 @@ import random
 
 import ring
 import stored
-from fixtures import BASES, counted, uniform
+from fixtures import BASES, challenge, counted, sides_of_challenges, uniform
 from relation import cut, elements, flat
 from ring import DEGREES, LARGEST
 
@@ -228,6 +228,21 @@ def predicate_cases(rng):
     return cases
 
 
+def challenge_cases(rng):
+    """Operation 15: drawn lists of every degree; at 64 and 32 both sides of the rule, four times; at 64 all counts of ones and twos near the right
+    ones.
+    """
+    cases = [(15, d, *challenge(rng, d)) for d in DEGREES for _ in range(2)]
+    for _ in range(4):
+        for _, shape, _, c in sides_of_challenges(rng):
+            if shape["r"] == 1:
+                cases.append((15, shape["d"], *c))
+    for ones in range(29, 34):
+        for twos in range(8, 13):
+            cases.append((15, 64, *counted(rng, 64, twos, ones)))
+    return cases
+
+
 def norm_cases(rng):
     """Operations 16 and 17: bounds just met and just missed, and sums that pass 2^63 and 2^64."""
     # Squares that add to 2^63 - 1.
@@ -280,7 +295,7 @@ def c_product_cases(rng):
 
 
 def all_cases():
-    """Every case, in the order of the operations; last those on halves that are not among them."""
+    """Every case, in the order of the operations; last those on halves and on challenges that are not among them."""
     rng = random.Random(20)
     cases = []
     for group in (
@@ -288,7 +303,9 @@ def all_cases():
         c_product_cases,
     ):
         cases += group(rng)
-    return cases + [case for case in half_cases() if case not in cases]
+    for group in (half_cases(), challenge_cases(random.Random(21))):
+        cases += [case for case in group if case not in cases]
+    return cases
 
 
 def files():

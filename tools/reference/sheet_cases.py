@@ -6,7 +6,8 @@
 The input of all cases: stored.sheets_text. With the argument `names` the script prints a line for each case: its number, its answer, its
 count of bytes, its group and name; last the count of cases by answer.
 
-Honest sheets are kept ones, but for even_halves: their openings are by the older rule of the low digit (ring.kept_rule).
+Honest sheets are kept ones, but for the last two groups: their openings are by the older rule of the low digit (ring.kept_rule), their
+challenges of degree 64 by the rule of the smaller degrees (kept_draws).
 
 Groups, in sheet_checks.py, sheet_numbers.py and sheet_faults.py; a case's name says what is changed.
 
@@ -22,7 +23,7 @@ Groups, in sheet_checks.py, sheet_numbers.py and sheet_faults.py; a case's name 
     changed_numbers        one number of an honest sheet changed, in range
     ends_of_the_range      ±2147483598 and ±2147483599 in every list; numbers that 32 bits would cut to a good one
     order_of_numbers       8, 9, 10 by number and not by place; 12 before them
-    challenges             coefficients ±2 and ±3; squared length 71 and 72; honest sheets of degree 64
+    challenges             coefficients ±2 and ±3; squared length 71 and 72, also of kept sheets of degree 64
     longest_texts          65536 and 65537 bytes; r = 16
     field_faults           one field broken
     line_faults            one line broken
@@ -31,6 +32,7 @@ Groups, in sheet_checks.py, sheet_numbers.py and sheet_faults.py; a case's name 
     header_over_a_body     the same over a good body
     header_order           two rows of the header at once; a row and the layout
     even_halves            z, t, g and h with numbers half a base from two multiples; honest sheets by the rule, and by the older one
+    challenge_sides        challenges of degree 64 by their counts, of one part and of two; of degree 32 by their squared length
 """
 
 import random
@@ -43,7 +45,7 @@ import sheet_checks
 import sheet_faults
 import sheet_numbers
 import stored
-from fixtures import ACCEPTED, whole_case_text
+from fixtures import ACCEPTED, kept_draws, whole_case_text
 
 
 def judged(group, *arguments):
@@ -59,9 +61,11 @@ def all_cases():
     """The cases of all groups."""
     rng = random.Random(12)
     groups = [(group, rng) for group in sheet_checks.GROUPS + sheet_numbers.GROUPS] + [(group,) for group in sheet_faults.GROUPS]
-    with ring.kept_rule():
-        kept = [case for group in groups for case in judged(*group)]
-    return kept + list(judged(sheet_checks.even_halves, random.Random(15)))
+    with ring.kept_rule(), kept_draws():
+        cases = [case for group in groups for case in judged(*group)]
+    for group, seed in ((sheet_checks.even_halves, 15), (sheet_numbers.challenge_sides, 16)):
+        cases += judged(group, random.Random(seed))
+    return cases
 
 
 def files():

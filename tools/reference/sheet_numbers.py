@@ -6,7 +6,7 @@ import fold
 import ring
 import sheet
 import sheet_faults
-from fixtures import ACCEPTED, OPEN, SMALL, honest, moved, refused, replaced
+from fixtures import ACCEPTED, OPEN, SMALL, honest, moved, refused, replaced, sides_of_challenges
 from sizes import SHEET_LISTS, Sizes
 
 
@@ -77,8 +77,17 @@ def challenges(rng):
     yield "d = 32, squared length 72", refused(10), (bounds, y | {"c": c72})
     bounds, y = honest(rng, SMALL._replace(d=64, K=0), c=[2, 1, 0, -1] * 10 + [1, 0, -2, 0] * 2 + [1] + [0] * 15)
     assert ring.squared_norm(y["c"]) == 71
-    yield "d = 64, squared length 71", ACCEPTED, (bounds, y)
+    yield "d = 64, squared length 71 by other counts", refused(10), (bounds, y)
     yield "d = 64, squared length 72", refused(10), (bounds, moved(y, "c", -1))
+
+
+def challenge_sides(rng):
+    """Honest sheets but for their challenges; those of degree 64 whose counts are others could be kept ones."""
+    for name, shape, taken, c in sides_of_challenges(rng, few=True):
+        yield name, ACCEPTED if taken else refused(10), honest(rng, SMALL._replace(K=0, **shape), c=c)
+    s, y = honest(rng, SMALL._replace(d=64, K=0, w=1), c=ring.zero(64))
+    yield "d = 64, 9, 10", refused(9), (s, replaced(y, "projections", -1, 2))
+    yield "d = 64, 8 late, 10", refused(8), (s, replaced(y, "opening", -1, ring.LARGEST + 1))
 
 
 # Long texts

@@ -195,7 +195,7 @@ def number_refusal(s, lists):
     # 9: "projection entry not -1, 0, 1"
     if "projections" in lists and not are_projection_entries(lists["projections"]):
         return 9
-    # 10: "challenge outside the rule"
+    # 10: "challenge outside the rule (5.1)"
     if "c" in lists:
         challenges = lists["c"]
         if not all(is_challenge(challenges[k : k + s.d]) for k in range(0, len(challenges), s.d)):

@@ -21,7 +21,7 @@ from collections import Counter
 
 import ring
 import sheet
-from fixtures import OPEN, SMALL, challenges, counted, uniform, whole_case
+from fixtures import OPEN, SMALL, challenges, counted, sides_of_challenges, uniform, whole_case
 from sheet_faults import SIZE_SIDES
 from sheet_numbers import ONE_MORE
 from sizes import LARGEST_BOUND, LENGTHS, SHEET_LISTS, Sizes
@@ -44,7 +44,7 @@ def any_width(rng):
 
 
 def drawn(rng, s):
-    """Numbers that the reader takes; no check is asked of them."""
+    """Numbers that the reader takes, but at degree 64, where c is a kept one; no check is asked of them."""
     y = {name: [any_width(rng) for _ in range(LENGTHS[name](s))] for name in SHEET_LISTS}
     y["projections"] = uniform(rng, 1, LENGTHS["projections"](s))
     # squared length 71 where the degree allows it
@@ -83,7 +83,7 @@ def in_rooms(name, s, numbers, more=(-1, 0, 5)):
 
 
 def good_numbers(rng):
-    """The whole case; every degree; lists of every kind and none of it, so that lines of one number stand before and after each kind of list."""
+    """The whole case; every degree, 64 with a kept challenge, which is refused; lists of every kind and none of it, so that lines of one number stand before and after each kind of list."""
     yield from in_rooms("whole case", *whole_numbers())
     for d in ring.DEGREES:
         s = SMALL._replace(d=d, K=0)
@@ -210,6 +210,22 @@ def refused_numbers(rng):
     yield "d = 32, c of squared length 72", s, numbers[:at] + counted(rng, 32, 16, 8) + numbers[at + 32 :], sheet.text_length(s)
 
 
+def challenge_sides(rng):
+    """Both sides of the rule for challenges at degrees 64 and 32; 8 before 10, and 10 before 13."""
+
+    def with_c(s, numbers, c):
+        at = list_place(s, "c", 0)
+        return numbers[:at] + c + numbers[at + len(c) :]
+
+    for name, shape, _, c in sides_of_challenges(rng, few=True):
+        s = SMALL._replace(K=0, **shape)
+        yield name, s, with_c(s, drawn(rng, s), c), sheet.text_length(s)
+    s = SMALL._replace(d=64, K=0)
+    numbers = with_c(s, drawn(rng, s), ring.zero(64))
+    yield "d = 64, rows 8 and 10", s, with_number(s, numbers, "opening", -1, ring.LARGEST + 1), sheet.text_length(s)
+    yield "d = 64, rows 10 and 13", s, numbers, sheet.text_length(s) - 1
+
+
 # One fault for each row, in sizes, numbers or room.
 FAULTS = {
     1: lambda s, numbers, room: (s._replace(d=3), numbers, room),
@@ -257,8 +273,8 @@ GROUPS = (good_numbers, buffers, widths, long_texts, header_sides, huge_sizes, c
 
 def all_cases():
     """The cases as (group, name, sizes, numbers, room)."""
-    rng = random.Random(15)
-    return [(group.__name__, *case) for group in GROUPS for case in group(rng)]
+    groups = zip(GROUPS + (challenge_sides,), [random.Random(15)] * len(GROUPS) + [random.Random(16)])
+    return [(group.__name__, *case) for group, rng in groups for case in group(rng)]
 
 
 def input_text(s, numbers, room):
