@@ -11,7 +11,7 @@ import ring
 import sheet
 import stored
 from fixtures import (
-    ACCEPTED, OPEN, SMALL, block_starts, challenges, failed, least_bounds, moved, refused, replaced, uniform, whole_case_text,
+    ACCEPTED, OPEN, SMALL, block_starts, challenges, counted, failed, least_bounds, moved, refused, replaced, uniform, whole_case_text,
     with_commitments, with_constraints,
 )
 from sizes import LENGTHS, Sizes
@@ -22,16 +22,27 @@ PARTS = Sizes(
 )
 
 
-def parts():
-    """Sizes and lists of an honest run with three parts; its numbers are small, that it may be read."""
+# Two parts of one element, one whole constraint, one projection row, at degree 64.
+DEGREE_64 = SMALL._replace(d=64, r=2, w=1, b=8)
+
+
+def small_run(s, c=None):
+    """Sizes and lists of an honest run; its numbers are small, that it may be read. `c` are other challenges than those that are drawn."""
     rng = random.Random(3)
-    s = PARTS
     names = "a_matrix b_matrix c_matrix d_matrix psi omega alpha delta witness".split()
     x = {name: uniform(rng, 2, LENGTHS[name](s)) for name in names}
     x["c"] = challenges(rng, s)
     x["projections"] = uniform(rng, 1, LENGTHS["projections"](s))
-    y = fold.honest(s, with_constraints(s, x, lambda count: uniform(rng, 2, count)))
+    x = with_constraints(s, x, lambda count: uniform(rng, 2, count))
+    y = fold.honest(s, x | {"c": c or x["c"]})
     return least_bounds(s, y), y
+
+
+def kept_challenges(y):
+    """The challenges with another in place of the last, which kept the rule of the smaller degrees: of squared length 71, by other counts."""
+    c = y["c"][:64] + counted(random.Random(4), 64, 9, 35)
+    assert ring.squared_norm(c[64:]) == 71 and ring.is_short_challenge(c[64:])
+    return c
 
 
 def carried_z(s, y):
@@ -48,7 +59,7 @@ def examples():
     whole = whole_case_text()
     yield "whole-case", ACCEPTED, whole
     yield "whole-case-too-long", failed(9), whole_case_text(target_beta_squared=12)
-    s, y = parts()
+    s, y = small_run(PARTS)
     yield "parts", ACCEPTED, sheet.write_sheet(s, y)
     yield "parts-wide-digits", ACCEPTED, sheet.write_sheet(least_bounds(s, carried_z(s, y)), carried_z(s, y))
     yield "projection-too-long", failed(1), sheet.write_sheet(s._replace(beta_squared=s.beta_squared - 1), y)
@@ -58,6 +69,11 @@ def examples():
     yield "wrong-challenge", refused(10), sheet.write_sheet(s, replaced(y, "c", 5, 3))
     yield "number-out-of-range", refused(8), sheet.write_sheet(s, replaced(y, "u2", 0, ring.LARGEST + 1))
     yield "broken-field", refused(12), whole.replace(sheet.line_text([2, 2]), sheet.line_text([2, 2]).replace(b" 2\n", b"2a\n"))
+    s, y = small_run(DEGREE_64)
+    yield "degree-64", ACCEPTED, sheet.write_sheet(s, y)
+    kept_bounds, kept = small_run(DEGREE_64, kept_challenges(y))
+    assert kept_bounds.target_beta_squared <= s.target_beta_squared
+    yield "kept-challenge", refused(10), sheet.write_sheet(s, kept)
 
 
 def largest_rank(d, r):

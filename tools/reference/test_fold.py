@@ -7,7 +7,8 @@ import ring
 import sheet
 import sizes
 from fixtures import (
-    ACCEPTED, bounded, challenge, check_faults, failed, honest_case, random_lists, random_sizes, refused, whole_case, whole_case_text,
+    ACCEPTED, SMALL, bounded, challenge, check_faults, counted, failed, honest, honest_case, random_lists, random_sizes, refused, replaced,
+    sides_of_challenges, whole_case, whole_case_text,
 )
 from sizes import LARGEST_BOUND, Sizes
 
@@ -37,12 +38,15 @@ def test_bench_values_at_the_sides():
     assert sizes.size_refusal(Sizes._fields, s._replace(r=17)) == 2
     assert sizes.size_refusal(Sizes._fields, s._replace(beta_squared=999999999999999)) == 0
     assert sizes.size_refusal(Sizes._fields, s._replace(beta_squared=1000000000000000)) == 6
+    c71 = [2] * 17 + [1] * 3 + [0] * 12
+    c72 = [2] * 18 + [0] * 14
+    assert ring.squared_norm(c71) == 71 and ring.is_challenge(c71)
+    assert ring.squared_norm(c72) == 72 and not ring.is_challenge(c72)
+    # "At degree 64, 23 zeros, 31 of ±1 and 10 of ±2 are taken; with one of them one more and another one less c is refused, and so is a c of
+    # squared length 71 with other counts: 20, 35 and 9; 26, 27 and 11; 32, 19 and 13."
     assert 31 + 10 * 4 == 71
-    for d in (32, 64):
-        c71 = [2] * 17 + [1] * 3 + [0] * (d - 20)
-        c72 = [2] * 18 + [0] * (d - 18)
-        assert ring.squared_norm(c71) == 71 and ring.is_challenge(c71)
-        assert ring.squared_norm(c72) == 72 and not ring.is_challenge(c72)
+    for zeros, ones, twos in ((23, 31, 10), (24, 30, 10), (22, 31, 11), (23, 32, 9), (20, 35, 9), (26, 27, 11), (32, 19, 13)):
+        assert ring.is_challenge([0] * zeros + [-1] * ones + [2] * twos) == ((zeros, ones) == (23, 31))
     fits = s._replace(r=8, kappa=7, t1=4, t2=4, mu=2)
     above = s._replace(r=9, kappa=6, t1=2, t2=7, mu=2)
     largest = s._replace(r=16, kappa=8, t1=8, t2=8)
@@ -117,6 +121,49 @@ def test_degree_64():
     assert fold.solves(fold.next_statement(s, y), fold.next_witness(s, y))
     s = s._replace(target_beta_squared=s.target_beta_squared - 1)
     assert fold.answer("verify", s, y) == failed(9)
+
+
+def test_sides_of_challenges():
+    """Message 5, the verifier and the next instance on both sides of the rule for challenges; honest but for them. 8 and 9 come before 10."""
+    rng = random.Random(11)
+    for name, shape, taken, c in sides_of_challenges(rng):
+        s = SMALL._replace(K=0, **shape)
+        x = random_lists(rng, s, True) | {"c": c}
+        y = fold.honest(s, x)
+        assert fold.answer("message_5", s, x)[0] == ("written" if taken else "refused"), name
+        assert fold.answer("verify", s, y) == (ACCEPTED if taken else refused(10)), name
+        # the checks hold whatever the challenges are
+        assert fold.verdict(s, y) == ACCEPTED
+        for call in ("message_5", "next_instance"):
+            assert sizes.refusal(call, s, x | y) == (0 if taken else 10), (name, call)
+        for call in ("message_1", "message_2", "message_3", "message_4"):
+            assert sizes.refusal(call, s, x | y) == 0
+    s, y = honest(rng, SMALL._replace(d=64, w=1), c=ring.zero(64))
+    assert fold.answer("verify", s, y) == refused(10)
+    assert fold.answer("verify", s, replaced(y, "projections", -1, 2)) == refused(9)
+    assert fold.answer("verify", s, replaced(y, "opening", -1, ring.LARGEST + 1)) == refused(8)
+    assert fold.answer("verify", s, replaced(y, "c", 0, ring.LARGEST)) == refused(10)
+    assert fold.answer("verify", s, replaced(y, "c", 0, ring.LARGEST + 1)) == refused(8)
+
+
+def test_honest_runs_at_degree_64():
+    """Demand 3 with challenges as they are drawn; with a kept one the verifier refuses what was accepted."""
+    rng = random.Random(12)
+    for changes in ({}, {"n": 2, "L": 1}, {"r": 2, "w": 2}, {"r": 3, "K": 2, "b": 2}):
+        s = SMALL._replace(d=64, **changes)
+        x = random_lists(rng, s, True)
+        y = fold.honest(s, x)
+        p, length = 2 * ring.squared_norm(y["p"]), ring.squared_norm(y["opening"])
+        for s, expected in (
+            (s, ACCEPTED), (s._replace(target_beta_squared=length), ACCEPTED), (s._replace(target_beta_squared=length - 1), failed(9)),
+            (s._replace(beta_squared=0, target_beta_squared=0), failed(1) if p else failed(9)),
+        ):
+            assert fold.answer("verify", s, y) == expected
+    s = SMALL._replace(d=64)
+    for twos, ones in ((17, 3), (9, 35), (8, 37), (0, 0)):
+        kept = counted(rng, 64, twos, ones)
+        y = fold.honest(s, random_lists(rng, s, True) | {"c": kept})
+        assert ring.is_short_challenge(kept) and fold.verdict(s, y) == ACCEPTED and fold.answer("verify", s, y) == refused(10)
 
 
 def test_first_failing_check():

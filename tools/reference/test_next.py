@@ -5,7 +5,7 @@ import random
 import fold
 import ring
 import sizes
-from fixtures import ACCEPTED, honest_case, moved, random_lists, whole_case
+from fixtures import ACCEPTED, counted, honest_case, moved, random_lists, refused, sides_of_challenges, whole_case
 from next_fixtures import FIRST, second_draws, second_fold, second_sizes
 
 
@@ -111,3 +111,33 @@ def test_the_next_instance_is_folded_in_turn():
     s = s._replace(target_beta_squared=ring.squared_norm(fold.honest(s, x)["opening"]))
     following = second_sizes(s, w=0, b=65536)
     assert fold.answer("verify", following, second_fold(s, x, following, second_draws(rng, following))) == ACCEPTED
+
+
+def test_two_folds_at_degree_64():
+    """Both folds with challenges as they are drawn; each is refused where one of its challenges has other counts."""
+    rng = random.Random(8)
+    s = FIRST._replace(d=64, K=0, b=1000)
+    x = random_lists(rng, s, True)
+    s = s._replace(target_beta_squared=ring.squared_norm(fold.honest(s, x)["opening"]))
+    following = second_sizes(s, b=65536, b2=65536)
+    draws = second_draws(rng, following)
+    second = second_fold(s, x, following, draws)
+    assert fold.answer("verify", following, second) == ACCEPTED
+    other = counted(rng, 64, 9, 35)
+    for place in range(following.r):
+        c = second["c"][: 64 * place] + other + second["c"][64 * place + 64 :]
+        assert fold.answer("verify", following, second | {"c": c}) == refused(10)
+    y = fold.honest(s, x | {"c": other})
+    assert fold.answer("next_instance", s, y) == refused(10)
+
+
+def test_next_instance_on_both_sides_of_the_rule():
+    """Written exactly where the rule takes each challenge, and then the padded opening solves it."""
+    rng = random.Random(9)
+    for name, shape, taken, c in sides_of_challenges(rng, few=True):
+        s = FIRST._replace(K=0, **shape)
+        y = fold.honest(s, random_lists(rng, s, True) | {"c": c})
+        kind, content = fold.answer("next_instance", s, y)
+        assert (kind == "written") == taken and (taken or content == 10), name
+        if taken:
+            assert fold.solves(fold.next_statement(s, y), fold.next_witness(s, y))

@@ -3,7 +3,7 @@
 import random
 
 import ring
-from fixtures import BASES, coefficients
+from fixtures import BASES, challenge, coefficients, counted, kept_draws, sides_of_challenges, uniform
 
 
 def test_bench_values_of_the_ring():
@@ -101,3 +101,71 @@ def test_kept_rule():
                 split = ring.digits(base, 3, x)
                 assert all(-base <= 2 * digit < base for digit in split[:-1]) and ring.recompose(base, split) == x
     assert ring.digits(4, 2, 2) == [2, 0]
+
+
+def test_counts_of_challenges():
+    """All counts of zeros, ones and twos: at degree 64 exactly one is taken, at each smaller degree those of squared length at most 71."""
+    for d in ring.DEGREES:
+        taken = []
+        for twos in range(d + 1):
+            for ones in range(d - twos + 1):
+                c = [1, -1] * (ones // 2) + [1] * (ones % 2) + [-2] * twos + [0] * (d - ones - twos)
+                assert ring.is_short_challenge(c) == (ones + 4 * twos <= 71)
+                if ring.is_challenge(c):
+                    taken.append((d - ones - twos, ones, twos))
+                assert d == 64 or ring.is_challenge(c) == ring.is_short_challenge(c)
+        assert d < 64 or taken == [(23, 31, 10)]
+    assert 23 + 31 + 10 == 64 and 31 + 10 * 4 == 71
+
+
+def laws_of_challenges(c):
+    """ "At every degree no coefficient of a challenge has an absolute value above 2, and the absolute values sum to at most 71." "Every challenge
+    of degree 64 keeps the rule of the smaller degrees too". """
+    assert ring.is_challenge(c) and ring.is_short_challenge(c)
+    assert max(map(abs, c)) <= 2 and sum(map(abs, c)) <= 71 and ring.squared_norm(c) <= 71
+
+
+def test_drawn_challenges():
+    """They keep the rule and its laws; at degree 64 the counts are right, and every number is seen at every place."""
+    rng = random.Random(3)
+    for d in ring.DEGREES:
+        drawn = [challenge(rng, d) for _ in range(200)]
+        for c in drawn:
+            laws_of_challenges(c)
+    for c in drawn:
+        assert [sum(abs(x) == size for x in c) for size in (0, 1, 2)] == [23, 31, 10] and ring.squared_norm(c) == 71
+    assert all({c[k] for c in drawn} == {-2, -1, 0, 1, 2} for k in range(64))
+
+
+def test_kept_draws():
+    """Within it challenges of degree 64 keep the rule of the smaller degrees, and their counts are any; those of smaller degrees are the same."""
+    with kept_draws():
+        kept = challenge(random.Random(4), 64)
+        smaller = [challenge(random.Random(5), d) for d in ring.DEGREES[:-1]]
+    assert ring.is_short_challenge(kept) and not ring.is_challenge(kept)
+    assert smaller == [challenge(random.Random(5), d) for d in ring.DEGREES[:-1]]
+    assert ring.is_challenge(challenge(random.Random(4), 64))
+
+
+def test_sides_of_challenges():
+    """Each list at the sides of the rule is taken or not as it says; a change of one coefficient of a challenge of degree 64 leaves it one only
+    where the absolute value stays.
+    """
+    rng = random.Random(6)
+    for few in (False, True):
+        for name, shape, taken, c in sides_of_challenges(rng, few):
+            lists = [c[k : k + shape["d"]] for k in range(0, len(c), shape["d"])]
+            assert len(lists) == shape["r"] and all(map(ring.is_challenge, lists)) == taken, name
+            if taken:
+                for each in lists:
+                    laws_of_challenges(each)
+    c = challenge(rng, 64)
+    for place in range(64):
+        for number in (*range(-4, 5), 255, 258, 65537, ring.LARGEST, -ring.LARGEST, 2**31 - 1, -(2**31)):
+            changed = c[:place] + [number] + c[place + 1 :]
+            assert ring.is_challenge(changed) == (abs(number) == abs(c[place]))
+    # lists of any small numbers: the counts decide
+    for _ in range(300):
+        c = uniform(rng, 2, 64)
+        assert ring.is_challenge(c) == (sorted(map(abs, c)) == [0] * 23 + [1] * 31 + [2] * 10)
+    assert ring.is_challenge(counted(rng, 64, 10, 31))

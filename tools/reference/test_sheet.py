@@ -10,7 +10,7 @@ import ring
 import sheet
 import sheet_cases
 import sizes
-from fixtures import honest_case, random_sizes, refused, whole_case, whole_case_text
+from fixtures import ACCEPTED, SMALL, honest, honest_case, random_sizes, refused, sides_of_challenges, whole_case, whole_case_text
 from sheet_faults import SIZE_SIDES
 from sizes import Sizes
 from writer_cases import FAULTS, LONG, MIXED, drawn, with_faults
@@ -184,6 +184,24 @@ def test_writer_refusals():
                     assert sheet.sheet_bytes(s) == sheet.text_length(s)
     refuses(1, Sizes(*[2**64 - 1] * 18), [], 0)
     refuses(2, Sizes(2, *[2**64 - 1] * 17), numbers, 5000)
+
+
+def test_sides_of_challenges():
+    """Reader, writer and judge on both sides of the rule for challenges at degrees 64 and 32."""
+    rng = random.Random(18)
+    for name, shape, taken, c in sides_of_challenges(rng):
+        s, y = honest(rng, SMALL._replace(K=0, **shape), c=c)
+        text, numbers = sheet.write_sheet(s, y), sheet.flat_numbers(y)
+        assert sheet.judge(text) == (ACCEPTED if taken else refused(10)), name
+        assert sheet.read_sheet(text) == (("read", (s, y)) if taken else refused(10)), name
+        answer, length, buffer = sheet.write_into(s, numbers, marked(len(text)))
+        if taken:
+            assert (answer, length, buffer) == (("written", 0), len(text), text), name
+        else:
+            assert (answer, length, buffer) == (refused(10), 0, marked(len(text))), name
+            assert sheet.write_into(s, numbers, b"")[0] == refused(10)
+            assert sheet.read_sheet(text, len(numbers) - 1) == refused(7)
+            assert sheet.judge(text + b" ") == refused(12)
 
 
 def test_texts_written_again():
