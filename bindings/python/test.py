@@ -22,7 +22,7 @@ import lizkarg
 import ring
 import sheet
 import sizes as reference
-from fixtures import challenges, random_sizes, uniform
+from fixtures import SMALL, challenges, honest, random_lists, random_sizes, sides_of_challenges, uniform
 from library import library_sizes as taken
 from library import library_verdict
 from lizkarg import Accepted, Failed, Proof, Refused
@@ -129,6 +129,25 @@ def test_refusals():
     assert refusal(lizkarg.next_witness, z, 8, 1, proof.opening) == 5
 
 
+def test_challenges():
+    """Both sides of the rule for challenges at degrees 64 and 32, through every call that takes them."""
+    rng = random.Random(12)
+    for name, shape, allowed, c in sides_of_challenges(rng):
+        s = SMALL._replace(K=0, **shape)
+        x = random_lists(rng, s, True) | {"c": c}
+        s, y = honest(rng, s, **x)
+        z, cut, proof, text, row = taken(s), (s.nu, s.mu), Proof(**y), sheet.write_sheet(s, y), 0 if allowed else 10
+        assert refusal(lizkarg.amortize, z, c, x["witness"]) == row, name
+        assert refusal(lambda: lizkarg.prove(z, **{name: x[name] for name in GIVEN})) == row, name
+        for call, arguments in (
+            (lizkarg.verify, (z, proof)), (lizkarg.next_instance, (z, *cut, proof)), (lizkarg.read_sheet, (text,)),
+            (lizkarg.judge_sheet, (text,)), (lizkarg.write_sheet, (z, *cut, proof)),
+        ):
+            assert refusal(call, *arguments) == row, (name, call)
+        if allowed:
+            assert lizkarg.verify(z, proof) == lizkarg.judge_sheet(text) == Accepted() and lizkarg.write_sheet(z, *cut, proof) == text
+
+
 def test_refusals_of_the_writer():
     s, _, y = case.honest()
     z, cut, proof = taken(s), (s.nu, s.mu), Proof(**y)
@@ -205,7 +224,7 @@ def test_written_examples():
         assert read == write, known
         assert write or lizkarg.write_sheet(taken(s), s.nu, s.mu, Proof(**lists)) == text, known
         answers.append(write)
-    assert sorted(answers) == [0, 0, 0, 0, 0, 0, 8, 10]
+    assert sorted(answers) == [0, 0, 0, 0, 0, 0, 0, 8, 10, 10]
 
 
 def test_written_corpus():
@@ -223,7 +242,7 @@ def test_written_corpus():
         read = lizkarg.read_sheet(text)
         assert lizkarg.write_sheet(read.sizes, read.nu, read.mu, read.proof) == text, number
         written += 1
-    assert at == len(cases) and written == 249
+    assert at == len(cases) and written == 253
 
 
 if __name__ == "__main__":

@@ -240,6 +240,72 @@ static void sheets(const stored *s) {
     free(numbers.at), free(longer.at), free(text);
 }
 
+/* ---- challenges */
+
+/* n = 1, r = 2, all other sizes the least: the elements of each list of a sheet, in its order, and of the next instance. */
+static const size_t ELEMENTS[17] = {1, 4, 6, 6, 0, 0, 1, 0, 0, 0, 0, 5, 0, 5, 1, 2, 18};
+enum { ALL_ELEMENTS = 49, NEXT_ELEMENTS = 330, CHALLENGES = 15 };
+
+/* The sheet of these sizes and numbers; every line has d fields. */
+static uint8_t *sheet_text(lizkarg_sizes z, list numbers, size_t size) {
+    uint64_t header[] = {z.d, z.n, z.r, z.k, z.l, z.w, z.kappa, z.kappa1, z.kappa2, z.b, z.b1, z.b2, z.t1, z.t2, 1, 1, z.bound, z.target};
+    char *text = room(size + 1, 1), *at = text;
+    for (int i = 0; i < 18; i++) at += sprintf(at, "%16llu", (unsigned long long)header[i]);
+    *at++ = '\n';
+    for (size_t i = 1; i <= numbers.length; i++) at += sprintf(at, i % z.d ? "%16ld" : "%16ld\n", (long)numbers.at[i - 1]);
+    HOLD((size_t)(at - text) == size);
+    return (uint8_t *)text;
+}
+
+/* c_1 and c_2 of degree d through every call that takes challenges, all other numbers zero: they are taken, or each call refuses them by 10. */
+static void through(size_t d, const int32_t *c, int taken) {
+    stored x = {0}, *s = &x;
+    list numbers = filled(ALL_ELEMENTS * d, 0), rest = numbers, witness = filled(2 * d, 0), z = blank(2 * d), next = blank(NEXT_ELEMENTS * d);
+    list *lists[] = {&x.a_matrix, &x.b_matrix, &x.c_matrix, &x.d_matrix, &x.whole, &x.constant_terms, &x.u1, &x.projections, &x.p, &x.psi, &x.omega,
+        &x.second_b, &x.alpha, &x.delta, &x.u2, &x.c, &x.opening};
+    for (int i = 0; i < 17; i++) *lists[i] = (list){rest.at, ELEMENTS[i] * d}, rest.at += ELEMENTS[i] * d;
+    memcpy(x.c.at, c, 2 * d * sizeof *c);
+    lizkarg_sizes sizes = {.d = d, .n = 1, .r = 2, .kappa = 1, .kappa1 = 1, .kappa2 = 1, .b = 4, .b1 = 4, .b2 = 4, .t1 = 2, .t2 = 2};
+    size_t size = lizkarg_sheet_bytes(sizes, 1, 1);
+    uint8_t *text = sheet_text(sizes, numbers, size), *again = room(size, 1);
+    int kind = taken ? LIZKARG_WRITTEN : LIZKARG_REFUSED, judged = taken ? LIZKARG_ACCEPTED : LIZKARG_REFUSED, number = taken ? 0 : 10;
+    ANSWER(lizkarg_amortize((lizkarg_shape){.d = d, .n = 1, .r = 2}, 4, OF(c), LIST(witness), LIST(z)), kind, number);
+    ANSWER(verify(s, sizes), judged, number);
+    ANSWER(next_instance(s, sizes, 1, 1, next), kind, number);
+    ANSWER(lizkarg_judge_sheet(text, size), judged, number);
+    list found = blank(numbers.length);
+    lizkarg_sheet read = lizkarg_read_sheet(text, size, LIST(found));
+    HOLD(read.kind == kind && read.number == number && (taken ? equal(found, numbers) : is_blank(found)));
+    lizkarg_text written = lizkarg_write_sheet(sizes, 1, 1, LIST(numbers), again, size);
+    HOLD(written.kind == kind && written.number == number && (taken ? !memcmp(again, text, size) : again[0] == 0));
+    HOLD(is_blank(z) == !taken && is_blank(next) == !taken);
+    free(numbers.at), free(witness.at), free(z.at), free(next.at), free(found.at), free(text), free(again);
+}
+
+/* So many coefficients 2 or -2, then 1 or -1, then 0. */
+static void counted(int32_t *c, size_t d, size_t ones, size_t twos) {
+    for (size_t i = 0; i < d; i++) c[i] = (i < twos ? 2 : i < twos + ones) * (i % 2 ? -1 : 1);
+}
+
+/* At degree 64 by their counts, at degree 32 by their squared length; a wrong one as the first and as the last. */
+static void challenges(void) {
+    static const struct { size_t d, ones, twos; int taken; } sides[CHALLENGES] = {
+        {64, 31, 10, 1}, {64, 30, 10, 0}, {64, 32, 10, 0}, {64, 31, 9, 0}, {64, 31, 11, 0}, {64, 32, 9, 0}, {64, 30, 11, 0}, {64, 35, 9, 0},
+        {64, 27, 11, 0}, {64, 19, 13, 0}, {64, 3, 17, 0}, {64, 0, 0, 0}, {32, 3, 17, 1}, {32, 0, 18, 0}, {32, 0, 0, 1}};
+    int32_t c[128];
+    name = "challenges";
+    for (int i = 0; i < CHALLENGES; i++)
+        for (int part = 0; part < 2; part++) {
+            size_t d = sides[i].d;
+            counted(c, d, 31 * (d == 64), 10), counted(c + d, d, 31 * (d == 64), 10);
+            counted(c + part * d, d, sides[i].ones, sides[i].twos);
+            through(d, c, sides[i].taken);
+        }
+    counted(c, 64, 31, 10), counted(c + 64, 64, 31, 10);
+    c[64] = 3;
+    through(64, c, 0);
+}
+
 static lizkarg_element element(int32_t zeroth, int32_t first, int32_t second) { return (lizkarg_element){{zeroth, first, second}}; }
 
 /* (1+2X)(3+4X) is -5+10X modulo X^2+1, 3+10X+8X^2 modulo X^4+1. */
@@ -264,6 +330,7 @@ int main(int argc, char **argv) {
         next(&s);
         sheets(&s);
     }
+    challenges();
     products();
     return report();
 }

@@ -143,6 +143,22 @@ static void next(const stored *s) {
     free(out.numbers);
 }
 
+/* ---- challenges */
+
+/* Two challenges of degree d, of so many ones and twos, all other numbers zero: they are taken, or each call refuses them by 10. */
+static void challenges(size_t d, size_t ones, size_t twos, int taken) {
+    lizkarg_sizes sizes = {.d = d, .n = 1, .r = 2, .kappa = 1, .kappa1 = 1, .kappa2 = 1, .b = 4, .b1 = 4, .b2 = 4, .t1 = 2, .t2 = 2};
+    lizkarg_list numbers = filled(lizkarg_proof_length(sizes), 0), witness = filled(2 * d, 0), out = filled(lizkarg_next_length(sizes, 1, 1), 77);
+    lizkarg_proof proof = lizkarg_proof_of(sizes, numbers);
+    for (size_t i = 0; i < 2 * d; i++) proof.c.numbers[i] = i % d < twos ? -2 : i % d < twos + ones;
+    int kind = taken ? LIZKARG_WRITTEN : LIZKARG_REFUSED, number = taken ? 0 : 10;
+    name = "challenges";
+    ANSWER(lizkarg_proof_amortize(sizes, witness, &proof), kind, number);
+    ANSWER(lizkarg_proof_verify(sizes, &proof), taken ? LIZKARG_ACCEPTED : LIZKARG_REFUSED, number);
+    ANSWER(lizkarg_proof_next_instance(sizes, 1, 1, &proof, out), kind, number);
+    free(numbers.numbers), free(witness.numbers), free(out.numbers);
+}
+
 /* ---- sheets */
 
 /* Read, cut and verified, the sheet `name` is judged as lizkarg_judge_sheet judges it. */
@@ -174,6 +190,8 @@ int main(int argc, char **argv) {
         next(&s);
         free_case(&s);
     }
+    challenges(64, 31, 10, 1), challenges(64, 32, 10, 0), challenges(64, 35, 9, 0), challenges(64, 0, 0, 0);
+    challenges(32, 3, 17, 1), challenges(32, 0, 18, 0), challenges(32, 0, 0, 1);
     for (int i = 2; i < argc; i++) {
         name = argv[i];
         sheet();

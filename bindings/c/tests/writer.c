@@ -113,6 +113,20 @@ static void draw_list(lizkarg_list list, int32_t most) {
     for (size_t i = 0; i < list.length; i++) list.numbers[i] = draw(most);
 }
 
+/* Challenges: at degree 64, 31 coefficients 1 or -1 and 10 coefficients 2 or -2, at smaller degrees 0, 1 or -1. */
+static void draw_challenges(lizkarg_list list, size_t d) {
+    draw_list(list, 1);
+    for (size_t at = 0; d == 64 && at < list.length; at += d) {
+        int32_t *c = list.numbers + at;
+        for (size_t i = 0; i < d; i++) c[i] = (i < 10 ? 2 : i < 41) * (draw(LARGEST) % 2 ? -1 : 1);
+        for (size_t i = d - 1; i > 0; i--) {
+            size_t other = (size_t)((int64_t)draw(LARGEST) + LARGEST) % (i + 1);
+            int32_t kept = c[i];
+            c[i] = c[other], c[other] = kept;
+        }
+    }
+}
+
 /* Numbers of these sizes that are not refused, up to the ends of their ranges, and of every width. */
 static void drawn(taken x) {
     x.numbers.length = lizkarg_proof_length(x.sizes);
@@ -124,7 +138,7 @@ static void drawn(taken x) {
         x.sizes.bound = round ? (uint64_t)draw(LARGEST) % 100 : LARGEST_BOUND;
         draw_list(x.numbers, LARGEST);
         draw_list(proof.projections, 1);
-        draw_list(proof.c, 1);
+        draw_challenges(proof.c, x.sizes.d);
         for (int32_t i = 1, power = 1; i < 10; i++, power *= 10) {
             proof.opening.numbers[2 * i % proof.opening.length] = power - 1;
             proof.opening.numbers[(2 * i + 1) % proof.opening.length] = -power;

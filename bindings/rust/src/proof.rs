@@ -36,7 +36,8 @@ pub struct Draws<'a> {
     pub alpha: &'a [i32],
     /// δ, five elements. Drawn after message 3.
     pub delta: &'a [i32],
-    /// The challenges, an element to each part, coefficients -2 to 2, squared length at most 71. Drawn after message 4.
+    /// The challenges, an element to each part. At degree 64 exactly 23 coefficients are zero, 31 are 1 or -1, and 10 are 2 or -2; at smaller
+    /// degrees coefficients are -2 to 2, and the squared length is at most 71. Drawn after message 4.
     pub c: &'a [i32],
 }
 

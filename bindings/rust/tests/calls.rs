@@ -285,3 +285,51 @@ fn parts_of_the_whole_case() {
         assert!(proof.next_part_or_empty(cut, part).is_empty());
     }
 }
+
+/// Two challenges of degree d, all other numbers zero, through every call that takes challenges: they are taken, or refused by 10.
+fn through(d: usize, c: &[i32], taken: bool) {
+    let header = format!("{d} 1 2 0 0 0 1 1 1 4 4 4 2 2 1 1 0 0");
+    let mut numbers = vec![0; sheet_numbers(&text(&header))];
+    let at = numbers.len() - 20 * d;
+    numbers[at..at + 2 * d].copy_from_slice(c);
+    let lines = numbers.chunks(d).map(|line| line.iter().map(i32::to_string).collect::<Vec<_>>().join(" "));
+    let text = text(&[header].into_iter().chain(lines).collect::<Vec<_>>().join("/"));
+    let sizes =
+        Sizes { d, n: 1, r: 2, k: 0, l: 0, w: 0, kappa: 1, kappa1: 1, kappa2: 1, b: 4, b1: 4, b2: 4, t1: 2, t2: 2, bound: 0, target: 0 };
+    let sheet = Sheet { sizes, cut: Cut { nu: 1, mu: 1 }, numbers };
+    let (proof, witness) = (sheet.proof(), vec![0; 2 * d]);
+    let refused = if taken { Ok(()) } else { Err(Refused(10)) };
+    let mut z = vec![77; 2 * d];
+    assert_eq!(proof.statement.amortize(&proof.draws, &witness, &mut z), refused);
+    assert_eq!(z == vec![77; 2 * d], !taken);
+    assert_eq!(Prover::new(proof.statement, &witness).prove(proof.draws), refused.map(|()| proof));
+    assert_eq!(proof.verify(), refused.map(|()| Accepted));
+    assert_eq!(judge_sheet(&text), refused.map(|()| Accepted));
+    assert_eq!(proof.next_instance(sheet.cut).map(|next| assert!(matches!(next, Next::Written(_)))), refused);
+    assert_eq!(Sheet::read(&text), refused.map(|()| sheet.clone()));
+    assert_eq!(sheet.write(), refused.map(|()| text.clone()));
+    assert_eq!(proof.write_sheet(sheet.cut), refused.map(|()| text));
+}
+
+/// So many coefficients 2 or -2, then 1 or -1, then 0.
+fn counted(d: usize, ones: usize, twos: usize) -> Vec<i32> {
+    let size = |at: usize| if at < twos { 2 } else { (at < twos + ones) as i32 };
+    (0..d).map(|at| if at % 2 == 0 { size(at) } else { -size(at) }).collect()
+}
+
+/// At degree 64 by their counts, at degree 32 by their squared length; a wrong one as the first and as the last.
+#[test]
+fn challenges() {
+    let drawn = counted(64, 31, 10);
+    through(64, &[&drawn[..], &drawn].concat(), true);
+    for (ones, twos) in [(30, 10), (32, 10), (31, 9), (31, 11), (32, 9), (30, 11), (35, 9), (27, 11), (19, 13), (3, 17), (0, 0)] {
+        let wrong = counted(64, ones, twos);
+        through(64, &[&drawn[..], &wrong].concat(), false);
+        through(64, &[&wrong[..], &drawn].concat(), false);
+    }
+    let three = [&[3], &drawn[1..]].concat();
+    through(64, &[drawn, three].concat(), false);
+    for (ones, twos, taken) in [(3, 17, true), (0, 18, false), (0, 0, true), (32, 0, true)] {
+        through(32, &[counted(32, ones, twos), counted(32, 0, 0)].concat(), taken);
+    }
+}

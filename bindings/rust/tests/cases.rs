@@ -85,5 +85,5 @@ fn examples() {
             written += 1;
         }
     }
-    assert_eq!(written, 9);
+    assert_eq!(written, 10);
 }
