@@ -83,7 +83,9 @@ def in_rooms(name, s, numbers, more=(-1, 0, 5)):
 
 
 def good_numbers(rng):
-    """The whole case; every degree, 64 with a kept challenge, which is refused; lists of every kind and none of it, so that lines of one number stand before and after each kind of list."""
+    """The whole case; every degree, 64 with a kept challenge, which is refused; lists of every kind and none of it, so that lines of one number
+    stand before and after each kind of list.
+    """
     yield from in_rooms("whole case", *whole_numbers())
     for d in ring.DEGREES:
         s = SMALL._replace(d=d, K=0)

@@ -20,7 +20,7 @@ static int32_t *filled(size_t n, int32_t most) {
     return xs;
 }
 
-/* r challenges: of 64 coefficients 10 are 2 or -2 and 31 are 1 or -1, as the paper draws them, at lower degrees as many in proportion */
+/* r challenges: of 64 coefficients 10 are 2 or -2, 31 are 1 or -1 and 23 are 0, as the paper draws them, at lower degrees as many in proportion */
 static int32_t *challenges(size_t d, size_t r) {
     int32_t *c = calloc(r * d, sizeof *c);
     for (size_t i = 0; i < r; i++) {

@@ -66,12 +66,23 @@ static void test_messages(const lists *l) {
     NUMBERS(u2);
 }
 
+#if TESTS
+/* 23 coefficients 0, 31 of 1 or -1 and 10 of 2 or -2; at smaller degrees -2 to 2, squared length at most 71 */
+static int is_challenge(const int32_t *c, size_t d) {
+    if (d < 64) return all_between(c, d, -2, 2) && within(71, c, d, 1);
+    int zeros = 0, ones = 0, twos = 0;
+    for (size_t i = 0; i < d; i++) zeros += c[i] == 0, ones += (c[i] == 1) | (c[i] == -1), twos += (c[i] == 2) | (c[i] == -2);
+    return zeros == 23 && ones == 31 && twos == 10;
+}
+#endif
+
 static void test_challenges(const lizkarg_sizes *s, const lists *l) {
     NUMBERS(c);
-    within_range(l->c, l->n.c, 2);
 #if TESTS
     for (size_t i = 0; i < s->r; i++)
-        if (!within(71, l->c + i * s->d, s->d, 1)) abort();
+        if (!is_challenge(l->c + i * s->d, s->d)) abort();
+#else
+    (void)s;
 #endif
 }
 

@@ -2,6 +2,10 @@
 q = 4294967197; T = Mod(1, q) * (X^64 + 1);
 element() = Mod(Pol(vector(64, i, Mod(random(q), q)), 'X), T);
 short() = Mod(Pol(vector(64, i, Mod(random(3) - 1, q)), 'X), T);
+challenge() = {
+  my(order = numtoperm(64, random(64!)), sizes = vector(64, i, if(i <= 10, 2, if(i <= 41, 1, 0)) * (-1)^random(2)));
+  Mod(Pol(vector(64, i, Mod(sizes[order[i]], q)), 'X), T)
+};
 spent() = getabstime();
 best = 10^30;
 {
@@ -22,7 +26,7 @@ digits4(e, b) = {
 {
   s = vector(R, i, vector(N, k, short())); A = matrix(KAPPA, N, i, k, element());
   B = matrix(KAPPA, R * 4 * KAPPA, i, k, element()); C = matrix(KAPPA, R * (R + 1) / 2 * 4, i, k, element());
-  c = vector(R, i, short());
+  c = vector(R, i, challenge());
   best = 10^30;
   for(round = 1, 2,
     from = spent();

@@ -23,19 +23,26 @@ fn fill(rng: &mut Random, xs: &mut [i32]) {
     }
 }
 
-/// A challenge: some coefficients ±2 and ±1, in random order, of squared length at most 71, and now and then just that; at degree 64
-/// often 31 of ±1 and 10 of ±2.
-fn challenge(rng: &mut Random, c: &mut [i32]) {
-    let d = c.len();
-    let twos = rng.below(d.min(17) + 1);
-    let room = (d - twos).min(71 - 4 * twos);
-    let ones = if rng.once_in(4) { room } else { rng.below(room + 1) };
-    let (twos, ones) = if d == 64 && rng.once_in(2) { (10, 31) } else { (twos, ones) };
+/// So many coefficients ±2 and ±1, the rest 0, in random order.
+pub fn counted(rng: &mut Random, c: &mut [i32], twos: usize, ones: usize) {
     for (at, x) in c.iter_mut().enumerate() {
         let size = if at < twos { 2 } else if at < twos + ones { 1 } else { 0 };
         *x = rng.pick(&[-size, size]);
     }
     rng.shuffle(c);
+}
+
+/// A challenge: at degree 64, 31 coefficients ±1 and 10 coefficients ±2; at a smaller one some of them, of squared length at most 71, and
+/// now and then just that.
+fn challenge(rng: &mut Random, c: &mut [i32]) {
+    let d = c.len();
+    if d == 64 {
+        return counted(rng, c, 10, 31);
+    }
+    let twos = rng.below(d.min(17) + 1);
+    let room = (d - twos).min(71 - 4 * twos);
+    let ones = if rng.once_in(4) { room } else { rng.below(room + 1) };
+    counted(rng, c, twos, ones);
 }
 
 /// A statement with a witness that meets it, and random draws. `short`: a short witness.

@@ -4,10 +4,10 @@ use crate::calls::*;
 use crate::case::{self, Lists, LARGEST_BOUND, MOST};
 use crate::next_calls::*;
 use crate::random::Random;
-use crate::small::{judge, writes};
+use crate::small::{judge, read, writes};
 use lizkarg::Verdict::{Accepted, Failed};
 use plain::lists::Sizes;
-use plain::{next, sheet};
+use plain::{next, refusals, sheet};
 
 fn base() -> Sizes {
     Sizes {
@@ -26,17 +26,55 @@ fn verdict(tally: &mut Tally, s: &Sizes, l: &Lists) -> Answer {
     verify(tally, &Case::new(s, l))
 }
 
-/// 31 + 10·4 = 71 is allowed, 72 is not.
-fn challenges(tally: &mut Tally) {
-    let s = base();
-    let mut l = case::random(&mut Random::new(3), &s, true);
-    for x in 0..64 {
-        l.c[x] = if x < 31 { 1 } else if x < 41 { -2 } else { 0 };
+/// The challenges of a case through every call that takes them: an honest fold with them is accepted, or each call refuses them by 10.
+fn through(tally: &mut Tally, s: &Sizes, l: &mut Lists, taken: bool) {
+    let (room, refusal) = (instance_room(s), if taken { Ok(()) } else { Err(10) });
+    if taken {
+        accepted(tally, s, l);
     }
-    accepted(tally, &s, &mut l);
-    l.c[50] = 1;
-    assert_eq!(verdict(tally, &s, &l), Refused(10));
-    assert_eq!(amortize(tally, &Case::new(&s, &l), &s.room()), Err(Refused(10)));
+    let (case, text) = (Case::new(s, l), sheet::write(s, l));
+    let answer = if taken { Judged(Accepted) } else { Refused(10) };
+    assert_eq!(amortize(tally, &case, &s.room()).err(), (!taken).then_some(Refused(10)));
+    assert_eq!(verify(tally, &case), answer);
+    assert_eq!(refusals::next_instance(s, l, room), refusal);
+    assert_eq!(next_instance(tally, &case, room).is_some(), taken);
+    assert_eq!(judge(tally, &text), answer);
+    assert_eq!(sheet::read(&text, None).map(|_| ()), refusal);
+    read(tally, &text, l.in_sheet_order().len());
+    writes(tally, &mut Random::new(8), s, l);
+}
+
+/// At degree 64 the counts of ±1 and ±2 are right or not, in the first challenge or in the last; at degree 32 the squared length is 71 or 72.
+fn challenges(tally: &mut Tally) {
+    let mut rng = Random::new(3);
+    let s = Sizes { n: 1, k: 0, l: 0, w: 0, t1: 2, t2: 2, b1: 65536, b2: 65536, ..base() };
+    let mut l = case::random(&mut rng, &s, true);
+    let drawn = l.c.clone();
+    through(tally, &s, &mut l, true);
+    // one more of one and one less of another; squared length 71 by other counts; none at all
+    let counts = [
+        (30, 10), (32, 10), (31, 9), (31, 11), (32, 9), (30, 11), (35, 9), (27, 11), (19, 13), (3, 17), (0, 0), (31, 10),
+    ];
+    for (ones, twos) in counts {
+        for part in [0, 64] {
+            l.c.copy_from_slice(&drawn);
+            case::counted(&mut rng, &mut l.c[part..part + 64], twos, ones);
+            through(tally, &s, &mut l, (ones, twos) == (31, 10));
+        }
+    }
+    // 3 in place of a 2, of a 1 and of a 0; other signs
+    for (size, other, taken) in [(2, 3, false), (2, -3, false), (1, 3, false), (0, -3, false), (2, -2, true), (2, 2, true), (1, -1, true), (1, 1, true)] {
+        l.c.copy_from_slice(&drawn);
+        let at = l.c.iter().position(|x| x.abs() == size).unwrap();
+        l.c[at] = other;
+        through(tally, &s, &mut l, taken);
+    }
+    let s = Sizes { d: 32, r: 1, ..s };
+    let mut l = case::random(&mut rng, &s, true);
+    for (ones, twos, taken) in [(3, 17, true), (0, 18, false), (7, 16, true), (8, 16, false), (0, 0, true), (32, 0, true), (22, 10, true)] {
+        case::counted(&mut rng, &mut l.c, twos, ones);
+        through(tally, &s, &mut l, taken);
+    }
 }
 
 /// r 16 and 17, bounds 999999999999999 and one more, and the ends of the coefficients' range.

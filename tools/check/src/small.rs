@@ -104,7 +104,7 @@ pub fn judge(tally: &mut Tally, text: &[u8]) -> Answer {
 }
 
 /// A text read into a slice of some length.
-fn read(tally: &mut Tally, text: &[u8], length: usize) {
+pub fn read(tally: &mut Tally, text: &[u8], length: usize) {
     let should = sheet::read(text, Some(length));
     let mut header = None;
     let run = |[numbers]: [&mut [i32]; 1]| lizkarg::read_sheet(text, numbers).map(|read| header = Some(read));

@@ -78,9 +78,19 @@ fn projections(entries: &[i32]) -> Refusal {
     row(9, entries.iter().all(|v| [-1, 0, 1].contains(v)))
 }
 
-/// "A challenge c has coefficients -2 to 2 and squared length at most 71."
+/// "at degree 64, exactly 23 coefficients are zero, 31 are +1 or -1, and 10 are +2 or -2. At each smaller degree, a challenge c has
+/// coefficients -2 to 2 and squared length at most 71."
+fn challenge(d: usize, c: &[i32]) -> bool {
+    let count = |size: i32| c.iter().filter(|v| [-size, size].contains(v)).count();
+    if d == 64 {
+        [count(0), count(1), count(2)] == [23, 31, 10]
+    } else {
+        c.iter().all(|v| (-2..=2).contains(v)) && squared_length(c) <= 71
+    }
+}
+
 fn challenges(d: usize, c: &[i32]) -> Refusal {
-    row(10, c.chunks(d).all(|c| c.iter().all(|v| (-2..=2).contains(v)) && squared_length(c) <= 71))
+    row(10, c.chunks(d).all(|c| challenge(d, c)))
 }
 
 // The calls
