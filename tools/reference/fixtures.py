@@ -164,11 +164,13 @@ def sides_at_64(rng, few):
 
 
 def two_at_64(rng):
-    """The same for two lists, one after the other: both drawn; the first or the last with a one more and a zero less."""
-    first, last, wrong = challenge(rng, 64), challenge(rng, 64), counted(rng, 64, 10, 32)
+    """The same for two lists, one after the other: both drawn; the first or the last with other counts, by which it keeps the rule of the smaller
+    degrees.
+    """
+    first, last = challenge(rng, 64), challenge(rng, 64)
     yield "both drawn", True, first + last
-    yield "the first with 32 ones", False, wrong + last
-    yield "the last with 32 ones", False, first + wrong
+    yield "the first with 24 zeros, 30 ones", False, counted(rng, 64, 10, 30) + last
+    yield "the last with 32 ones, 9 twos", False, first + counted(rng, 64, 9, 32)
 
 
 def sides_at_32(rng):

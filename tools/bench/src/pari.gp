@@ -3,8 +3,8 @@ q = 4294967197; T = Mod(1, q) * (X^64 + 1);
 element() = Mod(Pol(vector(64, i, Mod(random(q), q)), 'X), T);
 short() = Mod(Pol(vector(64, i, Mod(random(3) - 1, q)), 'X), T);
 challenge() = {
-  my(order = numtoperm(64, random(64!)), sizes = vector(64, i, if(i <= 10, 2, if(i <= 41, 1, 0)) * (-1)^random(2)));
-  Mod(Pol(vector(64, i, Mod(sizes[order[i]], q)), 'X), T)
+  my(places = numtoperm(64, random(64!)), sizes = vector(64, i, if(i <= 10, 2, if(i <= 41, 1, 0)) * (-1)^random(2)));
+  Mod(Pol(vector(64, i, Mod(sizes[places[i]], q)), 'X), T)
 };
 spent() = getabstime();
 best = 10^30;
