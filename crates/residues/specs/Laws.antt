@@ -10,4 +10,5 @@ pub mod DigitBlockLaws
 pub mod DigitSums
 pub mod LengthLaws
 pub mod RangeLaws
+pub mod CountLaws
 pub mod AbsoluteValue

@@ -1,1 +1,2 @@
 pub mod LowDigit
+pub mod Challenge

@@ -1,7 +1,9 @@
 // The tests of refusals 8, 9 and 10 on slices.
 ghost use mathlib.Core.Path.{_≡_};
+ghost use mathlib.Core.Bool.{cond};
+ghost use lib.Dec.{eqb};
 ghost use lib.IntN.{natAbs};
-ghost use Rattle.residues.specs.Range.{between, allBetween, coefficients, projectionEntries, challenge};
+ghost use Rattle.residues.specs.Range.{between, allBetween, coefficients, projectionEntries, countOf, drawnChallenge, shortChallenge, challenge};
 use crate::length::compare;
 use crate::length::is_within;
 
@@ -53,11 +55,56 @@ pub fn are_projection_entries(xs: &[i32]) -> bool
     all_between(-1, 1, xs)
 }
 
-// xs, the d numbers of one ring element, keeps the challenge rule.
-pub fn is_challenge(xs: &[i32]) -> bool
-    ensures { λ r. ⌜ r ≡ challenge (now (xs .entry)) ⌝ }
+// 1 where x has the absolute value a, else 0.
+fn one_if(a: u64, x: i32) -> usize
+    ensures { λ r. ⌜ r ≡ cond (eqb (natAbs x) a) 1 0 ⌝ }
+{
+    let m = magnitude(x);
+    if m == a {
+        return 1;
+    }
+    0
+}
+
+// How many numbers of xs have the absolute value a.
+fn count_of(a: u64, xs: &[i32]) -> usize
+    ensures { λ r. ⌜ r ≡ countOf a (now (xs .entry)) ⌝ }
+{
+    let mut count = 0;
+    let mut i = 0;
+    while i < xs.len() {
+        let one = one_if(a, xs[i]);
+        count += one;
+        i += 1;
+    }
+    count
+}
+
+// xs keeps the rule of degree 64: 23 zeros, 31 of ±1, 10 of ±2.
+fn is_drawn_challenge(xs: &[i32]) -> bool
+    ensures { λ r. ⌜ r ≡ drawnChallenge (now (xs .entry)) ⌝ }
+{
+    let zeros = count_of(0, xs) == 23;
+    let ones = count_of(1, xs) == 31;
+    let twos = count_of(2, xs) == 10;
+    zeros & ones & twos
+}
+
+// xs keeps the rule of the smaller degrees.
+fn is_short_challenge(xs: &[i32]) -> bool
+    ensures { λ r. ⌜ r ≡ shortChallenge (now (xs .entry)) ⌝ }
 {
     let small = all_between(-2, 2, xs);
     let short = is_within(compare(71, xs));
     small & short
+}
+
+// xs, the d numbers of one ring element, keeps the challenge rule of its degree.
+pub fn is_challenge(xs: &[i32]) -> bool
+    ensures { λ r. ⌜ r ≡ challenge (now (xs .entry)) ⌝ }
+{
+    if xs.len() == 64 {
+        return is_drawn_challenge(xs);
+    }
+    is_short_challenge(xs)
 }

@@ -40,25 +40,43 @@ module _ (d r κ b t₁ t₂ bound : ℕ) where
         D = zeros (garbageSize r t₁ * d);
       }
 
+  -- with the challenges c
+  abbrev pub drawsWith : List ℤ → Draws
+  drawsWith c = record { projections = []; ψ = []; ω = []; α = []; δ = zeros (5 * d); c = c }
+
   abbrev pub draws : Draws
-  draws = record { projections = []; ψ = []; ω = []; α = []; δ = zeros (5 * d); c = zeros (r * d) }
+  draws = drawsWith (zeros (r * d))
 
   abbrev pub transcript : Transcript
   transcript = record { u₁ = zeros d; p = []; b″ = zeros (5 * d); u₂ = zeros d }
 
   -- the refusals of the verifier and of the next instance, 0 for none
-  abbrev pub verifierRefusal : ℕ
-  verifierRefusal = firstFailing (verifyTests statement draws transcript (zeros (openingSize 2 1 r κ t₁ t₂ * d)))
+  abbrev pub verifierRefusalWith : List ℤ → ℕ
+  verifierRefusalWith c = firstFailing (verifyTests statement (drawsWith c) transcript (zeros (openingSize 2 1 r κ t₁ t₂ * d)))
 
-  abbrev pub nextRefusal : (ν μ : ℕ) → ℕ
-  nextRefusal ν μ = firstFailing (nextTests statement draws transcript ν μ (zeros (wholeLength d n′ (nextParts 2 ν μ) (nextCount κ 1 1))))
+  abbrev pub verifierRefusal : ℕ
+  verifierRefusal = verifierRefusalWith (zeros (r * d))
+
+  abbrev pub nextRefusalWith : List ℤ → (ν μ : ℕ) → ℕ
+  nextRefusalWith c ν μ = firstFailing (nextTests statement (drawsWith c) transcript ν μ (zeros (wholeLength d n′ (nextParts 2 ν μ) (nextCount κ 1 1))))
     where
       n′ : ℕ
       n′ = nextRank 1 ν (restSize r κ t₁ t₂) μ
 
+  abbrev pub nextRefusal : (ν μ : ℕ) → ℕ
+  nextRefusal = nextRefusalWith (zeros (r * d))
+
 -- the refusal of message 5 for one part of rank 1: the challenge c, the witness s
 abbrev pub message₅Refusal : ℕ → List ℤ → List ℤ → ℕ
 message₅Refusal d c s = firstFailing (amortizeTests d 1 1 2 4 c s (zeros (2 * d)))
+
+-- the refusals of the three calls that take one challenge c: message 5, the verifier, the next instance
+abbrev pub challengeRefusals : ℕ → List ℤ → List ℕ
+challengeRefusals d c = message₅Refusal d c (zeros d) ∷ verifierRefusalWith d 1 1 4 2 2 5 c ∷ nextRefusalWith d 1 1 4 2 2 5 c 1 1 ∷ []
+
+-- so many zeros, ones and twos
+abbrev pub counted : (none ones twos : ℕ) → List ℤ
+counted none ones twos = replicate ones (+ 1) ++ replicate twos (- 2) ++ zeros none
 
 -- the refusal of message 2 for one part of rank 1 and degree 2 and one projection row
 abbrev pub message₂Refusal : List ℤ → ℕ
@@ -99,10 +117,20 @@ pub record RefusalCases : Type 0 where
   pub coefficient-below : message₅Refusal 2 (zeros 2) (+ 0 ∷ - 2147483599 ∷ []) ≡ 8
   pub projection-1 : message₂Refusal (+ 1 ∷ - 1 ∷ []) ≡ 0
   pub projection-2 : message₂Refusal (+ 2 ∷ + 0 ∷ []) ≡ 9
-  -- row 10: "coefficient 3", "squared length of c 71/72": 71 = 31 + 10·4
-  pub challenge-3 : message₅Refusal 2 (+ 3 ∷ + 0 ∷ []) (zeros 2) ≡ 10
-  pub challenge-71 : message₅Refusal 64 (replicate 31 (+ 1) ++ replicate 10 (- 2) ++ zeros 23) (zeros 64) ≡ 0
-  pub challenge-72 : message₅Refusal 64 (replicate 32 (+ 1) ++ replicate 10 (- 2) ++ zeros 22) (zeros 64) ≡ 10
+  -- row 10: "coefficient 3; at degree 64, c = 0", "squared length of c 71/72 at degree 32"
+  pub challenge-3 : challengeRefusals 2 (+ 3 ∷ + 0 ∷ []) ≡ 10 ∷ 10 ∷ 10 ∷ []
+  pub challenge-71 : challengeRefusals 32 (counted 12 3 17) ≡ 0 ∷ 0 ∷ 0 ∷ []
+  pub challenge-72 : challengeRefusals 32 (counted 14 0 18) ≡ 10 ∷ 10 ∷ 10 ∷ []
+  pub zero-32 : challengeRefusals 32 (zeros 32) ≡ 0 ∷ 0 ∷ 0 ∷ []
+  pub zero-64 : challengeRefusals 64 (zeros 64) ≡ 10 ∷ 10 ∷ 10 ∷ []
+  -- "At degree 64, 23 zeros, 31 of ±1 and 10 of ±2 are taken; with one of them one more and another one less c is refused, and so is a c of squared
+  -- length 71 with other counts: 20, 35 and 9; 26, 27 and 11; 32, 19 and 13."
+  pub drawn : challengeRefusals 64 (counted 23 31 10) ≡ 0 ∷ 0 ∷ 0 ∷ []
+  pub zeros-24 : challengeRefusals 64 (counted 24 30 10) ++ challengeRefusals 64 (counted 24 31 9) ≡ replicate 6 10
+  pub ones-32 : challengeRefusals 64 (counted 22 32 10) ++ challengeRefusals 64 (counted 23 32 9) ≡ replicate 6 10
+  pub twos-11 : challengeRefusals 64 (counted 22 31 11) ++ challengeRefusals 64 (counted 23 30 11) ≡ replicate 6 10
+  pub other-71 :
+      challengeRefusals 64 (counted 20 35 9) ++ challengeRefusals 64 (counted 26 27 11) ++ challengeRefusals 64 (counted 32 19 13) ≡ replicate 9 10
   -- row 11: "m = 3200, μ = 1", "n' 256/257"
   pub rest-3200 : restSize 16 8 8 8 ≡ 3200
   pub rank-3200 : nextRefusal 2 16 8 4 8 8 5 1 1 ≡ 11
@@ -143,6 +171,13 @@ refusal-cases =
       challenge-3 = refl;
       challenge-71 = refl;
       challenge-72 = refl;
+      zero-32 = refl;
+      zero-64 = refl;
+      drawn = refl;
+      zeros-24 = refl;
+      ones-32 = refl;
+      twos-11 = refl;
+      other-71 = refl;
       rest-3200 = refl;
       rank-3200 = refl;
       length-before-rank = refl;

@@ -5,7 +5,8 @@
 --     allWithin-join, -part             joined slices, a part of a slice
 --     Tested                            the invariant of the loop of `all_within`, with its start, its step and its two ends
 --     coefficients-.., projections-..   the same at the bounds of rows 8 and 9
---     challenge-tests                   row 10: the rule as two tests
+--     drawn-tests, short-tests          row 10: the two rules as tests
+--     challenge-64, -other              which of them counts
 use mathlib.Core.Path.{_≡_, refl, sym, ap, ap₂, _∙_}
 use mathlib.Core.Bool.{Bool, true, false, cond, not, _&&_}
 use mathlib.Core.List.{List, [], _∷_, _++_}
@@ -13,18 +14,18 @@ use Prim.Native.Nat.{ℕ, suc, _+_, _≤_, _<_}
 use native.Mathlib.Nat.{le-trans}
 use native.Mathlib.Numerals.{add-one}
 use native.Mathlib.Omega.{arith}
-use lib.Dec.{leb, ltb}
+use lib.Dec.{leb, ltb, eqb}
 use lib.ListN.{length, getD, take, drop}
 use lib.Seq.{take-suc, take-all}
 use lib.IntN.{ℤ, pos, negsuc, natAbs}
-use borrow.Author.Tests.{le-leb, lt-leb, leb-true, ltb-true, ltb-false, le-ltb}
+use borrow.Author.Tests.{le-leb, lt-leb, leb-true, ltb-true, ltb-false, le-ltb, eq-eqb, ne-eqb}
 use Rattle.integers.specs.Lists.{all}
 use Rattle.integers.specs.Sums.{normSq}
 use Rattle.integers.specs.Laws.AllLaws.{both-and, all-at, all-of, all-join, all-part, all-last}
 use Rattle.residues.specs.declared.length.Margin.{Margin}
 use Rattle.residues.specs.Length.{remaining, holds}
 use Rattle.residues.specs.Laws.LengthLaws.{holds-remaining}
-use Rattle.residues.specs.Range.{between, allBetween, allWithin, coefficients, projectionEntries, challenge}
+use Rattle.residues.specs.Range.{between, allBetween, allWithin, coefficients, projectionEntries, countOf, drawnChallenge, shortChallenge, challenge}
 
 -- ---- the test by index
 
@@ -153,8 +154,23 @@ projection-entries-part m n xs e = allWithin-part 1 m n xs e
 
 -- ---- row 10
 
--- the rule as two tests, the second on what 71 leaves
-pub challenge-tests : (xs : List ℤ) {small short : Bool} {margin : Margin} → small ≡ allWithin 2 xs → margin ≡ remaining 71 (normSq xs)
-    → short ≡ holds margin → small && short ≡ challenge xs
+-- the rule of degree 64 as three tests
+pub drawn-tests : (xs : List ℤ) {zeros ones twos : ℕ} → zeros ≡ countOf 0 xs → ones ≡ countOf 1 xs → twos ≡ countOf 2 xs
+    → eqb zeros 23 && eqb ones 31 && eqb twos 10 ≡ drawnChallenge xs
+unfolding drawnChallenge
+drawn-tests xs e f g = rw (e, f, g) refl
+
+-- that of the smaller degrees as two, the second on what 71 leaves
+pub short-tests : (xs : List ℤ) {small short : Bool} {margin : Margin} → small ≡ allWithin 2 xs → margin ≡ remaining 71 (normSq xs)
+    → short ≡ holds margin → small && short ≡ shortChallenge xs
+unfolding shortChallenge
+short-tests xs e m h = rw (e, h, m, holds-remaining) (both-and (allWithin 2 xs) (leb (normSq xs) 71))
+
+-- the rule by the number of coefficients
+pub challenge-64 : (xs : List ℤ) → length xs ≡ 64 → challenge xs ≡ drawnChallenge xs
 unfolding challenge
-challenge-tests xs e m h = rw (e, h, m, holds-remaining) (both-and (allWithin 2 xs) (leb (normSq xs) 71))
+challenge-64 xs h = ap (λ (t : Bool). cond t (drawnChallenge xs) (shortChallenge xs)) (eq-eqb (length xs) 64 h)
+
+pub challenge-other : (xs : List ℤ) → (length xs ≡ 64 → ⊥) → challenge xs ≡ shortChallenge xs
+unfolding challenge
+challenge-other xs h = ap (λ (t : Bool). cond t (drawnChallenge xs) (shortChallenge xs)) (ne-eqb (length xs) 64 h)

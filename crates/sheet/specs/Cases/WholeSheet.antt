@@ -6,7 +6,7 @@ use Rattle.integers.specs.Literals.{+_, -_, _zeros∷_}
 use Rattle.algebra.specs.Triangle.{start, pairs-count}
 use Rattle.ring.specs.Element.{every}
 use Rattle.integers.specs.Lists.{tab, all}
-use Rattle.residues.specs.Range.{allWithin, coefficients, projectionEntries, challenge}
+use Rattle.residues.specs.Range.{allWithin, coefficients, projectionEntries, shortChallenge, challenge}
 use Rattle.integers.specs.Sums.{normSq, sq}
 use Rattle.fold.specs.Answers.{firstFailing}
 use Rattle.fold.specs.Sizes.{pairs, functionSize, tSize, garbageSize, restSize, openingSize}
@@ -60,7 +60,7 @@ whole-lines = refl
 
 pub whole-numbers : SheetNumbers header numbers
 unfolding headerTests numberTests firstFailing size sizesOf allOf anyOf between degree rank parts constraintCount projectionCount commitmentRank base
-    digitCount chunks lengthBound coefficients projectionEntries allWithin challenges challenge every all tab normSq sq projectionsIn challengesIn listAt listLengths
+    digitCount chunks lengthBound coefficients projectionEntries allWithin challenges challenge shortChallenge every all tab normSq sq projectionsIn challengesIn listAt listLengths
     wholeLength constantTermsLength projectionLength functionSize fields copies pairs pairs-count start tSize garbageSize openingSize restSize
 whole-numbers = record {
   header = refl;

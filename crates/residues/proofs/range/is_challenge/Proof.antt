@@ -1,22 +1,15 @@
--- `residues::range::is_challenge` meets its contract: both tests of row 10, the second as the margin below 71. Assumes nothing.
-use mathlib.Core.Path.{_∙_}
+-- `residues::range::is_challenge` meets its contract: the rule by the slice's length. Assumes nothing.
+use mathlib.Core.Path.{sym, _∙_}
 use borrow.Author.Needs.{needs}
-use Rattle.residues.specs.Laws.RangeLaws.{challenge-tests, between-bound}
+use Rattle.residues.specs.Laws.RangeLaws.{challenge-64, challenge-other}
 use Rattle.residues.proofs.range.is_challenge.Statement.{statement}
 use Rattle.residues.proofs.range.is_challenge.Tie as tie
 
-all-between-requires : tie.Need-all-between-requires
-all-between-requires c κs = search needs
-
-compare-requires : tie.Need-compare-requires
-compare-requires c κs = search needs
-
-is-within-requires : tie.Need-is-within-requires
-is-within-requires c κs = search needs
-
 returns : tie.Need-returns
-returns c = challenge-tests _ (c .before .before .all-between .ensures ∙ between-bound 1 _) (c .before .compare .ensures) (c .is-within .ensures)
+returns c = c .is-drawn-challenge .ensures ∙ sym (challenge-64 _ (c .before .if1 .taken))
+
+returns-2 : tie.Need-returns-2
+returns-2 c = c .is-short-challenge .ensures ∙ sym (challenge-other _ (c .before .if1 .left))
 
 pub is-challenge-spec : {M : Type 1} → statement M
-is-challenge-spec =
-    tie.close (tie.spec all-between-requires compare-requires is-within-requires returns)
+is-challenge-spec = tie.close (tie.spec (λ c κs. search needs) returns (λ c κs. search needs) returns-2)
