@@ -14,7 +14,7 @@ use lib.Seq.{length-take-le}
 use lib.IntN.{ℤ, pos, natAbs}
 use Rattle.integers.specs.Sums.{normSq}
 use Rattle.residues.specs.Range.{shortChallenge}
-use Rattle.residues.specs.Theorems.Challenge.{Counts, degree-64, smaller-degree, keeps-both}
+use Rattle.residues.specs.Theorems.Challenge.{Counts, degree-64, smaller-degree, challenge-short}
 use Rattle.ring.specs.Laws.ElementPlaces.{block-before}
 use Rattle.fold.specs.Refusals.{challenges}
 use Rattle.fold.specs.Laws.RefusalLaws.{challenges-iff}
@@ -44,4 +44,4 @@ row-10-smaller d r c small = (
 )
 
 pub row-10-narrows : (d r : ℕ) (c : List ℤ) → challenges d r c ≡ true → (i : ℕ) → i < r → shortChallenge (numbersOf d c i) ≡ true
-row-10-narrows d r c e i h = keeps-both _ (challenges-iff d r c .0 e i h)
+row-10-narrows d r c e i h = challenge-short _ (challenges-iff d r c .0 e i h)

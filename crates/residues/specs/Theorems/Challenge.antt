@@ -1,7 +1,7 @@
 -- SPECIFICATION 5.1, a challenge: the rule of each degree, and what holds of a challenge at every degree.
 --     degree-64            "at degree 64, exactly 23 coefficients are zero, 31 are +1 or -1, and 10 are +2 or -2"
 --     smaller-degree       "At each smaller degree, a challenge c has coefficients -2 to 2 and squared length at most 71."
---     keeps-both           "Every challenge of degree 64 keeps the rule of the smaller degrees too"
+--     challenge-short      "Every challenge of degree 64 keeps the rule of the smaller degrees too"
 --     squared-length-71    "31 + 10·4 = 71 is that of every challenge of degree 64"
 --     challenge-within     "no coefficient of a challenge has an absolute value above 2"
 --     challenge-sum        "the absolute values sum to at most 71"
@@ -59,8 +59,8 @@ squared-length-71 c size e =
     let (zeros, ones, twos) = degree-64 c size .0 e in
     omega (arith, normSq-counts c (omega arith))
 
-pub keeps-both : (c : List ℤ) → challenge c ≡ true → shortChallenge c ≡ true
-keeps-both c e = cases (eqb (length c) 64) refl
+pub challenge-short : (c : List ℤ) → challenge c ≡ true → shortChallenge c ≡ true
+challenge-short c e = cases (eqb (length c) 64) refl
   where
     cases : (t : Bool) → eqb (length c) 64 ≡ t → shortChallenge c ≡ true
     cases false other = sym (challenge-other c (eqb-false (length c) 64 other)) ∙ e
@@ -70,7 +70,7 @@ keeps-both c e = cases (eqb (length c) 64) refl
         short-exactly c .1 (allWithin-at 2 c (all-small c (omega arith)), omega (arith, squared-length-71 c size e))
 
 pub challenge-within : (c : List ℤ) → challenge c ≡ true → (k : ℕ) → natAbs (getD c k (pos 0)) ≤ 2
-challenge-within c e = short-exactly c .0 (keeps-both c e) .0
+challenge-within c e = short-exactly c .0 (challenge-short c e) .0
 
 pub challenge-sum : (c : List ℤ) → challenge c ≡ true → total (length c) (λ k. natAbs (getD c k (pos 0))) ≤ 71
-challenge-sum c e = omega (arith, total-short c, short-exactly c .0 (keeps-both c e) .1)
+challenge-sum c e = omega (arith, total-short c, short-exactly c .0 (challenge-short c e) .1)
