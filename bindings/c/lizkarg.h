@@ -98,7 +98,8 @@ lizkarg_answer lizkarg_commit_garbage(lizkarg_garbage_sizes sizes,
     const int32_t *witness, size_t witness_len, int32_t *h, size_t h_len, int32_t *u2, size_t u2_len);
 
 /* Message 5. Takes the challenges c (r elements) and the witness; writes z low, then z high (n elements each). Written, or refused 1, 2,
- * 4, 7, 8, 10. */
+ * 4, 7, 8, 10. Where d is 64, a challenge has exactly 23 coefficients 0, 31 of 1 or -1 and 10 of 2 or -2; where d is smaller, coefficients
+ * -2 to 2 whose squares sum to at most 71. */
 lizkarg_answer lizkarg_amortize(lizkarg_shape shape, size_t b,
     const int32_t *c, size_t c_len, const int32_t *witness, size_t witness_len, int32_t *z, size_t z_len);
 

@@ -48,7 +48,7 @@ typedef struct {
     lizkarg_list alpha;          /* drawn: k elements */
     lizkarg_list delta;          /* drawn: 5 elements */
     lizkarg_list u2;             /* message 4: kappa2 elements */
-    lizkarg_list c;              /* drawn: r challenges */
+    lizkarg_list c;              /* drawn: r challenges, by the rule at lizkarg_amortize */
     lizkarg_list opening;        /* the digits of z, t, g, h; messages 1, 4 and 5 write them */
 } lizkarg_proof;
 

@@ -36,8 +36,8 @@ countOf a [] = 0
 countOf a (x ∷ xs) = cond (eqb (natAbs x) a) 1 0 + countOf a xs
 
 -- "at degree 64, exactly 23 coefficients are zero, 31 are +1 or -1, and 10 are +2 or -2"
-unfoldable pub drawnChallenge : List ℤ → Bool
-drawnChallenge xs = eqb (countOf 0 xs) 23 && eqb (countOf 1 xs) 31 && eqb (countOf 2 xs) 10
+unfoldable pub countedChallenge : List ℤ → Bool
+countedChallenge xs = eqb (countOf 0 xs) 23 && eqb (countOf 1 xs) 31 && eqb (countOf 2 xs) 10
 
 -- "At each smaller degree, a challenge c has coefficients -2 to 2 and squared length at most 71."
 unfoldable pub shortChallenge : List ℤ → Bool
@@ -45,4 +45,4 @@ shortChallenge xs = cond (allWithin 2 xs) (leb (normSq xs) 71) false
 
 -- the rule of the challenge's own degree
 unfoldable pub challenge : List ℤ → Bool
-challenge xs = cond (eqb (length xs) 64) (drawnChallenge xs) (shortChallenge xs)
+challenge xs = cond (eqb (length xs) 64) (countedChallenge xs) (shortChallenge xs)

@@ -3,7 +3,7 @@ ghost use mathlib.Core.Path.{_≡_};
 ghost use mathlib.Core.Bool.{cond};
 ghost use lib.Dec.{eqb};
 ghost use lib.IntN.{natAbs};
-ghost use Rattle.residues.specs.Range.{between, allBetween, coefficients, projectionEntries, countOf, drawnChallenge, shortChallenge, challenge};
+ghost use Rattle.residues.specs.Range.{between, allBetween, coefficients, projectionEntries, countOf, countedChallenge, shortChallenge, challenge};
 use crate::length::compare;
 use crate::length::is_within;
 
@@ -81,8 +81,8 @@ fn count_of(a: u64, xs: &[i32]) -> usize
 }
 
 // xs keeps the rule of degree 64: 23 zeros, 31 of ±1, 10 of ±2.
-fn is_drawn_challenge(xs: &[i32]) -> bool
-    ensures { λ r. ⌜ r ≡ drawnChallenge (now (xs .entry)) ⌝ }
+fn is_counted_challenge(xs: &[i32]) -> bool
+    ensures { λ r. ⌜ r ≡ countedChallenge (now (xs .entry)) ⌝ }
 {
     let zeros = count_of(0, xs) == 23;
     let ones = count_of(1, xs) == 31;
@@ -104,7 +104,7 @@ pub fn is_challenge(xs: &[i32]) -> bool
     ensures { λ r. ⌜ r ≡ challenge (now (xs .entry)) ⌝ }
 {
     if xs.len() == 64 {
-        return is_drawn_challenge(xs);
+        return is_counted_challenge(xs);
     }
     is_short_challenge(xs)
 }

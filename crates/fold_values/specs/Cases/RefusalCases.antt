@@ -125,7 +125,7 @@ pub record RefusalCases : Type 0 where
   pub zero-64 : challengeRefusals 64 (zeros 64) ≡ 10 ∷ 10 ∷ 10 ∷ []
   -- "At degree 64, 23 zeros, 31 of ±1 and 10 of ±2 are taken; with one of them one more and another one less c is refused, and so is a c of squared
   -- length 71 with other counts: 20, 35 and 9; 26, 27 and 11; 32, 19 and 13."
-  pub drawn : challengeRefusals 64 (counted 23 31 10) ≡ 0 ∷ 0 ∷ 0 ∷ []
+  pub challenge-64 : challengeRefusals 64 (counted 23 31 10) ≡ 0 ∷ 0 ∷ 0 ∷ []
   pub zeros-24 : challengeRefusals 64 (counted 24 30 10) ++ challengeRefusals 64 (counted 24 31 9) ≡ replicate 6 10
   pub ones-32 : challengeRefusals 64 (counted 22 32 10) ++ challengeRefusals 64 (counted 23 32 9) ≡ replicate 6 10
   pub twos-11 : challengeRefusals 64 (counted 22 31 11) ++ challengeRefusals 64 (counted 23 30 11) ≡ replicate 6 10
@@ -173,7 +173,7 @@ refusal-cases =
       challenge-72 = refl;
       zero-32 = refl;
       zero-64 = refl;
-      drawn = refl;
+      challenge-64 = refl;
       zeros-24 = refl;
       ones-32 = refl;
       twos-11 = refl;

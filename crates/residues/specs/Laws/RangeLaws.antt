@@ -5,7 +5,7 @@
 --     allWithin-join, -part             joined slices, a part of a slice
 --     Tested                            the invariant of the loop of `all_within`, with its start, its step and its two ends
 --     coefficients-.., projections-..   the same at the bounds of rows 8 and 9
---     drawn-tests, short-tests          row 10: the two rules as tests
+--     counted-tests, short-tests          row 10: the two rules as tests
 --     challenge-64, -other              which of them counts
 use mathlib.Core.Path.{_≡_, refl, sym, ap, ap₂, _∙_}
 use mathlib.Core.Bool.{Bool, true, false, cond, not, _&&_}
@@ -25,7 +25,7 @@ use Rattle.integers.specs.Laws.AllLaws.{both-and, all-at, all-of, all-join, all
 use Rattle.residues.specs.declared.length.Margin.{Margin}
 use Rattle.residues.specs.Length.{remaining, holds}
 use Rattle.residues.specs.Laws.LengthLaws.{holds-remaining}
-use Rattle.residues.specs.Range.{between, allBetween, allWithin, coefficients, projectionEntries, countOf, drawnChallenge, shortChallenge, challenge}
+use Rattle.residues.specs.Range.{between, allBetween, allWithin, coefficients, projectionEntries, countOf, countedChallenge, shortChallenge, challenge}
 
 -- ---- the test by index
 
@@ -155,10 +155,10 @@ projection-entries-part m n xs e = allWithin-part 1 m n xs e
 -- ---- row 10
 
 -- the rule of degree 64 as three tests
-pub drawn-tests : (xs : List ℤ) {zeros ones twos : ℕ} → zeros ≡ countOf 0 xs → ones ≡ countOf 1 xs → twos ≡ countOf 2 xs
-    → eqb zeros 23 && eqb ones 31 && eqb twos 10 ≡ drawnChallenge xs
-unfolding drawnChallenge
-drawn-tests xs e f g = rw (e, f, g) refl
+pub counted-tests : (xs : List ℤ) {zeros ones twos : ℕ} → zeros ≡ countOf 0 xs → ones ≡ countOf 1 xs → twos ≡ countOf 2 xs
+    → eqb zeros 23 && eqb ones 31 && eqb twos 10 ≡ countedChallenge xs
+unfolding countedChallenge
+counted-tests xs e f g = rw (e, f, g) refl
 
 -- that of the smaller degrees as two, the second on what 71 leaves
 pub short-tests : (xs : List ℤ) {small short : Bool} {margin : Margin} → small ≡ allWithin 2 xs → margin ≡ remaining 71 (normSq xs)
@@ -167,10 +167,10 @@ unfolding shortChallenge
 short-tests xs e m h = rw (e, h, m, holds-remaining) (both-and (allWithin 2 xs) (leb (normSq xs) 71))
 
 -- the rule by the number of coefficients
-pub challenge-64 : (xs : List ℤ) → length xs ≡ 64 → challenge xs ≡ drawnChallenge xs
+pub challenge-64 : (xs : List ℤ) → length xs ≡ 64 → challenge xs ≡ countedChallenge xs
 unfolding challenge
-challenge-64 xs h = ap (λ (t : Bool). cond t (drawnChallenge xs) (shortChallenge xs)) (eq-eqb (length xs) 64 h)
+challenge-64 xs h = ap (λ (t : Bool). cond t (countedChallenge xs) (shortChallenge xs)) (eq-eqb (length xs) 64 h)
 
 pub challenge-other : (xs : List ℤ) → (length xs ≡ 64 → ⊥) → challenge xs ≡ shortChallenge xs
 unfolding challenge
-challenge-other xs h = ap (λ (t : Bool). cond t (drawnChallenge xs) (shortChallenge xs)) (ne-eqb (length xs) 64 h)
+challenge-other xs h = ap (λ (t : Bool). cond t (countedChallenge xs) (shortChallenge xs)) (ne-eqb (length xs) 64 h)

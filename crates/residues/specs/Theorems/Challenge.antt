@@ -17,7 +17,7 @@ use lib.IntN.{ℤ, pos, natAbs}
 use borrow.Author.Tests.{le-leb, leb-true, eqb-true, eqb-false}
 use Rattle.integers.specs.Sums.{total, normSq}
 use Rattle.integers.specs.Laws.AllLaws.{both-left, both-right, both-true}
-use Rattle.residues.specs.Range.{allWithin, countOf, drawnChallenge, shortChallenge, challenge}
+use Rattle.residues.specs.Range.{allWithin, countOf, countedChallenge, shortChallenge, challenge}
 use Rattle.residues.specs.Laws.RangeLaws.{allWithin-at, allWithin-of, challenge-64, challenge-other}
 use Rattle.residues.specs.Laws.CountLaws.{all-small, normSq-counts, total-short}
 
@@ -32,9 +32,9 @@ three-tests true true u e = (refl, refl, e)
 three-tests true false u e = absurd (subst T (sym e) tt)
 three-tests false t u e = absurd (subst T (sym e) tt)
 
-drawn-counts : (xs : List ℤ) → (drawnChallenge xs ≡ true) ↔ Counts xs
-unfolding drawnChallenge
-drawn-counts xs = (
+counted-exactly : (xs : List ℤ) → (countedChallenge xs ≡ true) ↔ Counts xs
+unfolding countedChallenge
+counted-exactly xs = (
   λ e. let (zeros, ones, twos) = three-tests _ _ _ e in (eqb-true _ 23 zeros, eqb-true _ 31 ones, eqb-true _ 10 twos),
   λ (zeros, ones, twos). rw (zeros, ones, twos) refl,
 )
@@ -47,7 +47,7 @@ short-exactly xs = (
 )
 
 pub degree-64 : (c : List ℤ) → length c ≡ 64 → (challenge c ≡ true) ↔ Counts c
-degree-64 c size = rw (challenge-64 c size) (drawn-counts c)
+degree-64 c size = rw (challenge-64 c size) (counted-exactly c)
 
 pub smaller-degree : (c : List ℤ) → length c < 64 → (challenge c ≡ true) ↔ (((k : ℕ) → natAbs (getD c k (pos 0)) ≤ 2) × (normSq c ≤ 71))
 smaller-degree c size = rw (challenge-other c (λ e. omega arith)) (short-exactly c)

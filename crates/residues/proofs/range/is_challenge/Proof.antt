@@ -6,7 +6,7 @@ use Rattle.residues.proofs.range.is_challenge.Statement.{statement}
 use Rattle.residues.proofs.range.is_challenge.Tie as tie
 
 returns : tie.Need-returns
-returns c = c .is-drawn-challenge .ensures ∙ sym (challenge-64 _ (c .before .if1 .taken))
+returns c = c .is-counted-challenge .ensures ∙ sym (challenge-64 _ (c .before .if1 .taken))
 
 returns-2 : tie.Need-returns-2
 returns-2 c = c .is-short-challenge .ensures ∙ sym (challenge-other _ (c .before .if1 .left))
