@@ -94,6 +94,11 @@ static lizkarg_list zeros(size_t length) {
 #define FIELDS(X) X(a_matrix) X(b_matrix) X(c_matrix) X(d_matrix) X(whole) X(constant_terms) X(u1) X(projections) X(p) X(psi) X(omega) \
     X(second_b) X(alpha) X(delta) X(u2) X(c) X(opening)
 
+/* Challenges that no call refuses: zero, and at degree 64 with the counts that the rule asks for. */
+static void fill_challenges(lizkarg_list c, size_t d) {
+    for (size_t i = 0; d == 64 && i < c.length; i++) c.numbers[i] = i % d < 31 ? 1 : i % d < 41 ? -2 : 0;
+}
+
 static lists lists_of(header h) {
     lists s;
     lizkarg_sizes sizes = s.sizes = sizes_of(h);
@@ -104,6 +109,7 @@ static lists lists_of(header h) {
     s.z = zeros(lizkarg_z_length(sizes)), s.t = zeros(lizkarg_t_length(sizes));
     s.g = zeros(lizkarg_g_length(sizes)), s.h = zeros(lizkarg_h_length(sizes));
     s.out = zeros(lizkarg_next_length(sizes, s.nu, s.mu)), s.numbers = zeros(lizkarg_proof_length(sizes));
+    fill_challenges(s.proof.c, sizes.d), fill_challenges(lizkarg_proof_of(sizes, s.numbers).c, sizes.d);
     return s;
 }
 
