@@ -267,7 +267,7 @@ static void through(size_t d, const int32_t *c, int taken) {
     memcpy(x.c.at, c, 2 * d * sizeof *c);
     lizkarg_sizes sizes = {.d = d, .n = 1, .r = 2, .kappa = 1, .kappa1 = 1, .kappa2 = 1, .b = 4, .b1 = 4, .b2 = 4, .t1 = 2, .t2 = 2};
     size_t size = lizkarg_sheet_bytes(sizes, 1, 1);
-    uint8_t *text = sheet_text(sizes, numbers, size), *again = room(size, 1);
+    uint8_t *text = sheet_text(sizes, numbers, size), *again = room(size, 1), *untouched = room(size, 1);
     int kind = taken ? LIZKARG_WRITTEN : LIZKARG_REFUSED, judged = taken ? LIZKARG_ACCEPTED : LIZKARG_REFUSED, number = taken ? 0 : 10;
     ANSWER(lizkarg_amortize((lizkarg_shape){.d = d, .n = 1, .r = 2}, 4, OF(c), LIST(witness), LIST(z)), kind, number);
     ANSWER(verify(s, sizes), judged, number);
@@ -277,9 +277,9 @@ static void through(size_t d, const int32_t *c, int taken) {
     lizkarg_sheet read = lizkarg_read_sheet(text, size, LIST(found));
     HOLD(read.kind == kind && read.number == number && (taken ? equal(found, numbers) : is_blank(found)));
     lizkarg_text written = lizkarg_write_sheet(sizes, 1, 1, LIST(numbers), again, size);
-    HOLD(written.kind == kind && written.number == number && (taken ? !memcmp(again, text, size) : again[0] == 0));
+    HOLD(written.kind == kind && written.number == number && !memcmp(again, taken ? text : untouched, size));
     HOLD(is_blank(z) == !taken && is_blank(next) == !taken);
-    free(numbers.at), free(witness.at), free(z.at), free(next.at), free(found.at), free(text), free(again);
+    free(numbers.at), free(witness.at), free(z.at), free(next.at), free(found.at), free(text), free(again), free(untouched);
 }
 
 /* So many coefficients 2 or -2, then 1 or -1, then 0. */

@@ -2,7 +2,7 @@
 -- found d numbers for each of the r parts.
 --     row-10-64         at degree 64, each challenge has the counts of the drawing
 --     row-10-smaller    at each smaller degree, each has coefficients -2 to 2 and squared length at most 71
---     row-10-narrows    a list that passes passes by the rule of the smaller degrees too, so that nothing it refuses is taken
+--     row-10-narrows    a list that passes passes by the rule of the smaller degrees too, so that nothing that this rule refuses is taken
 use mathlib.Core.Path.{_≡_}
 use mathlib.Core.Bool.{true}
 use mathlib.Core.Logic.{_↔_}

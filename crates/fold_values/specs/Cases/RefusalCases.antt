@@ -75,8 +75,8 @@ abbrev pub challengeRefusals : ℕ → List ℤ → List ℕ
 challengeRefusals d c = message₅Refusal d c (zeros d) ∷ verifierRefusalWith d 1 1 4 2 2 5 c ∷ nextRefusalWith d 1 1 4 2 2 5 c 1 1 ∷ []
 
 -- so many zeros, ones and twos
-abbrev pub counted : (none ones twos : ℕ) → List ℤ
-counted none ones twos = replicate ones (+ 1) ++ replicate twos (- 2) ++ zeros none
+abbrev pub ofCounts : (none ones twos : ℕ) → List ℤ
+ofCounts none ones twos = replicate ones (+ 1) ++ replicate twos (- 2) ++ zeros none
 
 -- the refusal of message 2 for one part of rank 1 and degree 2 and one projection row
 abbrev pub message₂Refusal : List ℤ → ℕ
@@ -119,18 +119,19 @@ pub record RefusalCases : Type 0 where
   pub projection-2 : message₂Refusal (+ 2 ∷ + 0 ∷ []) ≡ 9
   -- row 10: "coefficient 3; at degree 64, c = 0", "squared length of c 71/72 at degree 32"
   pub challenge-3 : challengeRefusals 2 (+ 3 ∷ + 0 ∷ []) ≡ 10 ∷ 10 ∷ 10 ∷ []
-  pub challenge-71 : challengeRefusals 32 (counted 12 3 17) ≡ 0 ∷ 0 ∷ 0 ∷ []
-  pub challenge-72 : challengeRefusals 32 (counted 14 0 18) ≡ 10 ∷ 10 ∷ 10 ∷ []
+  pub challenge-71 : challengeRefusals 32 (ofCounts 12 3 17) ≡ 0 ∷ 0 ∷ 0 ∷ []
+  pub challenge-72 : challengeRefusals 32 (ofCounts 14 0 18) ≡ 10 ∷ 10 ∷ 10 ∷ []
   pub zero-32 : challengeRefusals 32 (zeros 32) ≡ 0 ∷ 0 ∷ 0 ∷ []
   pub zero-64 : challengeRefusals 64 (zeros 64) ≡ 10 ∷ 10 ∷ 10 ∷ []
   -- "At degree 64, 23 zeros, 31 of ±1 and 10 of ±2 are taken; with one of them one more and another one less c is refused, and so is a c of squared
   -- length 71 with other counts: 20, 35 and 9; 26, 27 and 11; 32, 19 and 13."
-  pub challenge-64 : challengeRefusals 64 (counted 23 31 10) ≡ 0 ∷ 0 ∷ 0 ∷ []
-  pub zeros-24 : challengeRefusals 64 (counted 24 30 10) ++ challengeRefusals 64 (counted 24 31 9) ≡ replicate 6 10
-  pub ones-32 : challengeRefusals 64 (counted 22 32 10) ++ challengeRefusals 64 (counted 23 32 9) ≡ replicate 6 10
-  pub twos-11 : challengeRefusals 64 (counted 22 31 11) ++ challengeRefusals 64 (counted 23 30 11) ≡ replicate 6 10
+  pub counts-64 : challengeRefusals 64 (ofCounts 23 31 10) ≡ 0 ∷ 0 ∷ 0 ∷ []
+  pub other-signs : challengeRefusals 64 (zeros 23 ++ replicate 10 (+ 2) ++ replicate 31 (- 1)) ≡ 0 ∷ 0 ∷ 0 ∷ []
+  pub zeros-24 : challengeRefusals 64 (ofCounts 24 30 10) ++ challengeRefusals 64 (ofCounts 24 31 9) ≡ replicate 6 10
+  pub ones-32 : challengeRefusals 64 (ofCounts 22 32 10) ++ challengeRefusals 64 (ofCounts 23 32 9) ≡ replicate 6 10
+  pub twos-11 : challengeRefusals 64 (ofCounts 22 31 11) ++ challengeRefusals 64 (ofCounts 23 30 11) ≡ replicate 6 10
   pub other-71 :
-      challengeRefusals 64 (counted 20 35 9) ++ challengeRefusals 64 (counted 26 27 11) ++ challengeRefusals 64 (counted 32 19 13) ≡ replicate 9 10
+      challengeRefusals 64 (ofCounts 20 35 9) ++ challengeRefusals 64 (ofCounts 26 27 11) ++ challengeRefusals 64 (ofCounts 32 19 13) ≡ replicate 9 10
   -- row 11: "m = 3200, μ = 1", "n' 256/257"
   pub rest-3200 : restSize 16 8 8 8 ≡ 3200
   pub rank-3200 : nextRefusal 2 16 8 4 8 8 5 1 1 ≡ 11
@@ -173,7 +174,8 @@ refusal-cases =
       challenge-72 = refl;
       zero-32 = refl;
       zero-64 = refl;
-      challenge-64 = refl;
+      counts-64 = refl;
+      other-signs = refl;
       zeros-24 = refl;
       ones-32 = refl;
       twos-11 = refl;

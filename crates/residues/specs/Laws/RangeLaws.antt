@@ -3,10 +3,10 @@
 --     allWithin-false                   one number above the bound
 --     allWithin-mono                    a larger bound
 --     allWithin-join, -part             joined slices, a part of a slice
---     Tested                            the invariant of the loop of `all_within`, with its start, its step and its two ends
+--     Tested                            the invariant of the loop of `all_between`, with its start, its step and its two ends
 --     coefficients-.., projections-..   the same at the bounds of rows 8 and 9
---     counted-tests, short-tests          row 10: the two rules as tests
---     challenge-64, -other              which of them counts
+--     counted-tests, short-tests        row 10: the two rules as tests
+--     challenge-64, -other              which of them is asked
 use mathlib.Core.Path.{_≡_, refl, sym, ap, ap₂, _∙_}
 use mathlib.Core.Bool.{Bool, true, false, cond, not, _&&_}
 use mathlib.Core.List.{List, [], _∷_, _++_}
@@ -59,7 +59,7 @@ pub allWithin-part : (b m n : ℕ) (xs : List ℤ) → allWithin b xs ≡ true �
 unfolding allWithin
 allWithin-part b m n xs e = all-part (λ x. leb (natAbs x) b) m n xs e
 
--- ---- the loop of `all_within`: `all` says whether the first i numbers are within the bound
+-- ---- the loop of `all_between`: `all` says whether the first i numbers lie from low to high
 
 not-ltb : (m n : ℕ) → not (ltb m n) ≡ leb n m
 not-ltb m n = pick (ltb m n) refl

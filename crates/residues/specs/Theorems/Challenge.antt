@@ -9,7 +9,7 @@ use mathlib.Core.Path.{_≡_, refl, sym, subst, _∙_}
 use mathlib.Core.Bool.{Bool, true, false, _&&_}
 use mathlib.Core.Logic.{_↔_}
 use mathlib.Core.List.{List}
-use Prim.Native.Nat.{ℕ, _+_, _≤_, _<_}
+use Prim.Native.Nat.{ℕ, _≤_, _<_}
 use native.Mathlib.Omega.{arith}
 use lib.Dec.{T, eqb}
 use lib.ListN.{length, getD}
@@ -23,7 +23,7 @@ use Rattle.residues.specs.Laws.CountLaws.{all-small, normSq-counts, tota
 
 -- ---- the two rules
 
--- the counts of a list that is drawn
+-- the counts of the rule of degree 64; what a count is: `count-is`, ../Laws/CountLaws.antt
 abbrev pub Counts : List ℤ → Type 0
 Counts xs = (countOf 0 xs ≡ 23) × (countOf 1 xs ≡ 31) × (countOf 2 xs ≡ 10)
 

@@ -6,12 +6,12 @@ use lib.Dec.{eqb}
 use lib.ListN.{length, getD}
 use lib.IntN.{ℤ, pos, natAbs}
 use Rattle.residues.specs.Laws.Words.{word}
-use Rattle.residues.specs.Laws.CountLaws.{oneIf, Counted, counted-start, counted-step, counted-end}
+use Rattle.residues.specs.Laws.CountLaws.{oneIf, Tally, tally-start, tally-step, tally-end}
 use Rattle.residues.proofs.range.count_of.Statement.{statement}
 use Rattle.residues.proofs.range.count_of.Tie as tie
 
 abbrev Inv-loop : tie.InvT-loop
-Inv-loop a xs count₀ i₀ count i = Counted a xs count i
+Inv-loop a xs count₀ i₀ count i = Tally a xs count i
 
 abbrev μ-loop : tie.MeasureT-loop
 μ-loop a xs count₀ i₀ count i = length xs - i
@@ -20,7 +20,7 @@ loop-again : tie.Need-loop-again Inv-loop μ-loop
 loop-again c =
     let l = c .before .before .before in
     let x = getD (l .before .args .xs .now) (l .loop .i) (pos 0) in
-    counted-step _ _ _ _ (l .loop .inv) (c .before .before .loop-test .taken)
+    tally-step _ _ _ _ (l .loop .inv) (c .before .before .loop-test .taken)
     (c .one-if .ensures ∙ ap (λ (x : ℤ). oneIf (eqb (natAbs x) (l .before .args .a))) (word x (c .before .one-if-arg .given)))
 
 add-count : tie.Need-add-count Inv-loop μ-loop
@@ -32,7 +32,7 @@ count-of-spec =
     (tie.spec
     Inv-loop
     μ-loop
-    (λ c. counted-start _ _)
+    (λ c. tally-start _ _)
     (λ c. omega arith)
     (λ c. omega arith)
     (λ c κs. tt)
@@ -40,4 +40,4 @@ count-of-spec =
     (λ c. omega arith)
     (λ c. omega arith)
     loop-again
-    (λ c. counted-end _ _ _ _ (c .before .loop .inv) (c .loop-test .left)))
+    (λ c. tally-end _ _ _ _ (c .before .loop .inv) (c .loop-test .left)))
