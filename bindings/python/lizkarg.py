@@ -131,7 +131,8 @@ class Proof(NamedTuple):
     alpha: List[int]  # α, an element to each whole constraint
     delta: List[int]  # δ, five elements
     u2: List[int]  # message 4
-    c: List[int]  # challenges, an element to each part: at degree 64, 23 coefficients 0, 31 of ±1 and 10 of ±2; below, -2 to 2, squared length at most 71
+    # challenges, an element to each part: at degree 64, 23 coefficients 0, 31 of ±1 and 10 of ±2; at smaller degrees -2 to 2, squared length at most 71
+    c: List[int]
     opening: List[int]  # message 5: z low, z high, the digits of t, g and h
 
 

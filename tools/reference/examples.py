@@ -39,7 +39,7 @@ def small_run(s, c=None):
 
 
 def kept_challenges(y):
-    """The challenges with another in place of the last, which kept the rule of the smaller degrees: of squared length 71, by other counts."""
+    """The challenges with another in place of the last, which passes the rule of the smaller degrees: of squared length 71, by other counts."""
     c = y["c"][:64] + counted(random.Random(4), 64, 9, 35)
     assert ring.squared_norm(c[64:]) == 71 and ring.is_short_challenge(c[64:])
     return c

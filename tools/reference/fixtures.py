@@ -101,7 +101,7 @@ def counted_challenge(rng, d):
 
 
 def short_challenge(rng, d):
-    """A challenge by the rule of the smaller degrees, drawn again until it keeps it."""
+    """A challenge by the rule of the smaller degrees, drawn again until it passes."""
     while True:
         c = uniform(rng, ring.CHALLENGE_COEFFICIENT, d)
         if ring.is_short_challenge(c):
@@ -164,7 +164,7 @@ def sides_at_64(rng, few):
 
 
 def two_at_64(rng):
-    """The same for two lists, one after the other: both drawn; the first or the last with other counts, by which it keeps the rule of the smaller
+    """The same for two lists, one after the other: both drawn; the first or the last with other counts, by which it passes the rule of the smaller
     degrees.
     """
     first, last = challenge(rng, 64), challenge(rng, 64)

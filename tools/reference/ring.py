@@ -220,5 +220,5 @@ def is_short_challenge(c):
 
 
 def is_challenge(c):
-    """Row 10: "challenge outside the rule (5.1)"; true where c, a list of d numbers, keeps it."""
+    """Row 10: "challenge outside the rule (5.1)"; true where c, a list of d numbers, passes it."""
     return is_counted_challenge(c) if len(c) == COUNTED_DEGREE else is_short_challenge(c)

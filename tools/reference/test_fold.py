@@ -42,7 +42,7 @@ def test_bench_values_at_the_sides():
     c72 = [2] * 18 + [0] * 14
     assert ring.squared_norm(c71) == 71 and ring.is_challenge(c71)
     assert ring.squared_norm(c72) == 72 and not ring.is_challenge(c72)
-    # "At degree 64, 23 zeros, 31 of ±1 and 10 of ±2 are taken; with one of them one more and another one less c is refused, and so is a c of
+    # "At degree 64, 23 zeros, 31 of ±1 and 10 of ±2 are taken; with one count one more and another one less c is refused, and so is a c of
     # squared length 71 with other counts: 20, 35 and 9; 26, 27 and 11; 32, 19 and 13."
     assert 31 + 10 * 4 == 71
     for zeros, ones, twos in ((23, 31, 10), (24, 30, 10), (22, 31, 11), (23, 32, 9), (20, 35, 9), (26, 27, 11), (32, 19, 13)):

@@ -120,13 +120,13 @@ def test_counts_of_challenges():
 
 def laws_of_challenges(c):
     """ "At every degree no coefficient of a challenge has an absolute value above 2, and the absolute values sum to at most 71." "Every challenge
-    of degree 64 keeps the rule of the smaller degrees too". """
+    of degree 64 passes the rule of the smaller degrees too". """
     assert ring.is_challenge(c) and ring.is_short_challenge(c)
     assert max(map(abs, c)) <= 2 and sum(map(abs, c)) <= 71 and ring.squared_norm(c) <= 71
 
 
 def test_drawn_challenges():
-    """They keep the rule and its laws; at degree 64 the counts are right, and every number is seen at every place."""
+    """They pass the rule and have its laws; at degree 64 the counts are right, and every number is seen at every place."""
     rng = random.Random(3)
     for d in ring.DEGREES:
         drawn = [challenge(rng, d) for _ in range(200)]
@@ -138,7 +138,7 @@ def test_drawn_challenges():
 
 
 def test_kept_draws():
-    """Within it challenges of degree 64 keep the rule of the smaller degrees, and their counts are any; those of smaller degrees are the same."""
+    """Within it challenges of degree 64 pass the rule of the smaller degrees, and their counts are any; those of smaller degrees are the same."""
     with kept_draws():
         kept = challenge(random.Random(4), 64)
         smaller = [challenge(random.Random(5), d) for d in ring.DEGREES[:-1]]

@@ -242,7 +242,7 @@ static void sheets(const stored *s) {
 
 /* ---- challenges */
 
-/* n = 1, r = 2, all other sizes the least: the elements of each list of a sheet, in its order, and of the next instance. */
+/* n = 1, r = 2, bases 4, all other sizes the least: the elements of each list of a sheet, in its order, and of the next instance. */
 static const size_t ELEMENTS[17] = {1, 4, 6, 6, 0, 0, 1, 0, 0, 0, 0, 5, 0, 5, 1, 2, 18};
 enum { ALL_ELEMENTS = 49, NEXT_ELEMENTS = 330, CHALLENGES = 15 };
 

@@ -80,7 +80,7 @@ fn count_of(a: u64, xs: &[i32]) -> usize
     count
 }
 
-// xs keeps the rule of degree 64: 23 zeros, 31 of ±1, 10 of ±2.
+// xs passes the rule of degree 64: 23 zeros, 31 of ±1, 10 of ±2.
 fn is_counted_challenge(xs: &[i32]) -> bool
     ensures { λ r. ⌜ r ≡ countedChallenge (now (xs .entry)) ⌝ }
 {
@@ -90,7 +90,7 @@ fn is_counted_challenge(xs: &[i32]) -> bool
     zeros & ones & twos
 }
 
-// xs keeps the rule of the smaller degrees.
+// xs passes the rule of the smaller degrees.
 fn is_short_challenge(xs: &[i32]) -> bool
     ensures { λ r. ⌜ r ≡ shortChallenge (now (xs .entry)) ⌝ }
 {
@@ -99,7 +99,7 @@ fn is_short_challenge(xs: &[i32]) -> bool
     small & short
 }
 
-// xs, the d numbers of one ring element, keeps the challenge rule of its degree.
+// xs, the d numbers of one ring element, passes the challenge rule of its degree.
 pub fn is_challenge(xs: &[i32]) -> bool
     ensures { λ r. ⌜ r ≡ challenge (now (xs .entry)) ⌝ }
 {

@@ -67,7 +67,7 @@ static void test_messages(const lists *l) {
 }
 
 #if TESTS
-/* 23 coefficients 0, 31 of 1 or -1 and 10 of 2 or -2; at smaller degrees -2 to 2, squared length at most 71 */
+/* At degree 64, 23 coefficients 0, 31 of 1 or -1 and 10 of 2 or -2; at smaller degrees -2 to 2, squared length at most 71 */
 static int is_challenge(const int32_t *c, size_t d) {
     if (d < 64) return all_between(c, d, -2, 2) && within(71, c, d, 1);
     int zeros = 0, ones = 0, twos = 0;

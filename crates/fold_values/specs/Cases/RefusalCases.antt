@@ -74,7 +74,7 @@ message₅Refusal d c s = firstFailing (amortizeTests d 1 1 2 4 c s (zeros (2 * 
 abbrev pub challengeRefusals : ℕ → List ℤ → List ℕ
 challengeRefusals d c = message₅Refusal d c (zeros d) ∷ verifierRefusalWith d 1 1 4 2 2 5 c ∷ nextRefusalWith d 1 1 4 2 2 5 c 1 1 ∷ []
 
--- so many zeros, ones and twos
+-- so many numbers 0, +1 and -2
 abbrev pub ofCounts : (none ones twos : ℕ) → List ℤ
 ofCounts none ones twos = replicate ones (+ 1) ++ replicate twos (- 2) ++ zeros none
 
@@ -123,7 +123,7 @@ pub record RefusalCases : Type 0 where
   pub challenge-72 : challengeRefusals 32 (ofCounts 14 0 18) ≡ 10 ∷ 10 ∷ 10 ∷ []
   pub zero-32 : challengeRefusals 32 (zeros 32) ≡ 0 ∷ 0 ∷ 0 ∷ []
   pub zero-64 : challengeRefusals 64 (zeros 64) ≡ 10 ∷ 10 ∷ 10 ∷ []
-  -- "At degree 64, 23 zeros, 31 of ±1 and 10 of ±2 are taken; with one of them one more and another one less c is refused, and so is a c of squared
+  -- "At degree 64, 23 zeros, 31 of ±1 and 10 of ±2 are taken; with one count one more and another one less c is refused, and so is a c of squared
   -- length 71 with other counts: 20, 35 and 9; 26, 27 and 11; 32, 19 and 13."
   pub counts-64 : challengeRefusals 64 (ofCounts 23 31 10) ≡ 0 ∷ 0 ∷ 0 ∷ []
   pub other-signs : challengeRefusals 64 (zeros 23 ++ replicate 10 (+ 2) ++ replicate 31 (- 1)) ≡ 0 ∷ 0 ∷ 0 ∷ []

@@ -1,8 +1,8 @@
 -- Laws of counts by absolute value.
---     count-is                    a count by index: of the numbers, one by one, those of this absolute value
+--     count-is                    a count is the sum over all indices of 1 where the number has this absolute value, else 0
 --     Tally                       the invariant of the loop of `count_of`, with its start, its step and its end
 --     counts-most                 zeros, ones and twos are no more than all numbers
---     all-small, normSq-counts    where they are all: none is above 2, and their counts give the squared length
+--     all-small, normSq-counts    where they are all: no absolute value is above 2, and their counts give the squared length
 --     total-short                 the absolute values sum to at most the squared length
 use mathlib.Core.Path.{_≡_, refl, sym, ap, _∙_}
 use mathlib.Core.Bool.{Bool, true, false, cond}
@@ -65,7 +65,7 @@ tally-end a xs count i t h =
 
 -- ---- zeros, ones and twos
 
--- what one number adds to the three counts: it is counted once at most, and where it is, it is small and its square is by its count
+-- what a number of absolute value n adds to the three counts: 1 at most, and where it is counted, n is at most 2 and its square is ones + 4·twos
 record Shares (n zeros ones twos : ℕ) : Type 0 where
   once : zeros + ones + twos ≤ 1
   small : zeros + ones + twos ≡ 1 → n ≤ 2

@@ -1,8 +1,8 @@
 -- SPECIFICATION 5.1, a challenge: the rule of each degree, and what holds of a challenge at every degree.
 --     degree-64            "at degree 64, exactly 23 coefficients are zero, 31 are +1 or -1, and 10 are +2 or -2"
 --     smaller-degree       "At each smaller degree, a challenge c has coefficients -2 to 2 and squared length at most 71."
---     challenge-short      "Every challenge of degree 64 keeps the rule of the smaller degrees too"
 --     squared-length-71    "31 + 10·4 = 71 is that of every challenge of degree 64"
+--     challenge-short      "Every challenge of degree 64 passes the rule of the smaller degrees too"
 --     challenge-within     "no coefficient of a challenge has an absolute value above 2"
 --     challenge-sum        "the absolute values sum to at most 71"
 use mathlib.Core.Path.{_≡_, refl, sym, subst, _∙_}
@@ -52,12 +52,12 @@ degree-64 c size = rw (challenge-64 c size) (counted-exactly c)
 pub smaller-degree : (c : List ℤ) → length c < 64 → (challenge c ≡ true) ↔ (((k : ℕ) → natAbs (getD c k (pos 0)) ≤ 2) × (normSq c ≤ 71))
 smaller-degree c size = rw (challenge-other c (λ e. omega arith)) (short-exactly c)
 
--- ---- at every degree
-
 pub squared-length-71 : (c : List ℤ) → length c ≡ 64 → challenge c ≡ true → normSq c ≡ 71
 squared-length-71 c size e =
     let (zeros, ones, twos) = degree-64 c size .0 e in
     omega (arith, normSq-counts c (omega arith))
+
+-- ---- at every degree
 
 pub challenge-short : (c : List ℤ) → challenge c ≡ true → shortChallenge c ≡ true
 challenge-short c e = cases (eqb (length c) 64) refl
