@@ -13,7 +13,7 @@ import fold
 import sheet
 import sizes
 import stored
-from fixtures import ACCEPTED, OPEN, least_bounds, short_lists
+from fixtures import OPEN, accepted, least_bounds, short_lists
 from sizes import LENGTHS, Sizes
 
 CASES = {
@@ -39,7 +39,7 @@ def files():
         x = short_lists(rng, s)
         y = fold.honest(s, x)
         s = least_bounds(s, y)
-        assert fold.answer("verify", s, y) == ACCEPTED
+        assert fold.answer("verify", s, y) == accepted(0)
         kind, written = fold.answer("next_instance", s, y)
         assert kind == "written"
         constraints = fold.cut(written["next_whole"], LENGTHS["next_whole"](s) // sizes.next_constraint_count(s))

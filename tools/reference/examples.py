@@ -11,7 +11,7 @@ import ring
 import sheet
 import stored
 from fixtures import (
-    ACCEPTED, OPEN, SMALL, block_starts, challenges, counted, failed, least_bounds, moved, refused, replaced, uniform, whole_case_text,
+    OPEN, SMALL, accepted, block_starts, challenges, counted, failed, least_bounds, moved, refused, replaced, uniform, whole_case_text,
     with_commitments, with_constraints,
 )
 from sizes import LENGTHS, Sizes
@@ -57,11 +57,12 @@ def carried_z(s, y):
 def examples():
     """Name, verdict and text of each."""
     whole = whole_case_text()
-    yield "whole-case", ACCEPTED, whole
+    yield "whole-case", accepted(0), whole
+    yield "whole-case-margin", accepted(7), whole_case_text(target_beta_squared=20)
     yield "whole-case-too-long", failed(9), whole_case_text(target_beta_squared=12)
     s, y = small_run(PARTS)
-    yield "parts", ACCEPTED, sheet.write_sheet(s, y)
-    yield "parts-wide-digits", ACCEPTED, sheet.write_sheet(least_bounds(s, carried_z(s, y)), carried_z(s, y))
+    yield "parts", accepted(0), sheet.write_sheet(s, y)
+    yield "parts-wide-digits", accepted(0), sheet.write_sheet(least_bounds(s, carried_z(s, y)), carried_z(s, y))
     yield "projection-too-long", failed(1), sheet.write_sheet(s._replace(beta_squared=s.beta_squared - 1), y)
     _, g, _ = block_starts(s)
     garbage = with_commitments(s, moved(y, "opening", g + s.t2 * s.d))
@@ -70,7 +71,7 @@ def examples():
     yield "number-out-of-range", refused(8), sheet.write_sheet(s, replaced(y, "u2", 0, ring.LARGEST + 1))
     yield "broken-field", refused(12), whole.replace(sheet.line_text([2, 2]), sheet.line_text([2, 2]).replace(b" 2\n", b"2a\n"))
     s, y = small_run(DEGREE_64)
-    yield "degree-64", ACCEPTED, sheet.write_sheet(s, y)
+    yield "degree-64", accepted(0), sheet.write_sheet(s, y)
     kept_bounds, kept = small_run(DEGREE_64, kept_challenges(y))
     assert kept_bounds.target_beta_squared <= s.target_beta_squared
     yield "kept-challenge", refused(10), sheet.write_sheet(s, kept)

@@ -13,7 +13,9 @@ import sizes
 from sizes import LARGEST_BOUND, LENGTHS, Sizes
 
 # Answers
-ACCEPTED = ("accepted", 0)
+
+def accepted(margin):
+    return ("accepted", margin)
 
 
 def failed(check):
@@ -243,6 +245,15 @@ def least_bounds(s, y):
     )
 
 
+# Both sides of the target bound
+
+def sides_of_the_target(s, y):
+    """The target bound one below the squared length of all digits, at it, one above it, and the largest: the answer to an honest opening, and the sizes."""
+    length = ring.squared_norm(y["opening"])
+    for bound in (length - 1, length, length + 1, LARGEST_BOUND):
+        yield failed(9) if bound < length else accepted(bound - length), s._replace(target_beta_squared=bound)
+
+
 # Honest runs
 
 def honest(rng, s, **given):
@@ -262,6 +273,24 @@ def honest_case(rng):
         target_beta_squared=bounded(rng.choice((length - 1, length, length, LARGEST_BOUND))),
     )
     return s, x, y
+
+
+# The whole case by its target bound: the worked values, and the widest margin of it.
+WHOLE_CASE_SIDES = {12: failed(9), 13: accepted(0), 20: accepted(7), LARGEST_BOUND: accepted(999999999999986)}
+
+# Three parts, every list with numbers.
+SEVERAL_PARTS = SMALL._replace(n=2, r=3, L=1, w=2, kappa=2, nu=1, mu=3)
+
+
+def margin_sides(rng):
+    """The whole case and an honest run of several parts under target bounds on both sides of their squared length: name, answer, sizes, lists."""
+    s, y = whole_case()
+    for bound, answer in WHOLE_CASE_SIDES.items():
+        yield f"whole case, β'² = {bound}", answer, s._replace(target_beta_squared=bound), y
+    y = fold.honest(SEVERAL_PARTS, short_lists(rng, SEVERAL_PARTS))
+    assert all(any(fold.flat(block)) for block in fold.read_opening(SEVERAL_PARTS, y)), "a block of zeros counts for nothing"
+    for answer, s in sides_of_the_target(SEVERAL_PARTS, y):
+        yield f"several parts, β'² = {s.target_beta_squared}", answer, s, y
 
 
 # Changes

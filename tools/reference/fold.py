@@ -22,7 +22,7 @@ DEFINITIONS = {
 
 def answer(call, s, x):
     """ "The verifier's answer is either a refusal with its number or a judgement, and a judgement is accepted or failed with a
-    check." ("refused", number), ("accepted", 0), ("failed", check), or ("written", lists) with the lists that the call writes by name.
+    check." ("refused", number), ("accepted", margin), ("failed", check), or ("written", lists) with the lists that the call writes by name.
     """
     number = sizes.refusal(call, s, x)
     if number:

@@ -13,7 +13,8 @@ import fold
 import ring
 import stored
 from fixtures import (
-    SMALL, challenge, check_faults, honest_case, kept_draws, moved, random_lists, random_sizes, replaced, short_lists, sides_of_challenges, uniform,
+    SMALL, challenge, check_faults, honest_case, kept_draws, margin_sides, moved, random_lists, random_sizes, replaced, short_lists,
+    sides_of_challenges, uniform,
 )
 from sizes import CALLS, LARGEST_BOUND, LENGTHS, Sizes
 
@@ -177,6 +178,14 @@ def challenge_sides(rng):
     yield case(VERIFY, s, replaced(x, "projections", -1, 2))
 
 
+def margins(rng):
+    """Target bounds on both sides of the squared length."""
+    for name, answer, s, y in margin_sides(rng):
+        line, output = case(VERIFY, s, y)
+        assert output == stored.answer_numbers(answer), name
+        yield line, output
+
+
 def files():
     """Input and output. Of the first groups the challenges of degree 64 are kept ones."""
     rng = random.Random(20)
@@ -185,6 +194,7 @@ def files():
         cases = [line for group in groups for line in group(rng)]
     rng = random.Random(21)
     cases += [line for group in (honest_at_64, challenge_sides) for line in group(rng)]
+    cases += margins(random.Random(22))
     stdin = stored.numbers_text(line for line, _ in cases)
     assert len(stdin) <= LARGEST_INPUT_BYTES, len(stdin)
     assert max(len(line) for line, _ in cases) <= LARGEST_LINE_NUMBERS

@@ -8,7 +8,12 @@ from sizes import LARGEST_BOUND, LENGTHS
 
 FIRST = SMALL._replace(b=16, b2=256)
 
-ACCEPTED, WRITTEN = [0, 0], [3, 0]
+WRITTEN = [3, 0]
+
+
+def accepted(s, y):
+    """The two numbers of accepted: "otherwise accepted, with the target bound minus that length as margin". """
+    return [0, s.target_beta_squared - ring.squared_norm(y["opening"])]
 
 
 def honest_lists(rng, s, small=False):
@@ -84,19 +89,20 @@ def two_folds(rng):
         following = second_sizes(s, **free)
         draws = second_draws(rng, following)
         s, following = tight(s, x, following, draws)
-        cases[name] = (s, x, following, draws, (ACCEPTED, WRITTEN, ACCEPTED))
+        second = second_fold(s, x, following, draws)
+        cases[name] = (s, x, following, draws, (accepted(s, fold.honest(s, x)), WRITTEN, accepted(following, second)))
 
-    s, x, following, draws, _ = cases["d = 2, rows"]
+    s, x, following, draws, (first, *_) = cases["d = 2, rows"]
     less = following._replace(target_beta_squared=following.target_beta_squared - 1)
-    cases["second too long"] = (s, x, less, draws, (ACCEPTED, WRITTEN, [1, 9]))
+    cases["second too long"] = (s, x, less, draws, (first, WRITTEN, [1, 9]))
     signs = [(number > 0) - (number < 0) for number in second_witness(s, fold.honest(s, x))]
-    cases["second projection too long"] = (s, x, following, draws | {"projections": signs * following.w}, (ACCEPTED, WRITTEN, [1, 1]))
+    cases["second projection too long"] = (s, x, following, draws | {"projections": signs * following.w}, (first, WRITTEN, [1, 1]))
     cases["witness misses a constraint"] = (s, moved(x, "whole", -1), following, draws, ([1, 8], WRITTEN, [1, 8]))
     shorter = s._replace(beta_squared=s.beta_squared - 1)
     cases["first projection too long, nothing written"] = (shorter, x, following, draws, ([1, 1], [1, 1], [1, 8]))
 
-    s, x, following, draws, _ = cases["d = 2, no rows"]
+    s, x, following, draws, (*_, second) = cases["d = 2, no rows"]
     norm = ring.squared_norm(fold.honest(s, x)["opening"])
     less = s._replace(target_beta_squared=norm - 1)
-    cases["first too long"] = (less, x, following._replace(beta_squared=norm - 1), draws, ([1, 9], WRITTEN, ACCEPTED))
+    cases["first too long"] = (less, x, following._replace(beta_squared=norm - 1), draws, ([1, 9], WRITTEN, second))
     return cases

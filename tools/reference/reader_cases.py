@@ -1,13 +1,13 @@
 """Stored input and output of the test program for the calls that read and write a sheet, crates/sheet_cases.
 
 Input: stored.sheets_text, then the cases of writer_cases.py. Output: five lines for each case here, then those of writer_cases.py.
-Honest sheets are kept ones, but for challenge_sides: their openings are by the older rule of the low digit (ring.kept_rule).
+Honest sheets are kept ones, but for challenge_sides and margins: their openings are by the older rule of the low digit (ring.kept_rule).
 
     count                           how many numbers the header's sizes give
     kind number header shown(X)     three times, for a slice of one number less than the count, of as many, and of one more: the reader's
                                     answer (kind 2 refused, 3 written), the header's 18 numbers (0 where it refuses), and the slice X
                                     afterwards, which the program fills with FILL before the call; shown(X) as in next_cases.py
-    kind number                     the judge's answer (kind 0 accepted, 1 failed, 2 refused)
+    kind number                     the judge's answer (kind 0 accepted and the margin, 1 failed, 2 refused)
 
 With the argument `names` the script prints a line for each case: its name and its answers.
 """
@@ -18,7 +18,7 @@ import sys
 import ring
 import sheet
 import writer_cases
-from fixtures import SMALL, honest, replaced, sides_of_challenges, whole_case_text
+from fixtures import SMALL, honest, margin_sides, replaced, sides_of_challenges, whole_case_text
 from sheet_faults import ROWS, header_with
 from stored import FILL, answer_numbers, numbers_text, sheets_text, shown, write
 
@@ -66,6 +66,14 @@ def challenge_sides(rng):
     yield "d = 64, numbers refused by 8, 10", sheet.write_sheet(s, replaced(y, "opening", -1, 2147483599))
 
 
+def margins(rng):
+    """Target bounds on both sides of the squared length."""
+    for name, answer, s, y in margin_sides(rng):
+        text = sheet.write_sheet(s, y)
+        assert sheet.judge(text) == answer, name
+        yield name, text
+
+
 def case_lines(text):
     """The output of a case, as lists of numbers."""
     count = sheet.sheet_numbers(text)
@@ -80,7 +88,7 @@ def all_cases():
     rng = random.Random(14)
     with ring.kept_rule():
         cases = [case for group in (good_sheets, refused_sheets) for case in group(rng)]
-    return cases + list(challenge_sides(random.Random(17)))
+    return cases + list(challenge_sides(random.Random(17))) + list(margins(random.Random(19)))
 
 
 def files():

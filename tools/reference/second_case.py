@@ -11,7 +11,7 @@ import fold
 import ring
 import sizes
 import stored
-from fixtures import ACCEPTED, OPEN, failed, least_bounds, moved, random_lists, with_commitments
+from fixtures import OPEN, accepted, failed, least_bounds, moved, random_lists, with_commitments
 from sizes import LENGTHS, Sizes
 
 SEED = 3
@@ -123,7 +123,7 @@ def check_verdicts(s, y, changed):
     """The verdicts that SecondCase proves. `changed` has the lists with one number of the opening changed, by block."""
     largest = s._replace(target_beta_squared=sizes.LARGEST_BOUND)
     for bounds, lists, verdict in (
-        (s, y, ACCEPTED),
+        (s, y, accepted(0)),
         (s._replace(beta_squared=s.beta_squared - 1), y, failed(1)),
         (s._replace(target_beta_squared=s.target_beta_squared - 1), y, failed(9)),
         (largest, moved(y, "second_b", 0), failed(2)),

@@ -214,7 +214,8 @@ def judge(text):
 
 
 def output_line(answer):
-    """ "prints one line of two such fields of 16 columns: kind (0 accepted, 1 failed, 2 refused) and number (0 when accepted)." """
+    """ "prints one line of two such fields of 16 columns: kind (0 accepted, 1 failed, 2 refused) and number (the margin when accepted, the check that
+    failed, the row that refused)." """
     kind, number = answer
     return line_text([KINDS[kind], number])
 

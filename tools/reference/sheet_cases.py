@@ -6,7 +6,7 @@
 The input of all cases: stored.sheets_text. With the argument `names` the script prints a line for each case: its number, its answer, its
 count of bytes, its group and name; last the count of cases by answer.
 
-Honest sheets are kept ones, but for the last two groups: their openings are by the older rule of the low digit (ring.kept_rule), their
+Honest sheets are kept ones, but for the last three groups: their openings are by the older rule of the low digit (ring.kept_rule), their
 challenges of degree 64 by the rule of the smaller degrees (kept_draws).
 
 Groups, in sheet_checks.py, sheet_numbers.py and sheet_faults.py; a case's name says what is changed.
@@ -33,6 +33,7 @@ Groups, in sheet_checks.py, sheet_numbers.py and sheet_faults.py; a case's name 
     header_order           two rows of the header at once; a row and the layout
     even_halves            z, t, g and h with numbers half a base from two multiples; honest sheets by the rule, and by the older one
     challenge_sides        challenges of degree 64 by their counts, of one part and of two; of degree 32 by their squared length
+    margins                the target bound on both sides of the squared length, and at its largest
 """
 
 import random
@@ -45,7 +46,7 @@ import sheet_checks
 import sheet_faults
 import sheet_numbers
 import stored
-from fixtures import ACCEPTED, kept_draws, whole_case_text
+from fixtures import accepted, kept_draws, whole_case_text
 
 
 def judged(group, *arguments):
@@ -63,7 +64,7 @@ def all_cases():
     groups = [(group, rng) for group in sheet_checks.GROUPS + sheet_numbers.GROUPS] + [(group,) for group in sheet_faults.GROUPS]
     with ring.kept_rule(), kept_draws():
         cases = [case for group in groups for case in judged(*group)]
-    for group, seed in ((sheet_checks.even_halves, 15), (sheet_numbers.challenge_sides, 16)):
+    for group, seed in ((sheet_checks.even_halves, 15), (sheet_numbers.challenge_sides, 16), (sheet_checks.margins, 18)):
         cases += judged(group, random.Random(seed))
     return cases
 
@@ -73,7 +74,7 @@ def files():
     yield "crates/verdict_cases/stdin", stored.sheets_text([text for _, _, _, text in cases])
     yield "crates/verdict_cases/stdout", b"".join(sheet.output_line(answer) for _, _, answer, _ in cases)
     yield "crates/verdict/stdin", whole_case_text()
-    yield "crates/verdict/stdout", sheet.output_line(ACCEPTED)
+    yield "crates/verdict/stdout", sheet.output_line(accepted(0))
 
 
 def print_names():

@@ -8,7 +8,7 @@ import fold
 import ring
 import sheet
 from fixtures import (
-    ACCEPTED, OPEN, SMALL, block_starts, bounded, challenge, failed, honest, least_bounds, moved, random_lists, replaced, uniform,
+    OPEN, SMALL, accepted, block_starts, bounded, challenge, failed, honest, least_bounds, margin_sides, moved, random_lists, replaced, uniform,
     whole_case_text, with_commitments, with_constraints,
 )
 from sizes import LARGEST_BOUND, Sizes, constant_term_constraint_length, whole_constraint_length
@@ -32,7 +32,7 @@ def some_sizes(rng, d, most_bytes):
 
 
 def whole_case(rng):
-    yield "as printed", ACCEPTED, whole_case_text()
+    yield "as printed", accepted(0), whole_case_text()
     yield "β'² = 12", failed(9), whole_case_text(target_beta_squared=12)
 
 
@@ -40,7 +40,7 @@ def every_degree(rng):
     for d, count, most_bytes in ((2, 7, 3600), (4, 4, 5000), (8, 2, 8000), (16, 1, 11000), (32, 1, 18000)):
         for k in range(count):
             s, y = honest(rng, some_sizes(rng, d, most_bytes))
-            yield f"d = {d}, honest {k}", ACCEPTED, (s, y)
+            yield f"d = {d}, honest {k}", accepted(0), (s, y)
             if d < 8 and s.beta_squared:
                 yield f"d = {d}, honest {k}, β² one less", failed(1), (s._replace(beta_squared=s.beta_squared - 1), y)
             elif d < 16:
@@ -56,7 +56,7 @@ def largest_sizes(rng):
     ):
         name = ", ".join(f"{size} = {value}" for size, value in changes.items())
         s, y = honest(rng, SMALL._replace(**changes))
-        yield name, ACCEPTED, (s, y)
+        yield name, accepted(0), (s, y)
 
 
 def long_witness(rng):
@@ -65,7 +65,7 @@ def long_witness(rng):
             s = SMALL._replace(d=d, n=n, r=r, L=1, b=b, b1=65536, b2=65535, nu=2, mu=3)
             y = fold.honest(s, random_lists(rng, s, False))
             s = least_bounds(s, y)
-            yield f"d = {d}, n = {n}, r = {r}, b = {b}", ACCEPTED, (s, y)
+            yield f"d = {d}, n = {n}, r = {r}, b = {b}", accepted(0), (s, y)
 
 
 # Faults of the checks
@@ -112,7 +112,7 @@ def failing_checks(rng):
         for count in counts:
             subsets = list(combinations(range(1, 10), count))
             for checks in subsets if count < 3 else rng.sample(subsets, 6):
-                answer = failed(checks[0]) if checks else ACCEPTED
+                answer = failed(checks[0]) if checks else accepted(0)
                 yield f"d = {d}, checks {checks}", answer, with_faults(s, y, checks)
 
 
@@ -120,7 +120,7 @@ def last_rows(rng):
     """Faults in the last row of a matrix or the last entry of a message only."""
     s, y = honest(rng, SMALL._replace(r=2, L=1, w=2, kappa=2, kappa1=2, kappa2=2, nu=1, mu=3))
     s = s._replace(beta_squared=LARGEST_BOUND, target_beta_squared=LARGEST_BOUND)
-    yield "honest", ACCEPTED, (s, y)
+    yield "honest", accepted(LARGEST_BOUND - ring.squared_norm(y["opening"])), (s, y)
     yield "last row of u1", failed(3), (s, moved(y, "u1", -1))
     yield "last row of u2", failed(4), (s, moved(y, "u2", -1))
     yield "last row of A", failed(5), (s, moved(y, "a_matrix", -1))
@@ -138,7 +138,7 @@ def fifth_aggregate(rng):
     x |= {"psi": [0] * 4 + [1], "omega": [0] * 4 + [1], "delta": [0] * 8 + [2, 1]}
     y = fold.honest(s, x)
     s = least_bounds(s, y)
-    yield "honest", ACCEPTED, (s, y)
+    yield "honest", accepted(0), (s, y)
     yield "constant term of b''_5 moved", failed(2), (s, moved(y, "second_b", 8))
     yield "another coefficient of b''_5 moved", failed(8), (s, moved(y, "second_b", 9))
     yield "ψ_5 moved", None, (s, moved(y, "psi", 4))
@@ -164,9 +164,9 @@ def wide_digits(rng):
             blocks = (("z", n * d - 1, n * d, b), ("t", t, s.kappa * d, b1), ("g", g, d, b2), ("h", h + d - 1, d, b1))
             for block, place, gap, base in blocks:
                 wide = carried(s, y, [(place, gap)], base, by)
-                yield f"d = {d}, {by} bases of a low digit of {block}", ACCEPTED, (least_bounds(s, wide), wide)
+                yield f"d = {d}, {by} bases of a low digit of {block}", accepted(0), (least_bounds(s, wide), wide)
         far = carried(s, y, [(place, d * n) for place in range(n * d)], b, 99999)
-        yield f"d = {d}, 99999 bases of all of z", ACCEPTED, (least_bounds(s, far), far)
+        yield f"d = {d}, 99999 bases of all of z", accepted(0), (least_bounds(s, far), far)
         bounds = least_bounds(s, far)
         bounds = bounds._replace(target_beta_squared=bounds.target_beta_squared - 1)
         yield f"d = {d}, 99999 bases of all of z, β'² one less", failed(9), (bounds, far)
@@ -179,12 +179,12 @@ def wide_digits(rng):
     numbers[0] += 65437
     numbers[2] += 65535
     wide = y | {"opening": numbers}
-    yield "z greater by q", ACCEPTED, (least_bounds(s, wide), wide)
+    yield "z greater by q", accepted(0), (least_bounds(s, wide), wide)
     numbers = list(y["opening"])
     numbers[4] -= 65437
     numbers[6] -= 65535
     wide = with_commitments(s, y | {"opening": numbers})
-    yield "t less by q", ACCEPTED, (least_bounds(s, wide), wide)
+    yield "t less by q", accepted(0), (least_bounds(s, wide), wide)
 
 
 def wrapped_lengths(rng):
@@ -219,7 +219,7 @@ def wrapped_lengths(rng):
     yield "p at the end of the range", failed(1), (s, y | {"p": p})
     p = [22360679, 22360679, 22360679, 22360679, 0, 0, 0, 0]
     large = y | {"p": p}
-    yield "p large, its bound just holds", ACCEPTED, (least_bounds(s, large), large)
+    yield "p large, its bound just holds", accepted(0), (least_bounds(s, large), large)
 
 
 def changed_numbers(rng):
@@ -267,9 +267,15 @@ def even_halves(rng):
         for rule, y in (("", even), (", the older rule", kept)):
             name = f"b = {b}, b1 = {b1}, b2 = {b2}{rule}"
             bounds = least_bounds(s, y)
-            yield name, ACCEPTED, (bounds, y)
+            yield name, accepted(0), (bounds, y)
             if b == 2:
                 yield f"{name}, β'² one less", failed(9), (bounds._replace(target_beta_squared=bounds.target_beta_squared - 1), y)
+
+
+def margins(rng):
+    """Target bounds on both sides of the squared length."""
+    for name, answer, s, y in margin_sides(rng):
+        yield name, answer, (s, y)
 
 
 GROUPS = (

@@ -6,7 +6,7 @@ import fold
 import ring
 import sheet
 import sheet_faults
-from fixtures import ACCEPTED, OPEN, SMALL, honest, moved, refused, replaced, sides_of_challenges
+from fixtures import OPEN, SMALL, accepted, honest, moved, refused, replaced, sides_of_challenges
 from sizes import SHEET_LISTS, Sizes
 
 
@@ -69,11 +69,11 @@ def challenges(rng):
     s = SMALL._replace(r=2)
     for c in ([0, 0, 0, 0], [2, -2, -2, 2], [0, 0, 1, 0], [-2, 0, 0, -2]):
         bounds, y = honest(rng, s, c=c)
-        yield f"c = {c}", ACCEPTED, (bounds, y)
+        yield f"c = {c}", accepted(0), (bounds, y)
     c71 = [2, -2] * 8 + [2, 1, -1, 1] + [0] * 12
     c72 = [-2, 2] * 9 + [0] * 14
     bounds, y = honest(rng, SMALL._replace(d=32), c=c71)
-    yield "d = 32, squared length 71", ACCEPTED, (bounds, y)
+    yield "d = 32, squared length 71", accepted(0), (bounds, y)
     yield "d = 32, squared length 72", refused(10), (bounds, y | {"c": c72})
     bounds, y = honest(rng, SMALL._replace(d=64, K=0), c=[2, 1, 0, -1] * 10 + [1, 0, -2, 0] * 2 + [1] + [0] * 15)
     assert ring.squared_norm(y["c"]) == 71
@@ -84,7 +84,7 @@ def challenges(rng):
 def challenge_sides(rng):
     """Honest sheets but for their challenges; those of degree 64 whose counts are others could be kept ones."""
     for name, shape, taken, c in sides_of_challenges(rng, few=True):
-        yield name, ACCEPTED if taken else refused(10), honest(rng, SMALL._replace(K=0, **shape), c=c)
+        yield name, accepted(0) if taken else refused(10), honest(rng, SMALL._replace(K=0, **shape), c=c)
     s, y = honest(rng, SMALL._replace(d=64, K=0, w=1), c=ring.zero(64))
     yield "d = 64, 9, 10", refused(9), (s, replaced(y, "projections", -1, 2))
     yield "d = 64, 8 late, 10", refused(8), (s, replaced(y, "opening", -1, ring.LARGEST + 1))
@@ -102,11 +102,11 @@ def longest_texts(rng):
     s, y = honest(rng, EXACT)
     text = sheet.write_sheet(s, y)
     assert len(text) == sheet.LARGEST_TEXT
-    yield "a sheet of 65536 bytes", ACCEPTED, text
+    yield "a sheet of 65536 bytes", accepted(0), text
     yield "a refused header over 65537 bytes", refused(12), sheet_faults.header_with(d=3)[0].ljust(65537)
     s, y = honest(rng, ONE_MORE)
     text = sheet.write_sheet(s, y)
-    assert len(text) == sheet.LARGEST_TEXT + 1 and fold.answer("verify", s, y) == ACCEPTED
+    assert len(text) == sheet.LARGEST_TEXT + 1 and fold.answer("verify", s, y) == accepted(0)
     yield "a sheet of 65537 bytes", refused(12), text
 
 

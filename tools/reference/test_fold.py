@@ -7,8 +7,8 @@ import ring
 import sheet
 import sizes
 from fixtures import (
-    ACCEPTED, SMALL, bounded, challenge, check_faults, counted, failed, honest, honest_case, random_lists, random_sizes, refused, replaced,
-    sides_of_challenges, whole_case, whole_case_text,
+    SEVERAL_PARTS, SMALL, accepted, block_starts, bounded, challenge, check_faults, counted, failed, honest, honest_case, margin_sides, moved, random_lists,
+    random_sizes, refused, replaced, short_lists, sides_of_challenges, sides_of_the_target, whole_case, whole_case_text, with_commitments,
 )
 from sizes import LARGEST_BOUND, Sizes
 
@@ -16,8 +16,11 @@ from sizes import LARGEST_BOUND, Sizes
 def test_bench_values_of_the_whole_case():
     s, x = whole_case()
     assert sheet.output_line(sheet.judge(whole_case_text())) == b"               0               0\n"
-    assert sheet.judge(whole_case_text()) == ACCEPTED
+    assert sheet.judge(whole_case_text()) == accepted(0)
+    # "with β'² = 12, failed 9." "Its margin is 0; with β'² = 20 it is 7."
     assert sheet.judge(whole_case_text(target_beta_squared=12)) == failed(9)
+    assert sheet.judge(whole_case_text(target_beta_squared=20)) == accepted(7)
+    assert sheet.output_line(sheet.judge(whole_case_text(target_beta_squared=20))) == b"               0               7\n"
     assert fold.recomposed_z(s, x) == [[-2, 1]]
     assert ring.squared_norm(x["opening"]) == 13
     assert sizes.tail_rank(s) == 6
@@ -91,7 +94,7 @@ def test_refusals_in_order():
 
 def test_honest_runs():
     """Demand 3: failed 1 exactly when 2|p|² is above wβ²; otherwise failed 9 exactly when the digits' squared length is above
-    the target bound; otherwise accepted.
+    the target bound; otherwise accepted, with the target bound minus that length as margin.
     """
     rng = random.Random(3)
     seen = {}
@@ -102,12 +105,62 @@ def test_honest_runs():
         elif ring.squared_norm(y["opening"]) > s.target_beta_squared:
             expected = failed(9)
         else:
-            expected = ACCEPTED
+            expected = accepted(s.target_beta_squared - ring.squared_norm(y["opening"]))
         assert fold.answer("verify", s, y) == expected
         for call in ("message_1", "message_2", "message_3", "message_4", "message_5"):
             assert sizes.refusal(call, s, x) == 0
-        seen[expected] = seen.get(expected, 0) + 1
-    assert len(seen) == 3 and min(seen.values()) >= 20, seen
+        kind, number = expected
+        case = (kind, number if kind == "failed" else number > 0)
+        seen[case] = seen.get(case, 0) + 1
+    assert len(seen) == 4 and min(seen.values()) >= 20, seen
+
+
+def test_margin_sides():
+    """ "β'² at the squared length of all digits, one more and 999999999999999: accepted with the margins 0, 1 and 999999999999999 minus that length." """
+    rng = random.Random(13)
+    for name, answer, s, y in margin_sides(rng):
+        assert fold.answer("verify", s, y) == answer, name
+    for changes in ({}, {"n": 3, "r": 2, "L": 1, "w": 2}, {"d": 8, "K": 0}, {"d": 64, "r": 2}):
+        s = SMALL._replace(**changes)
+        y = fold.honest(s, random_lists(rng, s, True))
+        length = sum(number**2 for number in y["opening"])
+        answers = [fold.answer("verify", sized, y) for _, sized in sides_of_the_target(s, y)]
+        assert answers == [failed(9), accepted(0), accepted(1), accepted(LARGEST_BOUND - length)]
+        assert [answer for answer, _ in sides_of_the_target(s, y)] == answers
+
+
+def test_margin_of_every_block():
+    """ "the bound minus the squared length, β'² minus that of all digits." A digit of z low, z high, t, g or h moves it; so does a base that is moved from
+    a digit to the next, by which no other check is touched.
+    """
+    s = SEVERAL_PARTS
+    y = fold.honest(s, short_lists(random.Random(14), s))
+    t, g, h = block_starts(s)
+    half = s.n * s.d
+    before = fold.margin(s, y)
+    assert before == LARGEST_BOUND - ring.squared_norm(y["opening"])
+    for place in (0, half - 1, half, t - 1, t, g - 1, g, h - 1, h, len(y["opening"]) - 1):
+        digit = y["opening"][place]
+        for by in (1, -1, 1000):
+            assert fold.margin(s, moved(y, "opening", place, by)) == before + digit**2 - (digit + by) ** 2
+    for place, gap, base in ((1, half, s.b), (t, s.kappa * s.d, s.b1), (g + 1, s.d, s.b2), (h, s.d, s.b1)):
+        low, high = y["opening"][place], y["opening"][place + gap]
+        wide = with_commitments(s, moved(moved(y, "opening", place, base), "opening", place + gap, -1))
+        moved_by = low**2 + high**2 - (low + base) ** 2 - (high - 1) ** 2
+        assert moved_by and fold.answer("verify", s, wide) == accepted(before + moved_by)
+
+
+def test_margin_past_64_bits():
+    """ "It can pass 2^64 and still must be compared rightly". """
+    s = SMALL._replace(n=4, b=65536)
+    y = fold.honest(s, random_lists(random.Random(15), s, True))
+    numbers = list(y["opening"])
+    for place in range(8):
+        by = ring.LARGEST - numbers[8 + place]
+        numbers[8 + place] += by
+        numbers[place] = ring.centred(numbers[place] - s.b * by)
+    assert ring.squared_norm(numbers) > 2**64 and fold.margin(s, {"opening": numbers}) < 0
+    assert fold.answer("verify", s, y | {"opening": numbers}) == failed(9)
 
 
 def test_degree_64():
@@ -117,7 +170,7 @@ def test_degree_64():
     )
     y = fold.honest(s, random_lists(rng, s, True))
     s = s._replace(target_beta_squared=ring.squared_norm(y["opening"]))
-    assert fold.answer("verify", s, y) == ACCEPTED
+    assert fold.answer("verify", s, y) == accepted(0)
     assert fold.solves(fold.next_statement(s, y), fold.next_witness(s, y))
     s = s._replace(target_beta_squared=s.target_beta_squared - 1)
     assert fold.answer("verify", s, y) == failed(9)
@@ -131,9 +184,10 @@ def test_sides_of_challenges():
         x = random_lists(rng, s, True) | {"c": c}
         y = fold.honest(s, x)
         assert fold.answer("message_5", s, x)[0] == ("written" if taken else "refused"), name
-        assert fold.answer("verify", s, y) == (ACCEPTED if taken else refused(10)), name
+        holds = accepted(LARGEST_BOUND - ring.squared_norm(y["opening"]))
+        assert fold.answer("verify", s, y) == (holds if taken else refused(10)), name
         # the checks hold whatever the challenges are
-        assert fold.verdict(s, y) == ACCEPTED
+        assert fold.verdict(s, y) == holds
         for call in ("message_5", "next_instance"):
             assert sizes.refusal(call, s, x | y) == (0 if taken else 10), (name, call)
         for call in ("message_1", "message_2", "message_3", "message_4"):
@@ -155,7 +209,8 @@ def test_honest_runs_at_degree_64():
         y = fold.honest(s, x)
         p, length = 2 * ring.squared_norm(y["p"]), ring.squared_norm(y["opening"])
         for s, expected in (
-            (s, ACCEPTED), (s._replace(target_beta_squared=length), ACCEPTED), (s._replace(target_beta_squared=length - 1), failed(9)),
+            (s, accepted(LARGEST_BOUND - length)), (s._replace(target_beta_squared=length), accepted(0)),
+            (s._replace(target_beta_squared=length - 1), failed(9)),
             (s._replace(beta_squared=0, target_beta_squared=0), failed(1) if p else failed(9)),
         ):
             assert fold.answer("verify", s, y) == expected
@@ -163,14 +218,14 @@ def test_honest_runs_at_degree_64():
     for twos, ones in ((17, 3), (9, 35), (8, 37), (0, 0)):
         kept = counted(rng, 64, twos, ones)
         y = fold.honest(s, random_lists(rng, s, True) | {"c": kept})
-        assert ring.is_short_challenge(kept) and fold.verdict(s, y) == ACCEPTED and fold.answer("verify", s, y) == refused(10)
+        assert ring.is_short_challenge(kept) and fold.verdict(s, y)[0] == "accepted" and fold.answer("verify", s, y) == refused(10)
 
 
 def test_first_failing_check():
     """Each check fails alone, is named, and hides those after it."""
     s, y, faults = check_faults(random.Random(5))
     too_long = s._replace(target_beta_squared=0)
-    assert fold.answer("verify", s, y) == ACCEPTED
+    assert fold.answer("verify", s, y)[0] == "accepted"
     assert fold.answer("verify", too_long, y) == failed(9)
     for first, fault in faults.items():
         assert fold.answer("verify", s, y | fault) == failed(first)
@@ -231,7 +286,7 @@ def test_two_openings():
         bound = max(ring.squared_norm(y["opening"]) for y in (first, second))
         s = s._replace(target_beta_squared=bounded(bound))
         answers = [fold.answer("verify", s, y) for y in (first, second)]
-        if answers != [ACCEPTED] * 2:
+        if [kind for kind, _ in answers] != ["accepted"] * 2:
             assert bound > LARGEST_BOUND and failed(9) in answers
             continue
         assert first["u1"] == second["u1"]

@@ -5,7 +5,7 @@ import random
 import fold
 import ring
 import sizes
-from fixtures import ACCEPTED, counted, honest_case, moved, random_lists, refused, sides_of_challenges, whole_case
+from fixtures import accepted, counted, honest_case, moved, random_lists, refused, sides_of_challenges, whole_case
 from next_fixtures import FIRST, second_draws, second_fold, second_sizes
 
 
@@ -43,7 +43,7 @@ def corrupted(rng, s, y):
 def test_accepted_exactly_if_the_next_instance_is_solved():
     """Demand 2: "an opening is accepted exactly if, padded, it solves the next instance"."""
     rng = random.Random(6)
-    seen = {}
+    seen = set()
     for _ in range(120):
         s, _, honest = honest_case(rng)
         if rng.random() < 0.3:
@@ -61,11 +61,13 @@ def test_accepted_exactly_if_the_next_instance_is_solved():
             assert len(statement.whole) == sizes.next_constraint_count(s)
             witness = fold.next_witness(s, y)
             assert len(witness) == statement.r and all(len(part) == statement.n for part in witness)
-            assert fold.solves(statement, witness) == (answer == ACCEPTED)
+            assert fold.solves(statement, witness) == (answer[0] == "accepted")
+            if answer[0] == "accepted":
+                assert answer[1] == statement.beta_squared - ring.squared_norm(fold.flat(fold.flat(witness)))
             joined = fold.flat(fold.answer_next_part(s, y, part)[1] for part in range(1, statement.r + 1))
             assert joined == y["opening"]
-            seen[answer] = seen.get(answer, 0) + 1
-    assert {number for _, number in seen} >= {0, 3, 4, 5, 6, 7, 8, 9}, seen
+            seen.add(answer[1] if answer[0] == "failed" else "accepted")
+    assert seen == {"accepted", 3, 4, 5, 6, 7, 8, 9}, seen
 
 
 def test_next_instance_of_the_whole_case():
@@ -110,7 +112,8 @@ def test_the_next_instance_is_folded_in_turn():
     x = random_lists(rng, s, True)
     s = s._replace(target_beta_squared=ring.squared_norm(fold.honest(s, x)["opening"]))
     following = second_sizes(s, w=0, b=65536)
-    assert fold.answer("verify", following, second_fold(s, x, following, second_draws(rng, following))) == ACCEPTED
+    second = second_fold(s, x, following, second_draws(rng, following))
+    assert fold.answer("verify", following, second) == accepted(following.target_beta_squared - ring.squared_norm(second["opening"]))
 
 
 def test_two_folds_at_degree_64():
@@ -122,7 +125,7 @@ def test_two_folds_at_degree_64():
     following = second_sizes(s, b=65536, b2=65536)
     draws = second_draws(rng, following)
     second = second_fold(s, x, following, draws)
-    assert fold.answer("verify", following, second) == ACCEPTED
+    assert fold.answer("verify", following, second) == accepted(following.target_beta_squared - ring.squared_norm(second["opening"]))
     other = counted(rng, 64, 9, 35)
     for place in range(following.r):
         c = second["c"][: 64 * place] + other + second["c"][64 * place + 64 :]

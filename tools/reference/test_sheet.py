@@ -10,7 +10,9 @@ import ring
 import sheet
 import sheet_cases
 import sizes
-from fixtures import ACCEPTED, SMALL, honest, honest_case, random_sizes, refused, sides_of_challenges, whole_case, whole_case_text
+from fixtures import (
+    SMALL, accepted, honest, honest_case, margin_sides, random_sizes, refused, sides_of_challenges, whole_case, whole_case_text,
+)
 from sheet_faults import SIZE_SIDES
 from sizes import Sizes
 from writer_cases import FAULTS, LONG, MIXED, drawn, with_faults
@@ -39,7 +41,7 @@ def test_whole_case_as_text():
             assert (sheet.judge(before + b" " + after) == refused(12)) == (not shorter), place
     # The program itself.
     program = [sys.executable, sheet.__file__]
-    for given, expected in ((text, [0, 0]), (b"", [2, 12]), (whole_case_text(12), [1, 9]), (text[:-1], [2, 12])):
+    for given, expected in ((text, [0, 0]), (b"", [2, 12]), (whole_case_text(12), [1, 9]), (whole_case_text(20), [0, 7]), (text[:-1], [2, 12])):
         run = subprocess.run(program, input=given, capture_output=True, check=True)
         assert run.stdout == sheet.line_text(expected) and not run.stderr
 
@@ -90,6 +92,14 @@ def test_broken_sheets():
     # Two fields of 16 digits with no blank between them are well formed.
     refuses(8, at(first, b"9" * 32))
     assert sheet.judge(at(first, field(2147483598)))[0] == "failed"
+
+
+def test_margins():
+    """ "number (the margin when accepted, the check that failed, the row that refused). The number is at most 999999999999999, 15 columns." """
+    for name, answer, s, y in margin_sides(random.Random(20)):
+        assert sheet.judge(sheet.write_sheet(s, y)) == answer, name
+    widest = sheet.output_line(sheet.judge(whole_case_text(target_beta_squared=999999999999999)))
+    assert widest == b"               0 999999999999986\n"
 
 
 def test_sheet_round_trip():
@@ -192,7 +202,7 @@ def test_sides_of_challenges():
     for name, shape, taken, c in sides_of_challenges(rng):
         s, y = honest(rng, SMALL._replace(K=0, **shape), c=c)
         text, numbers = sheet.write_sheet(s, y), sheet.flat_numbers(y)
-        assert sheet.judge(text) == (ACCEPTED if taken else refused(10)), name
+        assert sheet.judge(text) == (accepted(0) if taken else refused(10)), name
         assert sheet.read_sheet(text) == (("read", (s, y)) if taken else refused(10)), name
         answer, length, buffer = sheet.write_into(s, numbers, marked(len(text)))
         if taken:

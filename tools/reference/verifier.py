@@ -1,4 +1,4 @@
-"""Checks 1 to 9 and the verdict: SPECIFICATION 6; the paper, Figure 3.
+"""Checks 1 to 9, the margin and the verdict: SPECIFICATION 6; the paper, Figure 3.
 
 `s` is a Sizes, `x` a dictionary of flat lists by name (sizes.LENGTHS names them). Indexes count from 0. Quotations are from docs/SPECIFICATION.md.
 """
@@ -131,12 +131,17 @@ def check_9(s, x):
     return squared_norm(x["opening"]) <= s.target_beta_squared
 
 
+def margin(s, x):
+    """ "Accepted carries the margin of check 9: the bound minus the squared length, β'² minus that of all digits." """
+    return s.target_beta_squared - squared_norm(x["opening"])
+
+
 CHECKS = (check_1, check_2, check_3, check_4, check_5, check_6, check_7, check_8, check_9)
 
 
 def verdict(s, x):
-    """ "The first check that fails is named; none means accepted." """
+    """ "The first check that fails is named; none means accepted, with the margin (6.g)." """
     for number, check in enumerate(CHECKS, start=1):
         if not check(s, x):
             return ("failed", number)
-    return ("accepted", 0)
+    return ("accepted", margin(s, x))
