@@ -7,6 +7,7 @@ random cases.
 import time
 
 import test_fold
+import test_kept
 import test_next
 import test_ring
 import test_sheet
@@ -14,7 +15,7 @@ import test_sheet
 
 def main():
     started = time.time()
-    for module in (test_ring, test_fold, test_next, test_sheet):
+    for module in (test_ring, test_fold, test_next, test_sheet, test_kept):
         for name, test in vars(module).items():
             if name.startswith("test_"):
                 before = time.time()

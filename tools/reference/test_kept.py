@@ -1,0 +1,69 @@
+"""The comparison of stored cases with older ones: kept.py."""
+
+import contextlib
+import io
+
+import kept
+from fixtures import whole_case_text
+from sheet import line_text
+from stored import numbers_text
+
+TEXTS = [whole_case_text(), whole_case_text(target_beta_squared=20), whole_case_text(target_beta_squared=12), b"no sheet"]
+LINES = [[0, 0], [0, 7], [1, 9], [2, 12]]
+
+
+def cases(lines=LINES, texts=TEXTS):
+    return [kept.judged_sheet(text, [line_text(line)], line_text, 0) for text, line in zip(texts, lines, strict=True)]
+
+
+def difference(older, newer):
+    """What is said before the file's line; empty where nothing differs."""
+    said = io.StringIO()
+    with contextlib.redirect_stdout(said):
+        same = kept.compare("file", older, newer)
+    *differences, _ = said.getvalue().splitlines()
+    assert same == (not differences)
+    return " ".join(differences)
+
+
+def test_kept_verdicts():
+    """Of kind 0 the kind alone counts in the older line, and the margin is the definition's; the other lines count whole."""
+    before = [[0, 0], [0, 0], [1, 9], [2, 12]]
+    assert not difference(cases(before), cases())
+    assert not difference(cases(), cases())
+    assert not difference(cases([[0, 5], [0, 999], [1, 9], [2, 12]]), cases())
+    assert "case 2, line 1" in difference(cases(before), cases(before))
+    assert "case 1, line 1" in difference(cases(before), cases([[0, 1], [0, 7], [1, 9], [2, 12]]))
+    assert "case 1, line 1" in difference(cases(before), cases([[1, 9], [0, 7], [1, 9], [2, 12]]))
+    assert "case 3, line 1" in difference(cases(before), cases([[0, 0], [0, 7], [1, 8], [2, 12]]))
+    assert "case 4, line 1" in difference(cases(before), cases([[0, 0], [0, 7], [1, 9], [2, 8]]))
+    # accepted before, failed by the definition
+    assert "second implementation says failed 9" in difference(cases([[0, 0], [0, 0], [0, 0], [2, 12]]), cases())
+    # no line of another layout
+    newer = cases()
+    newer[1] = newer[1]._replace(lines=[b"0 7\n"])
+    assert "case 2, line 1" in difference(cases(before), newer)
+
+
+def test_kept_cases():
+    """None is lost, wherever it stands and however many are new; one that is stored twice is kept twice."""
+    assert not difference(cases()[:2], cases())
+    assert not difference(cases(), cases()[::-1])
+    assert "case 3 is LOST" in difference(cases(), cases()[:2] + cases()[3:])
+    assert "case 5 is LOST" in difference(cases() + cases()[:1], cases())
+    assert not difference(cases() + cases()[:1], cases()[:1] + cases())
+
+
+def test_kept_files():
+    """The stored files of this tree are read; which lines are verdicts follows from the call."""
+    found = kept.stored_cases(kept.ROOT)
+    assert all(found.values())
+    for name, older in found.items():
+        counts = {len(case.verdicts) for case in older}
+        assert counts == {"crates/ring_cases": {0}, "crates/verdict_cases": {1}, "crates/verdict": {1}, "examples": {1}}.get(name, {0, 1}), name
+    for case in found["crates/next_cases"]:
+        numbers = list(map(int, case.lines[0].split()))
+        assert not case.verdicts or len(numbers) == 62 and all(numbers[place] in (0, 1) for place in case.verdicts[0])
+        assert numbers_text([numbers]) == case.lines[0]
+    messages = [case for case in found["crates/fold_cases"] if not case.input.startswith(b"6 ")]
+    assert messages and not any(case.verdicts for case in messages)
