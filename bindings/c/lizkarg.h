@@ -22,8 +22,15 @@ extern "C" {
 /* kind of an answer */
 enum { LIZKARG_ACCEPTED = 0, LIZKARG_FAILED = 1, LIZKARG_REFUSED = 2, LIZKARG_WRITTEN = 3 };
 
-/* An answer as two numbers. number: the check that failed (1..9), the refusal (1..13), else 0. */
-typedef struct { uint8_t kind, number; } lizkarg_answer;
+/* An answer as two numbers. number: where accepted, the margin (0..999999999999999), which is the target bound minus the squared length of
+ * all digits of the opening; the check that failed (1..9); the refusal (1..13); else 0.
+ *
+ * The number has 64 bits since it holds the margin, here and in the three structs below that hold an answer. Code that was built against a
+ * header in which it has 8 must be compiled anew; the structs of sizes are as they were. */
+typedef struct {
+    uint8_t kind;
+    uint64_t number;
+} lizkarg_answer;
 
 /* Degree, rank, number of parts. */
 typedef struct { size_t d, n, r; } lizkarg_shape;
@@ -48,14 +55,16 @@ typedef struct { size_t start, length; } lizkarg_part;
 
 /* The answer to a sheet, and its header in the header's order (all 0 where refused). */
 typedef struct {
-    uint8_t kind, number;
+    uint8_t kind;
+    uint64_t number;
     size_t d, n, r, k, l, w, kappa, kappa1, kappa2, b, b1, b2, t1, t2, nu, mu;
     uint64_t bound, target;
 } lizkarg_sheet;
 
 /* The answer to the numbers of a sheet, and the length of their text in bytes (0 where refused). */
 typedef struct {
-    uint8_t kind, number;
+    uint8_t kind;
+    uint64_t number;
     size_t length;
 } lizkarg_text;
 
@@ -64,7 +73,8 @@ typedef struct { int32_t coefficients[64]; } lizkarg_element;
 
 /* The answer to a product, and the product (zero where refused). */
 typedef struct {
-    uint8_t kind, number;
+    uint8_t kind;
+    uint64_t number;
     lizkarg_element element;
 } lizkarg_product;
 
@@ -103,8 +113,8 @@ lizkarg_answer lizkarg_commit_garbage(lizkarg_garbage_sizes sizes,
 lizkarg_answer lizkarg_amortize(lizkarg_shape shape, size_t b,
     const int32_t *c, size_t c_len, const int32_t *witness, size_t witness_len, int32_t *z, size_t z_len);
 
-/* The verifier. opening: z low, z high, t, g and h digits, in this order in one list. Accepted; failed with the first check that fails;
- * or refused 1 to 4, 6 to 10. */
+/* The verifier. opening: z low, z high, t, g and h digits, in this order in one list. Accepted with the margin; failed with the first
+ * check that fails; or refused 1 to 4, 6 to 10. */
 lizkarg_answer lizkarg_verify(lizkarg_sizes sizes,
     const int32_t *a_matrix, size_t a_matrix_len, const int32_t *b_matrix, size_t b_matrix_len,
     const int32_t *c_matrix, size_t c_matrix_len, const int32_t *d_matrix, size_t d_matrix_len,
@@ -133,8 +143,8 @@ uint8_t lizkarg_next_part_refusal(lizkarg_part_sizes sizes, size_t part, const i
  * opening + start on. Both are 0 where lizkarg_next_part_refusal is not 0. A last chunk can be empty: then the length alone is 0. */
 lizkarg_part lizkarg_next_part(lizkarg_part_sizes sizes, size_t part, const int32_t *opening, size_t opening_len);
 
-/* Judges a sheet as the program does: accepted; failed with the first check that fails; or refused 12 (also where the text is longer
- * than 65536 bytes), 1 to 6, 8 to 10. */
+/* Judges a sheet as the program does: accepted with the margin; failed with the first check that fails; or refused 12 (also where the text
+ * is longer than 65536 bytes), 1 to 6, 8 to 10. */
 lizkarg_answer lizkarg_judge_sheet(const uint8_t *text, size_t text_len);
 
 /* How many numbers a sheet with this header holds after it: the numbers_len of lizkarg_read_sheet. 0 where the header is refused, by 12 or

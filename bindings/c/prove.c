@@ -1,5 +1,6 @@
 /* Example: the proof of docs/CLASS.md, made, verified and written down. Three slots with two readings each; the first readings add up to 3,
- * the second to 4. Prints the verdict, kind and number in 16 columns each, and writes the sheet to the file that is named, if one is.
+ * the second to 4. Prints the verdict, kind and number in 16 columns each: 0 and the margin, which is 0, since the target is the squared length
+ * of all digits. Writes the sheet to the file that is named, if one is.
  *     cc -O2 bindings/c/prove.c target/staticlib/libcapi.a -o target/prove_c
  *     target/prove_c [FILE] */
 #include "lizkarg_proof.h"

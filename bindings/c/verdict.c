@@ -1,4 +1,5 @@
-/* Example: reads a sheet from standard input and prints the verdict as SPECIFICATION 10.7 says, kind and number in 16 columns each.
+/* Example: reads a sheet from standard input and prints the verdict as SPECIFICATION 10.7 says, kind and number in 16 columns each; where
+ * it is accepted the number is the margin.
  *     cc -O2 bindings/c/verdict.c target/staticlib/libcapi.a -o target/verdict_c */
 #include "lizkarg_proof.h"
 #include <stdio.h>

@@ -8,18 +8,20 @@
 #define AT(type, field, place) _Static_assert(offsetof(type, field) == (place), #type "." #field)
 #define SIZE(type, size) _Static_assert(sizeof(type) == (size), #type)
 
-SIZE(lizkarg_answer, 2); AT(lizkarg_answer, kind, 0); AT(lizkarg_answer, number, 1);
+SIZE(lizkarg_answer, 16); AT(lizkarg_answer, kind, 0); AT(lizkarg_answer, number, 8);
 SIZE(lizkarg_part, 16); AT(lizkarg_part, start, 0); AT(lizkarg_part, length, 8);
 SIZE(lizkarg_shape, 24); AT(lizkarg_shape, d, 0); AT(lizkarg_shape, n, 8); AT(lizkarg_shape, r, 16);
 SIZE(lizkarg_commit_sizes, 72); AT(lizkarg_commit_sizes, kappa, 24); AT(lizkarg_commit_sizes, b1, 40); AT(lizkarg_commit_sizes, t2, 64);
 SIZE(lizkarg_garbage_sizes, 72); AT(lizkarg_garbage_sizes, k, 24); AT(lizkarg_garbage_sizes, kappa2, 48); AT(lizkarg_garbage_sizes, t1, 64);
 SIZE(lizkarg_sizes, 128); AT(lizkarg_sizes, kappa, 48); AT(lizkarg_sizes, b, 72); AT(lizkarg_sizes, bound, 112); AT(lizkarg_sizes, target, 120);
 SIZE(lizkarg_part_sizes, 64); AT(lizkarg_part_sizes, kappa, 24); AT(lizkarg_part_sizes, nu, 48); AT(lizkarg_part_sizes, mu, 56);
-SIZE(lizkarg_sheet, 152); AT(lizkarg_sheet, kind, 0); AT(lizkarg_sheet, number, 1); AT(lizkarg_sheet, d, 8); AT(lizkarg_sheet, nu, 120);
-AT(lizkarg_sheet, mu, 128); AT(lizkarg_sheet, bound, 136); AT(lizkarg_sheet, target, 144);
-SIZE(lizkarg_text, 16); AT(lizkarg_text, kind, 0); AT(lizkarg_text, number, 1); AT(lizkarg_text, length, 8);
+SIZE(lizkarg_sheet, 16 + 18 * 8); AT(lizkarg_sheet, kind, 0); AT(lizkarg_sheet, number, 8); AT(lizkarg_sheet, d, 16); AT(lizkarg_sheet, nu, 128);
+AT(lizkarg_sheet, mu, 136); AT(lizkarg_sheet, bound, 144); AT(lizkarg_sheet, target, 152);
+SIZE(lizkarg_text, 24); AT(lizkarg_text, kind, 0); AT(lizkarg_text, number, 8); AT(lizkarg_text, length, 16);
 SIZE(lizkarg_element, 256);
-SIZE(lizkarg_product, 260); AT(lizkarg_product, kind, 0); AT(lizkarg_product, number, 1); AT(lizkarg_product, element, 4);
+SIZE(lizkarg_product, 272); AT(lizkarg_product, kind, 0); AT(lizkarg_product, number, 8); AT(lizkarg_product, element, 16);
+_Static_assert(sizeof((lizkarg_answer){0}.number) == 8 && sizeof((lizkarg_sheet){0}.number) == 8 && sizeof((lizkarg_text){0}.number) == 8
+    && sizeof((lizkarg_product){0}.number) == 8, "the number of an answer");
 
 /* ---- lists */
 
@@ -166,7 +168,15 @@ static lizkarg_answer verify(const stored *s, lizkarg_sizes sizes) { return lizk
 
 static void verdicts(const stored *s) {
     lizkarg_sizes sizes = sizes_of(s), other = sizes;
+    /* the stored target is the squared length of all digits: margins on both sides of 8, 16 and 32 bits, and the widest */
+    static const uint64_t margins[] = {1, 7, 255, 256, 65535, 65536, 4294967295, 4294967296};
     ANSWER(verify(s, sizes), LIZKARG_ACCEPTED, 0);
+    for (size_t i = 0; i < sizeof margins / sizeof *margins; i++) {
+        other.target = sizes.target + margins[i];
+        ANSWER(verify(s, other), LIZKARG_ACCEPTED, margins[i]);
+    }
+    other.target = 999999999999999;
+    ANSWER(verify(s, other), LIZKARG_ACCEPTED, 999999999999999 - sizes.target);
     other.target = sizes.target - 1;
     ANSWER(verify(s, other), LIZKARG_FAILED, 9);
     other = sizes, other.bound = sizes.bound - 1;
@@ -268,7 +278,8 @@ static void through(size_t d, const int32_t *c, int taken) {
     lizkarg_sizes sizes = {.d = d, .n = 1, .r = 2, .kappa = 1, .kappa1 = 1, .kappa2 = 1, .b = 4, .b1 = 4, .b2 = 4, .t1 = 2, .t2 = 2};
     size_t size = lizkarg_sheet_bytes(sizes, 1, 1);
     uint8_t *text = sheet_text(sizes, numbers, size), *again = room(size, 1), *untouched = room(size, 1);
-    int kind = taken ? LIZKARG_WRITTEN : LIZKARG_REFUSED, judged = taken ? LIZKARG_ACCEPTED : LIZKARG_REFUSED, number = taken ? 0 : 10;
+    int kind = taken ? LIZKARG_WRITTEN : LIZKARG_REFUSED, judged = taken ? LIZKARG_ACCEPTED : LIZKARG_REFUSED;
+    uint64_t number = taken ? 0 : 10;
     ANSWER(lizkarg_amortize((lizkarg_shape){.d = d, .n = 1, .r = 2}, 4, OF(c), LIST(witness), LIST(z)), kind, number);
     ANSWER(verify(s, sizes), judged, number);
     ANSWER(next_instance(s, sizes, 1, 1, next), kind, number);

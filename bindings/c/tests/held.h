@@ -18,7 +18,7 @@ static void hold(int right, const char *file, int line, const char *what) {
 }
 
 #define HOLD(right) hold(right, __FILE__, __LINE__, #right)
-#define ANSWER(answer, k, no) do { lizkarg_answer x = answer; hold(x.kind == (k) && x.number == (no), __FILE__, __LINE__, #answer); } while (0)
+#define ANSWER(answer, k, no) do { lizkarg_answer x = answer; hold(x.kind == (k) && x.number == (uint64_t)(no), __FILE__, __LINE__, #answer); } while (0)
 
 /* Prints the count; the program's exit status. */
 static int report(void) {

@@ -115,6 +115,8 @@ static void verdicts(const stored *s) {
     HOLD(longer.a_matrix.numbers == NULL && longer.a_matrix.length == 0 && longer.opening.numbers == NULL && longer.opening.length == 0);
     other.target--;
     ANSWER(lizkarg_proof_verify(other, &s->proof), LIZKARG_FAILED, 9);
+    other.target = s->sizes.target + 7;
+    ANSWER(lizkarg_proof_verify(other, &s->proof), LIZKARG_ACCEPTED, 7);
     /* one number more in a list, and the first check that it breaks */
     const lizkarg_list lists[] = {s->proof.second_b, s->proof.u1, s->proof.u2};
     for (int i = 0; i < 3; i++) {

@@ -21,7 +21,7 @@ static lizkarg_text put(const taken *x, uint8_t *text, size_t length) {
 
 static size_t bytes(const taken *x) { return lizkarg_sheet_bytes(x->sizes, x->nu, x->mu); }
 
-static int refused(lizkarg_text answer, int number) {
+static int refused(lizkarg_text answer, uint64_t number) {
     return answer.kind == LIZKARG_REFUSED && answer.number == number && answer.length == 0;
 }
 
