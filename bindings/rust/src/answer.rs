@@ -47,12 +47,22 @@ impl fmt::Display for Refused {
 
 impl Error for Refused {}
 
-/// A judgement: accepted, or failed with a check.
+/// A judgement: accepted with its margin, or failed with a check.
+///
+/// ```
+/// use lizkarg::{judge_sheet, Verdict};
+///
+/// let verdict = judge_sheet(include_bytes!("../../../examples/whole-case-margin.sheet"))?;
+/// assert_eq!(verdict, Verdict::Accepted(7));
+/// assert_eq!(verdict.margin(), Some(7));
+/// assert_eq!(verdict.to_string(), "accepted: all nine checks hold, margin 7");
+/// # Ok::<(), lizkarg::Refused>(())
+/// ```
 #[must_use]
 #[derive(Clone, Copy, Debug, PartialEq, Eq, Hash)]
 pub enum Verdict {
-    /// All nine checks hold.
-    Accepted,
+    /// All nine checks hold. The margin is the target bound minus the squared length of all digits of the opening, from 0 to 999999999999999.
+    Accepted(u64),
     /// The first check that fails, from 1 to 9.
     Failed(u8),
 }
@@ -61,14 +71,23 @@ impl Verdict {
     /// Whether all checks hold.
     #[must_use]
     pub fn is_accepted(self) -> bool {
-        matches!(self, Verdict::Accepted)
+        self.margin().is_some()
     }
 
-    /// The two numbers that the program prints: 0 accepted, 1 failed; and 0, or the check.
+    /// How far the squared length of all digits is below the target bound; none where a check failed.
+    #[must_use]
+    pub fn margin(self) -> Option<u64> {
+        match self {
+            Verdict::Accepted(margin) => Some(margin),
+            Verdict::Failed(_) => None,
+        }
+    }
+
+    /// The two numbers that the program prints: 0 accepted, 1 failed; and the margin, or the check.
     #[must_use]
     pub fn code(self) -> (u8, u64) {
         match self {
-            Verdict::Accepted => (0, 0),
+            Verdict::Accepted(margin) => (0, margin),
             Verdict::Failed(check) => (1, check.into()),
         }
     }
@@ -93,7 +112,7 @@ fn finding(check: u8) -> &'static str {
 impl fmt::Display for Verdict {
     fn fmt(&self, f: &mut fmt::Formatter<'_>) -> fmt::Result {
         match self {
-            Verdict::Accepted => write!(f, "accepted: all nine checks hold"),
+            Verdict::Accepted(margin) => write!(f, "accepted: all nine checks hold, margin {margin}"),
             Verdict::Failed(check) => write!(f, "failed: check {check}, {}", finding(*check)),
         }
     }

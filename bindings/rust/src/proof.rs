@@ -62,7 +62,7 @@ pub struct Messages<'a> {
 /// use lizkarg::{Sheet, Verdict};
 ///
 /// let sheet = Sheet::read(include_bytes!("../../../examples/class.sheet"))?;
-/// assert_eq!(sheet.proof().verify()?, Verdict::Accepted);
+/// assert_eq!(sheet.proof().verify()?, Verdict::Accepted(0));
 /// # Ok::<(), lizkarg::Refused>(())
 /// ```
 #[derive(Clone, Copy, Debug, PartialEq, Eq)]
@@ -144,7 +144,7 @@ impl<'a> Proof<'a> {
         }
     }
 
-    /// The verdict: the first check that fails, or accepted.
+    /// The verdict: the first check that fails, or accepted with the margin.
     ///
     /// # Errors
     /// Refused 1 to 4, 6 to 10.

@@ -18,7 +18,7 @@ use crate::{Draws, Messages, Proof, Refused, Statement};
 /// prover.commit_garbage(&draws)?;
 /// draws.c = &[0, 1];
 /// prover.amortize(&draws)?;
-/// assert_eq!(prover.proof(draws).verify()?, Verdict::Accepted);
+/// assert_eq!(prover.proof(draws).verify()?, Verdict::Accepted(0));
 /// # Ok::<(), lizkarg::Refused>(())
 /// ```
 #[derive(Clone, Debug)]

@@ -6,14 +6,19 @@ use crate::{Element, Refused, Sizes, Verdict};
 #[derive(Clone, Copy)]
 pub struct Answer {
     kind: u8,
-    number: u8,
+    number: u64,
 }
 
 impl Answer {
+    /// The check that failed or the row that refused. Both are far below 256; a larger number would stand for one that nobody knows.
+    fn named(self) -> u8 {
+        u8::try_from(self.number).unwrap_or(u8::MAX)
+    }
+
     /// Ok where the call has written, and where it has judged.
     fn not_refused(self) -> Result<Answer, Refused> {
         match self.kind {
-            2 => Err(Refused(self.number)),
+            2 => Err(Refused(self.named())),
             _ => Ok(self),
         }
     }
@@ -24,14 +29,14 @@ impl Answer {
 
     pub fn judged(self) -> Result<Verdict, Refused> {
         self.not_refused().map(|answer| match answer.kind {
-            0 => Verdict::Accepted,
-            _ => Verdict::Failed(answer.number),
+            0 => Verdict::Accepted(answer.number),
+            _ => Verdict::Failed(answer.named()),
         })
     }
 
     /// The check that fails, or none where the call has written.
     pub fn written_or_failed(self) -> Result<Option<u8>, Refused> {
-        self.not_refused().map(|answer| (answer.kind == 1).then_some(answer.number))
+        self.not_refused().map(|answer| (answer.kind == 1).then_some(answer.named()))
     }
 }
 

@@ -23,7 +23,7 @@ fn products() {
 #[test]
 fn example() {
     let verdict = |witness: &[i32]| prove::prove(witness).map(|(verdict, _)| verdict);
-    assert_eq!(prove::prove(&[1, 2]), Ok((Accepted, include_bytes!("../../../examples/whole-case.sheet").to_vec())));
+    assert_eq!(prove::prove(&[1, 2]), Ok((Accepted(0), include_bytes!("../../../examples/whole-case.sheet").to_vec())));
     assert_eq!(verdict(&[2, 1]), Ok(Failed(8)));
     assert_eq!(verdict(&[1, 2, 0]), Err(Refused(7)));
     assert_eq!(verdict(&[i32::MIN, 2]), Err(Refused(8)));
@@ -51,8 +51,11 @@ fn verdict(case: &str) -> Result<Verdict, Refused> {
 
 #[test]
 fn whole_case() {
-    assert_eq!(verdict(CASE), Ok(Accepted));
+    assert_eq!(verdict(CASE), Ok(Accepted(0)));
     assert_eq!(verdict(&CASE.replace("5 13/", "5 12/")), Ok(Failed(9)));
+    for (target, margin) in [(14_u64, 1), (20, 7), (269, 256), (4294967309, 4294967296), (999999999999999, 999999999999986)] {
+        assert_eq!(verdict(&CASE.replace("5 13/", &format!("5 {target}/"))), Ok(Accepted(margin)));
+    }
     assert_eq!(verdict(&CASE.replace("2 1 1 1 0 0", "3 1 1 1 0 0")), Err(Refused(1)));
     assert_eq!(verdict(&CASE.replace("-3 4", "-3 a")), Err(Refused(12)));
 }
@@ -60,7 +63,10 @@ fn whole_case() {
 #[test]
 fn words() {
     assert_eq!(verdict(CASE).unwrap().code(), (0, 0));
-    assert_eq!(Failed(5).code(), (1, 5));
+    let widest = Accepted(999999999999999);
+    assert_eq!((widest.code(), widest.margin(), widest.is_accepted()), ((0, 999999999999999), Some(999999999999999), true));
+    assert_eq!((Failed(5).code(), Failed(5).margin(), Failed(5).is_accepted()), ((1, 5), None, false));
+    assert_eq!(Accepted(7).to_string(), "accepted: all nine checks hold, margin 7");
     assert_eq!(Failed(5).to_string(), "failed: check 5, A z is not the sum of the c_i t_i");
     let error: Box<dyn std::error::Error> = Refused(7).into();
     assert_eq!(error.to_string(), "refused: 7, a list's length is not what the sizes give");
@@ -74,7 +80,7 @@ fn words_of_the_command() {
     let command = include_str!("../../../verdict");
     let said =
         |sentence: String| command.contains(&format!(") echo '{sentence}' ;;")) || command.contains(&format!(") echo \"{sentence}\" ;;"));
-    assert!(said(Accepted.to_string()));
+    assert!(said(Accepted(7).to_string().replace("margin 7", "margin $2")));
     for check in 1..=9 {
         assert!(said(Failed(check).to_string()), "{}", Failed(check));
     }
@@ -116,7 +122,7 @@ fn header_alone() {
 #[test]
 fn numbers_of_a_proof() {
     let Sheet { sizes, numbers, .. } = Sheet::read(&text(CASE)).unwrap();
-    assert_eq!(Proof::of_numbers(sizes, &numbers).verify(), Ok(Accepted));
+    assert_eq!(Proof::of_numbers(sizes, &numbers).verify(), Ok(Accepted(0)));
     for wrong in [&numbers[1..], &numbers[..63], &[], &[&numbers[..], &[0]].concat()] {
         assert_eq!(Proof::of_numbers(sizes, wrong).verify(), Err(Refused(7)));
     }
@@ -303,8 +309,8 @@ fn through(d: usize, c: &[i32], taken: bool) {
     assert_eq!(proof.statement.amortize(&proof.draws, &witness, &mut z), refused);
     assert_eq!(z == vec![77; 2 * d], !taken);
     assert_eq!(Prover::new(proof.statement, &witness).prove(proof.draws), refused.map(|()| proof));
-    assert_eq!(proof.verify(), refused.map(|()| Accepted));
-    assert_eq!(judge_sheet(&text), refused.map(|()| Accepted));
+    assert_eq!(proof.verify(), refused.map(|()| Accepted(0)));
+    assert_eq!(judge_sheet(&text), refused.map(|()| Accepted(0)));
     assert_eq!(proof.next_instance(sheet.cut).map(|next| assert!(matches!(next, Next::Written(_)))), refused);
     assert_eq!(Sheet::read(&text), refused.map(|()| sheet.clone()));
     assert_eq!(sheet.write(), refused.map(|()| text.clone()));

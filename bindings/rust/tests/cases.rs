@@ -42,8 +42,11 @@ fn run(name: &str) {
     writes([z], |[z]| statement.amortize(draws, witness, z));
     assert_eq!(Prover::new(*statement, witness).prove(*draws), Ok(proof));
 
-    assert_eq!(proof.verify(), Ok(Accepted));
+    assert_eq!(proof.verify(), Ok(Accepted(0)));
     assert_eq!(with_sizes(&proof, Sizes { target: sizes.target - 1, ..sizes }).verify(), Ok(Failed(9)));
+    assert_eq!(with_sizes(&proof, Sizes { target: sizes.target + 1, ..sizes }).verify(), Ok(Accepted(1)));
+    let widest = 999999999999999;
+    assert_eq!(with_sizes(&proof, Sizes { target: widest, ..sizes }).verify(), Ok(Accepted(widest - sizes.target)));
     assert_eq!(with_sizes(&proof, Sizes { b2: 1, ..sizes }).verify(), Err(Refused(4)));
 
     let opening = messages.opening;

@@ -24,8 +24,8 @@ typedef struct {
     void (*aggregate)(const lizkarg_sizes *s, const lists *l);
     void (*garbage)(const lizkarg_sizes *s, const lists *l);
     void (*amortize)(const lizkarg_sizes *s, const lists *l);
-    int (*verify)(const lizkarg_sizes *s, const lists *l); /* 256 * kind + number */
-    int (*next)(const lizkarg_sizes *s, const lists *l); /* the same */
+    lizkarg_answer (*verify)(const lizkarg_sizes *s, const lists *l);
+    lizkarg_answer (*next)(const lizkarg_sizes *s, const lists *l);
 } implementation;
 
 extern const implementation ours, gcc_tuned, gcc_plain, clang_tuned, clang_tested, clang_centred, clang_plain, flint_based, rust_plain;

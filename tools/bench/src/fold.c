@@ -8,13 +8,16 @@
 
 /* ---- squared lengths */
 
-static int within(uint64_t rest, const int32_t *xs, size_t n, int times) {
+/* Whether the squares fit into the bound; what they leave of it. */
+static int within(uint64_t bound, const int32_t *xs, size_t n, int times, uint64_t *margin) {
+    uint64_t rest = bound;
     for (int t = 0; t < times; t++)
         for (size_t i = 0; i < n; i++) {
             uint64_t x = (uint64_t)((int64_t)xs[i] * xs[i]);
             if (rest < x) return 0;
             rest -= x;
         }
+    *margin = rest;
     return 1;
 }
 
@@ -69,7 +72,8 @@ static void test_messages(const lists *l) {
 #if TESTS
 /* At degree 64, 23 coefficients 0, 31 of 1 or -1 and 10 of 2 or -2; at smaller degrees -2 to 2, squared length at most 71 */
 static int is_challenge(const int32_t *c, size_t d) {
-    if (d < 64) return all_between(c, d, -2, 2) && within(71, c, d, 1);
+    uint64_t margin;
+    if (d < 64) return all_between(c, d, -2, 2) && within(71, c, d, 1, &margin);
     int zeros = 0, ones = 0, twos = 0;
     for (size_t i = 0; i < d; i++) zeros += c[i] == 0, ones += (c[i] == 1) | (c[i] == -1), twos += (c[i] == 2) | (c[i] == -2);
     return zeros == 23 && ones == 31 && twos == 10;
@@ -204,33 +208,37 @@ static element mixed(const lizkarg_sizes *s, const lists *l, const int32_t *digi
     return sum;
 }
 
-/* checks 1 and 2 */
-static int first_checks(const lizkarg_sizes *s, const lists *l) {
+static lizkarg_answer failed(uint64_t check) { return (lizkarg_answer){LIZKARG_FAILED, check}; }
+
+/* checks 1 and 2: the first that fails, else 0 */
+static uint64_t first_checks(const lizkarg_sizes *s, const lists *l) {
     size_t size = function(s);
+    uint64_t margin;
     int good = 1;
-    if (!within(s->w * s->bound, l->p, s->w, 2)) return 256 + 1;
+    if (!within(s->w * s->bound, l->p, s->w, 2, &margin)) return 1;
     for (size_t k = 0; k < 5; k++) {
         int64_t sum = 0;
         for (size_t j = 0; j < s->l; j++) sum = (sum + (int64_t)l->psi[k * s->l + j] * l->constant_terms[j * (size + 1) + size]) % Q;
         for (size_t j = 0; j < s->w; j++) sum = (sum + (int64_t)l->omega[k * s->w + j] * l->p[j]) % Q;
         good &= centre(sum) == l->second_b[k * s->d];
     }
-    return good ? 0 : 256 + 2;
+    return good ? 0 : 2;
 }
 
-static int verify(const lizkarg_sizes *s, const lists *l) {
+static lizkarg_answer verify(const lizkarg_sizes *s, const lists *l) {
     size_t d = s->d, n = s->n, r = s->r, m = r * s->t1 * s->kappa, g = pairs(r) * s->t2, h = pairs(r) * s->t1;
     int32_t z[256 * 64];
     table omega_sums;
-    int good = 1, first;
+    int good = 1;
+    uint64_t first, margin;
     test_commit(l), test_wholes(l), test_seconds(l), test_messages(l), test_challenges(s, l);
     within_range(l->z, l->n.opening, MOST);
-    if ((first = first_checks(s, l))) return first;
+    if ((first = first_checks(s, l))) return failed(first);
     for (size_t k = 0; k < s->kappa1; k++)
         good &= same(d, load_element(d, l->u1 + k * d), add(d, inner(d, m, l->b_matrix + k * m * d, l->t), inner(d, g, l->c_matrix + k * g * d, l->g)));
-    if (!good) return 256 + 3;
+    if (!good) return failed(3);
     for (size_t k = 0; k < s->kappa2; k++) good &= same(d, load_element(d, l->u2 + k * d), inner(d, h, l->d_matrix + k * h * d, l->h));
-    if (!good) return 256 + 4;
+    if (!good) return failed(4);
     for (size_t k = 0; k < n; k++) store(d, recompose(d, (int64_t)s->b, 2, l->z + k * d, n), z + k * d);
     for (size_t k = 0; k < s->kappa; k++) {
         element sum = {{0}};
@@ -238,8 +246,8 @@ static int verify(const lizkarg_sizes *s, const lists *l) {
             sum = add(d, sum, mul(d, load_element(d, l->c + i * d), recompose(d, (int64_t)s->b1, s->t1, l->t + (i * s->t1 * s->kappa + k) * d, s->kappa)));
         good &= same(d, inner(d, n, l->a_matrix + k * n * d, z), sum);
     }
-    if (!good) return 256 + 5;
-    if (!same(d, inner(d, n, z, z), mixed(s, l, l->g, (int64_t)s->b2, s->t2))) return 256 + 6;
+    if (!good) return failed(5);
+    if (!same(d, inner(d, n, z, z), mixed(s, l, l->g, (int64_t)s->b2, s->t2))) return failed(6);
     element linear = {{0}};
     write_table(s, l, &omega_sums);
     for (size_t i = 0; i < r; i++) {
@@ -247,24 +255,24 @@ static int verify(const lizkarg_sizes *s, const lists *l) {
         for (size_t y = 0; y < n; y++) sum = add(d, sum, mul(d, aggregate_phi(s, l, &omega_sums, i * n + y), load_element(d, z + y * d)));
         linear = add(d, linear, mul(d, sum, load_element(d, l->c + i * d)));
     }
-    if (!same(d, linear, mixed(s, l, l->h, (int64_t)s->b1, s->t1))) return 256 + 7;
+    if (!same(d, linear, mixed(s, l, l->h, (int64_t)s->b1, s->t1))) return failed(7);
     element left = {{0}};
     for (size_t i = 0, q = 0; i < r; i++)
         for (size_t j = i; j < r; j++, q++) {
             left = add(d, left, mul(d, aggregate_a(s, l, q), recompose(d, (int64_t)s->b2, s->t2, l->g + q * s->t2 * d, 1)));
             if (i == j) left = add(d, left, recompose(d, (int64_t)s->b1, s->t1, l->h + q * s->t1 * d, 1));
         }
-    if (!same(d, left, aggregate_constant(s, l))) return 256 + 8;
-    if (!within(s->target, l->z, l->n.opening, 1)) return 256 + 9;
-    return 0;
+    if (!same(d, left, aggregate_constant(s, l))) return failed(8);
+    if (!within(s->target, l->z, l->n.opening, 1, &margin)) return failed(9);
+    return (lizkarg_answer){LIZKARG_ACCEPTED, margin};
 }
 
-static int next(const lizkarg_sizes *s, const lists *l) {
-    int first;
+static lizkarg_answer next(const lizkarg_sizes *s, const lists *l) {
+    uint64_t first;
     test_commit(l), test_wholes(l), test_seconds(l), test_messages(l), test_challenges(s, l);
-    if ((first = first_checks(s, l))) return first;
+    if ((first = first_checks(s, l))) return failed(first);
     write_next(s, l);
-    return 256 * LIZKARG_WRITTEN;
+    return (lizkarg_answer){LIZKARG_WRITTEN, 0};
 }
 
 #if TESTS

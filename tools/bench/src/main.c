@@ -63,16 +63,19 @@ static void products(const char *what, int32_t most) {
     line(what, least);
 }
 
-static int step(const implementation *x, int which, const lizkarg_sizes *s, const lists *l) {
+enum { VERIFIER = 5 };
+
+static lizkarg_answer step(const implementation *x, int which, const lizkarg_sizes *s, const lists *l) {
     switch (which) {
-    case 0: x->commit(s, l); return 0;
-    case 1: x->project(s, l); return 0;
-    case 2: x->aggregate(s, l); return 0;
-    case 3: x->garbage(s, l); return 0;
-    case 4: x->amortize(s, l); return 0;
-    case 5: return x->verify(s, l);
-    default: return x->next(s, l) ^ 256 * LIZKARG_WRITTEN;
+    case 0: x->commit(s, l); break;
+    case 1: x->project(s, l); break;
+    case 2: x->aggregate(s, l); break;
+    case 3: x->garbage(s, l); break;
+    case 4: x->amortize(s, l); break;
+    case VERIFIER: return x->verify(s, l);
+    default: return x->next(s, l);
     }
+    return (lizkarg_answer){LIZKARG_WRITTEN, 0};
 }
 
 /* what the calls write */
@@ -105,10 +108,11 @@ static void release(outputs x) {
     for (int i = 0; i < OUTPUTS; i++) free(x.of[i].numbers);
 }
 
-/* Steps `from` to `to` - 1 by some implementations in turn, what they write compared with the first's; the least times of each. */
+/* Steps `from` to `to` - 1 by some implementations in turn, what they write and the margin compared with the first's; the least times of each. */
 static void measure(const lizkarg_sizes *s, const lists *l, const implementation **who, int count, int from, int to, int repetitions,
     double least[][STEPS]) {
     outputs written = outputs_of(l), first = {0};
+    uint64_t margin = 0;
     for (int i = 0; i < count; i++)
         for (int x = 0; x < STEPS; x++) least[i][x] = 1e30;
     for (int round = 0; round < repetitions; round++)
@@ -116,10 +120,12 @@ static void measure(const lizkarg_sizes *s, const lists *l, const implementation
             spoil(written);
             for (int x = from; x < to; x++) {
                 double start = now();
-                int code = step(who[i], x, s, l);
+                lizkarg_answer answer = step(who[i], x, s, l);
                 double ns = now() - start;
                 if (ns < least[i][x]) least[i][x] = ns;
-                if (code) differ("verdict", who[i]->name);
+                if (answer.kind != (x == VERIFIER ? LIZKARG_ACCEPTED : LIZKARG_WRITTEN)) differ("verdict", who[i]->name);
+                if (round == 0 && i == 0 && x == VERIFIER) margin = answer.number;
+                if (x == VERIFIER && answer.number != margin) differ("margin", who[i]->name);
             }
             if (round == 0 && i == 0) first = kept(written);
             compare(written, first, who[i]);

@@ -44,14 +44,12 @@ static void amortize(const lizkarg_sizes *s, const lists *l) {
     need(lizkarg_amortize(SHAPE, s->b, LIST(c), LIST(witness), LIST(z)));
 }
 
-static int verify(const lizkarg_sizes *s, const lists *l) {
-    lizkarg_answer x = lizkarg_verify(*s, STATEMENT, MESSAGES, l->z, l->n.opening);
-    return 256 * x.kind + x.number;
+static lizkarg_answer verify(const lizkarg_sizes *s, const lists *l) {
+    return lizkarg_verify(*s, STATEMENT, MESSAGES, l->z, l->n.opening);
 }
 
-static int next(const lizkarg_sizes *s, const lists *l) {
-    lizkarg_answer x = lizkarg_next_instance(*s, l->nu, l->mu, STATEMENT, MESSAGES, LIST(next));
-    return 256 * x.kind + x.number;
+static lizkarg_answer next(const lizkarg_sizes *s, const lists *l) {
+    return lizkarg_next_instance(*s, l->nu, l->mu, STATEMENT, MESSAGES, LIST(next));
 }
 
 const implementation ours = {"ours", multiply, commit, project, aggregate, garbage, amortize, verify, next};

@@ -8,7 +8,7 @@ void plain_project(const plain_case *x, int32_t *p);
 void plain_aggregate(const plain_case *x, int32_t *second_b);
 void plain_garbage(const plain_case *x, int32_t *h, int32_t *u2);
 void plain_amortize(const plain_case *x, int32_t *z);
-uint8_t plain_verify(const plain_case *x);
+uint8_t plain_verify(const plain_case *x, uint64_t *margin);
 uint8_t plain_next(const plain_case *x, int32_t *out);
 
 static plain_case lent(const lizkarg_sizes *s, const lists *l) {
@@ -42,16 +42,17 @@ static void amortize(const lizkarg_sizes *s, const lists *l) {
     plain_amortize(&x, l->z);
 }
 
-static int verify(const lizkarg_sizes *s, const lists *l) {
+static lizkarg_answer verify(const lizkarg_sizes *s, const lists *l) {
     plain_case x = lent(s, l);
-    int check = plain_verify(&x);
-    return check ? 256 * LIZKARG_FAILED + check : 256 * LIZKARG_ACCEPTED;
+    uint64_t margin = 0;
+    uint8_t check = plain_verify(&x, &margin);
+    return check ? (lizkarg_answer){LIZKARG_FAILED, check} : (lizkarg_answer){LIZKARG_ACCEPTED, margin};
 }
 
-static int next(const lizkarg_sizes *s, const lists *l) {
+static lizkarg_answer next(const lizkarg_sizes *s, const lists *l) {
     plain_case x = lent(s, l);
-    int check = plain_next(&x, l->next);
-    return check ? 256 * LIZKARG_FAILED + check : 256 * LIZKARG_WRITTEN;
+    uint8_t check = plain_next(&x, l->next);
+    return (lizkarg_answer){check ? LIZKARG_FAILED : LIZKARG_WRITTEN, check};
 }
 
 const implementation rust_plain = {"rust_plain", plain_multiply, commit, project, aggregate, garbage, amortize, verify, next};

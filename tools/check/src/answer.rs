@@ -10,7 +10,7 @@ pub enum Answer {
 }
 
 impl Answer {
-    /// Kind and number: 0 accepted, 1 failed, 2 refused, 3 written; the check, the row or 0.
+    /// Kind and number: 0 accepted, 1 failed, 2 refused, 3 written; the margin, the check, the row or 0.
     pub fn code(self) -> (u8, u64) {
         match self {
             Answer::Judged(verdict) => verdict.code(),

@@ -6,14 +6,14 @@ use lizkarg::{Cut, Draws, Messages, Proof, Prover, Statement};
 use plain::lists::{self, Room, Sizes};
 use plain::messages::{self, Function};
 use plain::refusals::{self, Refusal};
-use plain::verdict;
+use plain::verdict::{self, Verdict};
 use std::cell::OnceCell;
 use std::collections::BTreeMap;
 
 /// What a call's outputs hold before it.
 const POISON: i32 = 1234567891;
 
-/// How often each call gave each answer.
+/// How often each call gave each answer: its kind, and its number, for which a margin above 0 counts as 1.
 #[derive(Default)]
 pub struct Tally {
     pub seen: BTreeMap<(&'static str, u8, u64), u64>,
@@ -22,6 +22,7 @@ pub struct Tally {
 impl Tally {
     pub fn count(&mut self, call: &'static str, answer: Answer) {
         let (kind, number) = answer.code();
+        let number = if kind == 0 { number.min(1) } else { number };
         *self.seen.entry((call, kind, number)).or_insert(0) += 1;
     }
 
@@ -171,7 +172,7 @@ pub fn judged(tally: &mut Tally, s: &Sizes, l: &Lists) -> Answer {
     answer
 }
 
-/// The verdict, held to the second implementation's.
+/// The verdict, held to the second implementation's, margin and all.
 pub fn verify(tally: &mut Tally, case: &Case) -> Answer {
     let answer = judged(tally, case.s, case.l);
     assert_eq!(answer, plain_verify(case), "verify");
@@ -183,8 +184,8 @@ pub fn plain_verify(case: &Case) -> Answer {
     match refusals::verify(case.s, case.l) {
         Err(number) => Refused(number),
         Ok(()) => match verdict::verdict(case.s, case.l, case.second()) {
-            0 => Judged(Accepted),
-            check => Judged(Failed(check)),
+            Verdict::Accepted(margin) => Judged(Accepted(margin)),
+            Verdict::Failed(check) => Judged(Failed(check)),
         },
     }
 }

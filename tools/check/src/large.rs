@@ -153,7 +153,10 @@ pub fn run(tally: &mut Tally, seed: u64) {
         let second = fold(tally, &s, &mut l);
         (s.bound, s.target) = least_bounds(&s, &l);
         let case = Case::formed(&s, &l, second);
-        assert_eq!(verify(tally, &case), Judged(Accepted), "{what}");
+        assert_eq!(verify(tally, &case), Judged(Accepted(0)), "{what}");
+        for (target, margin) in [(s.target + 1, 1), (LARGEST_BOUND, LARGEST_BOUND - s.target)] {
+            assert_eq!(judged(tally, &Sizes { target, ..s }, &l), Judged(Accepted(margin)), "{what}");
+        }
         println!("{what}: d {} n {} r {} K {} L {} w {}: accepted, {:.1} s", s.d, s.n, s.r, s.k, s.l, s.w, from.elapsed().as_secs_f64());
         if sheet::bytes_of(&s) <= LONGEST_TEXT {
             writes(tally, &mut rng, &s, &l);

@@ -27,9 +27,10 @@ fn main() {
     small::run(&mut tally, seed, medium, case::medium);
     small::run(&mut tally, seed, small, case::small);
     let kinds = ["accepted", "failed", "refused", "written"];
-    println!("{:<16}{:<10}{:>7}{:>12}", "call", "answer", "number", "times");
+    println!("{:<16}{:<10}{:>8}{:>12}", "call", "answer", "number", "times");
     for ((call, kind, number), times) in &tally.seen {
-        println!("{call:<16}{:<10}{number:>7}{times:>12}", kinds[*kind as usize]);
+        let number = if (*kind, *number) == (0, 1) { "above 0".to_string() } else { number.to_string() };
+        println!("{call:<16}{:<10}{number:>8}{times:>12}", kinds[*kind as usize]);
     }
     let calls: u64 = tally.seen.values().sum();
     let folds = 4 * (small + medium);

@@ -97,8 +97,8 @@ pub fn second_fold(
     let answer = verify(tally, &Case::formed(&t, &m, second));
     if solved {
         let short = 2 * squared_length(&m.p) <= t.bound as i128 * t.w as i128;
-        let small = squared_length(&m.opening) <= t.target as i128;
-        let should = if !short { Judged(Failed(1)) } else if !small { Judged(Failed(9)) } else { Judged(Accepted) };
+        let margin = t.target as i128 - squared_length(&m.opening);
+        let should = if !short { Judged(Failed(1)) } else if margin < 0 { Judged(Failed(9)) } else { Judged(Accepted(margin as u64)) };
         assert_eq!(answer, should, "second fold");
     } else {
         assert!(matches!(answer, Judged(Failed(1 | 8))), "second fold of a witness that solves nothing: {answer:?}");

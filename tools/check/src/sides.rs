@@ -7,7 +7,8 @@ use crate::random::Random;
 use crate::small::{judge, read, writes};
 use lizkarg::Verdict::{Accepted, Failed};
 use plain::lists::Sizes;
-use plain::{next, refusals, sheet};
+use plain::ring::{elements, flat, squared_length};
+use plain::{messages, next, refusals, sheet};
 
 fn base() -> Sizes {
     Sizes {
@@ -16,10 +17,15 @@ fn base() -> Sizes {
     }
 }
 
+/// What an honest fold is answered: accepted with the target bound minus the squared length of all digits.
+fn honest(s: &Sizes, l: &Lists) -> Answer {
+    Judged(Accepted((s.target as i128 - squared_length(&l.opening)).try_into().expect("a bound that holds")))
+}
+
 /// An honest fold, each message compared, is accepted.
 fn accepted(tally: &mut Tally, s: &Sizes, l: &mut Lists) {
     let second = fold(tally, s, l);
-    assert_eq!(verify(tally, &Case::formed(s, l, second)), Judged(Accepted));
+    assert_eq!(verify(tally, &Case::formed(s, l, second)), honest(s, l));
 }
 
 fn verdict(tally: &mut Tally, s: &Sizes, l: &Lists) -> Answer {
@@ -33,7 +39,7 @@ fn through(tally: &mut Tally, s: &Sizes, l: &mut Lists, taken: bool) {
         accepted(tally, s, l);
     }
     let (case, text) = (Case::new(s, l), sheet::write(s, l));
-    let answer = if taken { Judged(Accepted) } else { Refused(10) };
+    let answer = if taken { honest(s, l) } else { Refused(10) };
     assert_eq!(amortize(tally, &case, &s.room()).err(), (!taken).then_some(Refused(10)));
     assert_eq!(verify(tally, &case), answer);
     assert_eq!(refusals::next_instance(s, l, room), refusal);
@@ -138,8 +144,48 @@ fn whole_case(tally: &mut Tally) {
     let after = next::sizes(&s);
     assert_eq!((next::rest(&s), after.n, after.r, after.k), (6, 6, 3, 6));
     assert!(next_instance(tally, &Case::new(&s, &l), instance_room(&s)).is_some());
-    assert_eq!(judge(tally, &sheet::write(&s, &l)), Judged(Accepted));
+    assert_eq!(judge(tally, &sheet::write(&s, &l)), Judged(Accepted(0)));
     assert_eq!(judge(tally, &sheet::write(&less, &l)), Judged(Failed(9)));
+    let more = Sizes { target: 20, ..s };
+    assert_eq!(verdict(tally, &more, &l), Judged(Accepted(7)));
+    assert_eq!(judge(tally, &sheet::write(&more, &l)), Judged(Accepted(7)));
+}
+
+/// β'² one below the squared length of all digits, at it, one above it and at its largest; each block of the opening counts.
+fn margins(tally: &mut Tally) {
+    let mut rng = Random::new(9);
+    for (d, n, r) in [(2, 1, 1), (2, 3, 3), (16, 2, 2), (64, 1, 2)] {
+        // at degree 64 without constraints, that its sheet has at most 65536 bytes
+        let k = (d < 64) as usize;
+        let s = Sizes { d, n, r, k, l: k, b: 65536, b1: 65536, b2: 65536, t1: 2, t2: 2, ..base() };
+        let mut l = case::random(&mut rng, &s, true);
+        accepted(tally, &s, &mut l);
+        let length = squared_length(&l.opening) as u64;
+        for (target, answer) in [
+            (length - 1, Failed(9)), (length, Accepted(0)), (length + 1, Accepted(1)), (length + 256, Accepted(256)),
+            (LARGEST_BOUND, Accepted(LARGEST_BOUND - length)),
+        ] {
+            let s = Sizes { target, ..s };
+            assert_eq!(verdict(tally, &s, &l), Judged(answer));
+            assert_eq!(judge(tally, &sheet::write(&s, &l)), Judged(answer));
+        }
+        wide_digits(tally, &s, &l, length);
+    }
+}
+
+/// A base moved from a digit to the next, in z, t, g and h, by which the values stay: the margin moves by the squares of both digits.
+fn wide_digits(tally: &mut Tally, s: &Sizes, l: &Lists, length: u64) {
+    let room = s.room();
+    let (t, g, h) = (room.z, room.z + room.t, room.z + room.t + room.g);
+    for (at, gap, base) in [(0, s.n * s.d, s.b), (t, s.kappa * s.d, s.b1), (g, s.d, s.b2), (h, s.d, s.b1)] {
+        let mut wide = l.clone();
+        wide.opening[at] += base as i32;
+        wide.opening[at + gap] -= 1;
+        let blocks = [&wide.opening[t..g], &wide.opening[g..h], &wide.opening[h..]].map(|block| elements(s.d, block));
+        (wide.u1, wide.u2) = (flat(&messages::first_outer(s, &wide, &blocks[0], &blocks[1])), flat(&messages::second_outer(s, &wide, &blocks[2])));
+        assert_ne!(squared_length(&wide.opening) as u64, length);
+        assert_eq!(verdict(tally, s, &wide), honest(s, &wide));
+    }
 }
 
 /// Valid sheets of 65536 and of 65537 bytes.
@@ -152,13 +198,14 @@ fn long_sheets(tally: &mut Tally) {
         accepted(tally, &s, &mut l);
         let text = sheet::write(&s, &l);
         assert_eq!(text.len(), wanted);
-        assert_eq!(judge(tally, &text), if wanted == 65536 { Judged(Accepted) } else { Refused(12) });
+        assert_eq!(judge(tally, &text), if wanted == 65536 { honest(&s, &l) } else { Refused(12) });
         writes(tally, &mut Random::new(7), &s, &l);
     }
 }
 
 pub fn run(tally: &mut Tally) {
     whole_case(tally);
+    margins(tally);
     challenges(tally);
     sizes(tally);
     ranks(tally);

@@ -4,6 +4,13 @@ use crate::messages::*;
 use crate::ring::*;
 use std::cell::LazyCell;
 
+/// "a judgement is accepted or failed with a check", and "Accepted carries the margin of check 9".
+#[derive(Clone, Copy, Debug, PartialEq, Eq)]
+pub enum Verdict {
+    Accepted(u64),
+    Failed(u8),
+}
+
 /// The opening: the digits of t, g and h, and z, t_i, g_ij and h_ij recomposed.
 struct Opening {
     t_digits: Vec<El>,
@@ -73,8 +80,13 @@ fn check8(s: &Sizes, o: &Opening, aggregate: &Function, constant: &El) -> bool {
     diagonal.fold(inner(s.d, &aggregate.a, &o.g), |sum, (_, h)| add(&sum, h)) == *constant
 }
 
-/// "The first check that fails is named; none means accepted": 0 for none. `second` are the second functions.
-pub fn verdict(s: &Sizes, l: &Lists<impl Numbers>, second: &[Function]) -> u8 {
+/// "the bound minus the squared length, β'² minus that of all digits": below 0 where check 9 fails.
+pub fn margin(s: &Sizes, l: &Lists<impl Numbers>) -> i128 {
+    s.target as i128 - squared_length(&l.opening)
+}
+
+/// "The first check that fails is named; none means accepted, with the margin (6.g)." `second` are the second functions.
+pub fn verdict(s: &Sizes, l: &Lists<impl Numbers>, second: &[Function]) -> Verdict {
     let d = s.d;
     let o = opening(s, &l.opening);
     let c = elements(d, &l.c);
@@ -90,5 +102,8 @@ pub fn verdict(s: &Sizes, l: &Lists<impl Numbers>, second: &[Function]) -> u8 {
         &|| check8(s, &o, &aggregate, &aggregate_constant(s, l)),
         &|| squared_length(&l.opening) <= s.target as i128,
     ];
-    checks.iter().position(|check| !check()).map_or(0, |at| at as u8 + 1)
+    match checks.iter().position(|check| !check()) {
+        Some(at) => Verdict::Failed(at as u8 + 1),
+        None => Verdict::Accepted(margin(s, l) as u64),
+    }
 }

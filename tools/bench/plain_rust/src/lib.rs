@@ -1,7 +1,8 @@
 //! The calls of tools/plain for C: sizes as the numbers of a sheet's header, lists in the sheet's order, and the witness after them.
 use plain::lists::{Lists, Sizes, LISTS, SIZES};
 use plain::messages::*;
-use plain::{next, ring, verdict};
+use plain::verdict::{self, Verdict};
+use plain::{next, ring};
 use std::slice::from_raw_parts;
 
 /// Sizes and lists as C lends them.
@@ -62,11 +63,17 @@ pub unsafe extern "C" fn plain_amortize(case: &Case, z: *mut i32) {
     store(message5(&s, &l), [z]);
 }
 
-/// The first check that fails; 0 if none.
+/// The first check that fails; 0 if none, and then the margin is written.
 #[no_mangle]
-pub unsafe extern "C" fn plain_verify(case: &Case) -> u8 {
+pub unsafe extern "C" fn plain_verify(case: &Case, margin: *mut u64) -> u8 {
     let (s, l) = case.lent();
-    verdict::verdict(&s, &l, &second(&s, &l))
+    match verdict::verdict(&s, &l, &second(&s, &l)) {
+        Verdict::Accepted(left) => {
+            *margin = left;
+            0
+        }
+        Verdict::Failed(check) => check,
+    }
 }
 
 /// The check that fails; 0 where the next instance is written.
