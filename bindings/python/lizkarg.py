@@ -3,12 +3,14 @@
     >>> import lizkarg
     >>> text = open("examples/class.sheet", "rb").read()
     >>> lizkarg.judge_sheet(text)
-    Accepted()
+    Accepted(margin=0)
     >>> sheet = lizkarg.read_sheet(text)
     >>> lizkarg.verify(sheet.sizes, sheet.proof)
-    Accepted()
+    Accepted(margin=0)
     >>> lizkarg.write_sheet(sheet.sizes, sheet.nu, sheet.mu, sheet.proof) == text
     True
+    >>> print(lizkarg.judge_sheet(open("examples/whole-case-margin.sheet", "rb").read()))
+    accepted: all nine checks hold, margin 7
     >>> print(lizkarg.judge_sheet(open("examples/class-changed-digit.sheet", "rb").read()))
     failed: check 5, A z is not the sum of the c_i t_i
 
@@ -56,13 +58,15 @@ class Refused(Exception):
 
 @dataclass(frozen=True)
 class Accepted:
-    """All nine checks hold. True in a condition."""
+    """All nine checks hold. The margin is the target bound minus the squared length of all digits. True in a condition, whatever the margin."""
+
+    margin: int
 
     def __bool__(self):
         return True
 
     def __str__(self):
-        return "accepted: all nine checks hold"
+        return f"accepted: all nine checks hold, margin {self.margin}"
 
 
 @dataclass(frozen=True)
@@ -192,7 +196,7 @@ _HEADER = "d n r k l w kappa kappa1 kappa2 b b1 b2 t1 t2 nu mu bound target".spl
 
 
 class _Answer(ctypes.Structure):
-    _fields_ = [("kind", ctypes.c_uint8), ("number", ctypes.c_uint8)]
+    _fields_ = [("kind", ctypes.c_uint8), ("number", ctypes.c_uint64)]
 
 
 class _Sheet(ctypes.Structure):
@@ -280,7 +284,7 @@ def _written(answer, *outs):
 def _judged(answer):
     if answer.kind == 2:
         raise Refused(answer.number)
-    return Accepted() if answer.kind == 0 else Failed(answer.number)
+    return Accepted(answer.number) if answer.kind == 0 else Failed(answer.number)
 
 
 # ---- the calls
@@ -340,7 +344,7 @@ def prove(sizes, witness, *, a_matrix, b_matrix, c_matrix, d_matrix, whole, cons
 
 
 def verify(sizes, proof):
-    """The verdict: Accepted() or Failed(check). Refused 1 to 4, 6 to 10."""
+    """The verdict: Accepted(margin) or Failed(check). Refused 1 to 4, 6 to 10."""
     return _judged(_call("verify", _sized(_Sizes, sizes), *map(_numbers, proof)))
 
 
@@ -372,7 +376,7 @@ def next_witness(sizes, nu, mu, opening):
 
 
 def judge_sheet(text):
-    """The verdict on a sheet of at most 65536 bytes, as the program prints it: Accepted() or Failed(check). Refused 12, 1 to 6, 8 to 10."""
+    """The verdict on a sheet of at most 65536 bytes, as the program prints it: Accepted(margin) or Failed(check). Refused 12, 1 to 6, 8 to 10."""
     return _judged(_call("judge_sheet", _bytes(text)))
 
 

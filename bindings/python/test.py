@@ -22,7 +22,7 @@ import lizkarg
 import ring
 import sheet
 import sizes as reference
-from fixtures import SMALL, challenges, honest, random_lists, random_sizes, sides_of_challenges, uniform
+from fixtures import SMALL, challenges, honest, margin_sides, random_lists, random_sizes, sides_of_challenges, uniform
 from library import library_sizes as taken
 from library import library_verdict
 from lizkarg import Accepted, Failed, Proof, Refused
@@ -59,19 +59,21 @@ def test_example():
         path = Path(folder) / "sheet"
         for arguments in ([], [path]):
             example = subprocess.run([sys.executable, ROOT / "bindings/python/prove.py", *arguments], capture_output=True, text=True, check=True)
-            assert example.stdout == "accepted: all nine checks hold\n"
+            assert example.stdout == "accepted: all nine checks hold, margin 0\n"
         assert path.read_bytes() == (ROOT / "examples/whole-case.sheet").read_bytes()
 
 
 def test_answers():
-    assert Accepted() and not Failed(3)
+    assert Accepted(0) and Accepted(7) and not Failed(3)
+    assert Accepted(0) != Accepted(7) and Accepted(7).margin == 7
+    assert str(Accepted(7)) == "accepted: all nine checks hold, margin 7"
     assert str(Failed(9)) == "failed: check 9, the digits are longer than the target bound"
     assert str(Refused(7)) == "refused: 7, a list's length is not what the sizes give"
     assert str(Refused(13)) == "refused: 13, the buffer is shorter than the text"
     # the command verdict --words says the same; but it knows no parts
     said = re.findall(r"[012]\.[0-9*]+\) echo (?:'([^']*)'|\"([^\"]*)\") ;;", (ROOT / "verdict").read_text())
     rows = [str(Refused(number)).replace("L, w or a part number", "L or w") for number in range(1, 13) if number not in (7, 11)]
-    assert [one or other for one, other in said] == [str(Accepted()), *(str(Failed(check)) for check in range(1, 10)), *rows]
+    assert [one or other for one, other in said] == [str(Accepted("$2")), *(str(Failed(check)) for check in range(1, 10)), *rows]
 
 
 def next_answer(z, s, proof):
@@ -145,7 +147,19 @@ def test_challenges():
         ):
             assert refusal(call, *arguments) == row, (name, call)
         if allowed:
-            assert lizkarg.verify(z, proof) == lizkarg.judge_sheet(text) == Accepted() and lizkarg.write_sheet(z, *cut, proof) == text
+            assert lizkarg.verify(z, proof) == lizkarg.judge_sheet(text) == Accepted(0) and lizkarg.write_sheet(z, *cut, proof) == text
+
+
+def test_margins():
+    """The target bound on both sides of the squared length of all digits, and at its largest, through both calls that judge."""
+    for name, verdict, s, y in margin_sides(random.Random(14)):
+        assert lizkarg.verify(taken(s), Proof(**y)) == library_verdict(verdict), name
+        assert lizkarg.judge_sheet(sheet.write_sheet(s, y)) == library_verdict(verdict), name
+    s, _, y = case.honest()
+    z, proof = taken(s), Proof(**y)
+    for margin in (0, 1, 255, 256, 65535, 65536, 2**32 - 1, 2**32, 10**15 - 1 - s.target_beta_squared):
+        assert lizkarg.verify(z._replace(target=z.target + margin), proof) == Accepted(margin)
+    assert lizkarg.verify(z._replace(target=z.target - 1), proof) == Failed(9)
 
 
 def test_refusals_of_the_writer():
@@ -207,7 +221,7 @@ def test_examples():
         if kind == 2:
             assert refusal(lizkarg.judge_sheet, path.read_bytes()) == number
         else:
-            assert lizkarg.judge_sheet(path.read_bytes()) == (Failed(number) if kind else Accepted())
+            assert lizkarg.judge_sheet(path.read_bytes()) == (Failed(number) if kind else Accepted(number))
 
 
 def test_written_examples():
@@ -224,7 +238,7 @@ def test_written_examples():
         assert read == write, known
         assert write or lizkarg.write_sheet(taken(s), s.nu, s.mu, Proof(**lists)) == text, known
         answers.append(write)
-    assert sorted(answers) == [0, 0, 0, 0, 0, 0, 0, 8, 10, 10]
+    assert sorted(answers) == [0, 0, 0, 0, 0, 0, 0, 0, 8, 10, 10]
 
 
 def test_written_corpus():
@@ -242,7 +256,7 @@ def test_written_corpus():
         read = lizkarg.read_sheet(text)
         assert lizkarg.write_sheet(read.sizes, read.nu, read.mu, read.proof) == text, number
         written += 1
-    assert at == len(cases) and written == 253
+    assert at == len(cases) and written == 261
 
 
 if __name__ == "__main__":

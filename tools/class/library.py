@@ -24,7 +24,7 @@ def library_sizes(s):
 def library_verdict(verdict):
     """The second implementation's verdict, as the library's."""
     kind, number = verdict
-    return {"accepted": Accepted(), "failed": Failed(number)}[kind]
+    return {"accepted": Accepted, "failed": Failed}[kind](number)
 
 
 def library_text(s, lists):
