@@ -16,6 +16,9 @@ READINGS = [[1, 2], [0, 1], [2, 1]]
 # The same sums from readings that are too large.
 TOO_LONG = [[6, 2], [0, 1], [-3, 1]]
 
+# Another target bound for the same opening.
+ROOMY = 120
+
 # For the exercises: other challenges, and readings with the same sums that are shorter.
 OTHER_C = [[0, 1], [1, 0], [1, 0]]
 SHORTER = [[1, 1], [1, 1], [1, 2]]

@@ -53,6 +53,8 @@ def sheets():
     """Name, verdict and text of each sheet of the class."""
     s, _, y = case.honest()
     yield "class", ("accepted", 0), sheet.write_sheet(s, y)
+    roomy = s._replace(target_beta_squared=case.ROOMY)
+    yield "class-margin", ("accepted", case.ROOMY - s.target_beta_squared), sheet.write_sheet(roomy, y)
     changed = list(y["opening"])
     changed[0] += 1
     yield "class-changed-digit", ("failed", 5), sheet.write_sheet(s, y | {"opening": changed})
@@ -115,6 +117,10 @@ def page():
         ("h11 + h22 + h33 = b", pair(add(*(h[i, i] for i in range(3)))), pair(fold.aggregate_constant(s, y))),
         ("all digits together are short", " + ".join(str(ring.squared_norm(fold.flat(block))) for _, block in lengths) + f" = {ring.squared_norm(y['opening'])}", f"at most {s.target_beta_squared}"),
     ]
+    margins = [size_row(block, fold.flat(entries)) for block, entries in lengths]
+    length = ring.squared_norm(y["opening"])
+    assert length == s.target_beta_squared == sum(row[-1] for row in margins), "the page says that nothing is left"
+    assert fold.verdict(s._replace(target_beta_squared=length - 1), y) == ("failed", 9)
     named = {}
     for place in range(len(y["opening"])):
         moved = list(y["opening"])
@@ -270,6 +276,26 @@ Whoever has no such readings would have to make up t, g and h before c is drawn,
     ./verdict --words examples/class.sheet
 {program_line("class")}
 
+## How much was left
+
+Check 9 is a budget. The squares of all {len(y["opening"])} digits may add up to at most the bound that stands on the sheet, here {s.target_beta_squared}. What they leave of it is the *margin*, the second number of an accepted sheet's line. With a
+pencil: count in each block how many digits are 1 or -1, 2 or -2, and so on, and add up the squares.
+
+{table(["digits", "how many", *(f"±{size}" if size else "0" for size in SIZES), "squares, added up"], margins + [["**all**", len(y["opening"]), *(sum(row[at] for row in margins) for at in range(2, 2 + len(SIZES))), f"**{length}**"]])}
+
+    margin = {s.target_beta_squared} - ({" + ".join(str(row[-1]) for row in margins)}) = {s.target_beta_squared} - {length} = {s.target_beta_squared - length}
+
+Nothing is left: this sheet's bound was set to just what its digits need. With a bound of {case.ROOMY} the same digits leave {case.ROOMY} - {length} = {case.ROOMY - length}:
+
+    ./verdict --words examples/class-margin.sheet
+{program_line("class-margin")}
+
+Read it as you read a tread gauge: it says how much was left before the wear limit.
+
+- A tyre just at the limit passes, and so does a margin of 0. Accepted is accepted; a small margin is not "nearly wrong". One less than nothing, a bound of {length - 1}, and check 9 fails.
+- The bound belongs to what is claimed. Whoever writes the schedule sets it, and a loose bound gives a large margin without making the readings any better. So compare margins under one bound only.
+- It speaks of the length of the digits, not of the readings, and of no other check. The equations, checks 2 to 8, hold or they do not: there is no "nearly" in them.
+
 ## One changed digit
 
 Somebody changes one digit in the archive by one. Which check says so?
@@ -293,11 +319,23 @@ the rows give p = {", ".join(str(k) for k in long_y["p"])}, and 2·({" + ".join(
 2. Exchange the readings of slots 1 and 3. Both codes are met. Does u1 stay?
 3. Find three slots that meet both codes, with squares that add up to less than {s.beta_squared}.
 4. Open examples/class.sheet in an editor (docs/SHEET.md says where each list stands), change one number, and say before the program does which check will fail.
+5. In the same sheet, make the last number of the first line 150, keeping it in its columns. Which line will the program print? And with {length - 1}?
 
 Answers. 1: z = {pair(other_z)}; check 5 has {pair(times(a, other_z))} on both sides, check 6 {pair(times(other_z, other_z))}. 2: It does, since on this page a digit counts alike
 for all slots; in a real unit each digit has a number of its own. 3: For one,
-{", ".join(f"{slot[0]} and {slot[1]}" for slot in case.SHORTER)}: the squares add up to {sum(k * k for slot in case.SHORTER for k in slot)}.
+{", ".join(f"{slot[0]} and {slot[1]}" for slot in case.SHORTER)}: the squares add up to {sum(k * k for slot in case.SHORTER for k in slot)}. 5: 0 {150 - length}, since 150 - {length} = {150 - length}; and 1 9.
 """
+
+
+# The sizes of digits that occur on the page.
+SIZES = range(5)
+
+
+def size_row(block, numbers):
+    """A block's name, how many digits it has, how many of each size, and the sum of their squares."""
+    counts = [sum(abs(number) == size for number in numbers) for size in SIZES]
+    assert sum(counts) == len(numbers)
+    return [block, len(numbers), *counts, ring.squared_norm(numbers)]
 
 
 def expected(s, x, y):
@@ -322,7 +360,7 @@ def program_line(wanted):
     for known, (kind, number), text in sheets():
         if known == wanted:
             assert sheet.judge(text) == (kind, number), (known, sheet.judge(text))
-            said = {"accepted": "accepted: all nine checks hold", "failed": f"failed: check {number}, " + {1: "the projection p is too long", 5: "A z is not the sum of the c_i t_i"}.get(number, "")}[kind]
+            said = {"accepted": f"accepted: all nine checks hold, margin {number}", "failed": f"failed: check {number}, " + {1: "the projection p is too long", 5: "A z is not the sum of the c_i t_i"}.get(number, "")}[kind]
             return "    " + sheet.output_line((kind, number)).decode().rstrip("\n") + "  " + said
     raise KeyError(wanted)
 
