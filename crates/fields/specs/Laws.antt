@@ -1,6 +1,7 @@
 pub mod ByteLaws
 pub mod FieldLaws
 pub mod FieldSteps
+pub mod WriteLaws
 pub mod FieldsLaws
 pub mod NumberLaws
 pub mod SectionLaws

@@ -2,3 +2,4 @@
 pub mod field;
 pub mod sizes;
 pub mod walk;
+pub mod write;

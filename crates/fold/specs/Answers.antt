@@ -1,5 +1,5 @@
--- SPECIFICATION 10.7 and 8.7: "kind (0 accepted, 1 failed, 2 refused) and number (0 when accepted)"; "the answer is "written", which is no
--- judgement". The one definition of what each answer says.
+-- SPECIFICATION 10.7 and 8.7: "kind (0 accepted, 1 failed, 2 refused) and number (the margin when accepted, the check that failed, the row that
+-- refused)"; "the answer is "written", which is no judgement". The one definition of what each answer says.
 use mathlib.Core.Bool.{Bool, true, cond}
 use mathlib.Core.List.{List, [], _∷_}
 use Prim.Native.Nat.{ℕ, zero, suc}
@@ -11,13 +11,13 @@ use Rattle.fold.specs.declared.Answer.the-variants.{Refused, Judged, Wri
 
 abbrev pub kindOf : Answer → ℕ
 kindOf (Refused n) = 2
-kindOf (Judged Accepted) = 0
+kindOf (Judged (Accepted m)) = 0
 kindOf (Judged (Failed n)) = 1
 kindOf Written = 3
 
 abbrev pub numberOf : Answer → ℕ
 numberOf (Refused n) = n
-numberOf (Judged Accepted) = 0
+numberOf (Judged (Accepted m)) = m
 numberOf (Judged (Failed n)) = n
 numberOf Written = 0
 
@@ -31,10 +31,10 @@ abbrev pub testOf : ℕ → List (ℕ × Bool) → Bool
 testOf k [] = true
 testOf k (test ∷ tests) = cond (eqb (test .0) k) (test .1) (testOf k tests)
 
--- "none means accepted"
-unfoldable pub judged : ℕ → Verdict
-judged zero = Accepted
-judged (suc k) = Failed (suc k)
+-- "none means accepted, with the margin"
+unfoldable pub judged : (failing margin : ℕ) → Verdict
+judged zero m = Accepted m
+judged (suc k) m = Failed (suc k)
 
 -- a refusal, or where there is none what the call answers
 unfoldable pub answered : ℕ → Answer → Answer

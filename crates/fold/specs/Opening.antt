@@ -42,3 +42,7 @@ tgLength d n r tz κ t₁ t₂ o = normSq (take ((tSize r κ t₁ + garbageSize 
 
 unfoldable pub hLength : (d n r tz κ t₁ t₂ : ℕ) (o : List ℤ) → ℕ
 hLength d n r tz κ t₁ t₂ o = normSq (take (garbageSize r t₁ * d) (drop (hPlace tz n r κ t₁ t₂ * d) o))
+
+-- and of all digits
+abbrev pub digitsLength : (d n r tz κ t₁ t₂ : ℕ) (o : List ℤ) → ℕ
+digitsLength d n r tz κ t₁ t₂ o = zLength d n tz o + tgLength d n r tz κ t₁ t₂ o + hLength d n r tz κ t₁ t₂ o

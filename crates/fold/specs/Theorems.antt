@@ -5,4 +5,5 @@ pub mod MessagesTaken
 pub mod LowestFirst
 pub mod Challenges
 pub mod TwoOpenings
+pub mod Margin
 pub mod NextInstanceTheorem

@@ -3,7 +3,7 @@
 -- The opening is one list; x, y stand for its blocks as functions of the place, `block d o a` for the elements from place a on.
 use mathlib.Core.Bool.{Bool}
 use mathlib.Core.List.{List, [], _∷_, _++_}
-use Prim.Native.Nat.{ℕ, _+_, _*_}
+use Prim.Native.Nat.{ℕ, _+_, _*_, _-_}
 use lib.Dec.{leb, eqb}
 use lib.ListN.{getD}
 use lib.IntN.{ℤ, pos}
@@ -19,7 +19,7 @@ use Rattle.fold.specs.Answers.{firstFailing, judged}
 use Rattle.fold.specs.Statement.{Relation, termConstant}
 use Rattle.fold.specs.Messages.{times, outer₁, outer₂, aggregated, aggregateConstant}
 use Rattle.fold.specs.Sizes.{five}
-use Rattle.fold.specs.Opening.{block, tPlace, gPlace, hPlace, zOf, tOf, garbageOf, zLength, tgLength, hLength}
+use Rattle.fold.specs.Opening.{block, tPlace, gPlace, hPlace, zOf, tOf, garbageOf, digitsLength}
 use Rattle.fold.specs.Statement.{Statement, Draws, Transcript}
 
 -- ---- the checks
@@ -65,7 +65,11 @@ check₈ d r a b g h = same d (R d .add (rows (R d) r (λ i j. R d .mul (a i j) 
 
 -- "All digits' squared length ≤ β'² (lent)."
 unfoldable pub check₉ : (d n r tz κ t₁ t₂ target : ℕ) (o : List ℤ) → Bool
-check₉ d n r tz κ t₁ t₂ target o = leb (zLength d n tz o + tgLength d n r tz κ t₁ t₂ o + hLength d n r tz κ t₁ t₂ o) target
+check₉ d n r tz κ t₁ t₂ target o = leb (digitsLength d n r tz κ t₁ t₂ o) target
+
+-- "Accepted carries the margin of check 9: the bound minus the squared length, β'² minus that of all digits."
+unfoldable pub margin₉ : (d n r tz κ t₁ t₂ target : ℕ) (o : List ℤ) → ℕ
+margin₉ d n r tz κ t₁ t₂ target o = target - digitsLength d n r tz κ t₁ t₂ o
 
 -- ---- the verdict
 
@@ -127,6 +131,10 @@ module _ (𝓢 : Statement) (𝓓 : Draws) (𝓣 : Transcript) (o : List ℤ) wh
   abbrev pub checks : List (ℕ × Bool)
   checks = messageChecks 𝓢 𝓓 𝓣 ++ (outerChecks ++ openingChecks)
 
-  -- "The first check that fails is named; none means accepted."
+  -- what an accepted opening leaves of the target bound
+  abbrev pub margin : ℕ
+  margin = margin₉ d n r tz κ t₁ t₂ target o
+
+  -- "The first check that fails is named; none means accepted, with the margin"
   unfoldable pub verdict : Verdict
-  verdict = judged (firstFailing checks)
+  verdict = judged (firstFailing checks) margin

@@ -8,9 +8,9 @@ pub mod places;
 ghost use mathlib.Core.Path.{_≡_};
 ghost use Rattle.fold.specs.Answers.{kindOf, numberOf};
 
-// A judgement: accepted, or failed with the first check that fails.
+// A judgement: accepted with the margin of check 9, or failed with the first check that fails.
 pub enum Verdict {
-    Accepted,
+    Accepted(u64),
     Failed(u8),
 }
 
@@ -99,22 +99,22 @@ impl Answer {
         match self {
             Answer::Refused(_) => 2,
             Answer::Judged(verdict) => match verdict {
-                Verdict::Accepted => 0,
+                Verdict::Accepted(_) => 0,
                 Verdict::Failed(_) => 1,
             },
             Answer::Written => 3,
         }
     }
 
-    // The number of the refusal or of the failed check; 0 where there is none.
-    pub fn number(self) -> u8
+    // The margin, the number of the failed check or that of the refusal; 0 where there is none.
+    pub fn number(self) -> u64
         ensures { λ r. ⌜ r ≡ numberOf self ⌝ }
     {
         match self {
-            Answer::Refused(number) => number,
+            Answer::Refused(number) => number as u64,
             Answer::Judged(verdict) => match verdict {
-                Verdict::Accepted => 0,
-                Verdict::Failed(check) => check,
+                Verdict::Accepted(margin) => margin,
+                Verdict::Failed(check) => check as u64,
             },
             Answer::Written => 0,
         }

@@ -61,6 +61,7 @@ judged text = judgedBy (reading (total (sizesOf (headerNumbers text))) text) (bo
 unfoldable pub judgedText : List ℕ → Answer
 judgedText text = cond (leb (length text) 65536) (judged text) (answer.Refused 12)
 
--- "one line of two such fields of 16 columns: kind (0 accepted, 1 failed, 2 refused) and number (0 when accepted)"
+-- "one line of two such fields of 16 columns: kind (0 accepted, 1 failed, 2 refused) and number (the margin when accepted, the check that failed,
+-- the row that refused)"
 unfoldable pub verdictLine : Answer → List ℕ
 verdictLine a = lineText (pos (kindOf a) ∷ pos (numberOf a) ∷ [])

@@ -1,1 +1,2 @@
 pub mod JudgeTheorem
+pub mod MarginTheorem

@@ -1,2 +1,3 @@
 pub mod LowDigit
+pub mod Length
 pub mod Challenge

@@ -1,6 +1,7 @@
 -- Demand 3, honest runs (SPECIFICATION 9.4): "For every statement, every witness that meets all its constraints, and whatever projection rows, ψ, ω,
 -- α, δ and c come in, none of them refused, the verdict on the honest messages and opening is failed 1 exactly when 2·|p|² is above w·β²; otherwise
--- failed 9 exactly when the squared length of all its digits is above the target bound; otherwise accepted."
+-- failed 9 exactly when the squared length of all its digits is above the target bound; otherwise accepted, with the target bound minus that length
+-- as margin."
 -- For what the five calls wrote and `verify` answers on it, by their promises alone; the cases: HonestVerdict, crates/fold/specs/Theorems/HonestRuns.antt.
 use mathlib.Core.Path.{_≡_, refl}
 use mathlib.Core.List.{List}

@@ -5,5 +5,7 @@ pub mod NextInstance
 -- Demand 3
 pub mod HonestRuns
 pub mod TwoOpenings
+-- What accepted carries
+pub mod Margin
 -- The sheet and its verdict
 pub mod Sheet

@@ -1,17 +1,17 @@
 -- Demand 2 (SPECIFICATION 8.8): "When the checks on projection and constant terms pass and the next instance is not too large, an opening is accepted
 -- exactly if, padded, it solves the next instance."
 -- Where the call `next_instance` answered `Written`, so that nothing was refused, n' is at most 256 and checks 1 and 2 passed. Its promise is
--- `NextCalled`; that of `verify` is `answer ≡ verification ..`. The next instance is the relation whose constraints are the numbers that the call
+-- `NextCalled`; that of `verify` is `answer ≡ verification ..`, accepted where its kind is 0. The next instance is the relation whose constraints are the numbers that the call
 -- wrote: `relationOf out′`, with K' = κ+κ1+κ2+3, L' = 0 and the bound β'². `nextWitness o` is the padded opening.
-use mathlib.Core.Path.{_≡_, sym, _∙_}
+use mathlib.Core.Path.{_≡_, sym, ap, _∙_}
 use mathlib.Core.Logic.{_↔_}
 use mathlib.Core.List.{List}
 use Prim.Native.Nat.{ℕ, _*_}
 use lib.ListN.{length}
 use lib.IntN.{ℤ}
 use Rattle.fold.specs.declared.Answer.{Answer}
-use Rattle.fold.specs.declared.Answer.the-variants.{Judged, Written}
-use Rattle.fold.specs.declared.Verdict.the-variants.{Accepted}
+use Rattle.fold.specs.declared.Answer.the-variants.{Written}
+use Rattle.fold.specs.Answers.{kindOf}
 use Rattle.fold.specs.Sizes.{openingSize}
 use Rattle.fold.specs.Statement.{Relation, Solves, Statement, Draws, Transcript}
 use Rattle.fold.specs.Verification.{verification}
@@ -26,12 +26,12 @@ module _ (𝓢 : Statement) (𝓓 : Draws) (𝓣 : Transcript) (ν μ : ℕ) (ou
 
   -- an opening has the length that the sizes give
   pub accepted-exactly : (o : List ℤ) → length o ≡ openingSize tz n r κ t₁ t₂ * d → (answer : Answer) → answer ≡ verification 𝓢 𝓓 𝓣 o
-      → (answer ≡ Judged Accepted) ↔ Solves (relationOf 𝓢 𝓓 𝓣 ν μ out′) (nextWitness 𝓢 𝓓 𝓣 ν μ o)
+      → (kindOf answer ≡ 0) ↔ Solves (relationOf 𝓢 𝓓 𝓣 ν μ out′) (nextWitness 𝓢 𝓓 𝓣 ν μ o)
   accepted-exactly o size answer is = rw is (next-instance-written 𝓢 𝓓 𝓣 ν μ out (sym (called .answer-is)) (called .out-is) o size)
 
   -- "A solution of the next instance whose padding is zero is, with the padding cut off, an accepted opening": r' parts of n' elements
   pub solution-accepts : (s : List ℤ) → length s ≡ r′ 𝓢 𝓓 𝓣 ν μ * n′ 𝓢 𝓓 𝓣 ν μ * d → ZeroPadding d tz n ν (m 𝓢 𝓓 𝓣 ν μ) μ s
       → Solves (relationOf 𝓢 𝓓 𝓣 ν μ out′) s
-      → (answer : Answer) → answer ≡ verification 𝓢 𝓓 𝓣 (unpadded d tz n ν (m 𝓢 𝓓 𝓣 ν μ) μ s) → answer ≡ Judged Accepted
+      → (answer : Answer) → answer ≡ verification 𝓢 𝓓 𝓣 (unpadded d tz n ν (m 𝓢 𝓓 𝓣 ν μ) μ s) → kindOf answer ≡ 0
   solution-accepts s sized zeros solves answer is =
-      is ∙ solution-written 𝓢 𝓓 𝓣 ν μ out (sym (called .answer-is)) (called .out-is) s sized zeros solves
+      ap kindOf is ∙ solution-written 𝓢 𝓓 𝓣 ν μ out (sym (called .answer-is)) (called .out-is) s sized zeros solves

@@ -6,8 +6,12 @@ use Prim.Native.Nat.{ℕ, _*_, _≤_, _<_}
 use lib.IntN.{ℤ}
 use lib.ListN.{length}
 use Rattle.ring.specs.Element.{el}
+use Rattle.residues.specs.declared.length.Margin.{Margin}
+use Rattle.residues.specs.declared.length.Margin.the-variants.{Within, Above}
 use Rattle.fold.specs.declared.Sizes.{Sizes}
-use Rattle.fold.specs.Verdict.{messageChecks, outerChecks, amortizedChecks, lastChecks, openingChecks}
+use Rattle.fold.specs.declared.Verdict.{Verdict}
+use Rattle.fold.specs.declared.Verdict.the-variants.{Accepted, Failed}
+use Rattle.fold.specs.Verdict.{messageChecks, outerChecks, amortizedChecks, lastChecks, openingChecks, margin₉}
 use Rattle.fold.specs.Arguments.{statementOf, statementWith, drawsOf, transcriptOf}
 use Rattle.checks.specs.Known.Facts.{zValue}
 
@@ -30,6 +34,14 @@ amortizedChecksOf tz s A c o = amortizedChecks (statementWith tz s A [] [] [] []
 abbrev pub lastChecksOf : (tz : ℕ) → Sizes → (whole constantTerms projections ψ ω b″ α δ o : List ℤ) → List (ℕ × Bool)
 lastChecksOf tz s whole constantTerms projections ψ ω b″ α δ o =
     lastChecks (statementWith tz s [] [] [] [] whole constantTerms) (drawsOf projections ψ ω α δ []) (transcriptOf [] [] b″ []) o
+
+-- the margin, and what check 9 says of a comparison with the bound
+abbrev pub marginOf : (tz : ℕ) → Sizes → (o : List ℤ) → ℕ
+marginOf tz s o = margin₉ (s .shape .d) (s .shape .n) (s .shape .r) tz (s .kappa) (s .t1) (s .t2) (s .target) o
+
+abbrev pub byLength : Margin → Verdict
+byLength (Within rest) = Accepted rest
+byLength Above = Failed 9
 
 -- z stands at the start of a list
 pub record Recomposed (tz : ℕ) (s : Sizes) (o z : List ℤ) : Type 0 where

@@ -1,11 +1,12 @@
-// The number of the first check that fails, 0 where none does. A check is asked only where those before it pass.
+// The first check that fails, by number where those after it are still to be asked (0 where none fails), else as a verdict. A check is asked only
+// where those before it pass.
 ghost use mathlib.Core.Path.{_≡_};
 ghost use mathlib.Core.List.{List};
 ghost use Prim.Native.Nat.{_<_, _≤_};
 ghost use lib.IntN.{ℤ};
 ghost use Rattle.fold.specs.Answers.{firstFailing, judged};
 ghost use Rattle.fold.specs.Known.WorkFacts.{MessageFacts, OuterFacts, AmortizedFacts, RelationFacts, OpeningFacts};
-ghost use Rattle.verifier.specs.Judgement.{messageChecksOf, outerChecksOf, amortizedChecksOf, lastChecksOf, openingChecksOf, Recomposed};
+ghost use Rattle.verifier.specs.Judgement.{messageChecksOf, outerChecksOf, amortizedChecksOf, lastChecksOf, openingChecksOf, marginOf, byLength, Recomposed};
 use checks::amortized;
 use checks::linear;
 use checks::norms;
@@ -18,6 +19,7 @@ use fold::Sizes;
 use fold::Verdict;
 use fold::limits::PART_ROOM;
 use limits::rows::first;
+use residues::length::Margin;
 
 // Checks 1 and 2, which need no opening.
 pub fn message_checks(
@@ -88,8 +90,18 @@ fn amortized_checks(
     first(six, 6, 0)
 }
 
+// What check 9 says: accepted with what is left of the bound, or failed.
+fn by_length(margin: Margin) -> Verdict
+    ensures { λ v. ⌜ v ≡ byLength margin ⌝ }
+{
+    let Margin::Within(rest) = margin else {
+        return Verdict::Failed(9);
+    };
+    Verdict::Accepted(rest)
+}
+
 // Checks 8 and 9. The projection rows and ω are no part of the aggregate's a.
-fn last_checks(
+fn last_verdict(
     tz: usize,
     sizes: Sizes,
     whole: &[i32],
@@ -99,12 +111,13 @@ fn last_checks(
     delta: &[i32],
     second_b: &[i32],
     opening: &[i32],
-) -> u8
+) -> Verdict
     requires { ⌜ tz ≤ 2 ⌝ }
     requires { ⌜ RelationFacts tz sizes (now whole) (now «constant_terms») (now psi) (now alpha) (now delta) (now «second_b») (now opening) ⌝ }
-    ensures { λ x.
-        ⌜ ((projections omega : List ℤ) → x ≡ firstFailing (lastChecksOf tz sizes (now (whole .entry)) (now («constant_terms» .entry)) projections
-        (now (psi .entry)) omega (now («second_b» .entry)) (now (alpha .entry)) (now (delta .entry)) (now (opening .entry)))) ⌝ }
+    ensures { λ v.
+        ⌜ ((projections omega : List ℤ) → v ≡ judged (firstFailing (lastChecksOf tz sizes (now (whole .entry)) (now («constant_terms» .entry)) projections
+        (now (psi .entry)) omega (now («second_b» .entry)) (now (alpha .entry)) (now (delta .entry)) (now (opening .entry))))
+        (marginOf tz sizes (now (opening .entry)))) ⌝ }
 {
     let eight = relation::relation_holds(
         tz,
@@ -118,14 +131,14 @@ fn last_checks(
         opening,
     );
     if !eight {
-        return 8;
+        return Verdict::Failed(8);
     }
-    let nine = norms::short_opening(tz, sizes, opening);
-    first(nine, 9, 0)
+    let margin = norms::opening_margin(tz, sizes, opening);
+    by_length(margin)
 }
 
 // Checks 5 to 9, with z recomposed once.
-pub fn opening_checks(
+pub fn opening_verdict(
     tz: usize,
     sizes: Sizes,
     a_matrix: &[i32],
@@ -139,20 +152,20 @@ pub fn opening_checks(
     delta: &[i32],
     c: &[i32],
     opening: &[i32],
-) -> u8
+) -> Verdict
     requires { ⌜ (0 < tz) × (tz ≤ 2) ⌝ }
     requires { ⌜ OpeningFacts tz sizes (now «a_matrix») (now whole) (now «constant_terms») (now projections) (now psi) (now omega) (now «second_b») (now alpha) (now delta)
         (now c) (now opening) ⌝ }
-    ensures { λ x.
-        ⌜ x ≡ firstFailing (openingChecksOf tz sizes (now («a_matrix» .entry)) (now (whole .entry)) (now («constant_terms» .entry)) (now (projections .entry))
+    ensures { λ v.
+        ⌜ v ≡ judged (firstFailing (openingChecksOf tz sizes (now («a_matrix» .entry)) (now (whole .entry)) (now («constant_terms» .entry)) (now (projections .entry))
         (now (psi .entry)) (now (omega .entry)) (now («second_b» .entry)) (now (alpha .entry)) (now (delta .entry)) (now (c .entry))
-        (now (opening .entry))) ⌝ }
+        (now (opening .entry)))) (marginOf tz sizes (now (opening .entry))) ⌝ }
 {
     let mut z = [0i32; PART_ROOM];
     recomposed::write_z(tz, sizes.shape.d, sizes.shape.n, sizes.b, opening, &mut z);
     let failed = amortized_checks(tz, sizes, a_matrix, c, &z, opening);
     if failed != 0 {
-        return failed;
+        return Verdict::Failed(failed);
     }
     let shape = sizes.shape;
     let constraint_sizes = ConstraintSizes {
@@ -175,9 +188,9 @@ pub fn opening_checks(
     );
     let seven = linear::linear_holds(tz, sizes, sum, c, opening);
     if !seven {
-        return 7;
+        return Verdict::Failed(7);
     }
-    last_checks(
+    last_verdict(
         tz,
         sizes,
         whole,
@@ -188,14 +201,4 @@ pub fn opening_checks(
         second_b,
         opening,
     )
-}
-
-// The verdict that names a check, or accepts.
-pub fn verdict(number: u8) -> Verdict
-    ensures { λ v. ⌜ v ≡ judged number ⌝ }
-{
-    if number == 0 {
-        return Verdict::Accepted;
-    }
-    Verdict::Failed(number)
 }

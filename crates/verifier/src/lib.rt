@@ -4,6 +4,7 @@ ghost use Rattle.fold.specs.Arguments.{statementOf, drawsOf, transcriptOf};
 ghost use Rattle.fold.specs.Verification.{verification};
 use fold::Answer;
 use fold::Sizes;
+use fold::Verdict;
 use fold::counts::Z_DIGITS;
 use refusals::verify_refusal;
 
@@ -62,7 +63,7 @@ pub fn verify(
     }
     let message = judgement::message_checks(sizes, constant_terms, p, psi, omega, second_b);
     if message != 0 {
-        return Answer::Judged(judgement::verdict(message));
+        return Answer::Judged(Verdict::Failed(message));
     }
     let outer = judgement::outer_checks(
         Z_DIGITS,
@@ -75,9 +76,9 @@ pub fn verify(
         opening,
     );
     if outer != 0 {
-        return Answer::Judged(judgement::verdict(outer));
+        return Answer::Judged(Verdict::Failed(outer));
     }
-    let number = judgement::opening_checks(
+    let verdict = judgement::opening_verdict(
         Z_DIGITS,
         sizes,
         a_matrix,
@@ -92,5 +93,5 @@ pub fn verify(
         c,
         opening,
     );
-    Answer::Judged(judgement::verdict(number))
+    Answer::Judged(verdict)
 }

@@ -1,5 +1,4 @@
 pub mod LengthLaws
-pub mod FieldLaws
 pub mod LineLaws
 pub mod RefusalLaws
 pub mod AnswerLaws

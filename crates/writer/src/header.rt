@@ -6,7 +6,7 @@ ghost use Rattle.integers.specs.Over.{over};
 ghost use Rattle.fields.specs.Field.{headerBytes};
 ghost use Rattle.sheet.specs.Layout.{lineText};
 ghost use Rattle.writer.specs.Writing.{headerWords, headerFields};
-use crate::field::write_laid;
+use fields::write::write_laid;
 use sheet::header::SheetSizes;
 
 // The header's numbers, in its order.

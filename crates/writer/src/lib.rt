@@ -6,7 +6,6 @@ use limits::next::next_bounds;
 use sheet::header::SheetSizes;
 
 mod bytes;
-mod field;
 mod header;
 mod lines;
 mod refusal;

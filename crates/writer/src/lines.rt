@@ -9,12 +9,12 @@ ghost use Rattle.fields.specs.Sections.{endsLine, sectionsOf};
 ghost use Rattle.fields.specs.Place.{lineFields};
 ghost use Rattle.sheet.specs.Layout.{textOf, bodyLines};
 ghost use Rattle.writer.specs.Known.Writing.{Counted, LinesFit};
-use crate::field::write_laid;
 use fields::sizes::HEADER_BYTES;
 use fields::sizes::Sections;
 use fields::sizes::ends_line;
 use fields::sizes::sections_of;
 use fields::walk::field_width;
+use fields::write::write_laid;
 use fold::Sizes;
 use residues::range::magnitude;
 

@@ -1,4 +1,4 @@
--- The verdict, check by check: it is Accepted exactly when the nine facts of SPECIFICATION 6 hold, and Failed k exactly when check k is
+-- The verdict, check by check: it is accepted exactly when the nine facts of SPECIFICATION 6 hold, and Failed k exactly when check k is
 -- the first that fails.
 use mathlib.Core.Path.{_≡_, refl, sym, ap}
 use mathlib.Core.Logic.{_↔_}
@@ -17,14 +17,16 @@ use Rattle.algebra.specs.DotProduct.{inner, mixed}
 use Rattle.residues.specs.Modulus.{Zq, red}
 use Rattle.ring.specs.Element.{R, el, same}
 use Rattle.ring.specs.Laws.ElementEquality.{every-true, true-every, same-true, same-refl}
+use Rattle.fold.specs.declared.Verdict.{Verdict}
 use Rattle.fold.specs.declared.Verdict.the-variants.{Accepted, Failed}
-use Rattle.fold.specs.Answers.{judged}
+use Rattle.fold.specs.declared.Answer.the-variants.{Judged}
+use Rattle.fold.specs.Answers.{kindOf, judged}
 use Rattle.fold.specs.Statement.{Relation, termConstant}
 use Rattle.fold.specs.Messages.{times, outer₁, outer₂, aggregateConstant, aggregated}
 use Rattle.fold.specs.Sizes.{five}
 use Rattle.fold.specs.Statement.{Statement, Draws, Transcript}
-use Rattle.fold.specs.Verdict.{verdict, checks}
-use Rattle.fold.specs.Opening.{zLength, tgLength, hLength}
+use Rattle.fold.specs.Verdict.{margin, verdict, checks}
+use Rattle.fold.specs.Opening.{digitsLength}
 use Rattle.fold.specs.Verdict.{tBlock, gBlock, hBlock, zᵒ, tᵒ, gᵒ, hᵒ}
 use Rattle.fold.specs.Verdict.{check₁, check₂, check₃, check₄, check₅, check₆, check₇, check₈, check₉}
 use Rattle.fold.specs.Laws.TestLaws.{passing, none-fails, holds, First, first-iff, accepted-none, failed-number, number-failed}
@@ -62,7 +64,7 @@ module _ (𝓢 : Statement) (𝓓 : Draws) (𝓣 : Transcript) (o : List ℤ) wh
         (sum (R d) r (λ i. hᵒ 𝓢 𝓓 𝓣 o i i))
         ≡ aggregateConstant d n r K whole α δ b″
     -- "All digits' squared length ≤ β'²"
-    pub short : zLength d n tz o + tgLength d n r tz κ t₁ t₂ o + hLength d n r tz κ t₁ t₂ o ≤ target
+    pub short : digitsLength d n r tz κ t₁ t₂ o ≤ target
 
 true-same : (d : ℕ) {u v : R d .Carrier} → u ≡ v → same d u v ≡ true
 true-same d {v} e = rw e (same-refl d v)
@@ -71,10 +73,10 @@ module _ (𝓢 : Statement) (𝓓 : Draws) (𝓣 : Transcript) (o : List ℤ) wh
   open Statement 𝓢 using (relation, κ, κ₁, κ₂)
   open Relation relation using (d)
 
-  pub accepts : verdict 𝓢 𝓓 𝓣 o ≡ Accepted → Accepts 𝓢 𝓓 𝓣 o
+  pub accepts : kindOf (Judged (verdict 𝓢 𝓓 𝓣 o)) ≡ 0 → Accepts 𝓢 𝓓 𝓣 o
   unfolding verdict check₁ check₂ check₃ check₄ check₅ check₆ check₇ check₈ check₉
   accepts e =
-      let check = holds (checks 𝓢 𝓓 𝓣 o) refl (accepted-none _ e) in
+      let check = holds (checks 𝓢 𝓓 𝓣 o) refl (accepted-none _ _ e) in
       record {
         projected = leb-true _ _ (check 1);
         constant-term = λ k l. residue-eq (eqb-true _ _ (every-true five _ (check 2) k l));
@@ -87,10 +89,10 @@ module _ (𝓢 : Statement) (𝓓 : Draws) (𝓣 : Transcript) (o : List ℤ) wh
         short = leb-true _ _ (check 9);
       }
 
-  pub accepted : Accepts 𝓢 𝓓 𝓣 o → verdict 𝓢 𝓓 𝓣 o ≡ Accepted
+  pub accepted : Accepts 𝓢 𝓓 𝓣 o → verdict 𝓢 𝓓 𝓣 o ≡ Accepted (margin 𝓢 𝓓 𝓣 o)
   unfolding verdict judged check₁ check₂ check₃ check₄ check₅ check₆ check₇ check₈ check₉
   accepted h =
-      ap judged (sym
+      ap (λ k. judged k (margin 𝓢 𝓓 𝓣 o)) (sym
       (passing 1 _ (le-leb _ _ (h .projected))
       (passing 2 _ (true-every five _ (λ k l. eq-eqb _ _ (ap (λ x. x .val) (h .constant-term k l))))
       (passing 3 _ (true-every κ₁ _ (λ k l. true-same d (sym (h .first-outer k l))))
@@ -101,12 +103,12 @@ module _ (𝓢 : Statement) (𝓓 : Draws) (𝓣 : Transcript) (o : List ℤ) wh
       (passing 8 _ (true-same d (h .relation-holds))
       (passing 9 _ (le-leb _ _ (h .short)) none-fails))))))))))
 
-  pub accepted-iff : (verdict 𝓢 𝓓 𝓣 o ≡ Accepted) ↔ Accepts 𝓢 𝓓 𝓣 o
-  accepted-iff = (accepts, accepted)
+  pub accepted-iff : (kindOf (Judged (verdict 𝓢 𝓓 𝓣 o)) ≡ 0) ↔ Accepts 𝓢 𝓓 𝓣 o
+  accepted-iff = (accepts, λ h. ap (λ (v : Verdict). kindOf (Judged v)) (accepted h))
 
   -- "The first check that fails is named": its test fails, and those of lower numbers hold
   pub failed-iff : (k : ℕ) → 0 < k → (verdict 𝓢 𝓓 𝓣 o ≡ Failed k) ↔ First (checks 𝓢 𝓓 𝓣 o) k
   unfolding verdict
   failed-iff k some =
       let by-number = first-iff (checks 𝓢 𝓓 𝓣 o) refl k some in
-      (λ e. by-number .0 (failed-number _ k e), λ h. number-failed _ k some (by-number .1 h))
+      (λ e. by-number .0 (failed-number _ _ k e), λ h. number-failed _ _ k some (by-number .1 h))

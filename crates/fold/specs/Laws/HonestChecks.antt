@@ -29,12 +29,12 @@ use Rattle.fold.specs.Sizes.{five}
 use Rattle.fold.specs.Laws.MessageLaws.{el-elements, length-zDigits, length-tDigits, length-gDigits, length-hDigits}
 use Rattle.fold.specs.Laws.MessageLaws.{zOf-digits, tOf-digits, garbageOf-digits}
 use Rattle.fold.specs.Laws.ReadingLaws.{zOf-cong, tOf-cong, garbageOf-cong, times-cong, outer₁-cong, outer₂-cong}
-use Rattle.fold.specs.Laws.OpeningLaws.{opening-z, opening-t, opening-g, opening-h, normSq-opening}
+use Rattle.fold.specs.Laws.OpeningLaws.{opening-z, opening-t, opening-g, opening-h, length-opening, digits-length}
 use Rattle.fold.specs.Laws.AggregateLaws.{half-law, ct-second, value-aggregate}
 use Rattle.fold.specs.Statement.{Statement, Draws, Transcript}
 use Rattle.fold.specs.Verdict.{tBlock, gBlock, hBlock, zᵒ, tᵒ, gᵒ, hᵒ}
 use Rattle.fold.specs.Verdict.{check₂, check₃, check₄, check₅, check₆, check₇, check₈, check₉}
-use Rattle.fold.specs.Opening.{zLength, tgLength, hLength}
+use Rattle.fold.specs.Opening.{digitsLength}
 use Rattle.fold.specs.Honest.{honestT, honestG, honestH, honestTranscript, honestOpening}
 
 -- some coefficient, bases from 2 on, some digits
@@ -89,8 +89,9 @@ module _ (𝓢 : Statement) (𝓓 : Draws) (s : List ℤ) where
   pub honest-h-block : (y : ℕ) → hBlock 𝓢 𝓓 𝓣 o y ≡ el d (honestH 𝓢 𝓓 s) y
   honest-h-block = opening-h d n r tz κ t₁ t₂ _ _ _ _ length-honestZ length-honestT length-honestG length-honestH
 
-  pub honest-length : zLength d n tz o + tgLength d n r tz κ t₁ t₂ o + hLength d n r tz κ t₁ t₂ o ≡ normSq o
-  honest-length = normSq-opening d n r tz κ t₁ t₂ _ _ _ _ length-honestZ length-honestT length-honestG length-honestH
+  pub honest-length : digitsLength d n r tz κ t₁ t₂ o ≡ normSq o
+  honest-length =
+      digits-length d n r tz κ t₁ t₂ o (length-opening d n r tz κ t₁ t₂ _ _ _ _ length-honestZ length-honestT length-honestG length-honestH)
 
   -- ---- what they recompose to
 

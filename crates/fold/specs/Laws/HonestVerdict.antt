@@ -2,23 +2,25 @@
 --     outcome-fails-1, ..      failed 1, failed 9 or accepted, by the two tests
 --     honest-verdict           the verdict on honest messages is their outcome
 --     shaped                   the sizes of a statement that is not refused
-use mathlib.Core.Path.{_≡_, refl, ap}
+use mathlib.Core.Path.{_≡_, refl, ap, ap₂}
 use mathlib.Core.Bool.{Bool, true}
 use mathlib.Core.Logic.{_↔_}
 use mathlib.Core.List.{List, [], _∷_}
-use Prim.Native.Nat.{ℕ, _*_, _≤_, _<_}
+use Prim.Native.Nat.{ℕ, _*_, _-_, _≤_, _<_}
 use native.Mathlib.Omega.{arith}
 use lib.Dec.{leb}
 use lib.IntN.{ℤ}
 use borrow.Author.Tests.{leb-true, leb-false, le-leb, lt-leb}
 use Rattle.integers.specs.Sums.{normSq}
+use Rattle.fold.specs.declared.Verdict.{Verdict}
 use Rattle.fold.specs.declared.Verdict.the-variants.{Accepted, Failed}
-use Rattle.fold.specs.Answers.{firstFailing, judged}
+use Rattle.fold.specs.declared.Answer.the-variants.{Judged}
+use Rattle.fold.specs.Answers.{kindOf, firstFailing, judged}
 use Rattle.fold.specs.Statement.{Relation, Meets}
 use Rattle.fold.specs.Statement.{Statement, Draws}
-use Rattle.fold.specs.Verdict.{verdict, check₁}
+use Rattle.fold.specs.Verdict.{verdict, check₁, margin₉}
 use Rattle.fold.specs.Honest.{honestTranscript, honestOpening}
-use Rattle.fold.specs.Laws.HonestChecks.{Shaped, passes₂, passes₃, passes₄, passes₅, passes₆, passes₇, passes₈, states₉}
+use Rattle.fold.specs.Laws.HonestChecks.{Shaped, honest-length, passes₂, passes₃, passes₄, passes₅, passes₆, passes₇, passes₈, states₉}
 use Rattle.fold.specs.Refusals.{proverTests}
 use Rattle.fold.specs.Laws.RefusalLaws.{refusal-iff, allOf-all, degree-fits, base-least, digitCount-least}
 use Rattle.fold.specs.Laws.TestLaws.{holds, first-after, accepted-none, failed-number, number-failed}
@@ -35,31 +37,31 @@ others-hold : (x c₂ c₃ c₄ c₅ c₆ c₇ c₈ c₉ y : Bool)
 unfolding firstFailing
 others-hold x c₂ c₃ c₄ c₅ c₆ c₇ c₈ c₉ y e₂ e₃ e₄ e₅ e₆ e₇ e₈ e₉ = rw (e₂, e₃, e₄, e₅, e₆, e₇, e₈, e₉) refl
 
--- what the outcome says of the numbers that the tests compare
-module _ (a b c e : ℕ) where
+-- what the outcome says of the numbers that the tests compare, for a margin m
+module _ (a b c e m : ℕ) where
   abbrev outcome : ℕ
   outcome = firstFailing (lengthChecks (leb a b) (leb c e))
 
-  pub outcome-fails-1 : (judged outcome ≡ Failed 1) ↔ (b < a)
+  pub outcome-fails-1 : (judged outcome m ≡ Failed 1) ↔ (b < a)
   outcome-fails-1 =
       let first = first-after 1 (leb a b) ((9, leb c e) ∷ []) [] refl in (
-        λ v. leb-false a b (first .0 (failed-number outcome 1 v) .1),
-        λ h. number-failed outcome 1 (omega arith) (first .1 (tt, lt-leb a b h)),
+        λ v. leb-false a b (first .0 (failed-number outcome m 1 v) .1),
+        λ h. number-failed outcome m 1 (omega arith) (first .1 (tt, lt-leb a b h)),
       )
 
-  pub outcome-fails-9 : (judged outcome ≡ Failed 9) ↔ ((a ≤ b) × (e < c))
+  pub outcome-fails-9 : (judged outcome m ≡ Failed 9) ↔ ((a ≤ b) × (e < c))
   outcome-fails-9 =
       let last = first-after 9 (leb c e) [] ((1, leb a b) ∷ []) refl in (
-        λ v. let ((first, _), fails) = last .0 (failed-number outcome 9 v) in (leb-true a b first, leb-false c e fails),
-        λ h. number-failed outcome 9 (omega arith) (last .1 ((le-leb a b (h .0), tt), lt-leb c e (h .1))),
+        λ v. let ((first, _), fails) = last .0 (failed-number outcome m 9 v) in (leb-true a b first, leb-false c e fails),
+        λ h. number-failed outcome m 9 (omega arith) (last .1 ((le-leb a b (h .0), tt), lt-leb c e (h .1))),
       )
 
-  pub outcome-accepted : (judged outcome ≡ Accepted) ↔ ((a ≤ b) × (c ≤ e))
+  pub outcome-accepted : (judged outcome m ≡ Accepted m) ↔ ((a ≤ b) × (c ≤ e))
   unfolding judged
   outcome-accepted =
       let none = refusal-iff (lengthChecks (leb a b) (leb c e)) refl in (
-        λ v. let (first, (last, _)) = none .0 (accepted-none outcome v) in (leb-true a b first, leb-true c e last),
-        λ h. ap judged (none .1 (le-leb a b (h .0), (le-leb c e (h .1), tt))),
+        λ v. let (first, (last, _)) = none .0 (accepted-none outcome m (ap (λ (w : Verdict). kindOf (Judged w)) v)) in (leb-true a b first, leb-true c e last),
+        λ h. ap (λ k. judged k m) (none .1 (le-leb a b (h .0), (le-leb c e (h .1), tt))),
       )
 
 module _ (𝓢 : Statement) (𝓓 : Draws) (s : List ℤ) where
@@ -71,10 +73,12 @@ module _ (𝓢 : Statement) (𝓓 : Draws) (s : List ℤ) where
       ≡ judged (firstFailing (lengthChecks
       (leb (2 * normSq (honestTranscript 𝓢 𝓓 s .p)) (w * bound))
       (leb (normSq (honestOpening 𝓢 𝓓 s)) target)))
-  unfolding verdict check₁
+      (target - normSq (honestOpening 𝓢 𝓓 s))
+  unfolding verdict check₁ margin₉
   honest-verdict sizes meets =
-      ap judged (others-hold _ _ _ _ _ _ _ _ _ _ (passes₂ 𝓢 𝓓 s sizes meets) (passes₃ 𝓢 𝓓 s sizes) (passes₄ 𝓢 𝓓 s sizes) (passes₅ 𝓢 𝓓 s sizes)
+      ap₂ judged (others-hold _ _ _ _ _ _ _ _ _ _ (passes₂ 𝓢 𝓓 s sizes meets) (passes₃ 𝓢 𝓓 s sizes) (passes₄ 𝓢 𝓓 s sizes) (passes₅ 𝓢 𝓓 s sizes)
       (passes₆ 𝓢 𝓓 s sizes) (passes₇ 𝓢 𝓓 s sizes) (passes₈ 𝓢 𝓓 s sizes meets) (states₉ 𝓢 𝓓 s))
+      (ap (λ x. target - x) (honest-length 𝓢 𝓓 s))
 
   -- a statement that is not refused has the sizes that the checks rely on
   pub shaped : firstFailing (proverTests 𝓢 𝓓 s) ≡ 0 → 0 < tz → Shaped 𝓢

@@ -6,9 +6,8 @@ use Prim.Native.Nat.{ℕ, zero, suc, _-_, _*_}
 use native.Mathlib.Omega.{arith}
 use lib.ListN.{length, take, drop, replicate}
 use lib.IntN.{ℤ, pos}
-use Rattle.fold.specs.declared.Verdict.the-variants.{Accepted}
-use Rattle.fold.specs.declared.Answer.the-variants.{Judged, Written}
-use Rattle.fold.specs.Answers.{firstFailing, answered, checked, written}
+use Rattle.fold.specs.declared.Answer.the-variants.{Written}
+use Rattle.fold.specs.Answers.{kindOf, firstFailing, answered, checked, written}
 use Rattle.fold.specs.Sizes.{restSize, openingSize, nextRank, nextParts, nextCount}
 use Rattle.fold.specs.Statement.{Statement, Draws, Transcript}
 use Rattle.fold.specs.Verification.{verification}
@@ -66,14 +65,14 @@ module _ (𝓢 : Statement) (𝓓 : Draws) (𝓣 : Transcript) (ν μ : ℕ) (ou
 
     pub next-instance-written : (o : List ℤ)
         → length o ≡ openingSize (𝓢 .tz) (𝓢 .relation .n) (𝓢 .relation .r) (𝓢 .κ) (𝓢 .t₁) (𝓢 .t₂) * 𝓢 .relation .d
-        → (verification 𝓢 𝓓 𝓣 o ≡ Judged Accepted) ↔ Solves (relationOf 𝓢 𝓓 𝓣 ν μ out′) (nextWitness 𝓢 𝓓 𝓣 ν μ o)
+        → (kindOf (verification 𝓢 𝓓 𝓣 o) ≡ 0) ↔ Solves (relationOf 𝓢 𝓓 𝓣 ν μ out′) (nextWitness 𝓢 𝓓 𝓣 ν μ o)
     next-instance-written = let (none, pass) = written-iff .0 e in rw numbers (next-instance-judged 𝓢 𝓓 𝓣 ν μ out none pass)
 
     pub solution-written : (s : List ℤ)
         → length s ≡ r′ 𝓢 𝓓 𝓣 ν μ * n′ 𝓢 𝓓 𝓣 ν μ * 𝓢 .relation .d
         → ZeroPadding (𝓢 .relation .d) (𝓢 .tz) (𝓢 .relation .n) ν (m 𝓢 𝓓 𝓣 ν μ) μ s
         → Solves (relationOf 𝓢 𝓓 𝓣 ν μ out′) s
-        → verification 𝓢 𝓓 𝓣 (unpadded (𝓢 .relation .d) (𝓢 .tz) (𝓢 .relation .n) ν (m 𝓢 𝓓 𝓣 ν μ) μ s) ≡ Judged Accepted
+        → kindOf (verification 𝓢 𝓓 𝓣 (unpadded (𝓢 .relation .d) (𝓢 .tz) (𝓢 .relation .n) ν (m 𝓢 𝓓 𝓣 ν μ) μ s)) ≡ 0
     solution-written = let (none, pass) = written-iff .0 e in rw numbers (solution-accepted 𝓢 𝓓 𝓣 ν μ out none pass)
 
 -- a part that is not refused, with zeros after it, is that part of the padded opening

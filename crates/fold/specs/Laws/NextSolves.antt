@@ -7,12 +7,10 @@ use mathlib.Core.Bool.{true}
 use mathlib.Core.List.{List}
 use Prim.Native.Nat.{ℕ, _+_, _*_, _<_}
 use native.Mathlib.Omega.{arith}
-use lib.ListN.{length, take, drop, length-drop, take-append-drop}
-use lib.Seq.{drop-drop, take-all}
+use lib.ListN.{length}
 use lib.IntN.{ℤ}
 use borrow.Author.Tests.{leb-true, eqb-true}
 use Rattle.integers.specs.Sums.{normSq}
-use Rattle.integers.specs.Laws.SumLaws.{normSq-append}
 use Rattle.algebra.specs.Laws.RingLaws.{sub-zero-iff}
 use Rattle.algebra.specs.Laws.ResidueLaws.{residue-eq}
 use Rattle.algebra.specs.DotProduct.{value}
@@ -23,7 +21,8 @@ use Rattle.fold.specs.Statement.{Relation, Solves, part, function, whole
 use Rattle.fold.specs.Sizes.{five}
 use Rattle.fold.specs.Statement.{Statement, Draws, Transcript}
 use Rattle.fold.specs.Verdict.{check₁, check₂}
-use Rattle.fold.specs.Opening.{tPlace, gPlace, hPlace, zLength, tgLength, hLength}
+use Rattle.fold.specs.Opening.{digitsLength}
+use Rattle.fold.specs.Laws.OpeningLaws.{digits-length}
 use Rattle.fold.specs.Laws.Accepted.{Accepts}
 use Rattle.fold.specs.Chunks.{width, padded}
 use Rattle.fold.specs.Laws.PaddingLaws.{normSq-padded}
@@ -43,14 +42,6 @@ module _ (𝓢 : Statement) (𝓓 : Draws) (𝓣 : Transcript) where
   pub record FirstChecks : Type 0 where
     pub projection : check₁ w bound p ≡ true
     pub constant-terms : check₂ d n r L w constantTerms ψ ω p b″ ≡ true
-
--- the squared norm of a list, from two places where it is cut
-normSq-cut : (xs : List ℤ) (a k : ℕ) → normSq xs ≡ normSq (take a xs) + (normSq (take k (drop a xs)) + normSq (drop (a + k) xs))
-normSq-cut xs a k =
-    let all = ap normSq (take-append-drop a xs) in
-    let after = ap normSq (take-append-drop k (drop a xs)) in
-    let rest = ap normSq (drop-drop k a xs) in
-    omega (arith, normSq-append (take a xs) (drop a xs), normSq-append (take k (drop a xs)) (drop k (drop a xs)))
 
 module _ (𝓢 : Statement) (𝓓 : Draws) (𝓣 : Transcript) (ν μ : ℕ) (o : List ℤ) (some-ν : 0 < ν) (some-μ : 0 < μ)
     (sized : length o ≡ openingSize (𝓢 .tz) (𝓢 .relation .n) (𝓢 .relation .r) (𝓢 .κ) (𝓢 .t₁) (𝓢 .t₂) * 𝓢 .relation .d) where
@@ -105,15 +96,9 @@ module _ (𝓢 : Statement) (𝓓 : Draws) (𝓣 : Transcript) (ν μ : ℕ) (o 
 
   -- ---- the length
 
-  length-of-opening : normSq (padded d tz n ν m μ o) ≡ zLength d n tz o + tgLength d n r tz κ t₁ t₂ o + hLength d n r tz κ t₁ t₂ o
-  unfolding openingSize restSize zLength tgLength hLength tPlace gPlace hPlace
-  length-of-opening =
-      let tg = tSize r κ t₁ + garbageSize r t₂ in
-      let end : tz * n * d + tg * d ≡ (tz * n + tSize r κ t₁ + garbageSize r t₂) * d = omega arith in
-      let last : take (garbageSize r t₁ * d) (drop (tz * n * d + tg * d) o) ≡ drop (tz * n * d + tg * d) o =
-      take-all (garbageSize r t₁ * d) (drop (tz * n * d + tg * d) o) (omega (arith, length-drop (tz * n * d + tg * d) o)) in
-      let h-part = ap normSq (sym last) ∙ ap (λ k. normSq (take (garbageSize r t₁ * d) (drop k o))) end in
-      normSq-padded d tz n ν m μ some-ν some-μ o sized ∙ omega (arith, normSq-cut o (tz * n * d) (tg * d), h-part)
+  length-of-opening : normSq (padded d tz n ν m μ o) ≡ digitsLength d n r tz κ t₁ t₂ o
+  unfolding openingSize
+  length-of-opening = normSq-padded d tz n ν m μ some-ν some-μ o sized ∙ sym (digits-length d n r tz κ t₁ t₂ o sized)
 
   -- ---- both ways
 

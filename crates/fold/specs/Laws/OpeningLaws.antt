@@ -1,12 +1,12 @@
 -- The blocks of an opening: what is read from each place is what was laid out there, and the three squared lengths of check 9 are
 -- together that of the opening.
-use mathlib.Core.Path.{_≡_, ap, _∙_}
-use mathlib.Core.List.{List, _++_, append-assoc}
+use mathlib.Core.Path.{_≡_, sym, ap, _∙_}
+use mathlib.Core.List.{List, _++_}
 use Prim.Native.Nat.{ℕ, _+_, _*_, _<_}
 use native.Mathlib.Nat.{add-assoc}
 use native.Mathlib.Omega.{arith}
-use lib.ListN.{length, take, drop, length-append}
-use lib.Seq.{take-at, drop-at, take-all}
+use lib.ListN.{length, take, drop, length-append, length-drop, take-append-drop}
+use lib.Seq.{drop-drop, take-all}
 use lib.IntN.{ℤ}
 use Rattle.integers.specs.Sums.{normSq}
 use Rattle.integers.specs.Laws.SumLaws.{normSq-append}
@@ -14,7 +14,26 @@ use Rattle.ring.specs.Element.{el}
 use Rattle.fold.specs.Sizes.{tSize, garbageSize, restSize, openingSize}
 use Rattle.fold.specs.Laws.Layout.{el-append, el-after}
 use Rattle.fold.specs.Messages.{opening}
-use Rattle.fold.specs.Opening.{block, tPlace, gPlace, hPlace, zLength, tgLength, hLength}
+use Rattle.fold.specs.Opening.{block, tPlace, gPlace, hPlace, zLength, tgLength, hLength, digitsLength}
+
+-- a list cut at two places
+normSq-cut : (xs : List ℤ) (a k : ℕ) → normSq xs ≡ normSq (take a xs) + (normSq (take k (drop a xs)) + normSq (drop (a + k) xs))
+normSq-cut xs a k =
+    let all = ap normSq (take-append-drop a xs) in
+    let after = ap normSq (take-append-drop k (drop a xs)) in
+    let rest = ap normSq (drop-drop k a xs) in
+    omega (arith, normSq-append (take a xs) (drop a xs), normSq-append (take k (drop a xs)) (drop k (drop a xs)))
+
+-- check 9 counts every number of an opening once
+pub digits-length : (d n r tz κ t₁ t₂ : ℕ) (o : List ℤ) → length o ≡ openingSize tz n r κ t₁ t₂ * d → digitsLength d n r tz κ t₁ t₂ o ≡ normSq o
+unfolding openingSize restSize zLength tgLength hLength tPlace gPlace hPlace
+digits-length d n r tz κ t₁ t₂ o sized =
+    let tg = tSize r κ t₁ + garbageSize r t₂ in
+    let end : tz * n * d + tg * d ≡ (tz * n + tSize r κ t₁ + garbageSize r t₂) * d = omega arith in
+    let last : take (garbageSize r t₁ * d) (drop (tz * n * d + tg * d) o) ≡ drop (tz * n * d + tg * d) o =
+    take-all (garbageSize r t₁ * d) (drop (tz * n * d + tg * d) o) (omega (arith, length-drop (tz * n * d + tg * d) o)) in
+    let h-part = ap normSq (sym last) ∙ ap (λ k. normSq (take (garbageSize r t₁ * d) (drop k o))) end in
+    omega (arith, normSq-cut o (tz * n * d) (tg * d), h-part)
 
 module _ (d n r tz κ t₁ t₂ : ℕ) (zs ts gs hs : List ℤ) (z-length : length zs ≡ tz * n * d) (t-length : length ts ≡ tSize r κ t₁ * d)
     (g-length : length gs ≡ garbageSize r t₂ * d) (h-length : length hs ≡ garbageSize r t₁ * d) where
@@ -46,21 +65,3 @@ module _ (d n r tz κ t₁ t₂ : ℕ) (zs ts gs hs : List ℤ) (z-length : leng
       ∙ el-after d zs (ts ++ (gs ++ hs)) (tz * n) (tSize r κ t₁ + (garbageSize r t₂ + y)) z-length
       ∙ el-after d ts (gs ++ hs) (tSize r κ t₁) (garbageSize r t₂ + y) t-length
       ∙ el-after d gs hs (garbageSize r t₂) y g-length
-
-  -- check 9 counts every digit once
-  pub normSq-opening : zLength d n tz (opening zs ts gs hs) + tgLength d n r tz κ t₁ t₂ (opening zs ts gs hs)
-      + hLength d n r tz κ t₁ t₂ (opening zs ts gs hs) ≡ normSq (opening zs ts gs hs)
-  unfolding zLength tgLength hLength opening hPlace gPlace tPlace
-  normSq-opening =
-      let rest = ts ++ (gs ++ hs) in
-      let z-part : take (tz * n * d) (zs ++ rest) ≡ zs = take-at zs rest (tz * n * d) z-length in
-      let tg-length : length (ts ++ gs) ≡ (tSize r κ t₁ + garbageSize r t₂) * d = simp length-append (omega arith) in
-      let tg-part : take ((tSize r κ t₁ + garbageSize r t₂) * d) (drop (tz * n * d) (zs ++ rest)) ≡ ts ++ gs =
-      rw (drop-at zs rest (tz * n * d) z-length, ← (append-assoc ts gs hs)) (take-at (ts ++ gs) hs _ tg-length) in
-      let front-length : length (zs ++ (ts ++ gs)) ≡ (tz * n + tSize r κ t₁ + garbageSize r t₂) * d =
-      simp length-append (omega arith) in
-      let h-part : take (garbageSize r t₁ * d) (drop ((tz * n + tSize r κ t₁ + garbageSize r t₂) * d) (zs ++ rest)) ≡ hs =
-      rw (← (append-assoc ts gs hs), ← (append-assoc zs (ts ++ gs) hs), drop-at (zs ++ (ts ++ gs)) hs _ front-length)
-      (take-all (garbageSize r t₁ * d) hs (omega arith)) in
-      rw (z-part, tg-part, h-part)
-      (omega (arith, normSq-append zs rest, normSq-append ts (gs ++ hs), normSq-append gs hs, normSq-append ts gs))

@@ -15,8 +15,10 @@ use Prim.Native.Nat.{ℕ, zero, suc, _≤_, _<_}
 use native.Mathlib.Omega.{arith}
 use lib.Dec.{T, eqb, ltb}
 use borrow.Author.Tests.{ltb-true, ltb-false, lt-ltb, eqb-true, eqb-false, eq-eqb, ne-eqb, not-true, not-false}
-use Rattle.fold.specs.declared.Verdict.the-variants.{Accepted, Failed}
-use Rattle.fold.specs.Answers.{firstFailing, testOf, judged}
+use Rattle.fold.specs.declared.Verdict.{Verdict}
+use Rattle.fold.specs.declared.Verdict.the-variants.{Failed}
+use Rattle.fold.specs.declared.Answer.the-variants.{Judged}
+use Rattle.fold.specs.Answers.{kindOf, firstFailing, testOf, judged}
 use Rattle.fold.specs.Laws.RefusalLaws.{both-left, both-right, Passes, numbered, refusal-passes, early-passes}
 
 -- the numbers rise, from above k
@@ -225,17 +227,17 @@ module _ (k : ℕ) (t : Bool) (later : List (ℕ × Bool)) where
 
 -- ---- the verdict by its number
 
-pub accepted-none : (k : ℕ) → judged k ≡ Accepted → k ≡ 0
+pub accepted-none : (k m : ℕ) → kindOf (Judged (judged k m)) ≡ 0 → k ≡ 0
 unfolding judged
-accepted-none zero e = refl
-accepted-none (suc k) e = let no : _≡_ {A = ℕ} 0 1 = cc in absurd (omega arith)
+accepted-none zero m e = refl
+accepted-none (suc k) m e = absurd (omega (arith, e))
 
-pub failed-number : (k j : ℕ) → judged k ≡ Failed j → k ≡ j
+pub failed-number : (k m j : ℕ) → judged k m ≡ Failed j → k ≡ j
 unfolding judged
-failed-number zero j e = let no : _≡_ {A = ℕ} 0 1 = cc in absurd (omega arith)
-failed-number (suc k) j e = cc
+failed-number zero m j e = let no : _≡_ {A = ℕ} 0 1 = ap (λ (v : Verdict). kindOf (Judged v)) e in absurd (omega arith)
+failed-number (suc k) m j e = cc
 
-pub number-failed : (k j : ℕ) → 0 < j → k ≡ j → judged k ≡ Failed j
+pub number-failed : (k m j : ℕ) → 0 < j → k ≡ j → judged k m ≡ Failed j
 unfolding judged
-number-failed zero j some e = absurd (omega (arith, some, e))
-number-failed (suc k) j some e = ap Failed e
+number-failed zero m j some e = absurd (omega (arith, some, e))
+number-failed (suc k) m j some e = ap Failed e

@@ -1,4 +1,4 @@
--- What it says that the verifier accepts: its call is not refused, so the opening has its length and range, and the verdict is Accepted.
+-- What it says that the verifier accepts: its call is not refused, so the opening has its length and range, and the verdict is of kind 0.
 use mathlib.Core.Path.{_≡_, refl}
 use mathlib.Core.Bool.{true}
 use mathlib.Core.List.{List}
@@ -8,9 +8,8 @@ use lib.ListN.{length, take, drop}
 use lib.IntN.{ℤ}
 use Rattle.residues.specs.Range.{coefficients, challenge}
 use Rattle.fold.specs.declared.Verdict.{Verdict}
-use Rattle.fold.specs.declared.Verdict.the-variants.{Accepted}
 use Rattle.fold.specs.declared.Answer.the-variants.{Judged}
-use Rattle.fold.specs.Answers.{firstFailing, answered}
+use Rattle.fold.specs.Answers.{kindOf, firstFailing, answered}
 use Rattle.fold.specs.Sizes.{openingSize}
 use Rattle.fold.specs.Statement.{Relation, Statement, Draws, Transcript}
 use Rattle.fold.specs.Verdict.{verdict}
@@ -20,10 +19,10 @@ use Rattle.fold.specs.Laws.TestLaws.{holds}
 use Rattle.fold.specs.Verification.{verification}
 use Rattle.fold.specs.Laws.Accepted.{Accepts, accepts}
 
-pub judged-accepted : (k : ℕ) (v : Verdict) → answered k (Judged v) ≡ Judged Accepted → (k ≡ 0) × (v ≡ Accepted)
+pub judged-accepted : (k : ℕ) (v : Verdict) → kindOf (answered k (Judged v)) ≡ 0 → (k ≡ 0) × (kindOf (Judged v) ≡ 0)
 unfolding answered
-judged-accepted zero v e = (refl, cc)
-judged-accepted (suc k) v e = let z : _≡_ {A = ℕ} 0 1 = cc in absurd (omega arith)
+judged-accepted zero v e = (refl, e)
+judged-accepted (suc k) v e = absurd (omega (arith, e))
 
 module _ (𝓢 : Statement) (𝓓 : Draws) (𝓣 : Transcript) (o : List ℤ) where
   open Statement 𝓢 using (relation, tz, κ, t₁, t₂)
@@ -36,7 +35,7 @@ module _ (𝓢 : Statement) (𝓓 : Draws) (𝓣 : Transcript) (o : List ℤ) wh
     pub small : coefficients o ≡ true
     pub rule : (i : ℕ) → i < r → challenge (take d (drop (i * d) c)) ≡ true
 
-  pub accepted-opening : verification 𝓢 𝓓 𝓣 o ≡ Judged Accepted → AcceptedOpening
+  pub accepted-opening : kindOf (verification 𝓢 𝓓 𝓣 o) ≡ 0 → AcceptedOpening
   unfolding verifyTests
   accepted-opening e =
       let (unrefused, passed) = judged-accepted (firstFailing (verifyTests 𝓢 𝓓 𝓣 o)) (verdict 𝓢 𝓓 𝓣 o) e in

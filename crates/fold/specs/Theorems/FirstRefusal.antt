@@ -79,7 +79,7 @@ module _ (tests : List (ℕ × Bool)) (l : numbered tests ≡ true) (other : Ans
       }
 
 judged-no-refusal : (v : Verdict) → kindOf (Judged v) ≡ 2 → ⊥
-judged-no-refusal Accepted e = omega arith
+judged-no-refusal (Accepted m) e = omega arith
 judged-no-refusal (Failed k) e = omega arith
 
 checked-no-refusal : (k : ℕ) → kindOf (checked k Written) ≡ 2 → ⊥

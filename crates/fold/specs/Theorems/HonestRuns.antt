@@ -1,11 +1,12 @@
 -- Demand 3, honest runs (SPECIFICATION 9.4): "For every statement, every witness that meets all its constraints, and whatever projection rows, ψ, ω,
 -- α, δ and c come in, none of them refused, the verdict on the honest messages and opening is failed 1 exactly when 2·|p|² is above w·β²;
--- otherwise failed 9 exactly when the squared length of all its digits is above the target bound; otherwise accepted."
+-- otherwise failed 9 exactly when the squared length of all its digits is above the target bound; otherwise accepted, with the target bound minus
+-- that length as margin."
 -- SPECIFICATION 4.5: "z = Σ c_i s_i in two digits to base b": tz is 2. For another number of digits above 0, see `honest-runs-shaped`.
 use mathlib.Core.Path.{_≡_, ap}
 use mathlib.Core.Logic.{_↔_}
 use mathlib.Core.List.{List}
-use Prim.Native.Nat.{_*_, _≤_, _<_}
+use Prim.Native.Nat.{_*_, _-_, _≤_, _<_}
 use native.Mathlib.Omega.{arith}
 use lib.IntN.{ℤ}
 use Rattle.integers.specs.Sums.{normSq}
@@ -30,7 +31,7 @@ module _ (𝓢 : Statement) where
   pub record HonestVerdict (p o : List ℤ) (is : Verdict → Type 0) : Type 0 where
     pub failed-1 : is (Failed 1) ↔ (w * bound < 2 * normSq p)
     pub failed-9 : is (Failed 9) ↔ ((2 * normSq p ≤ w * bound) × (target < normSq o))
-    pub accepted : is Accepted ↔ ((2 * normSq p ≤ w * bound) × (normSq o ≤ target))
+    pub accepted : is (Accepted (target - normSq o)) ↔ ((2 * normSq p ≤ w * bound) × (normSq o ≤ target))
 
 judged-iff : {v w : Verdict} {X : Type 0} → (v ≡ w) ↔ X → (Judged v ≡ Judged w) ↔ X
 judged-iff e = (λ h. e .0 cc, λ x. ap Judged (e .1 x))
@@ -49,9 +50,9 @@ module _ (𝓢 : Statement) (𝓓 : Draws) (s : List ℤ) where
   honest-runs-shaped sizes meets =
       let projected = 2 * normSq (𝓣 .p) in
       record {
-        failed-1 = rw (honest-verdict 𝓢 𝓓 s sizes meets) (outcome-fails-1 projected (w * bound) (normSq o) target);
-        failed-9 = rw (honest-verdict 𝓢 𝓓 s sizes meets) (outcome-fails-9 projected (w * bound) (normSq o) target);
-        accepted = rw (honest-verdict 𝓢 𝓓 s sizes meets) (outcome-accepted projected (w * bound) (normSq o) target);
+        failed-1 = rw (honest-verdict 𝓢 𝓓 s sizes meets) (outcome-fails-1 projected (w * bound) (normSq o) target _);
+        failed-9 = rw (honest-verdict 𝓢 𝓓 s sizes meets) (outcome-fails-9 projected (w * bound) (normSq o) target _);
+        accepted = rw (honest-verdict 𝓢 𝓓 s sizes meets) (outcome-accepted projected (w * bound) (normSq o) target _);
       }
 
   pub honest-runs : tz ≡ 2 → firstFailing (proverTests 𝓢 𝓓 s) ≡ 0 → Meets relation s → HonestVerdict 𝓢 (𝓣 .p) o (λ v. verdict 𝓢 𝓓 𝓣 o ≡ v)

@@ -16,14 +16,13 @@ use Rattle.integers.specs.Sums.{sq, normSq}
 use Rattle.integers.specs.Laws.SumLaws.{normSq-summand}
 use Rattle.residues.specs.Range.{coefficients}
 use Rattle.residues.specs.Laws.RangeLaws.{coefficients-of}
-use Rattle.fold.specs.declared.Verdict.the-variants.{Accepted}
 use Rattle.fold.specs.declared.Answer.the-variants.{Judged}
-use Rattle.fold.specs.Answers.{firstFailing, testOf, answered}
+use Rattle.fold.specs.Answers.{kindOf, firstFailing, testOf, answered}
 use Rattle.fold.specs.Sizes.{openingSize}
 use Rattle.fold.specs.Statement.{Relation, Solves}
 use Rattle.fold.specs.Statement.{Statement, Draws, Transcript}
 use Rattle.fold.specs.Verdict.{verdict}
-use Rattle.fold.specs.Laws.Accepted.{accepts, accepted}
+use Rattle.fold.specs.Laws.Accepted.{accepts, accepted-iff}
 use Rattle.fold.specs.Refusals.{verifyTests, nextTests}
 use Rattle.fold.specs.Laws.RefusalLaws.{passes-refusal, allOf-all, allOf-cons, allOf-tail, sized-iff, lengthBound-most}
 use Rattle.fold.specs.Known.CallLimits.{chunk-limits}
@@ -83,10 +82,10 @@ module _ (𝓢 : Statement) (𝓓 : Draws) (𝓣 : Transcript) (ν μ : ℕ) (ou
   -- "an opening is accepted exactly if, padded, it solves the next instance": its verdict, and the verifier's answer. An opening has its length;
   -- numbers out of range are refused, and are longer than any bound.
   module _ (o : List ℤ) (size : length o ≡ openingSize tz n r κ t₁ t₂ * d) where
-    pub next-instance : (verdict 𝓢 𝓓 𝓣 o ≡ Accepted) ↔ Solves (nextRelation 𝓢 𝓓 𝓣 ν μ) (nextWitness 𝓢 𝓓 𝓣 ν μ o)
+    pub next-instance : (kindOf (Judged (verdict 𝓢 𝓓 𝓣 o)) ≡ 0) ↔ Solves (nextRelation 𝓢 𝓓 𝓣 ν μ) (nextWitness 𝓢 𝓓 𝓣 ν μ o)
     next-instance = (
       λ v. solved 𝓢 𝓓 𝓣 ν μ o some-ν some-μ size (accepts 𝓢 𝓓 𝓣 o v),
-      λ h. accepted 𝓢 𝓓 𝓣 o (accepts-of 𝓢 𝓓 𝓣 ν μ o some-ν some-μ size pass h),
+      λ h. accepted-iff 𝓢 𝓓 𝓣 o .1 (accepts-of 𝓢 𝓓 𝓣 ν μ o some-ν some-μ size pass h),
     )
 
     solving-range : Solves (nextRelation 𝓢 𝓓 𝓣 ν μ) (nextWitness 𝓢 𝓓 𝓣 ν μ o) → coefficients o ≡ true
@@ -94,11 +93,11 @@ module _ (𝓢 : Statement) (𝓓 : Draws) (𝓣 : Transcript) (ν μ : ℕ) (ou
     solving-range h =
         short-coefficients o (omega (arith, normSq-padded d tz n ν (m 𝓢 𝓓 𝓣 ν μ) μ some-ν some-μ o size, h .short, small-target))
 
-    pub next-instance-judged : (verification 𝓢 𝓓 𝓣 o ≡ Judged Accepted) ↔ Solves (nextRelation 𝓢 𝓓 𝓣 ν μ) (nextWitness 𝓢 𝓓 𝓣 ν μ o)
+    pub next-instance-judged : (kindOf (verification 𝓢 𝓓 𝓣 o) ≡ 0) ↔ Solves (nextRelation 𝓢 𝓓 𝓣 ν μ) (nextWitness 𝓢 𝓓 𝓣 ν μ o)
     unfolding answered
     next-instance-judged = (
       λ e. next-instance .0 (judged-accepted (firstFailing (verifyTests 𝓢 𝓓 𝓣 o)) (verdict 𝓢 𝓓 𝓣 o) e .1),
-      λ h. rw (unrefused-opening o size (solving-range h)) (ap Judged (next-instance .1 h)),
+      λ h. rw (unrefused-opening o size (solving-range h)) (next-instance .1 h),
     )
 
     -- a padded opening has zero padding, so that what is said of such solutions below is said of it
@@ -119,15 +118,15 @@ module _ (𝓢 : Statement) (𝓓 : Draws) (𝓣 : Transcript) (ν μ : ℕ) (ou
     length-cutOff = length-unpadded d tz n ν (m 𝓢 𝓓 𝓣 ν μ) μ some-ν some-μ s length-s zeros
 
     -- "A solution of the next instance whose padding is zero is, with the padding cut off, an accepted opening"
-    pub next-solution : Solves (nextRelation 𝓢 𝓓 𝓣 ν μ) s → verdict 𝓢 𝓓 𝓣 cutOff ≡ Accepted
+    pub next-solution : Solves (nextRelation 𝓢 𝓓 𝓣 ν μ) s → kindOf (Judged (verdict 𝓢 𝓓 𝓣 cutOff)) ≡ 0
     next-solution h =
         let back = padded-unpadded d tz n ν (m 𝓢 𝓓 𝓣 ν μ) μ some-ν some-μ s length-s zeros in
-        accepted 𝓢 𝓓 𝓣 cutOff
+        accepted-iff 𝓢 𝓓 𝓣 cutOff .1
         (accepts-of 𝓢 𝓓 𝓣 ν μ cutOff some-ν some-μ length-cutOff pass (subst (Solves (nextRelation 𝓢 𝓓 𝓣 ν μ)) (sym back) h))
 
     -- and the verifier accepts it
-    pub solution-accepted : Solves (nextRelation 𝓢 𝓓 𝓣 ν μ) s → verification 𝓢 𝓓 𝓣 cutOff ≡ Judged Accepted
+    pub solution-accepted : Solves (nextRelation 𝓢 𝓓 𝓣 ν μ) s → kindOf (verification 𝓢 𝓓 𝓣 cutOff) ≡ 0
     unfolding answered
     solution-accepted h =
         let range = coefficients-unpadded d tz n ν (m 𝓢 𝓓 𝓣 ν μ) μ s (short-coefficients s (omega (arith, h .short, small-target))) in
-        rw (unrefused-opening cutOff length-cutOff range) (ap Judged (next-solution h))
+        rw (unrefused-opening cutOff length-cutOff range) (next-solution h)

@@ -16,8 +16,7 @@ use Rattle.algebra.specs.Laws.RingLaws.{sub-zero-iff}
 use Rattle.algebra.specs.Laws.SumLaws.{sum-cong}
 use Rattle.algebra.specs.Laws.FoldLaws.{sum-one-differs}
 use Rattle.ring.specs.Element.{R, el}
-use Rattle.fold.specs.declared.Verdict.the-variants.{Accepted}
-use Rattle.fold.specs.declared.Answer.the-variants.{Judged}
+use Rattle.fold.specs.Answers.{kindOf}
 use Rattle.fold.specs.Sizes.{tSize}
 use Rattle.fold.specs.Messages.{elements, times, outer₁}
 use Rattle.fold.specs.Statement.{Relation, Statement, Draws, Transcript}
@@ -59,7 +58,7 @@ module _ (𝓢 : Statement) (𝓓 𝓓′ : Draws) (𝓣 𝓣′ : Transcript) (
     pub short : normSq (elements d n z-difference) ≤ 4 * factor * target
 
   -- both are accepted, for the same statement
-  module _ (accepted : verification 𝓢 𝓓 𝓣 o ≡ Judged Accepted) (accepted′ : verification 𝓢 𝓓′ 𝓣′ o′ ≡ Judged Accepted) where
+  module _ (accepted : kindOf (verification 𝓢 𝓓 𝓣 o) ≡ 0) (accepted′ : kindOf (verification 𝓢 𝓓′ 𝓣′ o′) ≡ 0) where
     one : AcceptedOpening 𝓢 𝓓 𝓣 o
     one = accepted-opening 𝓢 𝓓 𝓣 o accepted
 

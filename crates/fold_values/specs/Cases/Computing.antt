@@ -7,7 +7,7 @@ use Rattle.fold.specs.Messages.{elements, times, garbageDigits, t, g, tDigits, 
 use Rattle.fold.specs.Sizes.{five}
 use Rattle.fold.specs.Messages.{aggregateConstant, half, h, hDigits, outer₂, u₂, z, zDigits, opening}
 use Rattle.fold.specs.Opening.{block, tPlace, gPlace, hPlace, zOf, tOf, garbageOf, zLength, tgLength, hLength}
-use Rattle.fold.specs.Verdict.{check₁, check₂, check₃, check₄, check₅, check₆, check₇, check₈, check₉, verdict}
+use Rattle.fold.specs.Verdict.{check₁, check₂, check₃, check₄, check₅, check₆, check₇, check₈, check₉, margin₉, verdict}
 use Rattle.fold.specs.Refusals.{allOf, anyOf, between, degree, rank, parts, constraintCount, projectionCount, commitmentRank}
 use Rattle.fold.specs.Refusals.{base, digitCount, chunks, lengthBound, sized, challenges, wholeLength, constantTermsLength, projectionLength}
 use Rattle.fold.specs.Refusals.{commitTests, projectTests, aggregateTests, garbageTests, amortizeTests}
@@ -33,7 +33,7 @@ unfolding block tPlace gPlace hPlace zOf tOf garbageOf zLength tgLength hLength
 opening-computes = tt
 
 unfoldable pub verdict-computes : Unit {0}
-unfolding opening-computes check₁ check₂ check₃ check₄ check₅ check₆ check₇ check₈ check₉ verdict judged firstFailing
+unfolding opening-computes check₁ check₂ check₃ check₄ check₅ check₆ check₇ check₈ check₉ margin₉ verdict judged firstFailing
 verdict-computes = tt
 
 unfoldable pub ranges-compute : Unit {0}

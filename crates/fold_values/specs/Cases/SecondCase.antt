@@ -3,7 +3,7 @@
 -- implementation agree on the messages, on the opening, on a verdict of each kind and on the next instance.
 use mathlib.Core.Path.{_≡_, refl}
 use mathlib.Core.List.{List, _++_}
-use Prim.Native.Nat.{ℕ, zero, suc, _-_, _<_}
+use Prim.Native.Nat.{ℕ, zero, suc, _+_, _-_, _<_}
 use native.Mathlib.Omega.{arith}
 use lib.IntN.{ℤ}
 use Rattle.integers.specs.Sums.{normSq}
@@ -76,8 +76,10 @@ pub record SecondCase : Type 0 where
   pub length-of-opening : normSq opening ≡ squared-length
   pub prover-not-refused : firstFailing (proverTests 𝓢 draws witness) ≡ 0
   pub verifier-not-refused : firstFailing (verifyTests 𝓢 draws 𝓣 opening) ≡ 0
-  -- accepted with the least bounds; each check fails where a bound is less or a number is another
-  pub accepted : verdict 𝓢 draws 𝓣 opening ≡ Accepted
+  -- accepted with the least bounds, and what larger ones leave; each check fails where a bound is less or a number is another
+  pub accepted : verdict 𝓢 draws 𝓣 opening ≡ Accepted 0
+  pub accepted-one-more : verdict (statement least-bound (squared-length + 1)) draws 𝓣 opening ≡ Accepted 1
+  pub accepted-most : verdict-on u₁ b″ u₂ opening ≡ Accepted (999999999999999 - squared-length)
   pub failed-1 : verdict (statement (least-bound - 1) squared-length) draws 𝓣 opening ≡ Failed 1
   pub failed-2 : verdict-on u₁ b″-changed-0 u₂ opening ≡ Failed 2
   pub failed-3-t : verdict-on u₁ b″ u₂ t-changed ≡ Failed 3
@@ -104,6 +106,8 @@ second-case =
       prover-not-refused = refl;
       verifier-not-refused = refl;
       accepted = refl;
+      accepted-one-more = refl;
+      accepted-most = refl;
       failed-1 = refl;
       failed-2 = refl;
       failed-3-t = refl;

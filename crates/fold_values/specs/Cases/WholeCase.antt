@@ -83,8 +83,9 @@ pub record WholeCase : Type 0 where
   -- the honest messages and opening of the witness are those of the sheet
   pub transcript-honest : honestTranscript (case 13) draws witness ≡ transcript
   pub opening-honest : honestOpening (case 13) draws witness ≡ digits
-  -- "The program of verdicts prints 0 0 in its two fields."
-  pub accepted : verdict (case 13) draws transcript digits ≡ Accepted
+  -- "The program of verdicts prints 0 0 in its two fields; with 20 in place of 13 it prints 0 7."
+  pub accepted : verdict (case 13) draws transcript digits ≡ Accepted 0
+  pub accepted-20 : verdict (case 20) draws transcript digits ≡ Accepted 7
   -- neither the verifier nor the prover is refused
   pub verifier-not-refused : firstFailing (verifyTests (case 13) draws transcript digits) ≡ 0
   pub prover-not-refused : firstFailing (proverTests (case 13) draws witness) ≡ 0
@@ -96,6 +97,7 @@ whole-case =
       transcript-honest = refl;
       opening-honest = refl;
       accepted = refl;
+      accepted-20 = refl;
       verifier-not-refused = refl;
       prover-not-refused = refl;
     }

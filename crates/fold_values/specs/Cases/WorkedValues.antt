@@ -10,7 +10,7 @@ use Rattle.algebra.specs.Conjugation.{conjugate}
 use Rattle.residues.specs.Modulus.{Zq, centred}
 use Rattle.residues.specs.Digits.{split}
 use Rattle.ring.specs.Element.{R, lift, coeffs}
-use Rattle.fold.specs.declared.Verdict.the-variants.{Failed}
+use Rattle.fold.specs.declared.Verdict.the-variants.{Accepted, Failed}
 use Rattle.fold.specs.Statement.{Relation}
 use Rattle.fold.specs.Messages.{elements, half, z}
 use Rattle.fold.specs.Verdict.{verdict}
@@ -58,6 +58,8 @@ pub record WorkedValues : Type 0 where
   pub folded : (elements 2 1 (z 2 1 1 (draws .c) witness) ≡ - 2 ∷ + 1 ∷ []) × (normSq digits ≡ 13)
   -- "with β'² = 12, failed 9."
   pub failed : verdict (case 12) draws transcript digits ≡ Failed 9
+  -- "Its margin is 0; with β'² = 20 it is 7."
+  pub margins : (verdict (case 13) draws transcript digits ≡ Accepted 0) × (verdict (case 20) draws transcript digits ≡ Accepted 7)
   -- "m = 6, n' = 6, r' = 3, K' = 6."
   pub next-sizes : (m (case 13) draws transcript 1 1 ≡ 6) × ((next .n ≡ 6) × ((next .r ≡ 3) × (next .K ≡ 6)))
 
@@ -79,5 +81,6 @@ worked-values =
       square-of-65536 = refl;
       folded = (refl, refl);
       failed = refl;
+      margins = (refl, refl);
       next-sizes = (refl, (refl, (refl, refl)));
     }

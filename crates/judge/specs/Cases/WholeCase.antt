@@ -1,4 +1,4 @@
--- The whole case of SPECIFICATION 12.4 as a text: "The program of verdicts prints 0 0 in its two fields."
+-- The whole case of SPECIFICATION 12.4 as a text: "The program of verdicts prints 0 0 in its two fields; with 20 in place of 13 it prints 0 7."
 use mathlib.Core.Path.{_≡_, refl, ap, _∙_}
 use mathlib.Core.List.{[], _∷_}
 use native.Mathlib.Omega.{arith}
@@ -15,26 +15,33 @@ use Rattle.sheet.specs.Reading.{size, sizesOf}
 use Rattle.fields.specs.Field.{fieldText, signedText, columns, columnByte, minusDue}
 use Rattle.sheet.specs.Layout.{copies, elements, matrixLines, wholeLines, termLines, rowLines, numberLines, lastLines, bodyLines}
 use Rattle.sheet.specs.Layout.{lineText, textOf, sheetText}
-use Rattle.sheet.specs.Cases.WholeSheet.{header, numbers, whole-numbers}
+use Rattle.sheet.specs.Cases.WholeSheet.{headerWith, header, numbers, whole-numbers, whole-numbers-20}
 use Rattle.sheet.specs.Lists.{listLengths, listAt}
 use Rattle.judge.specs.Judging.{judgedText, verdictLine}
 use Rattle.judge.specs.Theorems.JudgeTheorem.{sheetVerdict, sheet-judged}
 
 -- the lists of the sheet are those of the case
-whole-verdict : sheetVerdict (sizesOf header) numbers ≡ Accepted
+whole-verdict : (sheetVerdict (sizesOf header) numbers ≡ Accepted 0) × (sheetVerdict (sizesOf (headerWith 20)) numbers ≡ Accepted 7)
 unfolding size sizesOf listAt listLengths pairs pairs-count start functionSize tSize garbageSize restSize openingSize
     wholeLength constantTermsLength projectionLength
-whole-verdict = whole-case .accepted
+whole-verdict = (whole-case .accepted, whole-case .accepted-20)
 
-whole-length : length (sheetText header numbers) ≡ 1345
+whole-length : (length (sheetText header numbers) ≡ 1345) × (length (sheetText (headerWith 20) numbers) ≡ 1345)
 unfolding sheetText bodyLines matrixLines wholeLines termLines rowLines numberLines lastLines elements copies textOf lineText flat
     fieldText signedText columns columnByte minusDue size sizesOf pairs pairs-count start tSize garbageSize restSize openingSize
-whole-length = refl
+whole-length = (refl, refl)
 
-pub whole-judged : judgedText (sheetText header numbers) ≡ Judged Accepted
-whole-judged = sheet-judged header numbers whole-numbers (omega (arith, whole-length)) ∙ ap Judged whole-verdict
+pub whole-judged : judgedText (sheetText header numbers) ≡ Judged (Accepted 0)
+whole-judged = sheet-judged header numbers whole-numbers (omega (arith, whole-length .0)) ∙ ap Judged (whole-verdict .0)
 
--- two fields of 0
+pub whole-judged-20 : judgedText (sheetText (headerWith 20) numbers) ≡ Judged (Accepted 7)
+whole-judged-20 = sheet-judged (headerWith 20) numbers whole-numbers-20 (omega (arith, whole-length .1)) ∙ ap Judged (whole-verdict .1)
+
+-- two fields of 0; 0 and 7
 pub whole-line : verdictLine (judgedText (sheetText header numbers)) ≡ lineText (+ 0 ∷ + 0 ∷ [])
 unfolding verdictLine
 whole-line = rw whole-judged refl
+
+pub whole-line-20 : verdictLine (judgedText (sheetText (headerWith 20) numbers)) ≡ lineText (+ 0 ∷ + 7 ∷ [])
+unfolding verdictLine
+whole-line-20 = rw whole-judged-20 refl

@@ -62,7 +62,7 @@ numbers-answer h xs header count =
 
 -- ---- every text
 
-taken : (text : List ℕ) → firstFailing (readingTests (roomOf text) text) ≡ 0
+pub taken : (text : List ℕ) → firstFailing (readingTests (roomOf text) text) ≡ 0
     → judgedNumbers (sizesOf (headerNumbers text)) (bodyNumbers (sizesOf (headerNumbers text)) text)
     ≡ Judged (sheetVerdict (sizesOf (headerNumbers text)) (bodyNumbers (sizesOf (headerNumbers text)) text))
 unfolding judgedNumbers answered
@@ -123,12 +123,12 @@ sheet-judged h xs n fits =
 
 judgement-kind : (n : ℕ) (v : Verdict) → kindOf (answered n (Judged v)) ≤ 2
 unfolding answered
-judgement-kind zero Accepted = omega arith
+judgement-kind zero (Accepted m) = omega arith
 judgement-kind zero (Failed k) = omega arith
 judgement-kind (suc n) v = omega arith
 
 -- a text is longer than the program reads, or not
-by-length : (P : Answer → Type 0) (text : List ℕ) → P (Refused 12)
+pub by-length : (P : Answer → Type 0) (text : List ℕ) → P (Refused 12)
     → (length text ≤ 65536 → P (answered (firstFailing (readingTests (roomOf text) text))
     (Judged (sheetVerdict (sizesOf (headerNumbers text)) (bodyNumbers (sizesOf (headerNumbers text)) text)))))
     → P (judgedText text)
@@ -144,7 +144,7 @@ pub record Sheet (text : List ℕ) (v : Verdict) : Type 0 where
   pub numbers : SheetNumbers (headerNumbers text) (bodyNumbers (sizesOf (headerNumbers text)) text)
   pub verdict-is : v ≡ sheetVerdict (sizesOf (headerNumbers text)) (bodyNumbers (sizesOf (headerNumbers text)) text)
 
-judgement-of : (n : ℕ) (v w : Verdict) → answered n (Judged w) ≡ Judged v → (n ≡ 0) × (v ≡ w)
+pub judgement-of : (n : ℕ) (v w : Verdict) → answered n (Judged w) ≡ Judged v → (n ≡ 0) × (v ≡ w)
 unfolding answered
 judgement-of zero v w e = (refl, sym cc)
 judgement-of (suc n) v w e = let f : _≡_ {A = ℕ} 0 1 = cc in absurd (omega arith)
@@ -197,7 +197,7 @@ reading-seven text = rw (eq-eqb (roomOf text) (roomOf text) refl) refl
 
 no-refused-seven : (n : ℕ) (v : Verdict) → (n ≡ 7 → ⊥) → answered n (Judged v) ≡ Refused 7 → ⊥
 unfolding answered
-no-refused-seven zero Accepted never e = let f : _≡_ {A = ℕ} 0 2 = ap kindOf e in omega arith
+no-refused-seven zero (Accepted m) never e = let f : _≡_ {A = ℕ} 0 2 = ap kindOf e in omega arith
 no-refused-seven zero (Failed k) never e = let f : _≡_ {A = ℕ} 1 2 = ap kindOf e in omega arith
 no-refused-seven (suc n) v never e = never (ap numberOf e)
 

@@ -1,6 +1,7 @@
 -- The whole case of SPECIFICATION 12.4 as a sheet: the lines that the header gives are those that stand there, and no row refuses its numbers.
 use mathlib.Core.Path.{_≡_, refl}
 use mathlib.Core.List.{List, [], _∷_, _++_}
+use Prim.Native.Nat.{ℕ}
 use lib.IntN.{ℤ}
 use Rattle.integers.specs.Literals.{+_, -_, _zeros∷_}
 use Rattle.algebra.specs.Triangle.{start, pairs-count}
@@ -20,9 +21,9 @@ use Rattle.sheet.specs.Layout.{sheetText, SheetNumbers}
 use Rattle.sheet.specs.Laws.SheetLaws.{coefficients-fit}
 use Rattle.sheet.specs.Theorems.SheetTheorems.{Read, sheet-exactly}
 
--- 2 1 1 1 0 0 1 1 1 4 8 4 2 2 1 1 5 13
-abbrev pub header : List ℤ
-header =
+-- 2 1 1 1 0 0 1 1 1 4 8 4 2 2 1 1 5 13, and with another β'²
+abbrev pub headerWith : (target : ℕ) → List ℤ
+headerWith target =
     + 2
     ∷ + 1
     ∷ + 1
@@ -40,8 +41,11 @@ header =
     ∷ + 1
     ∷ + 1
     ∷ + 5
-    ∷ + 13
+    ∷ + target
     ∷ []
+
+abbrev pub header : List ℤ
+header = headerWith 13
 
 -- A, B, C, D; the constraint; u1; b''; α; δ; u2; c; the opening
 abbrev pub numbers : List ℤ
@@ -53,22 +57,25 @@ numbers =
     ∷ - 2 ∷ + 1 ∷ 2 zeros∷ + 1 ∷ + 2 ∷ 2 zeros∷ + 1 ∷ + 0 ∷ - 1 ∷ + 1 ∷ 4 zeros∷ []
 
 -- 32 lines of two fields
-whole-lines : bodyLines (sizesOf header) ≡ copies 32 (2 ∷ [])
+whole-lines : (target : ℕ) → bodyLines (sizesOf (headerWith target)) ≡ copies 32 (2 ∷ [])
 unfolding bodyLines matrixLines wholeLines termLines rowLines numberLines lastLines elements copies size sizesOf
     pairs pairs-count start tSize garbageSize restSize openingSize
-whole-lines = refl
+whole-lines target = refl
 
-pub whole-numbers : SheetNumbers header numbers
+whole-sheets : SheetNumbers header numbers × SheetNumbers (headerWith 20) numbers
 unfolding headerTests numberTests firstFailing size sizesOf allOf anyOf between degree rank parts constraintCount projectionCount commitmentRank base
     digitCount chunks lengthBound coefficients projectionEntries allWithin challenges challenge shortChallenge every all tab normSq sq projectionsIn challengesIn listAt listLengths
     wholeLength constantTermsLength projectionLength functionSize fields copies pairs pairs-count start tSize garbageSize openingSize restSize
-whole-numbers = record {
-  header = refl;
-  fit = coefficients-fit header refl;
-  sizes = refl;
-  count = rw whole-lines refl;
-  numbers = refl;
-}
+whole-sheets = (
+  record { header = refl; fit = coefficients-fit header refl; sizes = refl; count = rw (whole-lines 13) refl; numbers = refl },
+  record { header = refl; fit = coefficients-fit (headerWith 20) refl; sizes = refl; count = rw (whole-lines 20) refl; numbers = refl },
+)
+
+pub whole-numbers : SheetNumbers header numbers
+whole-numbers = whole-sheets .0
+
+pub whole-numbers-20 : SheetNumbers (headerWith 20) numbers
+whole-numbers-20 = whole-sheets .1
 
 -- the reader takes the whole case and gives its numbers back
 pub whole-read : Read 64 (sheetText header numbers) header numbers

@@ -1,11 +1,10 @@
 -- `verifier::verify` meets its contract: a refusal with its number, or the judgement. Assumes nothing.
-use mathlib.Core.Path.{ap, _∙_}
+use mathlib.Core.Path.{ap}
 use native.Mathlib.Omega.{arith}
 use Rattle.fold.specs.declared.Answer.the-variants.{Judged}
 use Rattle.fold.specs.Sizes.{zCount}
-use Rattle.fold.specs.Answers.{judged}
 use Rattle.fold.specs.Verdict.{verdict}
-use Rattle.verifier.specs.Laws.JudgementLaws.{call-facts, message-fails, outer-fails, opening-says, refused, unrefused}
+use Rattle.verifier.specs.Laws.JudgementLaws.{call-facts, message-fails, outer-fails, opening-says, check-failed, refused, unrefused}
 use Rattle.verifier.proofs.verify.Statement.{statement}
 use Rattle.verifier.proofs.verify.Tie as tie
 
@@ -20,11 +19,12 @@ message-checks-requires c κs =
 returns-2 : tie.Need-returns-2
 unfolding verdict
 returns-2 c =
-    let m = c .before .before in
+    let m = c .before in
     let e = m .before in
     let r = e .before in
     unrefused _ _ (r .verify-refusal .ensures) (e .if1 .left)
-    (ap Judged (c .verdict .ensures ∙ ap judged (message-fails zCount (r .before .args .sizes) _ _ _ _ _ _ _ _ _ _ _ _ _ _ _ _ _ (m .message-checks .ensures) (c .before .if2 .taken))))
+    (ap Judged (check-failed _ _ _ (c .if2 .taken)
+    (message-fails zCount (r .before .args .sizes) _ _ _ _ _ _ _ _ _ _ _ _ _ _ _ _ _ (m .message-checks .ensures) (c .if2 .taken))))
 
 outer-checks-requires : tie.Need-outer-checks-requires
 outer-checks-requires c κs =
@@ -35,17 +35,18 @@ outer-checks-requires c κs =
 returns-3 : tie.Need-returns-3
 unfolding verdict
 returns-3 c =
-    let o = c .before .before in
+    let o = c .before in
     let p = o .before in
     let m = p .before in
     let e = m .before in
     let r = e .before in
     unrefused _ _ (r .verify-refusal .ensures) (e .if1 .left)
-    (ap Judged (c .verdict2 .ensures ∙ ap judged (outer-fails zCount (r .before .args .sizes) _ _ _ _ _ _ _ _ _ _ _ _ _ _ _ _ _ (m .message-checks .ensures) (p .if2 .left)
-    (o .outer-checks .ensures) (c .before .if3 .taken))))
+    (ap Judged (check-failed _ _ _ (c .if3 .taken)
+    (outer-fails zCount (r .before .args .sizes) _ _ _ _ _ _ _ _ _ _ _ _ _ _ _ _ _ (m .message-checks .ensures) (p .if2 .left)
+    (o .outer-checks .ensures) (c .if3 .taken))))
 
-opening-checks-requires : tie.Need-opening-checks-requires
-opening-checks-requires c κs =
+opening-verdict-requires : tie.Need-opening-verdict-requires
+opening-verdict-requires c κs =
     let e = c .before .before .before .before in
     let r = e .before in
     ((omega arith, omega arith), call-facts zCount (r .before .args .sizes) _ _ _ _ _ _ _ _ _ _ _ _ _ _ _ _ _ (r .verify-refusal .ensures) (e .if1 .left) .opening)
@@ -53,19 +54,17 @@ opening-checks-requires c κs =
 returns-4 : tie.Need-returns-4
 unfolding verdict
 returns-4 c =
-    let l = c .before in
-    let q = l .before in
+    let q = c .before in
     let o = q .before in
     let p = o .before in
     let m = p .before in
     let e = m .before in
     let r = e .before in
     unrefused _ _ (r .verify-refusal .ensures) (e .if1 .left)
-    (ap Judged (c .verdict3 .ensures ∙ ap judged (opening-says zCount (r .before .args .sizes) _ _ _ _ _ _ _ _ _ _ _ _ _ _ _ _ _ (m .message-checks .ensures) (p .if2 .left)
-    (o .outer-checks .ensures) (q .if3 .left) (l .opening-checks .ensures))))
+    (ap Judged (opening-says zCount (r .before .args .sizes) _ _ _ _ _ _ _ _ _ _ _ _ _ _ _ _ _ (m .message-checks .ensures) (p .if2 .left)
+    (o .outer-checks .ensures) _ (q .if3 .left) (c .opening-verdict .ensures)))
 
 pub verify-spec : {M : Type 1} → statement M
 verify-spec =
     tie.close
-    (tie.spec (λ c κs. tt) returns message-checks-requires (λ c κs. tt) returns-2 outer-checks-requires
-    (λ c κs. tt) returns-3 opening-checks-requires (λ c κs. tt) returns-4)
+    (tie.spec (λ c κs. tt) returns message-checks-requires returns-2 outer-checks-requires returns-3 opening-verdict-requires returns-4)

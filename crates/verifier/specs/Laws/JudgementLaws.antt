@@ -1,12 +1,18 @@
 -- Laws of what Judgement.antt defines.
 use mathlib.Core.Path.{_≡_, refl, sym, ap, _∙_}
-use mathlib.Core.List.{List}
-use Prim.Native.Nat.{ℕ, zero, suc, _≤_, _<_}
+use mathlib.Core.Bool.{Bool, true, false, cond}
+use mathlib.Core.List.{List, [], _∷_}
+use Prim.Native.Nat.{ℕ, zero, suc, _-_, _≤_, _<_}
 use native.Mathlib.Nat.{mul-le-mul}
 use native.Mathlib.Omega.{arith}
+use lib.Dec.{leb}
 use lib.IntN.{ℤ}
 use lib.ListN.{length}
 use Rattle.integers.specs.Over.{over}
+use Rattle.residues.specs.declared.length.Margin.{Margin}
+use Rattle.residues.specs.declared.length.Margin.the-variants.{Within, Above}
+use Rattle.residues.specs.Length.{marginIf, remaining}
+use Rattle.fold.specs.declared.Verdict.{Verdict}
 use Rattle.fold.specs.declared.Verdict.the-variants.{Accepted, Failed}
 use Rattle.fold.specs.declared.Answer.{Answer}
 use Rattle.fold.specs.declared.Answer.the-variants.{Refused}
@@ -20,7 +26,7 @@ use Rattle.fold.specs.Laws.TestLaws.{stops, goes-on}
 use Rattle.fold.specs.Known.CallFacts.{VerifyFacts, verify-facts}
 use Rattle.checks.specs.Known.Facts.{Fits, zValue}
 use Rattle.fold.specs.Laws.WriterLaws.{el-written}
-use Rattle.verifier.specs.Judgement.{Recomposed, messageChecksOf, outerChecksOf, openingChecksOf}
+use Rattle.verifier.specs.Judgement.{Recomposed, messageChecksOf, outerChecksOf, openingChecksOf, byLength}
 
 pub recomposed : (tz : ℕ) (s : Sizes) → Fits s → (o old z : List ℤ) → length z ≡ 16384 → z ≡ over old 0 (elements (s .shape .d) (s .shape .n)
     (zValue tz s o)) → Recomposed tz s o z
@@ -54,9 +60,9 @@ module _ (tz : ℕ) (s : Sizes) (A B C D whole constantTerms projections ψ ω �
       pub outer-fails : (y ≡ 0 → ⊥) → y ≡ firstFailing (checks 𝓢 𝓓 𝓣 o)
       outer-fails some = goes-on _ _ refl e none (stops _ _ f some)
 
-      pub opening-says : {z : ℕ} → y ≡ 0 → z ≡ firstFailing (openingChecksOf tz s A whole constantTerms projections ψ ω b″ α δ c o)
-          → z ≡ firstFailing (checks 𝓢 𝓓 𝓣 o)
-      opening-says pass later = goes-on _ _ refl e none (goes-on _ _ refl f pass later)
+      pub opening-says : (m : ℕ) {v : Verdict} → y ≡ 0 → v ≡ judged (firstFailing (openingChecksOf tz s A whole constantTerms projections ψ ω b″ α δ c o)) m
+          → v ≡ judged (firstFailing (checks 𝓢 𝓓 𝓣 o)) m
+      opening-says m pass later = later ∙ ap (λ j. judged j m) (goes-on _ _ refl e none (goes-on _ _ refl f pass refl))
 
 pub refused : (k n : ℕ) (a : Answer) → k ≡ n → 0 < k → Refused k ≡ answered n a
 unfolding answered
@@ -68,11 +74,30 @@ unfolding answered
 unrefused k zero e h f = f
 unrefused k (suc n) e h f = let no : ⊥ = omega arith in absurd no
 
-pub accepted-at : (k : ℕ) → k ≡ 0 → Accepted ≡ judged k
-unfolding judged
-accepted-at k e = rw e refl
+-- ---- verdicts, by the number of the check that fails and a margin
 
-pub failed-at : (k : ℕ) → (k ≡ 0 → ⊥) → Failed k ≡ judged k
+failed-at : (k m : ℕ) → (k ≡ 0 → ⊥) → Failed k ≡ judged k m
 unfolding judged
-failed-at zero some = absurd (some refl)
-failed-at (suc k) some = refl
+failed-at zero m some = absurd (some refl)
+failed-at (suc k) m some = refl
+
+pub check-failed : (k n m : ℕ) → (k ≡ 0 → ⊥) → k ≡ n → Failed k ≡ judged n m
+check-failed k n m some e = failed-at k m some ∙ ap (λ j. judged j m) e
+
+pub check-passed : (k n m : ℕ) {v : Verdict} → v ≡ judged k m → k ≡ n → v ≡ judged n m
+check-passed k n m e f = e ∙ ap (λ j. judged j m) f
+
+pub within-says : {x : Margin} {rest : ℕ} → x ≡ Within rest → Accepted rest ≡ byLength x
+within-says e = rw e refl
+
+pub above-says : {x : Margin} → x ≡ Above → Failed 9 ≡ byLength x
+above-says e = rw e refl
+
+-- what check 9 says is the verdict on the one check, with what is left of the target as margin
+pub length-says : (target n : ℕ) {x : Margin} → x ≡ remaining target n → byLength x ≡ judged (firstFailing ((9, leb n target) ∷ [])) (target - n)
+unfolding remaining firstFailing judged
+length-says target n e = ap byLength e ∙ says (leb n target)
+  where
+    says : (t : Bool) → byLength (marginIf t (Within (target - n))) ≡ judged (cond t 0 9) (target - n)
+    says true = refl
+    says false = refl

@@ -11,7 +11,7 @@ use Rattle.fold.specs.Answers.{firstFailing}
 use Rattle.fold.specs.Refusals.{allOf, anyOf, between, degree, rank, parts, constraintCount, projectionCount, commitmentRank, base, digitCount}
 use Rattle.fold.specs.Refusals.{chunks, lengthBound}
 use Rattle.fold.specs.Sizes.{pairs, functionSize, tSize, garbageSize, restSize, openingSize}
-use Rattle.fields.specs.Field.{columnByte, minusDue, columns, signedText, fieldText}
+use Rattle.fields.specs.Field.{columnByte, minusDue, columns, signedText, fieldText, blanks}
 use Rattle.fields.specs.Sections.{matrixCount, wholeCount, rowCount, lastCount}
 use Rattle.sheet.specs.Reading.{headerTests, size, sizesOf, sheetSizesOf}
 use Rattle.sheet.specs.Layout.{lineText, SheetNumbers}
@@ -19,7 +19,6 @@ use Rattle.sheet.specs.Cases.WholeSheet.{header, numbers, whole-numbers, second
 use Rattle.writer.specs.declared.WriteAnswer.{WriteAnswer}
 use Rattle.writer.specs.declared.WriteAnswer.the-variants.{Length, Refused}
 use Rattle.writer.specs.Writing.{headerWords, headerFields, elementLines, textBytes, sheetBytes, SheetWritten}
-use Rattle.writer.specs.Known.Writing.{blanks}
 use Rattle.writer.specs.Theorems.WriterTheorems.{least-buffer}
 
 whole-bytes : sheetBytes (sheetSizesOf header) ≡ 1345

@@ -1,8 +1,8 @@
--- What is known of numbers that the writer lays on lines, and blanks.
+-- What is known of numbers that the writer lays on lines.
 use mathlib.Core.Path.{_≡_}
 use mathlib.Core.Bool.{Bool}
-use mathlib.Core.List.{List, [], _∷_, _++_}
-use Prim.Native.Nat.{ℕ, zero, suc, _≤_}
+use mathlib.Core.List.{List}
+use Prim.Native.Nat.{ℕ, _≤_}
 use lib.ListN.{length}
 use lib.IntN.{ℤ}
 use Rattle.fold.specs.Arguments.{VerifySized}
@@ -19,8 +19,3 @@ pub record Counted (s : Sizes) (xs : List ℤ) : Type 0 where
 -- n numbers after a header, on lines that end where `ends` says, lie within the buffer
 abbrev pub LinesFit : (ℕ → Bool) → ℕ → List ℕ → Type 0
 LinesFit ends n out = place ends headerBytes n ≤ length out
-
--- k blanks
-unfoldable pub blanks : ℕ → List ℕ
-blanks zero = []
-blanks (suc k) = blanks k ++ (32 ∷ [])

@@ -31,7 +31,7 @@ use Rattle.sheet.specs.Layout.{copies, elements, fields, bodyLines, lineText, t
 use Rattle.sheet.specs.Laws.BodyLaws.{termPart, middlePart, body-merged, body-total}
 use Rattle.sheet.specs.Laws.SheetLaws.{body-fields}
 use Rattle.writer.specs.Writing.{headerWords, headerFields, writtenText, elementLines, textBytes}
-use Rattle.writer.specs.Laws.FieldLaws.{length-laid}
+use Rattle.fields.specs.Laws.WriteLaws.{length-laid}
 
 -- ---- numbers on lines
 

@@ -34,7 +34,7 @@ use Rattle.sheet.specs.Laws.LayoutLaws.{fields-cong}
 use Rattle.sheet.specs.Laws.SheetLaws.{header-fields, body-fields}
 use Rattle.writer.specs.Writing.{headerWords, headerFields, writtenText, textBytes}
 use Rattle.writer.specs.Known.Writing.{Counted, LinesFit}
-use Rattle.writer.specs.Laws.FieldLaws.{length-laid}
+use Rattle.fields.specs.Laws.WriteLaws.{length-laid}
 use Rattle.writer.specs.Laws.LengthLaws.{line-length, length-fields, sizes-given, fields-place, place-end}
 
 -- the first i numbers of x are written from `at` on, and the next one stands at `here`

@@ -1,9 +1,9 @@
--- `writer::field::write_blanks` meets its contract.
+-- `fields::write::write_blanks` meets its contract.
 use Prim.Native.Nat.{_-_}
 use native.Mathlib.Omega.{arith}
-use Rattle.writer.specs.Laws.FieldLaws.{Blanked, blanked-start, blanked-step, blanked-end}
-use Rattle.writer.proofs.field.write_blanks.Statement.{statement}
-use Rattle.writer.proofs.field.write_blanks.Tie as tie
+use Rattle.fields.specs.Laws.WriteLaws.{Blanked, blanked-start, blanked-step, blanked-end}
+use Rattle.fields.proofs.write.write_blanks.Statement.{statement}
+use Rattle.fields.proofs.write.write_blanks.Tie as tie
 
 abbrev Inv-loop : tie.InvT-loop
 Inv-loop text₀ at k₀ text k = Blanked text₀ text at k

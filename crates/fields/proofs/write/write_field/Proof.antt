@@ -1,10 +1,10 @@
--- `writer::field::write_field` meets its contract.
+-- `fields::write::write_field` meets its contract.
 use mathlib.Core.Path.{_∙_}
 use lib.ListN.{length-set}
-use Rattle.writer.specs.Laws.FieldLaws.{blank-front, same-room, field-written}
+use Rattle.fields.specs.Laws.WriteLaws.{blank-front, same-room, field-written}
 use borrow.Author.Needs.{needs}
-use Rattle.writer.proofs.field.write_field.Statement.{statement}
-use Rattle.writer.proofs.field.write_field.Tie as tie
+use Rattle.fields.proofs.write.write_field.Statement.{statement}
+use Rattle.fields.proofs.write.write_field.Tie as tie
 
 write-columns-requires : tie.Need-write-columns-requires
 write-columns-requires c κs =

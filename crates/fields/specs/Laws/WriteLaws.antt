@@ -1,4 +1,4 @@
--- The bytes of one field: blanks, then its digits from the right.
+-- The bytes of one field that is written: blanks, then its digits from the right.
 --     over-left         one more element before what is written
 --     Blanked           the loop of `write_blanks`
 --     Columns           the loop of `write_columns`: the columns from `left` on are written; its start, its step and its ends
@@ -16,10 +16,9 @@ use lib.Seq.{take-suc, take-add, take-at, set-at, length-take-le}
 use borrow.Author.Tests.{lt-ltb}
 use Rattle.integers.specs.Over.{over}
 use Rattle.integers.specs.Laws.OverLaws.{over-is, over-nil, over-step, part-over, drop-over, length-over}
-use Rattle.fields.specs.Field.{columnByte, minusDue, columns, signedText}
+use Rattle.fields.specs.Field.{columnByte, minusDue, columns, signedText, blanks}
 use Rattle.fields.specs.Place.{fieldWidth, feed}
-use Rattle.writer.specs.Known.Writing.{blanks}
 use Rattle.fields.specs.Laws.FieldLaws.{length-columns, length-signed}
 
 over-left : (out : List ℕ) (a : ℕ) (l : List ℕ) (x : ℕ) → a < length out → set (over out (suc a) l) a x ≡ over out a (x ∷ l)
 unfolding over

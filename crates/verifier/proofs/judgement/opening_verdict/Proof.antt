@@ -1,15 +1,16 @@
--- `verifier::judgement::opening_checks` meets its contract: checks 5 and 6, 7, 8 and 9 in turn pass or say.
+-- `verifier::judgement::opening_verdict` meets its contract: checks 5 and 6, 7, 8 and 9 in turn pass or say.
 use mathlib.Core.Path.{_≡_, refl, sym, _∙_}
 use native.Mathlib.Nat.{mul-le-mul}
+use native.Mathlib.Omega.{arith}
 use lib.ListN.{length, length-replicate}
 use lib.IntN.{pos}
 use Rattle.fold.specs.Laws.TestLaws.{fails, passes, stops, goes-on}
 use Rattle.checks.specs.Laws.SizeLaws.{z-within}
 use Rattle.checks.specs.Laws.RelationLaws.{check-seven}
 use Rattle.verifier.specs.Judgement.{Recomposed}
-use Rattle.verifier.specs.Laws.JudgementLaws.{recomposed}
-use Rattle.verifier.proofs.judgement.opening_checks.Statement.{statement}
-use Rattle.verifier.proofs.judgement.opening_checks.Tie as tie
+use Rattle.verifier.specs.Laws.JudgementLaws.{recomposed, check-failed, check-passed}
+use Rattle.verifier.proofs.judgement.opening_verdict.Statement.{statement}
+use Rattle.verifier.proofs.judgement.opening_verdict.Tie as tie
 
 write-z-requires : tie.Need-write-z-requires
 write-z-requires c κs =
@@ -46,7 +47,7 @@ amortized-checks-requires c κs =
     (s .pre .0 .1, (s .pre .1 .amortized, stands w))
 
 returns : tie.Need-returns
-returns c = stops _ _ (c .before .amortized-checks .ensures) (c .if1 .taken)
+returns c = check-failed _ _ _ (c .if1 .taken) (stops _ _ (c .before .amortized-checks .ensures) (c .if1 .taken))
 
 linear-sum-requires : tie.Need-linear-sum-requires
 linear-sum-requires c κs =
@@ -67,11 +68,12 @@ returns-2 c =
     let a1 = e1 .before in
     let w = a1 .before .before .before in
     let small = w .before .before .pre .1 .relation .limits .shaped .degree .small in
-    goes-on _ _ refl (a1 .amortized-checks .ensures) (e1 .if1 .left)
-    (fails 7 _ (check-seven _ _ _ _ _ _ _ _ small (stands w .agree) (l .linear-sum .ensures) (a2 .linear-holds .ensures)) (c .if2 .taken))
+    check-failed 7 _ _ (λ e. omega arith)
+    (goes-on _ _ refl (a1 .amortized-checks .ensures) (e1 .if1 .left)
+    (fails 7 _ (check-seven _ _ _ _ _ _ _ _ small (stands w .agree) (l .linear-sum .ensures) (a2 .linear-holds .ensures)) (c .if2 .taken)))
 
-last-checks-requires : tie.Need-last-checks-requires
-last-checks-requires c κs =
+last-verdict-requires : tie.Need-last-verdict-requires
+last-verdict-requires c κs =
     let s = c .before .before .before .before .before .before .before .before .before .before .before in
     (s .pre .0 .1, s .pre .1 .relation)
 
@@ -85,12 +87,12 @@ returns-3 c =
     let w = a1 .before .before .before in
     let s = w .before .before in
     let small = s .pre .1 .relation .limits .shaped .degree .small in
-    goes-on _ _ refl (a1 .amortized-checks .ensures) (e1 .if1 .left)
-    (passes 7 _ (check-seven _ _ _ _ _ _ _ _ small (stands w .agree) (l .linear-sum .ensures) (a2 .linear-holds .ensures)) (e2 .if2 .left)
-    (c .last-checks .ensures (s .args .projections .now) (s .args .omega .now)))
+    check-passed _ _ _ (c .last-verdict .ensures (s .args .projections .now) (s .args .omega .now))
+    (goes-on _ _ refl (a1 .amortized-checks .ensures) (e1 .if1 .left)
+    (passes 7 _ (check-seven _ _ _ _ _ _ _ _ small (stands w .agree) (l .linear-sum .ensures) (a2 .linear-holds .ensures)) (e2 .if2 .left) refl))
 
-pub opening-checks-spec : {M : Type 1} → statement M
-opening-checks-spec =
+pub opening-verdict-spec : {M : Type 1} → statement M
+opening-verdict-spec =
     tie.close
     (tie.spec
     (λ c. sym (length-replicate 16384 (pos 0)))
@@ -102,5 +104,5 @@ opening-checks-spec =
     linear-sum-requires
     linear-holds-requires
     returns-2
-    last-checks-requires
+    last-verdict-requires
     returns-3)

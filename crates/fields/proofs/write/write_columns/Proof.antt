@@ -1,10 +1,10 @@
--- `writer::field::write_columns` meets its contract. The loop's invariant: the columns from `left` on are written.
+-- `fields::write::write_columns` meets its contract. The loop's invariant: the columns from `left` on are written.
 use mathlib.Core.Path.{_∙_}
 use native.Mathlib.Omega.{arith}
 use lib.ListN.{length-set}
-use Rattle.writer.specs.Laws.FieldLaws.{Columns, columns-start, columns-step, columns-sign, columns-end}
-use Rattle.writer.proofs.field.write_columns.Statement.{statement}
-use Rattle.writer.proofs.field.write_columns.Tie as tie
+use Rattle.fields.specs.Laws.WriteLaws.{Columns, columns-start, columns-step, columns-sign, columns-end}
+use Rattle.fields.proofs.write.write_columns.Statement.{statement}
+use Rattle.fields.proofs.write.write_columns.Tie as tie
 
 abbrev Inv-loop : tie.InvT-loop
 Inv-loop text₀ at minus m sign left₀ rest₀ text left rest = Columns text₀ text at minus m left rest

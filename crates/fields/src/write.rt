@@ -1,13 +1,12 @@
-// One field, and the line feed after it: SPECIFICATION 10.1.
+// One field written, and the line feed after it: SPECIFICATION 10.1.
 ghost use mathlib.Core.Path.{_≡_};
 ghost use mathlib.Core.List.{_++_};
 ghost use Prim.Native.Nat.{_+_, _≤_};
 ghost use lib.ListN.{length, take, drop};
 ghost use Rattle.integers.specs.Over.{over};
-ghost use Rattle.fields.specs.Field.{columns, signedText};
+ghost use Rattle.fields.specs.Field.{columns, signedText, blanks};
 ghost use Rattle.fields.specs.Place.{fieldWidth, feed};
-ghost use Rattle.writer.specs.Known.Writing.{blanks};
-use fields::field::column_byte;
+use crate::field::column_byte;
 
 // The 16 bytes from `at` on become blanks.
 fn write_blanks(text: &mut [u8], at: usize)

@@ -1,8 +1,8 @@
--- `writer::field::write_laid` meets its contract.
-use Rattle.writer.specs.Laws.FieldLaws.{laid-inner, laid-last, laid-room, laid-inside}
+-- `fields::write::write_laid` meets its contract.
+use Rattle.fields.specs.Laws.WriteLaws.{laid-inner, laid-last, laid-room, laid-inside}
 use borrow.Author.Needs.{needs}
-use Rattle.writer.proofs.field.write_laid.Statement.{statement}
-use Rattle.writer.proofs.field.write_laid.Tie as tie
+use Rattle.fields.proofs.write.write_laid.Statement.{statement}
+use Rattle.fields.proofs.write.write_laid.Tie as tie
 
 returns : tie.Need-returns
 returns c =

@@ -1,0 +1,75 @@
+-- The number of an answer to a text: SPECIFICATION 6.g and 10.7.
+--     margin-read       accepted with m: m and the squared length of the sheet's opening are together the β'² of its header
+--     number-printed    "The number is at most 999999999999999, 15 columns."
+use mathlib.Core.Path.{_≡_, refl, sym, ap, _∙_}
+use mathlib.Core.Bool.{Bool, true, false, cond}
+use mathlib.Core.List.{List, [], _∷_}
+use Prim.Native.Nat.{ℕ, zero, suc, _+_, _≤_}
+use native.Mathlib.Omega.{arith}
+use lib.Dec.{leb}
+use lib.ListN.{length}
+use lib.IntN.{ℤ}
+use borrow.Author.Tests.{leb-true}
+use Rattle.integers.specs.Sums.{normSq}
+use Rattle.fold.specs.declared.Verdict.{Verdict}
+use Rattle.fold.specs.declared.Verdict.the-variants.{Accepted, Failed}
+use Rattle.fold.specs.declared.Answer.{Answer}
+use Rattle.fold.specs.declared.Answer.the-variants.{Refused, Judged}
+use Rattle.fold.specs.declared.Sizes.{Sizes}
+use Rattle.fold.specs.Answers.{kindOf, numberOf, firstFailing, judged, answered}
+use Rattle.fold.specs.Verdict.{checks, verdict, margin₉}
+use Rattle.fold.specs.Laws.RefusalLaws.{both-left, both-right}
+use Rattle.fold.specs.Theorems.Margin.{margin-is}
+use Rattle.sheet.specs.Reading.{headerNumbers, headerTests, sizesOf, bodyNumbers, numberTests, bodyTests, readingTests}
+use Rattle.sheet.specs.Laws.AnswerLaws.{reading-passed}
+use Rattle.sheet.specs.Laws.HeaderLaws.{header-bounded}
+use Rattle.judge.specs.Judging.{sheetStatement, sheetDraws, sheetTranscript, sheetOpening, judgedNumbers, judgedText}
+use Rattle.judge.specs.Theorems.JudgeTheorem.{sheetVerdict, roomOf, by-length, judgement-of, taken}
+
+module _ (text : List ℕ) where
+  abbrev s : Sizes
+  s = sizesOf (headerNumbers text)
+
+  abbrev xs : List ℤ
+  xs = bodyNumbers s text
+
+  pub margin-read : (m : ℕ) → judgedText text ≡ Judged (Accepted m) → m + normSq (sheetOpening s xs) ≡ s .target
+  unfolding judgedNumbers
+  margin-read m = by-length (λ (a : Answer). a ≡ Judged (Accepted m) → m + normSq (sheetOpening s xs) ≡ s .target) text
+      (λ e. let no : _≡_ {A = ℕ} 2 0 = ap kindOf e in absurd (omega arith))
+      (λ fits e.
+          let (none, same) = judgement-of (firstFailing (readingTests (roomOf text) text)) (Accepted m) _ e in
+          margin-is (sheetStatement s xs) (sheetDraws s xs) (sheetTranscript s xs) (sheetOpening s xs) m (taken text none ∙ ap Judged (sym same)))
+
+-- ---- the number's width
+
+-- every number of a list of tests is at most m
+abbrev allUpTo : ℕ → List (ℕ × Bool) → Bool
+allUpTo m [] = true
+allUpTo m (test ∷ tests) = cond (leb (test .0) m) (allUpTo m tests) false
+
+first-up-to : (m : ℕ) (tests : List (ℕ × Bool)) → allUpTo m tests ≡ true → firstFailing tests ≤ m
+unfolding firstFailing
+first-up-to m [] e = omega arith
+first-up-to m (test ∷ tests) e = step (first-up-to m tests (both-right (leb (test .0) m) _ e)) (test .1)
+  where
+    step : firstFailing tests ≤ m → (t : Bool) → cond t (firstFailing tests) (test .0) ≤ m
+    step later true = later
+    step later false = leb-true (test .0) m (both-left (leb (test .0) m) (allUpTo m tests) e)
+
+judged-number : (k m : ℕ) → k ≤ 999999999999999 → m ≤ 999999999999999 → numberOf (Judged (judged k m)) ≤ 999999999999999
+unfolding judged
+judged-number zero m h l = l
+judged-number (suc k) m h l = h
+
+answered-number : (n : ℕ) (a : Answer) → n ≤ 999999999999999 → (n ≡ 0 → numberOf a ≤ 999999999999999) → numberOf (answered n a) ≤ 999999999999999
+unfolding answered
+answered-number zero a h l = l refl
+answered-number (suc n) a h l = h
+
+pub number-printed : (text : List ℕ) → numberOf (judgedText text) ≤ 999999999999999
+unfolding verdict margin₉ readingTests headerTests bodyTests numberTests
+number-printed text = by-length (λ (a : Answer). numberOf a ≤ 999999999999999) text (omega arith) (λ fits.
+    answered-number _ _ (omega (arith, first-up-to 12 (readingTests (roomOf text) text) refl)) (λ none.
+    judged-number _ _ (omega (arith, first-up-to 9 (checks (sheetStatement (s text) (xs text)) (sheetDraws (s text) (xs text)) (sheetTranscript (s text) (xs text)) (sheetOpening (s text) (xs text))) refl))
+    (omega (arith, header-bounded (headerNumbers text) (reading-passed (roomOf text) text none .sizes) .target-small))))
