@@ -1,4 +1,4 @@
--- The library's answers for C, as the program prints them: kind and number.
+-- The library's answers for C, as the program prints them: kind and number; and its sizes from those that C gives.
 use mathlib.Core.Path.{_≡_}
 use mathlib.Core.List.{List}
 use Prim.Native.Nat.{ℕ}
@@ -7,6 +7,12 @@ use lib.IntN.{ℤ}
 use Rattle.integers.specs.Over.{over}
 use Rattle.fold.specs.declared.Answer.{Answer}
 use Rattle.fold.specs.Answers.{kindOf, numberOf, written}
+use Rattle.fold.specs.declared.Shape.{Shape}
+use Rattle.fold.specs.declared.CommitSizes.{CommitSizes}
+use Rattle.fold.specs.declared.GarbageSizes.{GarbageSizes}
+use Rattle.fold.specs.declared.Sizes.{Sizes}
+use Rattle.fold.specs.declared.PartSizes.{PartSizes}
+use Rattle.next_instance.specs.declared.part.Place.{Place}
 use Rattle.sheet.specs.declared.header.SheetSizes.{SheetSizes}
 use Rattle.sheet.specs.declared.reader.SheetAnswer.{SheetAnswer}
 use Rattle.sheet.specs.Reading.{headerNumbers, sizesOf, bodyNumbers, reading, readingRefusal, answerOf, headerOf}
@@ -14,11 +20,19 @@ use Rattle.writer.specs.declared.WriteAnswer.{WriteAnswer}
 use Rattle.writer.specs.Writing.{writtenText, writingRefusal, lengthAnswer, lengthOf}
 use Rattle.writer.specs.Writing as writing
 use Rattle.lizkarg.specs.declared.Product.{Product}
+use Rattle.capi.specs.declared.sizes.CShape.{CShape}
+use Rattle.capi.specs.declared.sizes.CCommitSizes.{CCommitSizes}
+use Rattle.capi.specs.declared.sizes.CGarbageSizes.{CGarbageSizes}
+use Rattle.capi.specs.declared.sizes.CSizes.{CSizes}
+use Rattle.capi.specs.declared.sizes.CPartSizes.{CPartSizes}
+use Rattle.capi.specs.declared.next.CPart.{CPart}
 use Rattle.capi.specs.declared.types.CAnswer.{CAnswer}
 use Rattle.capi.specs.declared.types.CProduct.{CProduct}
 use Rattle.capi.specs.declared.types.CHeader.{CHeader}
 use Rattle.capi.specs.declared.types.CSheet.{CSheet}
 use Rattle.capi.specs.declared.write.CText.{CText}
+
+-- ---- what C is told
 
 abbrev pub codeOf : Answer → CAnswer
 codeOf answer = record { kind = kindOf answer; number = numberOf answer }
@@ -75,3 +89,66 @@ pub record SheetCoded (text : List ℕ) (before : List ℤ) (code : CSheet) (aft
 pub record TextCoded (h : SheetSizes) (xs : List ℤ) (before : List ℕ) (code : CText) (after : List ℕ) : Type 0 where
   pub code-is : code ≡ textCode (lengthAnswer (writingRefusal h xs before) (length (writtenText h xs)))
   pub bytes-are : after ≡ written (writingRefusal h xs before) (over before 0 (writtenText h xs)) before
+
+-- ---- what C gives
+
+abbrev pub shapeFrom : CShape → Shape
+shapeFrom c = record { d = c .d; n = c .n; r = c .r }
+
+abbrev pub commitSizesFrom : CCommitSizes → CommitSizes
+commitSizesFrom c =
+    record {
+      shape = shapeFrom (c .shape);
+      kappa = c .kappa;
+      kappa1 = c .kappa1;
+      b1 = c .b1;
+      b2 = c .b2;
+      t1 = c .t1;
+      t2 = c .t2;
+    }
+
+abbrev pub garbageSizesFrom : CGarbageSizes → GarbageSizes
+garbageSizesFrom c =
+    record {
+      shape = shapeFrom (c .shape);
+      k = c .k;
+      l = c .l;
+      w = c .w;
+      kappa2 = c .kappa2;
+      b1 = c .b1;
+      t1 = c .t1;
+    }
+
+abbrev pub sizesFrom : CSizes → Sizes
+sizesFrom c =
+    record {
+      shape = shapeFrom (c .shape);
+      k = c .k;
+      l = c .l;
+      w = c .w;
+      kappa = c .kappa;
+      kappa1 = c .kappa1;
+      kappa2 = c .kappa2;
+      b = c .b;
+      b1 = c .b1;
+      b2 = c .b2;
+      t1 = c .t1;
+      t2 = c .t2;
+      bound = c .bound;
+      target = c .target;
+    }
+
+abbrev pub partSizesFrom : CPartSizes → PartSizes
+partSizesFrom c =
+    record {
+      shape = shapeFrom (c .shape);
+      kappa = c .kappa;
+      t1 = c .t1;
+      t2 = c .t2;
+      nu = c .nu;
+      mu = c .mu;
+    }
+
+-- a part's place
+abbrev pub placeFrom : CPart → Place
+placeFrom c = record { start = c .start; length = c .length }

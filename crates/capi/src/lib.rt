@@ -6,23 +6,24 @@ ghost use Rattle.fold.specs.Verification.{verification};
 ghost use Rattle.lizkarg.specs.Calls.{Committed, Projected, Aggregated, GarbageCommitted, Amortized};
 ghost use Rattle.sheet.specs.Reading.{numberCount};
 ghost use Rattle.judge.specs.Judging.{judgedText};
-ghost use Rattle.capi.specs.Codes.{Coded, codeOf, SheetCoded};
-use fold::CommitSizes;
-use fold::GarbageSizes;
-use fold::Shape;
-use fold::Sizes;
+ghost use Rattle.capi.specs.Codes.{shapeFrom, commitSizesFrom, garbageSizesFrom, sizesFrom, Coded, codeOf, SheetCoded};
+use sizes::CCommitSizes;
+use sizes::CGarbageSizes;
+use sizes::CShape;
+use sizes::CSizes;
 use types::CAnswer;
 use types::CSheet;
 
 pub mod multiply;
 pub mod next;
+pub mod sizes;
 pub mod types;
 pub mod write;
 
 // Message 1: `lizkarg::commit`.
 #[no_mangle]
 pub extern "C" fn lizkarg_commit(
-    sizes: CommitSizes,
+    sizes: CCommitSizes,
     a_matrix: &[i32],
     b_matrix: &[i32],
     c_matrix: &[i32],
@@ -32,34 +33,36 @@ pub extern "C" fn lizkarg_commit(
     u1: &mut [i32],
 ) -> CAnswer
     ensures { λ x.
-        ⌜ Coded (λ answer. Committed sizes (now («a_matrix» .entry)) (now («b_matrix» .entry)) (now («c_matrix» .entry)) (now (witness .entry))
+        ⌜ Coded (λ answer. Committed (commitSizesFrom sizes) (now («a_matrix» .entry)) (now («b_matrix» .entry)) (now («c_matrix» .entry)) (now (witness .entry))
         (now (t .entry)) (now (g .entry)) (now (u1 .entry)) answer (now (t .exit)) (now (g .exit)) (now (u1 .exit))) x ⌝ }
 {
-    let answer = lizkarg::commit(sizes, a_matrix, b_matrix, c_matrix, witness, t, g, u1);
+    let its = sizes::commit_sizes(sizes);
+    let answer = lizkarg::commit(its, a_matrix, b_matrix, c_matrix, witness, t, g, u1);
     types::code(answer)
 }
 
 // Message 2: `lizkarg::project`.
 #[no_mangle]
 pub extern "C" fn lizkarg_project(
-    shape: Shape,
+    shape: CShape,
     w: usize,
     projections: &[i32],
     witness: &[i32],
     p: &mut [i32],
 ) -> CAnswer
     ensures { λ x.
-        ⌜ Coded (λ answer. Projected shape w (now (projections .entry)) (now (witness .entry)) (now (p .entry)) answer
+        ⌜ Coded (λ answer. Projected (shapeFrom shape) w (now (projections .entry)) (now (witness .entry)) (now (p .entry)) answer
         (now (p .exit))) x ⌝ }
 {
-    let answer = lizkarg::project(shape, w, projections, witness, p);
+    let its = sizes::shape(shape);
+    let answer = lizkarg::project(its, w, projections, witness, p);
     types::code(answer)
 }
 
 // Message 3: `lizkarg::aggregate`.
 #[no_mangle]
 pub extern "C" fn lizkarg_aggregate(
-    shape: Shape,
+    shape: CShape,
     l: usize,
     w: usize,
     constant_terms: &[i32],
@@ -70,11 +73,12 @@ pub extern "C" fn lizkarg_aggregate(
     second_b: &mut [i32],
 ) -> CAnswer
     ensures { λ x.
-        ⌜ Coded (λ answer. Aggregated shape l w (now («constant_terms» .entry)) (now (projections .entry)) (now (psi .entry)) (now (omega .entry))
+        ⌜ Coded (λ answer. Aggregated (shapeFrom shape) l w (now («constant_terms» .entry)) (now (projections .entry)) (now (psi .entry)) (now (omega .entry))
         (now (witness .entry)) (now («second_b» .entry)) answer (now («second_b» .exit))) x ⌝ }
 {
+    let its = sizes::shape(shape);
     let answer = lizkarg::aggregate(
-        shape,
+        its,
         l,
         w,
         constant_terms,
@@ -90,7 +94,7 @@ pub extern "C" fn lizkarg_aggregate(
 // Message 4: `lizkarg::commit_garbage`.
 #[no_mangle]
 pub extern "C" fn lizkarg_commit_garbage(
-    sizes: GarbageSizes,
+    sizes: CGarbageSizes,
     whole: &[i32],
     constant_terms: &[i32],
     projections: &[i32],
@@ -104,12 +108,13 @@ pub extern "C" fn lizkarg_commit_garbage(
     u2: &mut [i32],
 ) -> CAnswer
     ensures { λ x.
-        ⌜ Coded (λ answer. GarbageCommitted sizes (now (whole .entry)) (now («constant_terms» .entry)) (now (projections .entry))
+        ⌜ Coded (λ answer. GarbageCommitted (garbageSizesFrom sizes) (now (whole .entry)) (now («constant_terms» .entry)) (now (projections .entry))
         (now (psi .entry)) (now (omega .entry)) (now (alpha .entry)) (now (delta .entry)) (now («d_matrix» .entry))
         (now (witness .entry)) (now (h .entry)) (now (u2 .entry)) answer (now (h .exit)) (now (u2 .exit))) x ⌝ }
 {
+    let its = sizes::garbage_sizes(sizes);
     let answer = lizkarg::commit_garbage(
-        sizes,
+        its,
         whole,
         constant_terms,
         projections,
@@ -128,24 +133,25 @@ pub extern "C" fn lizkarg_commit_garbage(
 // Message 5: `lizkarg::amortize`.
 #[no_mangle]
 pub extern "C" fn lizkarg_amortize(
-    shape: Shape,
+    shape: CShape,
     b: usize,
     c: &[i32],
     witness: &[i32],
     z: &mut [i32],
 ) -> CAnswer
     ensures { λ x.
-        ⌜ Coded (λ answer. Amortized shape b (now (c .entry)) (now (witness .entry)) (now (z .entry)) answer
+        ⌜ Coded (λ answer. Amortized (shapeFrom shape) b (now (c .entry)) (now (witness .entry)) (now (z .entry)) answer
         (now (z .exit))) x ⌝ }
 {
-    let answer = lizkarg::amortize(shape, b, c, witness, z);
+    let its = sizes::shape(shape);
+    let answer = lizkarg::amortize(its, b, c, witness, z);
     types::code(answer)
 }
 
 // The verifier: `lizkarg::verify`.
 #[no_mangle]
 pub extern "C" fn lizkarg_verify(
-    sizes: Sizes,
+    sizes: CSizes,
     a_matrix: &[i32],
     b_matrix: &[i32],
     c_matrix: &[i32],
@@ -165,14 +171,15 @@ pub extern "C" fn lizkarg_verify(
     opening: &[i32],
 ) -> CAnswer
     ensures { λ x.
-        ⌜ x ≡ codeOf (verification (statementOf sizes (now («a_matrix» .entry)) (now («b_matrix» .entry)) (now («c_matrix» .entry))
+        ⌜ x ≡ codeOf (verification (statementOf (sizesFrom sizes) (now («a_matrix» .entry)) (now («b_matrix» .entry)) (now («c_matrix» .entry))
         (now («d_matrix» .entry)) (now (whole .entry)) (now («constant_terms» .entry)))
         (drawsOf (now (projections .entry)) (now (psi .entry)) (now (omega .entry)) (now (alpha .entry)) (now (delta .entry))
         (now (c .entry))) (transcriptOf (now (u1 .entry)) (now (p .entry)) (now («second_b» .entry)) (now (u2 .entry)))
         (now (opening .entry))) ⌝ }
 {
+    let its = sizes::sizes(sizes);
     let answer = lizkarg::verify(
-        sizes,
+        its,
         a_matrix,
         b_matrix,
         c_matrix,

@@ -4,19 +4,26 @@ ghost use Rattle.fold.specs.Arguments.{statementOf, drawsOf, transcriptOf};
 ghost use Rattle.fold.specs.Arguments.{partRefusalOf};
 ghost use Rattle.next_instance.specs.Calls.{NextCalled};
 ghost use Rattle.next_instance.specs.Parts.{Placed};
-ghost use Rattle.capi.specs.Codes.{Coded};
+ghost use Rattle.capi.specs.Codes.{Coded, sizesFrom, partSizesFrom, placeFrom};
+use crate::sizes;
+use crate::sizes::CPartSizes;
+use crate::sizes::CSizes;
 use crate::types;
 use crate::types::CAnswer;
-use fold::PartSizes;
-use fold::Sizes;
 use lizkarg::next_part_refusal;
-use next_instance::part::Place;
 use next_instance::part::next_place;
+
+// The first number of a part in the opening, and how many there are; 0 and 0 where it is refused.
+#[repr(C)]
+pub struct CPart {
+    pub start: usize,
+    pub length: usize,
+}
 
 // The next instance: `lizkarg::next_instance`.
 #[no_mangle]
 pub extern "C" fn lizkarg_next_instance(
-    sizes: Sizes,
+    sizes: CSizes,
     nu: usize,
     mu: usize,
     a_matrix: &[i32],
@@ -38,14 +45,15 @@ pub extern "C" fn lizkarg_next_instance(
     out: &mut [i32],
 ) -> CAnswer
     ensures { λ x.
-        ⌜ Coded (λ answer. NextCalled (statementOf sizes (now («a_matrix» .entry)) (now («b_matrix» .entry)) (now («c_matrix» .entry))
+        ⌜ Coded (λ answer. NextCalled (statementOf (sizesFrom sizes) (now («a_matrix» .entry)) (now («b_matrix» .entry)) (now («c_matrix» .entry))
         (now («d_matrix» .entry)) (now (whole .entry)) (now («constant_terms» .entry)))
         (drawsOf (now (projections .entry)) (now (psi .entry)) (now (omega .entry)) (now (alpha .entry)) (now (delta .entry))
         (now (c .entry))) (transcriptOf (now (u1 .entry)) (now (p .entry)) (now («second_b» .entry)) (now (u2 .entry))) nu mu
         (now (out .entry)) answer (now (out .exit))) x ⌝ }
 {
+    let its = sizes::sizes(sizes);
     let answer = lizkarg::next_instance(
-        sizes,
+        its,
         nu,
         mu,
         a_matrix,
@@ -71,16 +79,22 @@ pub extern "C" fn lizkarg_next_instance(
 
 // The number with which part `part`, from 1, is refused, else 0: `lizkarg::next_part_refusal`.
 #[no_mangle]
-pub extern "C" fn lizkarg_next_part_refusal(sizes: PartSizes, part: usize, opening: &[i32]) -> u8
-    ensures { λ x. ⌜ x ≡ partRefusalOf sizes part (now (opening .entry)) ⌝ }
+pub extern "C" fn lizkarg_next_part_refusal(sizes: CPartSizes, part: usize, opening: &[i32]) -> u8
+    ensures { λ x. ⌜ x ≡ partRefusalOf (partSizesFrom sizes) part (now (opening .entry)) ⌝ }
 {
-    next_part_refusal(sizes, part, opening)
+    let its = sizes::part_sizes(sizes);
+    next_part_refusal(its, part, opening)
 }
 
 // The place in the opening of what `lizkarg::next_part` hands back.
 #[no_mangle]
-pub extern "C" fn lizkarg_next_part(sizes: PartSizes, part: usize, opening: &[i32]) -> Place
-    ensures { λ x. ⌜ Placed sizes part (now (opening .entry)) x ⌝ }
+pub extern "C" fn lizkarg_next_part(sizes: CPartSizes, part: usize, opening: &[i32]) -> CPart
+    ensures { λ x. ⌜ Placed (partSizesFrom sizes) part (now (opening .entry)) (placeFrom x) ⌝ }
 {
-    next_place(sizes, part, opening)
+    let its = sizes::part_sizes(sizes);
+    let place = next_place(its, part, opening);
+    CPart {
+        start: place.start,
+        length: place.length,
+    }
 }

@@ -1,4 +1,4 @@
-// What passes between C and the library beside the library's own structs of sizes: answers, as kind and number, and what comes with them.
+// What C is answered: kind and number, and what comes with them.
 ghost use mathlib.Core.Path.{_≡_};
 ghost use Rattle.sheet.specs.Reading.{emptyHeader};
 ghost use Rattle.capi.specs.Codes.{codeOf, productCode, headerCode, sheetCode};
@@ -7,11 +7,11 @@ use lizkarg::Product;
 use sheet::header::SheetSizes;
 use sheet::reader::SheetAnswer;
 
-// An answer: kind 0 accepted, 1 failed, 2 refused, 3 written; the number of the check or of the refusal, else 0.
+// An answer: kind 0 accepted, 1 failed, 2 refused, 3 written; the margin, the number of the check or that of the refusal, else 0.
 #[repr(C)]
 pub struct CAnswer {
     pub kind: u8,
-    pub number: u8,
+    pub number: u64,
 }
 
 // A sheet's header, in its order; `bound` is β² and `target` is β'².
@@ -41,7 +41,7 @@ pub struct CHeader {
 #[repr(C)]
 pub struct CSheet {
     pub kind: u8,
-    pub number: u8,
+    pub number: u64,
     pub header: CHeader,
 }
 
@@ -55,7 +55,7 @@ pub struct CElement {
 #[repr(C)]
 pub struct CProduct {
     pub kind: u8,
-    pub number: u8,
+    pub number: u64,
     pub element: CElement,
 }
 
@@ -142,7 +142,7 @@ pub fn sheet_code(answer: SheetAnswer) -> CSheet
     match answer {
         SheetAnswer::Refused(number) => CSheet {
             kind: 2,
-            number: number,
+            number: number as u64,
             header: empty_header(),
         },
         SheetAnswer::Sheet(header) => CSheet {

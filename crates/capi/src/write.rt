@@ -1,8 +1,9 @@
 // The writer of a sheet for C.
 ghost use mathlib.Core.Path.{_≡_};
 ghost use Rattle.writer.specs.Writing.{sheetBytes};
-ghost use Rattle.capi.specs.Codes.{textCode, TextCoded};
-use fold::Sizes;
+ghost use Rattle.capi.specs.Codes.{sizesFrom, textCode, TextCoded};
+use crate::sizes;
+use crate::sizes::CSizes;
 use sheet::header::SheetSizes;
 use writer::WriteAnswer;
 
@@ -10,7 +11,7 @@ use writer::WriteAnswer;
 #[repr(C)]
 pub struct CText {
     pub kind: u8,
-    pub number: u8,
+    pub number: u64,
     pub length: usize,
 }
 
@@ -20,7 +21,7 @@ fn text_code(answer: WriteAnswer) -> CText
     match answer {
         WriteAnswer::Refused(number) => CText {
             kind: 2,
-            number: number,
+            number: number as u64,
             length: 0,
         },
         WriteAnswer::Length(length) => CText {
@@ -33,24 +34,26 @@ fn text_code(answer: WriteAnswer) -> CText
 
 // How many bytes a sheet has: `lizkarg::sheet_bytes`.
 #[no_mangle]
-pub extern "C" fn lizkarg_sheet_bytes(sizes: Sizes, nu: usize, mu: usize) -> usize
-    ensures { λ m. ⌜ m ≡ sheetBytes (record { sizes = sizes; nu = nu; mu = mu }) ⌝ }
+pub extern "C" fn lizkarg_sheet_bytes(sizes: CSizes, nu: usize, mu: usize) -> usize
+    ensures { λ m. ⌜ m ≡ sheetBytes (record { sizes = sizesFrom sizes; nu = nu; mu = mu }) ⌝ }
 {
-    lizkarg::sheet_bytes(SheetSizes { sizes, nu, mu })
+    let its = sizes::sizes(sizes);
+    lizkarg::sheet_bytes(SheetSizes { sizes: its, nu, mu })
 }
 
 // The writer: `lizkarg::write_sheet`.
 #[no_mangle]
 pub extern "C" fn lizkarg_write_sheet(
-    sizes: Sizes,
+    sizes: CSizes,
     nu: usize,
     mu: usize,
     numbers: &[i32],
     text: &mut [u8],
 ) -> CText
     ensures { λ r.
-        ⌜ TextCoded (record { sizes = sizes; nu = nu; mu = mu }) (now (numbers .entry)) (now (text .entry)) r (now (text .exit)) ⌝ }
+        ⌜ TextCoded (record { sizes = sizesFrom sizes; nu = nu; mu = mu }) (now (numbers .entry)) (now (text .entry)) r (now (text .exit)) ⌝ }
 {
-    let answer = lizkarg::write_sheet(SheetSizes { sizes, nu, mu }, numbers, text);
+    let its = sizes::sizes(sizes);
+    let answer = lizkarg::write_sheet(SheetSizes { sizes: its, nu, mu }, numbers, text);
     text_code(answer)
 }

@@ -1,5 +1,4 @@
-// The answers of every call of the fold: SPECIFICATION 6 and 7.
-// Structs of sizes are laid out as C lays them out: crates/capi takes them as they are.
+// The answers of every call of the fold, SPECIFICATION 6 and 7, and the sizes that they take.
 pub mod chunks;
 pub mod counts;
 pub mod limits;
@@ -22,7 +21,6 @@ pub enum Answer {
 }
 
 // Degree, rank and number of parts.
-#[repr(C)]
 pub struct Shape {
     pub d: usize,
     pub n: usize,
@@ -38,7 +36,6 @@ pub struct ConstraintSizes {
 }
 
 // The sizes of message 1.
-#[repr(C)]
 pub struct CommitSizes {
     pub shape: Shape,
     pub kappa: usize,
@@ -50,7 +47,6 @@ pub struct CommitSizes {
 }
 
 // The sizes of message 4.
-#[repr(C)]
 pub struct GarbageSizes {
     pub shape: Shape,
     pub k: usize,
@@ -62,7 +58,6 @@ pub struct GarbageSizes {
 }
 
 // The sizes of the verifier; `bound` is β² and `target` is β'².
-#[repr(C)]
 pub struct Sizes {
     pub shape: Shape,
     pub k: usize,
@@ -81,7 +76,6 @@ pub struct Sizes {
 }
 
 // The sizes of an opening and of its cut into ν and μ chunks.
-#[repr(C)]
 pub struct PartSizes {
     pub shape: Shape,
     pub kappa: usize,

@@ -9,8 +9,7 @@ use fold::chunks::rest_size;
 use fold::counts::Z_DIGITS;
 use refusals::part::next_part_refusal;
 
-// The first number of a part in the opening, and how many there are; 0 and 0 where it is refused. Laid out as C lays it out.
-#[repr(C)]
+// The first number of a part in the opening, and how many there are; 0 and 0 where it is refused.
 pub struct Place {
     pub start: usize,
     pub length: usize,

@@ -13,8 +13,10 @@ same-length : tie.Need-same-length
 same-length c = search needs
 
 returns : tie.Need-returns
-returns c = record { answer = _; code-is = c .code .ensures; promised = c .before .before .aggregate .ensures }
+returns c =
+    let call = c .before .before in
+    record { answer = _; code-is = c .code .ensures; promised = rw (call .before .before .shape .ensures) at (call .aggregate .ensures) }
 
 pub lizkarg-aggregate-spec : {M : Type 1} → statement M
 lizkarg-aggregate-spec =
-    tie.close (tie.spec aggregate-requires code-requires same-length returns)
+    tie.close (tie.spec (λ c κs. search needs) aggregate-requires code-requires same-length returns)

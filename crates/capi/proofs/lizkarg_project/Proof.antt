@@ -13,8 +13,10 @@ same-length : tie.Need-same-length
 same-length c = search needs
 
 returns : tie.Need-returns
-returns c = record { answer = _; code-is = c .code .ensures; promised = c .before .before .project .ensures }
+returns c =
+    let call = c .before .before in
+    record { answer = _; code-is = c .code .ensures; promised = rw (call .before .before .shape .ensures) at (call .project .ensures) }
 
 pub lizkarg-project-spec : {M : Type 1} → statement M
 lizkarg-project-spec =
-    tie.close (tie.spec project-requires code-requires same-length returns)
+    tie.close (tie.spec (λ c κs. search needs) project-requires code-requires same-length returns)

@@ -12,7 +12,9 @@ code-requires : tie.Need-code-requires
 code-requires c κs = search needs
 
 returns : tie.Need-returns
-returns c = c .code .ensures ∙ ap codeOf (c .before .verify .ensures)
+returns c =
+    let call = c .before in
+    c .code .ensures ∙ ap codeOf (rw (call .before .sizes .ensures) at (call .verify .ensures))
 
 pub lizkarg-verify-spec : {M : Type 1} → statement M
-lizkarg-verify-spec = tie.close (tie.spec verify-requires code-requires returns)
+lizkarg-verify-spec = tie.close (tie.spec (λ c κs. search needs) verify-requires code-requires returns)

@@ -38,8 +38,8 @@ module _ (text : List ℕ) where
   margin-read m = by-length (λ (a : Answer). a ≡ Judged (Accepted m) → m + normSq (sheetOpening s xs) ≡ s .target) text
       (λ e. let no : _≡_ {A = ℕ} 2 0 = ap kindOf e in absurd (omega arith))
       (λ fits e.
-          let (none, same) = judgement-of (firstFailing (readingTests (roomOf text) text)) (Accepted m) _ e in
-          margin-is (sheetStatement s xs) (sheetDraws s xs) (sheetTranscript s xs) (sheetOpening s xs) m (taken text none ∙ ap Judged (sym same)))
+      let (none, same) = judgement-of (firstFailing (readingTests (roomOf text) text)) (Accepted m) _ e in
+      margin-is (sheetStatement s xs) (sheetDraws s xs) (sheetTranscript s xs) (sheetOpening s xs) m (taken text none ∙ ap Judged (sym same)))
 
 -- ---- the number's width
 

@@ -13,8 +13,10 @@ same-length : tie.Need-same-length
 same-length c = search needs
 
 returns : tie.Need-returns
-returns c = record { answer = _; code-is = c .code .ensures; promised = c .before .before .next-instance .ensures }
+returns c =
+    let call = c .before .before in
+    record { answer = _; code-is = c .code .ensures; promised = rw (call .before .before .sizes .ensures) at (call .next-instance .ensures) }
 
 pub lizkarg-next-instance-spec : {M : Type 1} → statement M
 lizkarg-next-instance-spec =
-    tie.close (tie.spec next-instance-requires code-requires same-length returns)
+    tie.close (tie.spec (λ c κs. search needs) next-instance-requires code-requires same-length returns)

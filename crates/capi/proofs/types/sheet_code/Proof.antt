@@ -23,4 +23,4 @@ returns-2 : tie.Need-returns-2
 returns-2 c = rw (c .header-code .ensures, c .before .before .answer2 .given .1) refl
 
 pub sheet-code-spec : {M : Type 1} → statement M
-sheet-code-spec = tie.close (tie.spec enum-known-answer empty-header-requires enum-known-answer-2 header-code-requires returns returns-2)
+sheet-code-spec = tie.close (tie.spec enum-known-answer (λ c. search needs) empty-header-requires enum-known-answer-2 header-code-requires returns returns-2)

@@ -1,0 +1,159 @@
+// The structs of sizes for C, laid out as bindings/c/lizkarg.h declares them, and the library's sizes from them. They are C's own: where a struct of
+// the library changes, these stay.
+ghost use mathlib.Core.Path.{_≡_};
+ghost use Rattle.capi.specs.Codes.{shapeFrom, commitSizesFrom, garbageSizesFrom, sizesFrom, partSizesFrom};
+use fold::CommitSizes;
+use fold::GarbageSizes;
+use fold::PartSizes;
+use fold::Shape;
+use fold::Sizes;
+
+// Degree, rank and number of parts.
+#[repr(C)]
+pub struct CShape {
+    pub d: usize,
+    pub n: usize,
+    pub r: usize,
+}
+
+// The sizes of message 1.
+#[repr(C)]
+pub struct CCommitSizes {
+    pub shape: CShape,
+    pub kappa: usize,
+    pub kappa1: usize,
+    pub b1: usize,
+    pub b2: usize,
+    pub t1: usize,
+    pub t2: usize,
+}
+
+// The sizes of message 4.
+#[repr(C)]
+pub struct CGarbageSizes {
+    pub shape: CShape,
+    pub k: usize,
+    pub l: usize,
+    pub w: usize,
+    pub kappa2: usize,
+    pub b1: usize,
+    pub t1: usize,
+}
+
+// The sizes of the verifier; `bound` is β² and `target` is β'².
+#[repr(C)]
+pub struct CSizes {
+    pub shape: CShape,
+    pub k: usize,
+    pub l: usize,
+    pub w: usize,
+    pub kappa: usize,
+    pub kappa1: usize,
+    pub kappa2: usize,
+    pub b: usize,
+    pub b1: usize,
+    pub b2: usize,
+    pub t1: usize,
+    pub t2: usize,
+    pub bound: u64,
+    pub target: u64,
+}
+
+// The sizes of an opening and of its cut into ν and μ chunks.
+#[repr(C)]
+pub struct CPartSizes {
+    pub shape: CShape,
+    pub kappa: usize,
+    pub t1: usize,
+    pub t2: usize,
+    pub nu: usize,
+    pub mu: usize,
+}
+
+pub fn shape(c: CShape) -> Shape
+    ensures { λ r. ⌜ r ≡ shapeFrom c ⌝ }
+{
+    Shape {
+        d: c.d,
+        n: c.n,
+        r: c.r,
+    }
+}
+
+pub fn commit_sizes(c: CCommitSizes) -> CommitSizes
+    ensures { λ r. ⌜ r ≡ commitSizesFrom c ⌝ }
+{
+    CommitSizes {
+        shape: Shape {
+            d: c.shape.d,
+            n: c.shape.n,
+            r: c.shape.r,
+        },
+        kappa: c.kappa,
+        kappa1: c.kappa1,
+        b1: c.b1,
+        b2: c.b2,
+        t1: c.t1,
+        t2: c.t2,
+    }
+}
+
+pub fn garbage_sizes(c: CGarbageSizes) -> GarbageSizes
+    ensures { λ r. ⌜ r ≡ garbageSizesFrom c ⌝ }
+{
+    GarbageSizes {
+        shape: Shape {
+            d: c.shape.d,
+            n: c.shape.n,
+            r: c.shape.r,
+        },
+        k: c.k,
+        l: c.l,
+        w: c.w,
+        kappa2: c.kappa2,
+        b1: c.b1,
+        t1: c.t1,
+    }
+}
+
+pub fn sizes(c: CSizes) -> Sizes
+    ensures { λ r. ⌜ r ≡ sizesFrom c ⌝ }
+{
+    Sizes {
+        shape: Shape {
+            d: c.shape.d,
+            n: c.shape.n,
+            r: c.shape.r,
+        },
+        k: c.k,
+        l: c.l,
+        w: c.w,
+        kappa: c.kappa,
+        kappa1: c.kappa1,
+        kappa2: c.kappa2,
+        b: c.b,
+        b1: c.b1,
+        b2: c.b2,
+        t1: c.t1,
+        t2: c.t2,
+        bound: c.bound,
+        target: c.target,
+    }
+}
+
+pub fn part_sizes(c: CPartSizes) -> PartSizes
+    ensures { λ r. ⌜ r ≡ partSizesFrom c ⌝ }
+{
+    PartSizes {
+        shape: Shape {
+            d: c.shape.d,
+            n: c.shape.n,
+            r: c.shape.r,
+        },
+        kappa: c.kappa,
+        t1: c.t1,
+        t2: c.t2,
+        nu: c.nu,
+        mu: c.mu,
+    }
+}
