@@ -7,52 +7,53 @@ use lib.IntN.{ℤ}
 use lib.ListN.{drop}
 use Rattle.fold.specs.declared.Answer.{Answer}
 use Rattle.fold.specs.declared.Answer.the-variants.{Written}
-use Rattle.fold.specs.declared.Sizes.{Sizes}
+use Rattle.capi.specs.declared.sizes.CSizes.{CSizes}
 use Rattle.fold.specs.Answers.{answered}
 use Rattle.fold.specs.Arguments.{statementOf, drawsOf, transcriptOf, commitSizesOf, garbageSizesOf}
 use Rattle.fold.specs.Arguments.{commitRefusal, projectRefusal, aggregateRefusal, garbageRefusal, amortizeRefusal}
 use Rattle.fold.specs.Verification.{verification}
+use Rattle.capi.specs.Codes.{shapeFrom, sizesFrom}
 use Rattle.cases.specs.Numbers.{padded, word, sizeAt}
 use Rattle.cases.specs.Text.{lineNumbers}
 use Rattle.cases.specs.Lists.{nthList}
 use Rattle.fold_cases.specs.Input.{sizesOf, room}
 
-module _ (sizes : Sizes) (xs : List ℤ) where
+module _ (sizes : CSizes) (xs : List ℤ) where
   unfoldable pub commitAnswer : Answer
   commitAnswer =
       answered
-      (commitRefusal (commitSizesOf sizes) (nthList 0 xs) (nthList 1 xs) (nthList 2 xs) (nthList 3 xs) (room 4 0 xs) (room 4 1 xs) (room 4 2 xs))
+      (commitRefusal (commitSizesOf (sizesFrom sizes)) (nthList 0 xs) (nthList 1 xs) (nthList 2 xs) (nthList 3 xs) (room 4 0 xs) (room 4 1 xs) (room 4 2 xs))
       Written
 
   unfoldable pub projectAnswer : Answer
-  projectAnswer = answered (projectRefusal (sizes .shape) (sizes .w) (nthList 0 xs) (nthList 1 xs) (room 2 0 xs)) Written
+  projectAnswer = answered (projectRefusal (shapeFrom (sizes .shape)) (sizes .w) (nthList 0 xs) (nthList 1 xs) (room 2 0 xs)) Written
 
   unfoldable pub aggregateAnswer : Answer
   aggregateAnswer =
       answered
-      (aggregateRefusal (sizes .shape) (sizes .l) (sizes .w) (nthList 0 xs) (nthList 1 xs) (nthList 2 xs) (nthList 3 xs) (nthList 4 xs)
+      (aggregateRefusal (shapeFrom (sizes .shape)) (sizes .l) (sizes .w) (nthList 0 xs) (nthList 1 xs) (nthList 2 xs) (nthList 3 xs) (nthList 4 xs)
       (room 5 0 xs))
       Written
 
   unfoldable pub garbageAnswer : Answer
   garbageAnswer =
       answered
-      (garbageRefusal (garbageSizesOf sizes) (nthList 0 xs) (nthList 1 xs) (nthList 2 xs) (nthList 3 xs) (nthList 4 xs) (nthList 5 xs)
+      (garbageRefusal (garbageSizesOf (sizesFrom sizes)) (nthList 0 xs) (nthList 1 xs) (nthList 2 xs) (nthList 3 xs) (nthList 4 xs) (nthList 5 xs)
       (nthList 6 xs) (nthList 7 xs) (nthList 8 xs) (room 9 0 xs) (room 9 1 xs))
       Written
 
   unfoldable pub amortizeAnswer : Answer
-  amortizeAnswer = answered (amortizeRefusal (sizes .shape) (sizes .b) (nthList 0 xs) (nthList 1 xs) (room 2 0 xs)) Written
+  amortizeAnswer = answered (amortizeRefusal (shapeFrom (sizes .shape)) (sizes .b) (nthList 0 xs) (nthList 1 xs) (room 2 0 xs)) Written
 
   unfoldable pub verifyAnswer : Answer
   verifyAnswer =
       verification
-      (statementOf sizes (nthList 0 xs) (nthList 1 xs) (nthList 2 xs) (nthList 3 xs) (nthList 4 xs) (nthList 5 xs))
+      (statementOf (sizesFrom sizes) (nthList 0 xs) (nthList 1 xs) (nthList 2 xs) (nthList 3 xs) (nthList 4 xs) (nthList 5 xs))
       (drawsOf (nthList 7 xs) (nthList 9 xs) (nthList 10 xs) (nthList 12 xs) (nthList 13 xs) (nthList 15 xs))
       (transcriptOf (nthList 6 xs) (nthList 8 xs) (nthList 11 xs) (nthList 14 xs)) (nthList 16 xs)
 
 -- a call by its number
-unfoldable pub callAnswer : ℕ → Sizes → List ℤ → Answer
+unfoldable pub callAnswer : ℕ → CSizes → List ℤ → Answer
 callAnswer call sizes xs =
     cond (eqb call 1) (commitAnswer sizes xs)
     (cond (eqb call 2) (projectAnswer sizes xs)

@@ -4,7 +4,7 @@ use Prim.Native.Nat.{ℕ}
 use lib.IntN.{ℤ, pos}
 use lib.ListN.{getD, take, replicate}
 use Rattle.integers.specs.Laws.Bridge.{P}
-use Rattle.fold.specs.declared.Sizes.{Sizes}
+use Rattle.capi.specs.declared.sizes.CSizes.{CSizes}
 use Rattle.cases.specs.Numbers.{sizeAt}
 use Rattle.cases.specs.Lists.{pastLists}
 
@@ -12,7 +12,7 @@ use Rattle.cases.specs.Lists.{pastLists}
 abbrev pub naturalAt : List ℤ → ℕ → ℕ
 naturalAt xs k = P (getD xs k (pos 0))
 
-unfoldable pub sizesOf : List ℤ → Sizes
+unfoldable pub sizesOf : List ℤ → CSizes
 sizesOf xs =
     record {
       shape = record { d = naturalAt xs 1; n = naturalAt xs 2; r = naturalAt xs 3 };

@@ -4,14 +4,15 @@ ghost use lib.IntN.{pos};
 ghost use lib.ListN.{length, replicate, take};
 ghost use Rattle.cases.specs.Numbers.{sizeAt};
 ghost use Rattle.fold.specs.Arguments.{commitSizesOf, garbageSizesOf};
+ghost use Rattle.capi.specs.Codes.{commitSizesFrom, garbageSizesFrom, sizesFrom};
 ghost use Rattle.fold_cases.specs.Input.{naturalAt, sizesOf};
+use capi::sizes::CCommitSizes;
+use capi::sizes::CGarbageSizes;
+use capi::sizes::CShape;
+use capi::sizes::CSizes;
 use cases::numbers::natural;
 use cases::numbers::size;
 use cases::numbers::wide_at;
-use fold::CommitSizes;
-use fold::GarbageSizes;
-use fold::Shape;
-use fold::Sizes;
 
 // Where the lists of a case begin: after its call and sixteen sizes.
 pub const LISTS: usize = 17;
@@ -35,11 +36,11 @@ fn size_at(wides: &[i64], place: usize) -> usize
 }
 
 // The sizes of a case: they may be any that an i64 holds, so that the calls refuse them.
-pub fn read_sizes(wides: &[i64]) -> Sizes
+pub fn read_sizes(wides: &[i64]) -> CSizes
     ensures { λ r. ⌜ r ≡ sizesOf (now (wides .entry)) ⌝ }
 {
-    Sizes {
-        shape: Shape {
+    CSizes {
+        shape: CShape {
             d: size_at(wides, 1),
             n: size_at(wides, 2),
             r: size_at(wides, 3),
@@ -60,11 +61,11 @@ pub fn read_sizes(wides: &[i64]) -> Sizes
     }
 }
 
-pub fn commit_sizes(sizes: Sizes) -> CommitSizes
-    ensures { λ r. ⌜ r ≡ commitSizesOf sizes ⌝ }
+pub fn commit_sizes(sizes: CSizes) -> CCommitSizes
+    ensures { λ r. ⌜ commitSizesFrom r ≡ commitSizesOf (sizesFrom sizes) ⌝ }
 {
     let shape = sizes.shape;
-    CommitSizes {
+    CCommitSizes {
         shape,
         kappa: sizes.kappa,
         kappa1: sizes.kappa1,
@@ -75,11 +76,11 @@ pub fn commit_sizes(sizes: Sizes) -> CommitSizes
     }
 }
 
-pub fn garbage_sizes(sizes: Sizes) -> GarbageSizes
-    ensures { λ r. ⌜ r ≡ garbageSizesOf sizes ⌝ }
+pub fn garbage_sizes(sizes: CSizes) -> CGarbageSizes
+    ensures { λ r. ⌜ garbageSizesFrom r ≡ garbageSizesOf (sizesFrom sizes) ⌝ }
 {
     let shape = sizes.shape;
-    GarbageSizes {
+    CGarbageSizes {
         shape,
         k: sizes.k,
         l: sizes.l,

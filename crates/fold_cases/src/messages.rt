@@ -2,7 +2,7 @@
 // wrote, and one makes room for these.
 ghost use mathlib.Core.Path.{_≡_};
 ghost use Rattle.lizkarg.specs.Calls.{Committed, Projected, Aggregated, GarbageCommitted, Amortized};
-ghost use Rattle.capi.specs.Codes.{Coded, codeOf};
+ghost use Rattle.capi.specs.Codes.{Coded, codeOf, shapeFrom, sizesFrom};
 ghost use Rattle.cases.specs.Lists.{nthList};
 ghost use Rattle.fold.specs.Arguments.{commitSizesOf, garbageSizesOf};
 ghost use Rattle.fold_cases.specs.Answers.{commitAnswer, projectAnswer, aggregateAnswer, garbageAnswer, amortizeAnswer};
@@ -12,15 +12,15 @@ use crate::input::commit_sizes;
 use crate::input::count_at;
 use crate::input::garbage_sizes;
 use crate::output;
+use capi::sizes::CSizes;
 use capi::types::CAnswer;
 use cases::lists::nth_list;
 use cases::lists::past_lists;
-use fold::Sizes;
 
 // Call 1: A, B, C, the witness; t's digits, g's digits, u1.
-fn commit(sizes: Sizes, lists: &[i32], t: &mut [i32], g: &mut [i32], u1: &mut [i32]) -> CAnswer
+fn commit(sizes: CSizes, lists: &[i32], t: &mut [i32], g: &mut [i32], u1: &mut [i32]) -> CAnswer
     ensures { λ x.
-        ⌜ Coded (λ answer. Committed (commitSizesOf sizes) (nthList 0 (now (lists .entry))) (nthList 1 (now (lists .entry)))
+        ⌜ Coded (λ answer. Committed (commitSizesOf (sizesFrom sizes)) (nthList 0 (now (lists .entry))) (nthList 1 (now (lists .entry)))
         (nthList 2 (now (lists .entry))) (nthList 3 (now (lists .entry))) (now (t .entry)) (now (g .entry)) (now (u1 .entry))
         answer (now (t .exit)) (now (g .exit)) (now (u1 .exit))) x ⌝ }
 {
@@ -37,7 +37,7 @@ fn commit(sizes: Sizes, lists: &[i32], t: &mut [i32], g: &mut [i32], u1: &mut [i
     answer
 }
 
-pub fn run_commit(sizes: Sizes, lists: &[i32]) -> CAnswer
+pub fn run_commit(sizes: CSizes, lists: &[i32]) -> CAnswer
     ensures { λ x. ⌜ x ≡ codeOf (commitAnswer sizes (now (lists .entry))) ⌝ }
 {
     let lengths = past_lists(lists, 4);
@@ -57,9 +57,9 @@ pub fn run_commit(sizes: Sizes, lists: &[i32]) -> CAnswer
 }
 
 // Call 2: the rows, the witness; p.
-fn project(sizes: Sizes, lists: &[i32], p: &mut [i32]) -> CAnswer
+fn project(sizes: CSizes, lists: &[i32], p: &mut [i32]) -> CAnswer
     ensures { λ x.
-        ⌜ Coded (λ answer. Projected (sizes .shape) (sizes .w) (nthList 0 (now (lists .entry))) (nthList 1 (now (lists .entry)))
+        ⌜ Coded (λ answer. Projected (shapeFrom (sizes .shape)) (sizes .w) (nthList 0 (now (lists .entry))) (nthList 1 (now (lists .entry)))
         (now (p .entry)) answer (now (p .exit))) x ⌝ }
 {
     let projections = nth_list(lists, 0);
@@ -70,7 +70,7 @@ fn project(sizes: Sizes, lists: &[i32], p: &mut [i32]) -> CAnswer
     answer
 }
 
-pub fn run_project(sizes: Sizes, lists: &[i32]) -> CAnswer
+pub fn run_project(sizes: CSizes, lists: &[i32]) -> CAnswer
     ensures { λ x. ⌜ x ≡ codeOf (projectAnswer sizes (now (lists .entry))) ⌝ }
 {
     let lengths = past_lists(lists, 2);
@@ -80,9 +80,9 @@ pub fn run_project(sizes: Sizes, lists: &[i32]) -> CAnswer
 }
 
 // Call 3: the constant-term functions, the rows, psi, omega, the witness; b''.
-fn aggregate(sizes: Sizes, lists: &[i32], second_b: &mut [i32]) -> CAnswer
+fn aggregate(sizes: CSizes, lists: &[i32], second_b: &mut [i32]) -> CAnswer
     ensures { λ x.
-        ⌜ Coded (λ answer. Aggregated (sizes .shape) (sizes .l) (sizes .w) (nthList 0 (now (lists .entry)))
+        ⌜ Coded (λ answer. Aggregated (shapeFrom (sizes .shape)) (sizes .l) (sizes .w) (nthList 0 (now (lists .entry)))
         (nthList 1 (now (lists .entry))) (nthList 2 (now (lists .entry))) (nthList 3 (now (lists .entry)))
         (nthList 4 (now (lists .entry))) (now («second_b» .entry)) answer (now («second_b» .exit))) x ⌝ }
 {
@@ -107,7 +107,7 @@ fn aggregate(sizes: Sizes, lists: &[i32], second_b: &mut [i32]) -> CAnswer
     answer
 }
 
-pub fn run_aggregate(sizes: Sizes, lists: &[i32]) -> CAnswer
+pub fn run_aggregate(sizes: CSizes, lists: &[i32]) -> CAnswer
     ensures { λ x. ⌜ x ≡ codeOf (aggregateAnswer sizes (now (lists .entry))) ⌝ }
 {
     let lengths = past_lists(lists, 5);
@@ -117,9 +117,9 @@ pub fn run_aggregate(sizes: Sizes, lists: &[i32]) -> CAnswer
 }
 
 // Call 4: the whole and the constant-term functions, the rows, psi, omega, alpha, delta, D, the witness; h's digits, u2.
-fn commit_garbage(sizes: Sizes, lists: &[i32], h: &mut [i32], u2: &mut [i32]) -> CAnswer
+fn commit_garbage(sizes: CSizes, lists: &[i32], h: &mut [i32], u2: &mut [i32]) -> CAnswer
     ensures { λ x.
-        ⌜ Coded (λ answer. GarbageCommitted (garbageSizesOf sizes) (nthList 0 (now (lists .entry)))
+        ⌜ Coded (λ answer. GarbageCommitted (garbageSizesOf (sizesFrom sizes)) (nthList 0 (now (lists .entry)))
         (nthList 1 (now (lists .entry))) (nthList 2 (now (lists .entry))) (nthList 3 (now (lists .entry)))
         (nthList 4 (now (lists .entry))) (nthList 5 (now (lists .entry))) (nthList 6 (now (lists .entry)))
         (nthList 7 (now (lists .entry))) (nthList 8 (now (lists .entry))) (now (h .entry)) (now (u2 .entry)) answer
@@ -155,7 +155,7 @@ fn commit_garbage(sizes: Sizes, lists: &[i32], h: &mut [i32], u2: &mut [i32]) ->
     answer
 }
 
-pub fn run_commit_garbage(sizes: Sizes, lists: &[i32]) -> CAnswer
+pub fn run_commit_garbage(sizes: CSizes, lists: &[i32]) -> CAnswer
     ensures { λ x. ⌜ x ≡ codeOf (garbageAnswer sizes (now (lists .entry))) ⌝ }
 {
     let lengths = past_lists(lists, 9);
@@ -167,9 +167,9 @@ pub fn run_commit_garbage(sizes: Sizes, lists: &[i32]) -> CAnswer
 }
 
 // Call 5: the challenges, the witness; z's digits.
-fn amortize(sizes: Sizes, lists: &[i32], z: &mut [i32]) -> CAnswer
+fn amortize(sizes: CSizes, lists: &[i32], z: &mut [i32]) -> CAnswer
     ensures { λ x.
-        ⌜ Coded (λ answer. Amortized (sizes .shape) (sizes .b) (nthList 0 (now (lists .entry))) (nthList 1 (now (lists .entry)))
+        ⌜ Coded (λ answer. Amortized (shapeFrom (sizes .shape)) (sizes .b) (nthList 0 (now (lists .entry))) (nthList 1 (now (lists .entry)))
         (now (z .entry)) answer (now (z .exit))) x ⌝ }
 {
     let c = nth_list(lists, 0);
@@ -180,7 +180,7 @@ fn amortize(sizes: Sizes, lists: &[i32], z: &mut [i32]) -> CAnswer
     answer
 }
 
-pub fn run_amortize(sizes: Sizes, lists: &[i32]) -> CAnswer
+pub fn run_amortize(sizes: CSizes, lists: &[i32]) -> CAnswer
     ensures { λ x. ⌜ x ≡ codeOf (amortizeAnswer sizes (now (lists .entry))) ⌝ }
 {
     let lengths = past_lists(lists, 2);

@@ -5,14 +5,14 @@ use capi::types::CAnswer;
 use cases::printing;
 
 // The answer's kind and number.
-pub fn print_answer(answer: CAnswer) -> u8
+pub fn print_answer(answer: CAnswer) -> u64
     ensures { λ r. ⌜ r ≡ answer .number ⌝ }
 {
     let kind = answer.kind;
     let number = answer.number;
     io::print_decimal(1, kind as u64);
     printing::print_gap(1);
-    io::print_decimal(1, number as u64);
+    io::print_decimal(1, number);
     number
 }
 

@@ -7,15 +7,15 @@ ghost use Rattle.fold_cases.specs.Answers.{callAnswer, caseAnswer, lineA
 use crate::input;
 use crate::messages;
 use crate::verification;
+use capi::sizes::CSizes;
 use capi::types::CAnswer;
 use cases::lists::past_numbers;
 use cases::numbers;
 use cases::printing;
 use cases::text;
-use fold::Sizes;
 
 // A call by its number: every other than 1 to 5 is the verifier's.
-fn run_call(call: usize, sizes: Sizes, lists: &[i32]) -> CAnswer
+fn run_call(call: usize, sizes: CSizes, lists: &[i32]) -> CAnswer
     ensures { λ x. ⌜ x ≡ codeOf (callAnswer call sizes (now (lists .entry))) ⌝ }
 {
     match call {

@@ -3,13 +3,13 @@ ghost use mathlib.Core.Path.{_≡_};
 ghost use Rattle.capi.specs.Codes.{codeOf};
 ghost use Rattle.fold_cases.specs.Answers.{verifyAnswer};
 use crate::output;
+use capi::sizes::CSizes;
 use capi::types::CAnswer;
 use cases::lists::nth_list;
-use fold::Sizes;
 
 // Call 6: A, B, C, D, the whole and the constant-term functions, u1, the rows, p, psi, omega, b'', alpha, delta, u2, the challenges, the
 // opening.
-pub fn run_verify(sizes: Sizes, lists: &[i32]) -> CAnswer
+pub fn run_verify(sizes: CSizes, lists: &[i32]) -> CAnswer
     ensures { λ x. ⌜ x ≡ codeOf (verifyAnswer sizes (now (lists .entry))) ⌝ }
 {
     let a_matrix = nth_list(lists, 0);

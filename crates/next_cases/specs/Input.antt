@@ -1,19 +1,19 @@
--- Sizes among the numbers of a case, and those of a part of the next witness.
+-- CSizes among the numbers of a case, and those of a part of the next witness.
 use mathlib.Core.List.{List}
 use Prim.Native.Nat.{ℕ}
 use lib.ListN.{getD}
 use lib.IntN.{ℤ, pos}
 use mir.Syntax.{w64}
 use mir.Val.{ofZ}
-use Rattle.fold.specs.declared.Sizes.{Sizes}
-use Rattle.fold.specs.declared.PartSizes.{PartSizes}
+use Rattle.capi.specs.declared.sizes.CSizes.{CSizes}
+use Rattle.capi.specs.declared.sizes.CPartSizes.{CPartSizes}
 
 -- The number at a place, 0 where there is none, modulo 2^64: -k stands for 2^64 - k.
 abbrev pub wideSize : List ℤ → ℕ → ℕ
 wideSize xs place = ofZ w64 (getD xs place (pos 0))
 
 -- eighteen sizes, of which ν and μ, numbers 14 and 15, stand in no struct of a fold
-unfoldable pub sizesOf : List ℤ → Sizes
+unfoldable pub sizesOf : List ℤ → CSizes
 sizesOf xs =
     record {
       shape = record { d = wideSize xs 0; n = wideSize xs 1; r = wideSize xs 2 };
@@ -33,6 +33,6 @@ sizesOf xs =
     }
 
 -- the sizes of an opening and of its cut
-abbrev pub partSizesOf : Sizes → (ν μ : ℕ) → PartSizes
+abbrev pub partSizesOf : CSizes → (ν μ : ℕ) → CPartSizes
 partSizesOf m ν μ =
     record { shape = m .shape; kappa = m .kappa; t1 = m .t1; t2 = m .t2; nu = ν; mu = μ }

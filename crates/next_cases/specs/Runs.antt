@@ -5,7 +5,7 @@ use mathlib.Core.List.{List, map}
 use Prim.Native.Nat.{ℕ, _-_}
 use lib.IntN.{ℤ}
 use lib.ListN.{length, drop}
-use Rattle.fold.specs.declared.Sizes.{Sizes}
+use Rattle.capi.specs.declared.sizes.CSizes.{CSizes}
 use Rattle.fold.specs.Arguments.{statementOf, drawsOf, transcriptOf, commitSizesOf, garbageSizesOf}
 use Rattle.fold.specs.Statement.{Statement, Draws, Transcript}
 use Rattle.fold.specs.Verification.{verification}
@@ -13,7 +13,7 @@ use Rattle.lizkarg.specs.Calls.{Committed, Projected, Aggregated, GarbageCommit
 use Rattle.fold.specs.Arguments.{partRefusalOf}
 use Rattle.next_instance.specs.Calls.{NextCalled}
 use Rattle.capi.specs.declared.types.CAnswer.{CAnswer}
-use Rattle.capi.specs.Codes.{Coded, codeOf}
+use Rattle.capi.specs.Codes.{Coded, codeOf, shapeFrom, sizesFrom, partSizesFrom}
 use Rattle.cases.specs.Numbers.{padded, word, sizeAt}
 use Rattle.cases.specs.Lists.{pastLists, nthList}
 use Rattle.cases.specs.Text.{lineNumbers}
@@ -23,63 +23,63 @@ use Rattle.next_cases.specs.Witness.{witnessOf}
 
 -- ---- kind 1: A, B, C, D, the whole and the constant-term functions, u1, the rows, p, ψ, ω, b″, α, δ, u2, c
 
-abbrev pub NextOfLists : Sizes → (ν μ : ℕ) → (lists out : List ℤ) → CAnswer → (out′ : List ℤ) → Type 0
+abbrev pub NextOfLists : CSizes → (ν μ : ℕ) → (lists out : List ℤ) → CAnswer → (out′ : List ℤ) → Type 0
 NextOfLists sizes ν μ lists out code out′ =
     Coded
     (λ answer. NextCalled
-    (statementOf sizes (nthList 0 lists) (nthList 1 lists) (nthList 2 lists) (nthList 3 lists) (nthList 4 lists) (nthList 5 lists))
+    (statementOf (sizesFrom sizes) (nthList 0 lists) (nthList 1 lists) (nthList 2 lists) (nthList 3 lists) (nthList 4 lists) (nthList 5 lists))
     (drawsOf (nthList 7 lists) (nthList 9 lists) (nthList 10 lists) (nthList 12 lists) (nthList 13 lists) (nthList 15 lists))
     (transcriptOf (nthList 6 lists) (nthList 8 lists) (nthList 11 lists) (nthList 14 lists)) ν μ out answer out′)
     code
 
-pub record InstanceRun (sizes : Sizes) (ν μ : ℕ) (xs : List ℤ) (code : CAnswer) : Type 0 where
+pub record InstanceRun (sizes : CSizes) (ν μ : ℕ) (xs : List ℤ) (code : CAnswer) : Type 0 where
   pub out′ : List ℤ
   pub called : NextOfLists sizes ν μ (drop 19 xs) (filled (sizeAt 32768 (pastLists 16 (drop 19 xs)) 0)) code out′
 
 -- ---- a fold: `lists` are A, B, C, D, the whole and the constant-term functions, the rows, ψ, ω, α, δ, c, the witness; the whole functions
 -- and the witness s of the fold stand apart, since those of a second fold come from the first
 
-pub record Committing (sizes : Sizes) (lists s lengths m : List ℤ) (code : CAnswer) (m′ : List ℤ) : Type 0 where
+pub record Committing (sizes : CSizes) (lists s lengths m : List ℤ) (code : CAnswer) (m′ : List ℤ) : Type 0 where
   pub t′ : List ℤ
   pub g′ : List ℤ
   pub u′ : List ℤ
   pub called : Coded
-      (λ answer. Committed (commitSizesOf sizes) (nthList 0 lists) (nthList 1 lists) (nthList 2 lists) s (blank lengths 1) (blank lengths 2)
+      (λ answer. Committed (commitSizesOf (sizesFrom sizes)) (nthList 0 lists) (nthList 1 lists) (nthList 2 lists) s (blank lengths 1) (blank lengths 2)
       (blank lengths 4) answer t′ g′ u′)
       code
   pub keeps : m′ ≡ kept (kept (kept m lengths 1 t′) lengths 2 g′) lengths 4 u′
 
-pub record Projecting (sizes : Sizes) (lists s lengths m : List ℤ) (code : CAnswer) (m′ : List ℤ) : Type 0 where
+pub record Projecting (sizes : CSizes) (lists s lengths m : List ℤ) (code : CAnswer) (m′ : List ℤ) : Type 0 where
   pub p′ : List ℤ
-  pub called : Coded (λ answer. Projected (sizes .shape) (sizes .w) (nthList 6 lists) s (blank lengths 5) answer p′) code
+  pub called : Coded (λ answer. Projected (shapeFrom (sizes .shape)) (sizes .w) (nthList 6 lists) s (blank lengths 5) answer p′) code
   pub keeps : m′ ≡ kept m lengths 5 p′
 
-pub record Aggregating (sizes : Sizes) (lists s lengths m : List ℤ) (code : CAnswer) (m′ : List ℤ) : Type 0 where
+pub record Aggregating (sizes : CSizes) (lists s lengths m : List ℤ) (code : CAnswer) (m′ : List ℤ) : Type 0 where
   pub b′ : List ℤ
   pub called : Coded
-      (λ answer. Aggregated (sizes .shape) (sizes .l) (sizes .w) (nthList 5 lists) (nthList 6 lists) (nthList 7 lists) (nthList 8 lists) s
+      (λ answer. Aggregated (shapeFrom (sizes .shape)) (sizes .l) (sizes .w) (nthList 5 lists) (nthList 6 lists) (nthList 7 lists) (nthList 8 lists) s
       (blank lengths 6) answer b′)
       code
   pub keeps : m′ ≡ kept m lengths 6 b′
 
-pub record GarbageCommitting (sizes : Sizes) (lists whole s lengths m : List ℤ) (code : CAnswer) (m′ : List ℤ) : Type 0 where
+pub record GarbageCommitting (sizes : CSizes) (lists whole s lengths m : List ℤ) (code : CAnswer) (m′ : List ℤ) : Type 0 where
   pub h′ : List ℤ
   pub u′ : List ℤ
   pub called : Coded
-      (λ answer. GarbageCommitted (garbageSizesOf sizes) whole (nthList 5 lists) (nthList 6 lists) (nthList 7 lists) (nthList 8 lists)
+      (λ answer. GarbageCommitted (garbageSizesOf (sizesFrom sizes)) whole (nthList 5 lists) (nthList 6 lists) (nthList 7 lists) (nthList 8 lists)
       (nthList 9 lists) (nthList 10 lists) (nthList 3 lists) s (blank lengths 3) (blank lengths 7) answer h′ u′)
       code
   pub keeps : m′ ≡ kept (kept m lengths 3 h′) lengths 7 u′
 
-pub record Amortizing (sizes : Sizes) (lists s lengths m : List ℤ) (code : CAnswer) (m′ : List ℤ) : Type 0 where
+pub record Amortizing (sizes : CSizes) (lists s lengths m : List ℤ) (code : CAnswer) (m′ : List ℤ) : Type 0 where
   pub z′ : List ℤ
-  pub called : Coded (λ answer. Amortized (sizes .shape) (sizes .b) (nthList 11 lists) s (blank lengths 0) answer z′) code
+  pub called : Coded (λ answer. Amortized (shapeFrom (sizes .shape)) (sizes .b) (nthList 11 lists) s (blank lengths 0) answer z′) code
   pub keeps : m′ ≡ kept m lengths 0 z′
 
 -- what the verifier and the next instance are given
-abbrev pub foldStatement : Sizes → (lists whole : List ℤ) → Statement
+abbrev pub foldStatement : CSizes → (lists whole : List ℤ) → Statement
 foldStatement sizes lists whole =
-    statementOf sizes (nthList 0 lists) (nthList 1 lists) (nthList 2 lists) (nthList 3 lists) whole (nthList 5 lists)
+    statementOf (sizesFrom sizes) (nthList 0 lists) (nthList 1 lists) (nthList 2 lists) (nthList 3 lists) whole (nthList 5 lists)
 
 abbrev pub foldDraws : (lists : List ℤ) → Draws
 foldDraws lists =
@@ -88,12 +88,12 @@ foldDraws lists =
 abbrev pub foldTranscript : (lengths m : List ℤ) → Transcript
 foldTranscript lengths m = transcriptOf (messageOf m lengths 4) (messageOf m lengths 5) (messageOf m lengths 6) (messageOf m lengths 7)
 
-abbrev pub verdictOf : Sizes → (lists whole lengths m : List ℤ) → CAnswer
+abbrev pub verdictOf : CSizes → (lists whole lengths m : List ℤ) → CAnswer
 verdictOf sizes lists whole lengths m =
     codeOf (verification (foldStatement sizes lists whole) (foldDraws lists) (foldTranscript lengths m) (openingOf m lengths))
 
 -- the five messages one after another, and the verdict on them
-pub record Folded (sizes : Sizes) (lists whole s lengths m : List ℤ) (verdict : CAnswer) (m′ : List ℤ) : Type 0 where
+pub record Folded (sizes : CSizes) (lists whole s lengths m : List ℤ) (verdict : CAnswer) (m′ : List ℤ) : Type 0 where
   pub code₁ : CAnswer
   pub code₂ : CAnswer
   pub code₃ : CAnswer
@@ -113,19 +113,19 @@ pub record Folded (sizes : Sizes) (lists whole s lengths m : List ℤ) (verdict 
 -- ---- kind 3
 
 -- the next instance after a fold
-abbrev pub NextOfFold : Sizes → (ν μ : ℕ) → (lists whole lengths m out : List ℤ) → CAnswer → (out′ : List ℤ) → Type 0
+abbrev pub NextOfFold : CSizes → (ν μ : ℕ) → (lists whole lengths m out : List ℤ) → CAnswer → (out′ : List ℤ) → Type 0
 NextOfFold sizes ν μ lists whole lengths m out code out′ =
     Coded (λ answer. NextCalled (foldStatement sizes lists whole) (foldDraws lists) (foldTranscript lengths m) ν μ out answer out′) code
 
 -- the first fold, of its own whole functions and witness, and its next instance
-pub record FirstRun (sizes : Sizes) (ν μ : ℕ) (lists lengths m m′ out out′ : List ℤ) : Type 0 where
+pub record FirstRun (sizes : CSizes) (ν μ : ℕ) (lists lengths m m′ out out′ : List ℤ) : Type 0 where
   pub verdict : CAnswer
   pub folded : Folded sizes lists (nthList 4 lists) (nthList 12 lists) lengths m verdict m′
   pub code : CAnswer
   pub called : NextOfFold sizes ν μ lists (nthList 4 lists) lengths m′ out code out′
 
 -- the second fold; the lengths stand after its lists
-pub record SecondRun (sizes : Sizes) (whole s lists : List ℤ) (verdict : CAnswer) : Type 0 where
+pub record SecondRun (sizes : CSizes) (whole s lists : List ℤ) (verdict : CAnswer) : Type 0 where
   pub m′ : List ℤ
   pub folded : Folded sizes lists whole s (pastLists 13 lists) (filled 32768) verdict m′
 
@@ -137,10 +137,10 @@ abbrev pub secondIn : List ℤ → List ℤ
 secondIn xs = drop 9 (lengthsIn xs)
 
 -- read where the numbers have all their bits
-abbrev pub secondSizes : (wides xs : List ℤ) → Sizes
+abbrev pub secondSizes : (wides xs : List ℤ) → CSizes
 secondSizes wides xs = sizesOf (drop (length xs - length (secondIn xs)) wides)
 
-pub record TwiceRun (sizes : Sizes) (ν μ : ℕ) (wides xs : List ℤ) (verdict : CAnswer) : Type 0 where
+pub record TwiceRun (sizes : CSizes) (ν μ : ℕ) (wides xs : List ℤ) (verdict : CAnswer) : Type 0 where
   pub m′ : List ℤ
   pub whole : List ℤ
   pub first : FirstRun sizes ν μ (drop 19 xs) (lengthsIn xs) (filled 32768) m′ (filled (sizeAt 32768 (lengthsIn xs) 8)) whole
@@ -149,23 +149,23 @@ pub record TwiceRun (sizes : Sizes) (ν μ : ℕ) (wides xs : List ℤ) (verdict
 
 -- ---- a case: its kind, its sizes, what its kind has. r is the number of its last answer.
 
-pub record InstanceNumber (sizes : Sizes) (ν μ : ℕ) (xs : List ℤ) (r : ℕ) : Type 0 where
+pub record InstanceNumber (sizes : CSizes) (ν μ : ℕ) (xs : List ℤ) (r : ℕ) : Type 0 where
   pub code : CAnswer
   pub ran : InstanceRun sizes ν μ xs code
   pub number-is : r ≡ code .number
 
-pub record TwiceNumber (sizes : Sizes) (ν μ : ℕ) (wides xs : List ℤ) (r : ℕ) : Type 0 where
+pub record TwiceNumber (sizes : CSizes) (ν μ : ℕ) (wides xs : List ℤ) (r : ℕ) : Type 0 where
   pub code : CAnswer
   pub ran : TwiceRun sizes ν μ wides xs code
   pub number-is : r ≡ code .number
 
-abbrev pub caseSizes : List ℤ → Sizes
+abbrev pub caseSizes : List ℤ → CSizes
 caseSizes wides = sizesOf (drop 1 wides)
 
 pub record CaseRun (wides xs : List ℤ) (kind r : ℕ) : Type 0 where
   pub instance : kind ≡ 1 → InstanceNumber (caseSizes wides) (wideSize wides 15) (wideSize wides 16) xs r
   pub part : kind ≡ 2
-      → r ≡ partRefusalOf (partSizesOf (caseSizes wides) (wideSize wides 15) (wideSize wides 16)) (wideSize wides 19) (nthList 0 (drop 20 xs))
+      → r ≡ partRefusalOf (partSizesFrom (partSizesOf (caseSizes wides) (wideSize wides 15) (wideSize wides 16))) (wideSize wides 19) (nthList 0 (drop 20 xs))
   pub twice : kind ≡ 3 → TwiceNumber (caseSizes wides) (wideSize wides 15) (wideSize wides 16) wides xs r
 
 -- the numbers of a line, 4096 of them, and the same as numbers of 32 bits

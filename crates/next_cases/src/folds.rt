@@ -4,6 +4,9 @@
 // `lengths` and `messages` are those of module messages.
 ghost use mathlib.Core.Path.{_≡_};
 ghost use Rattle.next_cases.specs.Runs.{Committing, Projecting, Aggregating, GarbageCommitting, Amortizing, verdictOf, Folded};
+use capi::sizes::CCommitSizes;
+use capi::sizes::CGarbageSizes;
+use capi::sizes::CSizes;
 use crate::input::FILL;
 use crate::input::ROOM;
 use crate::messages::G;
@@ -21,13 +24,10 @@ use crate::output::print_answer;
 use capi::types::CAnswer;
 use cases::lists::nth_list;
 use cases::numbers::size;
-use fold::CommitSizes;
-use fold::GarbageSizes;
-use fold::Sizes;
 
 fn commit(
     place: usize,
-    sizes: Sizes,
+    sizes: CSizes,
     lists: &[i32],
     witness: &[i32],
     lengths: &[i32],
@@ -47,7 +47,7 @@ fn commit(
     let g = &mut g_room[..g_count];
     let u1 = &mut u1_room[..u1_count];
     let shape = sizes.shape;
-    let its = CommitSizes {
+    let its = CCommitSizes {
         shape,
         kappa: sizes.kappa,
         kappa1: sizes.kappa1,
@@ -74,7 +74,7 @@ fn commit(
 }
 
 fn project(
-    sizes: Sizes,
+    sizes: CSizes,
     lists: &[i32],
     witness: &[i32],
     lengths: &[i32],
@@ -94,7 +94,7 @@ fn project(
 }
 
 fn aggregate(
-    sizes: Sizes,
+    sizes: CSizes,
     lists: &[i32],
     witness: &[i32],
     lengths: &[i32],
@@ -124,7 +124,7 @@ fn aggregate(
 }
 
 fn commit_garbage(
-    sizes: Sizes,
+    sizes: CSizes,
     lists: &[i32],
     whole: &[i32],
     witness: &[i32],
@@ -142,7 +142,7 @@ fn commit_garbage(
     let h = &mut h_room[..h_count];
     let u2 = &mut u2_room[..u2_count];
     let shape = sizes.shape;
-    let its = GarbageSizes {
+    let its = CGarbageSizes {
         shape,
         k: sizes.k,
         l: sizes.l,
@@ -172,7 +172,7 @@ fn commit_garbage(
 }
 
 fn amortize(
-    sizes: Sizes,
+    sizes: CSizes,
     lists: &[i32],
     witness: &[i32],
     lengths: &[i32],
@@ -193,7 +193,7 @@ fn amortize(
 }
 
 // The verdict on the messages.
-fn verify(sizes: Sizes, lists: &[i32], whole: &[i32], lengths: &[i32], messages: &[i32]) -> CAnswer
+fn verify(sizes: CSizes, lists: &[i32], whole: &[i32], lengths: &[i32], messages: &[i32]) -> CAnswer
     ensures { λ x.
         ⌜ x ≡ verdictOf sizes (now (lists .entry)) (now (whole .entry)) (now (lengths .entry)) (now (messages .entry)) ⌝ }
 {
@@ -224,7 +224,7 @@ fn verify(sizes: Sizes, lists: &[i32], whole: &[i32], lengths: &[i32], messages:
 // A fold: prints each message's answer and the sums of what it wrote, and the verdict, which it answers; a blank first where `place` is not 0.
 pub fn run_fold(
     place: usize,
-    sizes: Sizes,
+    sizes: CSizes,
     lists: &[i32],
     whole: &[i32],
     witness: &[i32],

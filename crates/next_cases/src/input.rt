@@ -5,9 +5,9 @@ ghost use mir.Syntax.{w64};
 ghost use mir.Val.{ofZ};
 ghost use Rattle.cases.specs.Numbers.{sizeOf};
 ghost use Rattle.next_cases.specs.Input.{wideSize, sizesOf};
+use capi::sizes::CShape;
+use capi::sizes::CSizes;
 use cases::numbers::wide_at;
-use fold::Shape;
-use fold::Sizes;
 
 // Where the sizes of a case begin, how many they are, which numbers are ν and μ, and what follows the sizes.
 pub const SIZES: usize = 1;
@@ -51,11 +51,11 @@ pub fn size_at(wides: &[i64], place: usize) -> usize
 }
 
 // The sizes of a fold, from the first number on; ν and μ are left out.
-pub fn read_sizes(wides: &[i64]) -> Sizes
+pub fn read_sizes(wides: &[i64]) -> CSizes
     ensures { λ x. ⌜ x ≡ sizesOf (now (wides .entry)) ⌝ }
 {
-    Sizes {
-        shape: Shape {
+    CSizes {
+        shape: CShape {
             d: size_at(wides, 0),
             n: size_at(wides, 1),
             r: size_at(wides, 2),

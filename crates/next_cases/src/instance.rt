@@ -1,6 +1,7 @@
 // Kind 1, the next instance.
 ghost use lib.ListN.{length};
 ghost use Rattle.next_cases.specs.Runs.{NextOfLists, InstanceRun};
+use capi::sizes::CSizes;
 use crate::input::FILL;
 use crate::input::LISTS;
 use crate::input::ROOM;
@@ -12,10 +13,9 @@ use cases::lists::past_lists;
 use cases::lists::past_numbers;
 use cases::numbers::size;
 use cases::sums::print_shown;
-use fold::Sizes;
 
 // The call on A, B, C, D, the whole and the constant-term functions, u1, the rows, p, psi, omega, b'', alpha, delta, u2, the challenges.
-fn print_instance(sizes: Sizes, nu: usize, mu: usize, lists: &[i32], out: &mut [i32]) -> CAnswer
+fn print_instance(sizes: CSizes, nu: usize, mu: usize, lists: &[i32], out: &mut [i32]) -> CAnswer
     ensures { λ x. ⌜ NextOfLists sizes nu mu (now (lists .entry)) (now (out .entry)) x (now (out .exit)) ⌝ }
 {
     let answer = lizkarg_next_instance(
@@ -46,7 +46,7 @@ fn print_instance(sizes: Sizes, nu: usize, mu: usize, lists: &[i32], out: &mut [
 }
 
 // The sixteen lists of the call, and the length of the list to write.
-pub fn run_instance(sizes: Sizes, nu: usize, mu: usize, xs: &[i32]) -> CAnswer
+pub fn run_instance(sizes: CSizes, nu: usize, mu: usize, xs: &[i32]) -> CAnswer
     ensures { λ x. ⌜ InstanceRun sizes nu mu (now (xs .entry)) x ⌝ }
 {
     let lists = past_numbers(xs, LISTS);

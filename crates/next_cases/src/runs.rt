@@ -16,7 +16,7 @@ use cases::text;
 const NUMBERS: usize = 4096;
 
 // A case of this kind: all its numbers, with all their bits and with 32. It answers the number of the last answer; 0 where the kind is none.
-fn run_case(kind: usize, wides: &[i64], xs: &[i32]) -> u8
+fn run_case(kind: usize, wides: &[i64], xs: &[i32]) -> u64
     ensures { λ r. ⌜ CaseRun (now (wides .entry)) (now (xs .entry)) kind r ⌝ }
 {
     let sizes = input::read_sizes(lists::past_wides(wides, input::SIZES));
@@ -28,7 +28,7 @@ fn run_case(kind: usize, wides: &[i64], xs: &[i32]) -> u8
     }
     if kind == 2 {
         let number = input::size_at(wides, input::LISTS);
-        return part::run_part(sizes, nu, mu, number, xs);
+        return part::run_part(sizes, nu, mu, number, xs) as u64;
     }
     if kind == 3 {
         let answer = twice::run_twice(sizes, nu, mu, wides, xs);
@@ -38,7 +38,7 @@ fn run_case(kind: usize, wides: &[i64], xs: &[i32]) -> u8
 }
 
 // The case of one line.
-fn run_line(line: &[u8]) -> u8
+fn run_line(line: &[u8]) -> u64
     ensures { λ r. ⌜ LineRun (now (line .entry)) r ⌝ }
 {
     let mut wides = [0i64; NUMBERS];

@@ -5,6 +5,8 @@ ghost use lib.IntN.{pos};
 ghost use Rattle.cases.specs.Numbers.{sizeOf};
 ghost use Rattle.next_cases.specs.Runs.{NextOfFold, FirstRun, SecondRun, TwiceRun};
 ghost use Rattle.next_cases.specs.Witness.{witnessOf};
+use capi::sizes::CPartSizes;
+use capi::sizes::CSizes;
 use crate::folds::run_fold;
 use crate::input::FILL;
 use crate::input::LISTS;
@@ -29,12 +31,10 @@ use cases::lists::past_numbers;
 use cases::lists::past_wides;
 use cases::numbers::size;
 use cases::sums::print_sum;
-use fold::PartSizes;
-use fold::Sizes;
 
 // The next instance after a fold, whose parameters are those of module folds.
 fn print_next(
-    sizes: Sizes,
+    sizes: CSizes,
     nu: usize,
     mu: usize,
     lists: &[i32],
@@ -76,7 +76,7 @@ fn print_next(
 
 // The first fold, of its own whole functions and witness, and its next instance.
 fn run_first(
-    sizes: Sizes,
+    sizes: CSizes,
     nu: usize,
     mu: usize,
     lists: &[i32],
@@ -102,7 +102,7 @@ fn product(x: usize, y: usize) -> usize
 }
 
 // The second fold; the lengths stand after its lists.
-fn run_second(sizes: Sizes, whole: &[i32], witness: &[i32], lists: &[i32]) -> CAnswer
+fn run_second(sizes: CSizes, whole: &[i32], witness: &[i32], lists: &[i32]) -> CAnswer
     ensures { λ x. ⌜ SecondRun sizes (now (whole .entry)) (now (witness .entry)) (now (lists .entry)) x ⌝ }
 {
     let lengths = past_lists(lists, 13);
@@ -113,8 +113,8 @@ fn run_second(sizes: Sizes, whole: &[i32], witness: &[i32], lists: &[i32]) -> CA
 
 // The next witness from the first fold's opening, and the second fold. The witness has as many parts as the sizes say.
 fn with_witness(
-    first: PartSizes,
-    sizes: Sizes,
+    first: CPartSizes,
+    sizes: CSizes,
     opening: &[i32],
     whole: &[i32],
     lists: &[i32],
@@ -131,7 +131,7 @@ fn with_witness(
 }
 
 // The first fold's lists and lengths, that of the next constraints among them; the second fold's sizes, lists and lengths.
-pub fn run_twice(sizes: Sizes, nu: usize, mu: usize, wides: &[i64], xs: &[i32]) -> CAnswer
+pub fn run_twice(sizes: CSizes, nu: usize, mu: usize, wides: &[i64], xs: &[i32]) -> CAnswer
     ensures { λ x. ⌜ TwiceRun sizes nu mu (now (wides .entry)) (now (xs .entry)) x ⌝ }
 {
     let lists = past_numbers(xs, LISTS);

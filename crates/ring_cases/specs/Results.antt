@@ -6,7 +6,7 @@
 use mathlib.Core.Path.{_≡_}
 use mathlib.Core.Bool.{Bool, cond, _&&_, _||_}
 use mathlib.Core.List.{List, [], _∷_, map}
-use Prim.Native.Nat.{ℕ, _+_, _*_}
+use Prim.Native.Nat.{ℕ, _+_, _*_, min}
 use lib.Dec.{eqb, ltb}
 use lib.IntN.{ℤ, pos}
 use lib.ListN.{length, getD, take, drop}
@@ -121,7 +121,7 @@ unfoldable pub productAt : (xs wides : List ℤ) → CProduct
 productAt xs wides = productCode (productOf (P (getD wides 1 (pos 0))) (padded 64 (drop 2 xs)) (padded 64 (drop 66 xs)))
 
 unfoldable pub productNumbers : CProduct → List ℤ
-productNumbers x = pos (x .kind) ∷ pos (x .number) ∷ padded 64 (x .element .coefficients)
+productNumbers x = pos (x .kind) ∷ pos (min (x .number) 2147483647) ∷ padded 64 (x .element .coefficients)
 
 -- ---- all
 

@@ -1,5 +1,6 @@
 // The product under the name that C uses.
 ghost use mathlib.Core.Path.{_≡_};
+ghost use Prim.Native.Nat.{min};
 ghost use lib.IntN.{pos};
 ghost use lib.ListN.{length};
 ghost use Rattle.cases.specs.Numbers.{padded};
@@ -38,6 +39,16 @@ fn word(x: u8) -> i32
     x as i32
 }
 
+// A number, at most the largest of 32 bits.
+fn capped(x: u64) -> i32
+    ensures { λ r. ⌜ r ≡ pos (min x 2147483647) ⌝ }
+{
+    if x < 2147483647 {
+        return x as i32;
+    }
+    2147483647
+}
+
 // The answer's kind and number, and then the sixty-four numbers of the element.
 pub fn write_product(xs: &[i32], wides: &[i64], out: &mut [i32]) -> usize
     requires { ⌜ length (now out) ≡ 512 ⌝ }
@@ -45,7 +56,7 @@ pub fn write_product(xs: &[i32], wides: &[i64], out: &mut [i32]) -> usize
 {
     let answer = product(xs, wides);
     let kind = word(answer.kind);
-    let number = word(answer.number);
+    let number = capped(answer.number);
     let head = [kind, number];
     let numbers = answer.element.coefficients;
     put(out, 0, &head, 2);

@@ -89,11 +89,11 @@ fn print_number(x: u64) -> u64
     x
 }
 
-fn print_answer(kind: u8, number: u8) -> u64
+fn print_answer(kind: u8, number: u64) -> u64
     ensures { λ r. ⌜ r ≡ number ⌝ }
 {
     io::print_decimal(1, kind as u64);
-    print_number(number as u64)
+    print_number(number)
 }
 
 fn print_header(h: CHeader) -> u64

@@ -7,6 +7,8 @@ use crate::front;
 use crate::lesser;
 use crate::print_number;
 use crate::read_case;
+use capi::sizes::CShape;
+use capi::sizes::CSizes;
 use capi::write::CText;
 use capi::write::lizkarg_sheet_bytes;
 use capi::write::lizkarg_write_sheet;
@@ -15,8 +17,6 @@ use cases::printing::print_line_end;
 use cases::sums::with_number;
 use fields::walk::number_at;
 use fields::walk::number_size;
-use fold::Shape;
-use fold::Sizes;
 
 // Most numbers of a case.
 const NUMBERS: usize = 8192;
@@ -29,13 +29,13 @@ fn size_at(line: &[u8], at: usize) -> usize {
 }
 
 // The sizes on the line of a case.
-fn sizes_on(line: &[u8]) -> Sizes {
-    let shape = Shape {
+fn sizes_on(line: &[u8]) -> CSizes {
+    let shape = CShape {
         d: size_at(line, 0),
         n: size_at(line, 16),
         r: size_at(line, 32),
     };
-    Sizes {
+    CSizes {
         shape,
         k: size_at(line, 48),
         l: size_at(line, 64),
@@ -97,7 +97,7 @@ fn print_buffer(text: &[u8]) -> bool {
 
 fn print_answer(wrote: CText) -> bool {
     print_number(wrote.kind as u64);
-    print_number(wrote.number as u64);
+    print_number(wrote.number);
     print_number(wrote.length as u64);
     true
 }

@@ -6,7 +6,7 @@ use lib.IntN.{ℤ, pos}
 use lib.ListN.{length, take, replicate, length-replicate}
 use lib.Seq.{length-take-le}
 use borrow.Author.Tests.{ne-eqb}
-use Rattle.fold.specs.declared.Sizes.{Sizes}
+use Rattle.capi.specs.declared.sizes.CSizes.{CSizes}
 use Rattle.cases.specs.Numbers.{padded, word, sizeAt}
 use Rattle.cases.specs.Text.{lineNumbers}
 use Rattle.cases.specs.Laws.NumberLaws.{size-bound}
@@ -30,7 +30,7 @@ room-is k i lists e f = rw (f, e)
 
 -- ---- a call by its number
 
-module _ (call : ℕ) (sizes : Sizes) (xs : List ℤ) where
+module _ (call : ℕ) (sizes : CSizes) (xs : List ℤ) where
   pub call-1 : call ≡ 1 → callAnswer call sizes xs ≡ commitAnswer sizes xs
   unfolding callAnswer
   call-1 e = rw e refl

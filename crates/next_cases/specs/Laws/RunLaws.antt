@@ -7,15 +7,15 @@ use native.Mathlib.Omega.{arith}
 use lib.IntN.{ℤ, pos}
 use lib.ListN.{length, take, drop, replicate, length-replicate, length-drop}
 use Rattle.integers.specs.Over.{over}
-use Rattle.fold.specs.declared.Sizes.{Sizes}
+use Rattle.capi.specs.declared.sizes.CSizes.{CSizes}
 use Rattle.fold.specs.Arguments.{statementOf, drawsOf, transcriptOf, commitSizesOf, garbageSizesOf}
 use Rattle.fold.specs.Verification.{verification}
 use Rattle.lizkarg.specs.Calls.{Committed, Projected, Aggregated, GarbageCommitted, Amortized}
-use Rattle.fold.specs.declared.PartSizes.{PartSizes}
+use Rattle.capi.specs.declared.sizes.CPartSizes.{CPartSizes}
 use Rattle.fold.specs.Arguments.{partRefusalOf}
 use Rattle.next_instance.specs.Calls.{NextCalled}
 use Rattle.capi.specs.declared.types.CAnswer.{CAnswer}
-use Rattle.capi.specs.Codes.{Coded, codeOf}
+use Rattle.capi.specs.Codes.{Coded, codeOf, shapeFrom, sizesFrom, partSizesFrom}
 use Rattle.cases.specs.Numbers.{padded, word, sizeAt, sizeOf}
 use Rattle.cases.specs.Lists.{firstWidth, pastList, pastLists, nthList}
 use Rattle.cases.specs.Text.{lineNumbers}
@@ -34,19 +34,19 @@ front n = take n (replicate 32768 (pos 77))
 
 -- ---- kind 1
 
-module _ {sizes : Sizes} {ν μ : ℕ} {code : CAnswer} {out′ : List ℤ} where
+module _ {sizes : CSizes} {ν μ : ℕ} {code : CAnswer} {out′ : List ℤ} where
   pub next-of-lists : (lists : List ℤ) {out A B C D whole constantTerms u₁ projections p ψ ω b″ α δ u₂ c : List ℤ}
       → A ≡ nthList 0 lists → B ≡ nthList 1 lists → C ≡ nthList 2 lists → D ≡ nthList 3 lists
       → whole ≡ nthList 4 lists → constantTerms ≡ nthList 5 lists → u₁ ≡ nthList 6 lists → projections ≡ nthList 7 lists
       → p ≡ nthList 8 lists → ψ ≡ nthList 9 lists → ω ≡ nthList 10 lists → b″ ≡ nthList 11 lists
       → α ≡ nthList 12 lists → δ ≡ nthList 13 lists → u₂ ≡ nthList 14 lists → c ≡ nthList 15 lists
       → Coded
-      (λ answer. NextCalled (statementOf sizes A B C D whole constantTerms) (drawsOf projections ψ ω α δ c) (transcriptOf u₁ p b″ u₂) ν μ out answer out′) code
+      (λ answer. NextCalled (statementOf (sizesFrom sizes) A B C D whole constantTerms) (drawsOf projections ψ ω α δ c) (transcriptOf u₁ p b″ u₂) ν μ out answer out′) code
       → NextOfLists sizes ν μ lists out code out′
   next-of-lists lists {out = out} A B C D whole constantTerms u₁ projections p ψ ω b″ α δ u₂ c called =
       coe 0 1
       (i. Coded
-      (λ answer. NextCalled (statementOf sizes (A i) (B i) (C i) (D i) (whole i) (constantTerms i)) (drawsOf (projections i) (ψ i) (ω i) (α i) (δ i) (c i))
+      (λ answer. NextCalled (statementOf (sizesFrom sizes) (A i) (B i) (C i) (D i) (whole i) (constantTerms i)) (drawsOf (projections i) (ψ i) (ω i) (α i) (δ i) (c i))
       (transcriptOf (u₁ i) (p i) (b″ i) (u₂ i)) ν μ out answer out′)
       code)
       called
@@ -61,11 +61,11 @@ module _ {sizes : Sizes} {ν μ : ℕ} {code : CAnswer} {out′ : List ℤ} wher
 
 -- ---- a fold
 
-module _ {sizes : Sizes} {s lengths m : List ℤ} {code : CAnswer} {m′ : List ℤ} where
+module _ {sizes : CSizes} {s lengths m : List ℤ} {code : CAnswer} {m′ : List ℤ} where
   pub committing : {lists A B C t′ g′ u′ : List ℤ} {k l n : ℕ}
       → A ≡ nthList 0 lists → B ≡ nthList 1 lists → C ≡ nthList 2 lists
       → k ≡ sizeAt 32768 lengths 1 → l ≡ sizeAt 32768 lengths 2 → n ≡ sizeAt 32768 lengths 4
-      → Coded (λ answer. Committed (commitSizesOf sizes) A B C s (front k) (front l) (front n) answer t′ g′ u′) code
+      → Coded (λ answer. Committed (commitSizesOf (sizesFrom sizes)) A B C s (front k) (front l) (front n) answer t′ g′ u′) code
       → m′ ≡ kept (kept (kept m lengths 1 t′) lengths 2 g′) lengths 4 u′ → Committing sizes lists s lengths m code m′
   committing {t′ = t′} {g′ = g′} {u′ = u′} A B C k l n called keeps =
       let t = blank-is 32768 lengths 1 k in
@@ -75,25 +75,25 @@ module _ {sizes : Sizes} {s lengths m : List ℤ} {code : CAnswer} {m′ : List 
         t′ = t′;
         g′ = g′;
         u′ = u′;
-        called = coe 0 1 (i. Coded (λ answer. Committed (commitSizesOf sizes) (A i) (B i) (C i) s (t i) (g i) (u i) answer t′ g′ u′) code) called;
+        called = coe 0 1 (i. Coded (λ answer. Committed (commitSizesOf (sizesFrom sizes)) (A i) (B i) (C i) s (t i) (g i) (u i) answer t′ g′ u′) code) called;
         keeps = keeps;
       }
 
   pub projecting : {lists projections p′ : List ℤ} {n : ℕ} → projections ≡ nthList 6 lists → n ≡ sizeAt 32768 lengths 5
-      → Coded (λ answer. Projected (sizes .shape) (sizes .w) projections s (front n) answer p′) code → m′ ≡ kept m lengths 5 p′
+      → Coded (λ answer. Projected (shapeFrom (sizes .shape)) (sizes .w) projections s (front n) answer p′) code → m′ ≡ kept m lengths 5 p′
       → Projecting sizes lists s lengths m code m′
   projecting {p′ = p′} projections n called keeps =
       let p = blank-is 32768 lengths 5 n in
       record {
         p′ = p′;
-        called = coe 0 1 (i. Coded (λ answer. Projected (sizes .shape) (sizes .w) (projections i) s (p i) answer p′) code) called;
+        called = coe 0 1 (i. Coded (λ answer. Projected (shapeFrom (sizes .shape)) (sizes .w) (projections i) s (p i) answer p′) code) called;
         keeps = keeps;
       }
 
   pub aggregating : {lists constantTerms projections ψ ω b′ : List ℤ} {n : ℕ}
       → constantTerms ≡ nthList 5 lists → projections ≡ nthList 6 lists → ψ ≡ nthList 7 lists → ω ≡ nthList 8 lists
       → n ≡ sizeAt 32768 lengths 6
-      → Coded (λ answer. Aggregated (sizes .shape) (sizes .l) (sizes .w) constantTerms projections ψ ω s (front n) answer b′) code → m′ ≡ kept m lengths 6 b′
+      → Coded (λ answer. Aggregated (shapeFrom (sizes .shape)) (sizes .l) (sizes .w) constantTerms projections ψ ω s (front n) answer b′) code → m′ ≡ kept m lengths 6 b′
       → Aggregating sizes lists s lengths m code m′
   aggregating {b′ = b′} constantTerms projections ψ ω n called keeps =
       let b = blank-is 32768 lengths 6 n in
@@ -101,7 +101,7 @@ module _ {sizes : Sizes} {s lengths m : List ℤ} {code : CAnswer} {m′ : List 
         b′ = b′;
         called =
             coe 0 1
-            (i. Coded (λ answer. Aggregated (sizes .shape) (sizes .l) (sizes .w) (constantTerms i) (projections i) (ψ i) (ω i) s (b i) answer b′) code)
+            (i. Coded (λ answer. Aggregated (shapeFrom (sizes .shape)) (sizes .l) (sizes .w) (constantTerms i) (projections i) (ψ i) (ω i) s (b i) answer b′) code)
             called;
         keeps = keeps;
       }
@@ -110,7 +110,7 @@ module _ {sizes : Sizes} {s lengths m : List ℤ} {code : CAnswer} {m′ : List 
       → constantTerms ≡ nthList 5 lists → projections ≡ nthList 6 lists → ψ ≡ nthList 7 lists
       → ω ≡ nthList 8 lists → α ≡ nthList 9 lists → δ ≡ nthList 10 lists → D ≡ nthList 3 lists
       → k ≡ sizeAt 32768 lengths 3 → n ≡ sizeAt 32768 lengths 7
-      → Coded (λ answer. GarbageCommitted (garbageSizesOf sizes) whole constantTerms projections ψ ω α δ D s (front k) (front n) answer h′ u′) code
+      → Coded (λ answer. GarbageCommitted (garbageSizesOf (sizesFrom sizes)) whole constantTerms projections ψ ω α δ D s (front k) (front n) answer h′ u′) code
       → m′ ≡ kept (kept m lengths 3 h′) lengths 7 u′ → GarbageCommitting sizes lists whole s lengths m code m′
   garbage-committing {whole = whole} {h′ = h′} {u′ = u′} constantTerms projections ψ ω α δ D k n called keeps =
       let h = blank-is 32768 lengths 3 k in
@@ -121,54 +121,54 @@ module _ {sizes : Sizes} {s lengths m : List ℤ} {code : CAnswer} {m′ : List 
         called =
             coe 0 1
             (i. Coded
-            (λ answer. GarbageCommitted (garbageSizesOf sizes) whole (constantTerms i) (projections i) (ψ i) (ω i) (α i) (δ i) (D i) s (h i) (u i) answer h′ u′)
+            (λ answer. GarbageCommitted (garbageSizesOf (sizesFrom sizes)) whole (constantTerms i) (projections i) (ψ i) (ω i) (α i) (δ i) (D i) s (h i) (u i) answer h′ u′)
             code)
             called;
         keeps = keeps;
       }
 
   pub amortizing : {lists c z′ : List ℤ} {n : ℕ} → c ≡ nthList 11 lists
-      → n ≡ sizeAt 32768 lengths 0 → Coded (λ answer. Amortized (sizes .shape) (sizes .b) c s (front n) answer z′) code
+      → n ≡ sizeAt 32768 lengths 0 → Coded (λ answer. Amortized (shapeFrom (sizes .shape)) (sizes .b) c s (front n) answer z′) code
       → m′ ≡ kept m lengths 0 z′ → Amortizing sizes lists s lengths m code m′
   amortizing {z′ = z′} c n called keeps =
       let z = blank-is 32768 lengths 0 n in
       record {
         z′ = z′;
-        called = coe 0 1 (i. Coded (λ answer. Amortized (sizes .shape) (sizes .b) (c i) s (z i) answer z′) code) called;
+        called = coe 0 1 (i. Coded (λ answer. Amortized (shapeFrom (sizes .shape)) (sizes .b) (c i) s (z i) answer z′) code) called;
         keeps = keeps;
       }
 
 -- what the verifier and the next instance are given after a fold
-module _ (sizes : Sizes) (lists whole lengths m : List ℤ) {A B C D constantTerms u₁ projections p ψ ω b″ α δ u₂ c : List ℤ}
+module _ (sizes : CSizes) (lists whole lengths m : List ℤ) {A B C D constantTerms u₁ projections p ψ ω b″ α δ u₂ c : List ℤ}
     (A-is : A ≡ nthList 0 lists) (B-is : B ≡ nthList 1 lists) (C-is : C ≡ nthList 2 lists) (D-is : D ≡ nthList 3 lists)
     (constantTerms-is : constantTerms ≡ nthList 5 lists) (u₁-is : u₁ ≡ messageOf m lengths 4) (projections-is : projections ≡ nthList 6 lists)
     (p-is : p ≡ messageOf m lengths 5) (ψ-is : ψ ≡ nthList 7 lists) (ω-is : ω ≡ nthList 8 lists) (b″-is : b″ ≡ messageOf m lengths 6)
     (α-is : α ≡ nthList 9 lists) (δ-is : δ ≡ nthList 10 lists) (u₂-is : u₂ ≡ messageOf m lengths 7) (c-is : c ≡ nthList 11 lists) where
   pub verdict-of : {opening : List ℤ} {code : CAnswer} → opening ≡ openingOf m lengths
       → code
-      ≡ codeOf (verification (statementOf sizes A B C D whole constantTerms) (drawsOf projections ψ ω α δ c) (transcriptOf u₁ p b″ u₂) opening)
+      ≡ codeOf (verification (statementOf (sizesFrom sizes) A B C D whole constantTerms) (drawsOf projections ψ ω α δ c) (transcriptOf u₁ p b″ u₂) opening)
       → code ≡ verdictOf sizes lists whole lengths m
   verdict-of opening-is e =
       e
       ∙ (λ i. codeOf
-      (verification (statementOf sizes (A-is i) (B-is i) (C-is i) (D-is i) whole (constantTerms-is i))
+      (verification (statementOf (sizesFrom sizes) (A-is i) (B-is i) (C-is i) (D-is i) whole (constantTerms-is i))
       (drawsOf (projections-is i) (ψ-is i) (ω-is i) (α-is i) (δ-is i) (c-is i)) (transcriptOf (u₁-is i) (p-is i) (b″-is i) (u₂-is i)) (opening-is i)))
 
   pub next-of-fold : {ν μ : ℕ} {out out′ : List ℤ} {code : CAnswer}
       → Coded
-      (λ answer. NextCalled (statementOf sizes A B C D whole constantTerms) (drawsOf projections ψ ω α δ c) (transcriptOf u₁ p b″ u₂) ν μ out answer out′) code
+      (λ answer. NextCalled (statementOf (sizesFrom sizes) A B C D whole constantTerms) (drawsOf projections ψ ω α δ c) (transcriptOf u₁ p b″ u₂) ν μ out answer out′) code
       → NextOfFold sizes ν μ lists whole lengths m out code out′
   next-of-fold {ν} {μ} {out} {out′} {code} called =
       coe 0 1
       (i. Coded
-      (λ answer. NextCalled (statementOf sizes (A-is i) (B-is i) (C-is i) (D-is i) whole (constantTerms-is i))
+      (λ answer. NextCalled (statementOf (sizesFrom sizes) (A-is i) (B-is i) (C-is i) (D-is i) whole (constantTerms-is i))
       (drawsOf (projections-is i) (ψ-is i) (ω-is i) (α-is i) (δ-is i) (c-is i)) (transcriptOf (u₁-is i) (p-is i) (b″-is i) (u₂-is i)) ν μ out answer out′)
       code)
       called
 
 -- ---- kind 3
 
-pub first-run : {sizes : Sizes} {ν μ : ℕ} {lists lengths m m′ out out′ whole s : List ℤ} {verdict code : CAnswer}
+pub first-run : {sizes : CSizes} {ν μ : ℕ} {lists lengths m m′ out out′ whole s : List ℤ} {verdict code : CAnswer}
     → whole ≡ nthList 4 lists → s ≡ nthList 12 lists → Folded sizes lists whole s lengths m verdict m′
     → NextOfFold sizes ν μ lists whole lengths m′ out code out′ → FirstRun sizes ν μ lists lengths m m′ out out′
 first-run {sizes} {ν} {μ} {lists} {lengths} {m} {m′} {out} {out′} {verdict = verdict} {code = code} whole s folded called =
@@ -184,13 +184,13 @@ all-filled : replicate 32768 (pos 77) ≡ filled 32768
 unfolding filled
 all-filled = refl
 
-pub second-run : {sizes : Sizes} {whole s lists lengths m′ : List ℤ} {verdict : CAnswer} → lengths ≡ pastLists 13 lists
+pub second-run : {sizes : CSizes} {whole s lists lengths m′ : List ℤ} {verdict : CAnswer} → lengths ≡ pastLists 13 lists
     → Folded sizes lists whole s lengths (replicate 32768 (pos 77)) verdict m′ → SecondRun sizes whole s lists verdict
 second-run {sizes} {whole} {s} {lists} {m′ = m′} {verdict = verdict} lengths folded =
     record { m′ = m′; folded = coe 0 1 (i. Folded sizes lists whole s (lengths i) (all-filled i) verdict m′) folded }
 
 -- the witness as it is written
-pub witness-is : (m : PartSizes) (second : Sizes) (o : List ℤ) {s : List ℤ} {width all count : ℕ} → width ≡ widthFor second
+pub witness-is : (m : CPartSizes) (second : CSizes) (o : List ℤ) {s : List ℤ} {width all count : ℕ} → width ≡ widthFor second
     → all ≡ productOf (second .shape .r) width → count ≡ sizeOf 32768 (pos all)
     → s ≡ over (front count) 0 (take (length (front count)) (nextWitness m (second .shape .r) width o)) → s ≡ witnessOf m second o
 unfolding witnessOf
@@ -202,7 +202,7 @@ witness-is m second o {s} {width} {all} {count} width-is all-is count-is e =
     let long : length (front count) ≡ countFor second = ap (λ (l : List ℤ). length l) blank ∙ length-filled (countFor second) in
     e ∙ (λ i. over (blank i) 0 (take (long i) (nextWitness m (second .shape .r) (width-is i) o)))
 
-pub second-of : {sizes : Sizes} {whole s s₂ lists : List ℤ} {verdict : CAnswer} → s ≡ s₂ → SecondRun sizes whole s lists verdict
+pub second-of : {sizes : CSizes} {whole s s₂ lists : List ℤ} {verdict : CAnswer} → s ≡ s₂ → SecondRun sizes whole s lists verdict
     → SecondRun sizes whole s₂ lists verdict
 second-of {sizes} {whole} {lists = lists} {verdict = verdict} e ran = coe 0 1 (i. SecondRun sizes whole (e i) lists verdict) ran
 
@@ -229,7 +229,7 @@ module _ (xs : List ℤ) {lists lengths second : List ℤ} (lists-is : lists ≡
         length-drop 19 xs,
       )
 
-  pub twice-run : {sizes its : Sizes} {parts : PartSizes} {ν μ n : ℕ} {wides ws m′ whole opening rest : List ℤ} {verdict : CAnswer}
+  pub twice-run : {sizes its : CSizes} {parts : CPartSizes} {ν μ n : ℕ} {wides ws m′ whole opening rest : List ℤ} {verdict : CAnswer}
       → n ≡ sizeAt 32768 lengths 8 → ws ≡ drop (length xs - length second) wides → its ≡ sizesOf ws → parts ≡ partSizesOf sizes ν μ
       → opening ≡ openingOf m′ lengths → rest ≡ drop 18 second
       → FirstRun sizes ν μ lists lengths (replicate 32768 (pos 77)) m′ (front n) whole
@@ -252,17 +252,17 @@ module _ (xs : List ℤ) {lists lengths second : List ℤ} (lists-is : lists ≡
 
 -- ---- a case
 
-pub part-number : (sizes : Sizes) (ν μ n : ℕ) (xs : List ℤ) {parts : PartSizes} {r : ℕ} {rest opening : List ℤ} → parts ≡ partSizesOf sizes ν μ
-    → rest ≡ drop 20 xs → opening ≡ nthList 0 rest → r ≡ partRefusalOf parts n opening
-    → r ≡ partRefusalOf (partSizesOf sizes ν μ) n (nthList 0 (drop 20 xs))
+pub part-number : (sizes : CSizes) (ν μ n : ℕ) (xs : List ℤ) {parts : CPartSizes} {r : ℕ} {rest opening : List ℤ} → parts ≡ partSizesOf sizes ν μ
+    → rest ≡ drop 20 xs → opening ≡ nthList 0 rest → r ≡ partRefusalOf (partSizesFrom parts) n opening
+    → r ≡ partRefusalOf (partSizesFrom (partSizesOf sizes ν μ)) n (nthList 0 (drop 20 xs))
 part-number sizes ν μ n xs {opening = opening} parts rest opening-is e =
     let found : opening ≡ nthList 0 (drop 20 xs) = opening-is ∙ ap (λ (l : List ℤ). nthList 0 l) rest in
-    e ∙ (λ i. partRefusalOf (parts i) n (found i))
+    e ∙ (λ i. partRefusalOf (partSizesFrom (parts i)) n (found i))
 
-sized : (wides : List ℤ) {ws : List ℤ} {its : Sizes} → ws ≡ drop 1 wides → its ≡ sizesOf ws → its ≡ caseSizes wides
+sized : (wides : List ℤ) {ws : List ℤ} {its : CSizes} → ws ≡ drop 1 wides → its ≡ sizesOf ws → its ≡ caseSizes wides
 sized wides ws-is its-is = its-is ∙ ap (λ (l : List ℤ). sizesOf l) ws-is
 
-module _ (wides : List ℤ) {xs ws : List ℤ} {its : Sizes} {ν μ kind : ℕ} (ws-is : ws ≡ drop 1 wides) (its-is : its ≡ sizesOf ws)
+module _ (wides : List ℤ) {xs ws : List ℤ} {its : CSizes} {ν μ kind : ℕ} (ws-is : ws ≡ drop 1 wides) (its-is : its ≡ sizesOf ws)
     (ν-is : ν ≡ wideSize wides 15) (μ-is : μ ≡ wideSize wides 16) where
   pub case-instance : {code : CAnswer} → kind ≡ 1 → InstanceRun its ν μ xs code → CaseRun wides xs kind (code .number)
   case-instance {code} e ran =
@@ -276,12 +276,12 @@ module _ (wides : List ℤ) {xs ws : List ℤ} {its : Sizes} {ν μ kind : ℕ} 
         twice = λ f. let no : ⊥ = omega arith in absurd no;
       }
 
-  pub case-part : {n r : ℕ} → kind ≡ 2 → n ≡ wideSize wides 19 → r ≡ partRefusalOf (partSizesOf its ν μ) n (nthList 0 (drop 20 xs))
+  pub case-part : {n r : ℕ} → kind ≡ 2 → n ≡ wideSize wides 19 → r ≡ partRefusalOf (partSizesFrom (partSizesOf its ν μ)) n (nthList 0 (drop 20 xs))
       → CaseRun wides xs kind r
   case-part e n-is r-is =
       record {
         instance = λ f. let no : ⊥ = omega arith in absurd no;
-        part = λ _. r-is ∙ (λ i. partRefusalOf (partSizesOf (sized wides ws-is its-is i) (ν-is i) (μ-is i)) (n-is i) (nthList 0 (drop 20 xs)));
+        part = λ _. r-is ∙ (λ i. partRefusalOf (partSizesFrom (partSizesOf (sized wides ws-is its-is i) (ν-is i) (μ-is i))) (n-is i) (nthList 0 (drop 20 xs)));
         twice = λ f. let no : ⊥ = omega arith in absurd no;
       }
 

@@ -17,7 +17,8 @@ use Rattle.integers.specs.Flat.{flat}
 use Rattle.integers.specs.Laws.FlatLaws.{flat-suc, length-flat}
 use Rattle.integers.specs.Over.{over}
 use Rattle.integers.specs.Laws.OverLaws.{over-nil, over-over, length-over}
-use Rattle.fold.specs.declared.PartSizes.{PartSizes}
+use Rattle.capi.specs.Codes.{partSizesFrom}
+use Rattle.capi.specs.declared.sizes.CPartSizes.{CPartSizes}
 use Rattle.fold.specs.Arguments.{nextPartOf}
 use Rattle.cases.specs.Numbers.{padded, sizeOf}
 use Rattle.next_cases.specs.Laws.MessageLaws.{take-min}
@@ -73,12 +74,12 @@ take-padded k w xs =
 
 -- ---- part after part: i of them are written, up to the place `at`
 
-pub record Writing (m : PartSizes) (parts width : ℕ) (o out₀ out : List ℤ) (at i : ℕ) : Type 0 where
+pub record Writing (m : CPartSizes) (parts width : ℕ) (o out₀ out : List ℤ) (at i : ℕ) : Type 0 where
   pub within : i ≤ parts
   pub place : at ≡ min (length out₀) (i * width)
   pub new : out ≡ over out₀ 0 (take (length out₀) (nextWitness m i width o))
 
-pub writing-start : (m : PartSizes) (parts width : ℕ) (o out : List ℤ) → Writing m parts width o out out 0 0
+pub writing-start : (m : CPartSizes) (parts width : ℕ) (o out : List ℤ) → Writing m parts width o out out 0 0
 unfolding nextWitness flat
 writing-start m parts width o out = record {
   within = omega arith;
@@ -86,11 +87,11 @@ writing-start m parts width o out = record {
   new = sym (rw (take-nil {A = ℤ} (length out)) (over-nil out 0));
 }
 
-length-witness : (m : PartSizes) (width : ℕ) (o : List ℤ) (i : ℕ) → length (nextWitness m i width o) ≡ i * width
+length-witness : (m : CPartSizes) (width : ℕ) (o : List ℤ) (i : ℕ) → length (nextWitness m i width o) ≡ i * width
 unfolding nextWitness padded
-length-witness m width o i = length-flat i width _ (λ j h. length-tab width (λ k. getD (nextPartOf m (suc j) o) k (pos 0)))
+length-witness m width o i = length-flat i width _ (λ j h. length-tab width (λ k. getD (nextPartOf (partSizesFrom m) (suc j) o) k (pos 0)))
 
-module _ {m : PartSizes} {parts width : ℕ} {o out₀ out : List ℤ} {at i : ℕ} (w : Writing m parts width o out₀ out at i) where
+module _ {m : CPartSizes} {parts width : ℕ} {o out₀ out : List ℤ} {at i : ℕ} (w : Writing m parts width o out₀ out at i) where
   before : List ℤ
   before = take (length out₀) (nextWitness m i width o)
 
@@ -107,14 +108,14 @@ module _ {m : PartSizes} {parts width : ℕ} {o out₀ out : List ℤ} {at i : �
   pub place-inside : at ≤ length out
   place-inside = omega (arith, writing-length, w .place)
 
-  next : {part : List ℤ} → part ≡ nextPartOf m (i + 1) o
+  next : {part : List ℤ} → part ≡ nextPartOf (partSizesFrom m) (i + 1) o
       → take (length out₀) (nextWitness m (i + 1) width o) ≡ before ++ padded (min width (length out₀ - at)) part
   unfolding before nextWitness
   next {part} e =
       let room : length out₀ - length (nextWitness m i width o) ≡ length out₀ - at = omega (arith, length-witness m width o i, w .place) in
       rw (add-one i, flat-suc, take-append, room, take-padded, e, add-one i) refl
 
-  pub writing-next : i < parts → {part out′ : List ℤ} {at′ : ℕ} → part ≡ nextPartOf m (i + 1) o → at′ ≡ at + min width (length out - at)
+  pub writing-next : i < parts → {part out′ : List ℤ} {at′ : ℕ} → part ≡ nextPartOf (partSizesFrom m) (i + 1) o → at′ ≡ at + min width (length out - at)
       → out′ ≡ over out at (padded (min width (length out - at)) part) → Writing m parts width o out₀ out′ at′ (i + 1)
   unfolding before
   writing-next h {part} {out′} {at′} e place-is new-is =

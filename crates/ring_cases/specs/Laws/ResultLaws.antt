@@ -175,15 +175,15 @@ element-is n xs new e =
     e ∙ rw size (over-all (replicate n (pos 0)) (padded n xs) whole)
 
 pub product-out : (x : CProduct) (out out₁ out₂ : List ℤ) {r : ℕ} → length out ≡ 512
-    → out₁ ≡ over out 0 (padded (min 2 (length out - 0)) (pos (x .kind) ∷ pos (x .number) ∷ []))
+    → out₁ ≡ over out 0 (padded (min 2 (length out - 0)) (pos (x .kind) ∷ pos (min (x .number) 2147483647) ∷ []))
     → r ≡ 2 + min 64 (length out₁ - 2)
     → out₂ ≡ over out₁ 2 (padded (min 64 (length out₁ - 2)) (x .element .coefficients)) → Results (productNumbers x) out out₂ r
 unfolding productNumbers
 product-out x out out₁ out₂ {r} size e f g =
-    let head : List ℤ = pos (x .kind) ∷ pos (x .number) ∷ [] in
+    let head : List ℤ = pos (x .kind) ∷ pos (min (x .number) 2147483647) ∷ [] in
     let tail : List ℤ = padded 64 (x .element .coefficients) in
     let two : min 2 (length out - 0) ≡ 2 = omega arith in
-    let begun : out₁ ≡ over out 0 head = e ∙ rw two (ap (λ (l : List ℤ). over out 0 l) (padded-two (pos (x .kind)) (pos (x .number)))) in
+    let begun : out₁ ≡ over out 0 head = e ∙ rw two (ap (λ (l : List ℤ). over out 0 l) (padded-two (pos (x .kind)) (pos (min (x .number) 2147483647)))) in
     let long : length out₁ ≡ 512 = ap (λ (l : List ℤ). length l) begun ∙ length-over out 0 head (omega (arith, size)) ∙ size in
     let rest : min 64 (length out₁ - 2) ≡ 64 = omega (arith, long) in
     record {

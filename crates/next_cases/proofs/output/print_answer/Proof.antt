@@ -19,6 +19,5 @@ print-answer-spec =
     (λ c. search needs)
     (λ c κs. tt)
     (λ c κs. tt)
-    (λ c. search needs)
     (λ c κs. tt)
     (λ c. search needs))

@@ -1,4 +1,5 @@
 -- `next_cases::runs::run_case` meets its contract. Assumes nothing.
+use borrow.Author.Needs.{needs}
 use Rattle.next_cases.specs.Laws.RunLaws.{case-instance, case-part, case-twice, case-none}
 use Rattle.next_cases.proofs.runs.run_case.Statement.{statement}
 use Rattle.next_cases.proofs.runs.run_case.Tie as tie
@@ -46,6 +47,7 @@ run-case-spec =
     returns
     (λ c κs. tt)
     (λ c κs. tt)
+    (λ c. search needs)
     returns-2
     (λ c κs. tt)
     returns-3

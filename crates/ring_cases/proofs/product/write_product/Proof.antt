@@ -15,7 +15,7 @@ returns c =
     let made = words .before .before in
     let s = made .before in
     let kind = toZ-ofZ {w = w32} (record { sfits = words .before .word .ok }) ∙ words .before .word .ensures in
-    let number = toZ-ofZ {w = w32} (record { sfits = words .word2 .ok }) ∙ words .word2 .ensures in
+    let number = toZ-ofZ {w = w32} (record { sfits = words .capped .ok }) ∙ words .capped .ensures in
     rw (← made .product .ensures)
     (product-out (made .product .result) (s .args .out .now) _ _ (s .pre) (rw (kind, number) at (first .put .ensures .1))
     (second .put2 .ensures .0) (second .put2 .ensures .1))
