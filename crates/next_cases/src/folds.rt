@@ -4,9 +4,6 @@
 // `lengths` and `messages` are those of module messages.
 ghost use mathlib.Core.Path.{_≡_};
 ghost use Rattle.next_cases.specs.Runs.{Committing, Projecting, Aggregating, GarbageCommitting, Amortizing, verdictOf, Folded};
-use capi::sizes::CCommitSizes;
-use capi::sizes::CGarbageSizes;
-use capi::sizes::CSizes;
 use crate::input::FILL;
 use crate::input::ROOM;
 use crate::messages::G;
@@ -21,6 +18,9 @@ use crate::messages::keep;
 use crate::messages::message;
 use crate::messages::opening;
 use crate::output::print_answer;
+use capi::sizes::CCommitSizes;
+use capi::sizes::CGarbageSizes;
+use capi::sizes::CSizes;
 use capi::types::CAnswer;
 use cases::lists::nth_list;
 use cases::numbers::size;
