@@ -2,10 +2,10 @@
 --     FirstChecks     checks 1 and 2 pass
 --     solved          from checks 3 to 9 to the next instance
 --     accepts-of      and back, with checks 1 and 2
-use mathlib.Core.Path.{_≡_, sym, ap, _∙_}
+use mathlib.Core.Path.{_≡_, sym, _∙_}
 use mathlib.Core.Bool.{true}
 use mathlib.Core.List.{List}
-use Prim.Native.Nat.{ℕ, _+_, _*_, _<_}
+use Prim.Native.Nat.{ℕ, _*_, _<_}
 use native.Mathlib.Omega.{arith}
 use lib.ListN.{length}
 use lib.IntN.{ℤ}
@@ -16,7 +16,7 @@ use Rattle.algebra.specs.Laws.ResidueLaws.{residue-eq}
 use Rattle.algebra.specs.DotProduct.{value}
 use Rattle.ring.specs.Element.{R}
 use Rattle.ring.specs.Laws.ElementEquality.{every-true}
-use Rattle.fold.specs.Sizes.{tSize, garbageSize, restSize, openingSize, nextRank, nextParts, nextCount}
+use Rattle.fold.specs.Sizes.{restSize, openingSize, nextRank, nextParts, nextCount}
 use Rattle.fold.specs.Statement.{Relation, Solves, part, function, wholeAt, wholeConstant}
 use Rattle.fold.specs.Sizes.{five}
 use Rattle.fold.specs.Statement.{Statement, Draws, Transcript}

@@ -1,16 +1,14 @@
 -- SPECIFICATION 6.g: "Accepted carries the margin of check 9: the bound minus the squared length, β'² minus that of all digits."
 --     margin-is          accepted with m: m and the squared length of all digits are together the target bound
 --     margin-exactly     an answer of kind 0 is accepted with m exactly if they are
-use mathlib.Core.Path.{_≡_, refl, sym, ap, _∙_}
+use mathlib.Core.Path.{_≡_, sym, ap, _∙_}
 use mathlib.Core.Logic.{_↔_}
 use mathlib.Core.List.{List}
-use Prim.Native.Nat.{ℕ, _+_, _-_}
+use Prim.Native.Nat.{ℕ, _+_}
 use native.Mathlib.Omega.{arith}
 use lib.IntN.{ℤ}
 use Rattle.integers.specs.Sums.{normSq}
-use Rattle.fold.specs.declared.Verdict.{Verdict}
 use Rattle.fold.specs.declared.Verdict.the-variants.{Accepted}
-use Rattle.fold.specs.declared.Answer.{Answer}
 use Rattle.fold.specs.declared.Answer.the-variants.{Judged}
 use Rattle.fold.specs.Answers.{kindOf, numberOf, firstFailing, answered}
 use Rattle.fold.specs.Statement.{Relation, Statement, Draws, Transcript}

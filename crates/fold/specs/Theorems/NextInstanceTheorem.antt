@@ -1,7 +1,7 @@
 -- Demand 2 (SPECIFICATION 8.8): "When the checks on projection and constant terms pass and the next instance is not too large, an opening is accepted
 -- exactly if, padded, it solves the next instance." SPECIFICATION 8.9: "A solution of the next instance whose padding is zero is, with the padding
 -- cut off, an accepted opening." For any number tz of z digits.
-use mathlib.Core.Path.{_≡_, refl, sym, ap, subst, _∙_}
+use mathlib.Core.Path.{_≡_, refl, sym, subst, _∙_}
 use mathlib.Core.Logic.{_↔_}
 use mathlib.Core.Bool.{Bool, true, false}
 use mathlib.Core.List.{List}

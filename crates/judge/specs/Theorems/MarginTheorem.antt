@@ -7,24 +7,24 @@ use mathlib.Core.List.{List, [], _∷_}
 use Prim.Native.Nat.{ℕ, zero, suc, _+_, _≤_}
 use native.Mathlib.Omega.{arith}
 use lib.Dec.{leb}
-use lib.ListN.{length}
 use lib.IntN.{ℤ}
 use borrow.Author.Tests.{leb-true}
 use Rattle.integers.specs.Sums.{normSq}
-use Rattle.fold.specs.declared.Verdict.{Verdict}
-use Rattle.fold.specs.declared.Verdict.the-variants.{Accepted, Failed}
+use Rattle.fold.specs.declared.Verdict.the-variants.{Accepted}
 use Rattle.fold.specs.declared.Answer.{Answer}
-use Rattle.fold.specs.declared.Answer.the-variants.{Refused, Judged}
+use Rattle.fold.specs.declared.Answer.the-variants.{Judged}
 use Rattle.fold.specs.declared.Sizes.{Sizes}
 use Rattle.fold.specs.Answers.{kindOf, numberOf, firstFailing, judged, answered}
 use Rattle.fold.specs.Verdict.{checks, verdict, margin₉}
+use Rattle.fold.specs.Limits.{mostBound}
+use Rattle.fold.specs.Arguments.{VerifySized}
 use Rattle.fold.specs.Laws.RefusalLaws.{both-left, both-right}
 use Rattle.fold.specs.Theorems.Margin.{margin-is}
 use Rattle.sheet.specs.Reading.{headerNumbers, headerTests, sizesOf, bodyNumbers, numberTests, bodyTests, readingTests}
 use Rattle.sheet.specs.Laws.AnswerLaws.{reading-passed}
 use Rattle.sheet.specs.Laws.HeaderLaws.{header-bounded}
 use Rattle.judge.specs.Judging.{sheetStatement, sheetDraws, sheetTranscript, sheetOpening, judgedNumbers, judgedText}
-use Rattle.judge.specs.Theorems.JudgeTheorem.{sheetVerdict, roomOf, by-length, judgement-of, taken}
+use Rattle.judge.specs.Theorems.JudgeTheorem.{roomOf, by-length, judgement-of, taken}
 
 module _ (text : List ℕ) where
   abbrev s : Sizes
@@ -57,19 +57,26 @@ first-up-to m (test ∷ tests) e = step (first-up-to m tests (both-right (leb (t
     step later true = later
     step later false = leb-true (test .0) m (both-left (leb (test .0) m) (allUpTo m tests) e)
 
-judged-number : (k m : ℕ) → k ≤ 999999999999999 → m ≤ 999999999999999 → numberOf (Judged (judged k m)) ≤ 999999999999999
+judged-number : (k m : ℕ) → k ≤ mostBound → m ≤ mostBound → numberOf (Judged (judged k m)) ≤ mostBound
 unfolding judged
 judged-number zero m h l = l
 judged-number (suc k) m h l = h
 
-answered-number : (n : ℕ) (a : Answer) → n ≤ 999999999999999 → (n ≡ 0 → numberOf a ≤ 999999999999999) → numberOf (answered n a) ≤ 999999999999999
+answered-number : (n : ℕ) (a : Answer) → n ≤ mostBound → (n ≡ 0 → numberOf a ≤ mostBound) → numberOf (answered n a) ≤ mostBound
 unfolding answered
 answered-number zero a h l = l refl
 answered-number (suc n) a h l = h
 
 pub number-printed : (text : List ℕ) → numberOf (judgedText text) ≤ 999999999999999
 unfolding verdict margin₉ readingTests headerTests bodyTests numberTests
-number-printed text = by-length (λ (a : Answer). numberOf a ≤ 999999999999999) text (omega arith) (λ fits.
-    answered-number _ _ (omega (arith, first-up-to 12 (readingTests (roomOf text) text) refl)) (λ none.
-    judged-number _ _ (omega (arith, first-up-to 9 (checks (sheetStatement (s text) (xs text)) (sheetDraws (s text) (xs text)) (sheetTranscript (s text) (xs text)) (sheetOpening (s text) (xs text))) refl))
-    (omega (arith, header-bounded (headerNumbers text) (reading-passed (roomOf text) text none .sizes) .target-small))))
+number-printed text =
+    by-length (λ (a : Answer). numberOf a ≤ 999999999999999) text (omega arith)
+    (λ fits. answered-number _ _ (omega (arith, first-up-to 12 (readingTests (roomOf text) text) refl))
+    (λ none. judged-number _ _ (omega (arith, check)) (omega (arith, bounded none .target-small))))
+  where
+    check : firstFailing (checks (sheetStatement (s text) (xs text)) (sheetDraws (s text) (xs text)) (sheetTranscript (s text) (xs text))
+        (sheetOpening (s text) (xs text))) ≤ 9
+    check = first-up-to 9 _ refl
+
+    bounded : firstFailing (readingTests (roomOf text) text) ≡ 0 → VerifySized (s text)
+    bounded none = header-bounded (headerNumbers text) (reading-passed (roomOf text) text none .sizes)
