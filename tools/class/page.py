@@ -292,7 +292,7 @@ Nothing is left: this sheet's bound was set to just what its digits need. With a
 
 Read it as you read a tread gauge: it says how much was left before the wear limit.
 
-- A tyre just at the limit passes, and so does a margin of 0. Accepted is accepted; a small margin is not "nearly wrong". One less than nothing, a bound of {length - 1}, and check 9 fails.
+- A tyre just at the limit passes, and so does a margin of 0. Accepted is accepted; a small margin is not "nearly wrong". With one less than the digits need, a bound of {length - 1}, check 9 fails.
 - The bound belongs to what is claimed. Whoever writes the schedule sets it, and a loose bound gives a large margin without making the readings any better. So compare margins under one bound only.
 - It speaks of the length of the digits, not of the readings, and of no other check. The equations, checks 2 to 8, hold or they do not: there is no "nearly" in them.
 

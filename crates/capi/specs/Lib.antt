@@ -1,2 +1,4 @@
 -- Definitions
 pub mod Codes
+-- Closed cases
+pub mod Cases

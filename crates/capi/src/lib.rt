@@ -1,4 +1,4 @@
-// The library for C: each call of the library under a name that begins with `lizkarg_`. A call's contract is the library's, with its
+// The library for C: each call of the library under a name that begins with `lizkarg_`. A call's contract is the library's, with given
 // answer as two numbers. C's rules hold of what is lent: bindings/c/lizkarg.h.
 ghost use mathlib.Core.Path.{_≡_};
 ghost use Rattle.fold.specs.Arguments.{statementOf, drawsOf, transcriptOf};
@@ -36,8 +36,8 @@ pub extern "C" fn lizkarg_commit(
         ⌜ Coded (λ answer. Committed (commitSizesFrom sizes) (now («a_matrix» .entry)) (now («b_matrix» .entry)) (now («c_matrix» .entry)) (now (witness .entry))
         (now (t .entry)) (now (g .entry)) (now (u1 .entry)) answer (now (t .exit)) (now (g .exit)) (now (u1 .exit))) x ⌝ }
 {
-    let its = sizes::commit_sizes(sizes);
-    let answer = lizkarg::commit(its, a_matrix, b_matrix, c_matrix, witness, t, g, u1);
+    let given = sizes::commit_sizes(sizes);
+    let answer = lizkarg::commit(given, a_matrix, b_matrix, c_matrix, witness, t, g, u1);
     types::code(answer)
 }
 
@@ -54,8 +54,8 @@ pub extern "C" fn lizkarg_project(
         ⌜ Coded (λ answer. Projected (shapeFrom shape) w (now (projections .entry)) (now (witness .entry)) (now (p .entry)) answer
         (now (p .exit))) x ⌝ }
 {
-    let its = sizes::shape(shape);
-    let answer = lizkarg::project(its, w, projections, witness, p);
+    let given = sizes::shape(shape);
+    let answer = lizkarg::project(given, w, projections, witness, p);
     types::code(answer)
 }
 
@@ -76,9 +76,9 @@ pub extern "C" fn lizkarg_aggregate(
         ⌜ Coded (λ answer. Aggregated (shapeFrom shape) l w (now («constant_terms» .entry)) (now (projections .entry)) (now (psi .entry)) (now (omega .entry))
         (now (witness .entry)) (now («second_b» .entry)) answer (now («second_b» .exit))) x ⌝ }
 {
-    let its = sizes::shape(shape);
+    let given = sizes::shape(shape);
     let answer = lizkarg::aggregate(
-        its,
+        given,
         l,
         w,
         constant_terms,
@@ -112,9 +112,9 @@ pub extern "C" fn lizkarg_commit_garbage(
         (now (psi .entry)) (now (omega .entry)) (now (alpha .entry)) (now (delta .entry)) (now («d_matrix» .entry))
         (now (witness .entry)) (now (h .entry)) (now (u2 .entry)) answer (now (h .exit)) (now (u2 .exit))) x ⌝ }
 {
-    let its = sizes::garbage_sizes(sizes);
+    let given = sizes::garbage_sizes(sizes);
     let answer = lizkarg::commit_garbage(
-        its,
+        given,
         whole,
         constant_terms,
         projections,
@@ -143,8 +143,8 @@ pub extern "C" fn lizkarg_amortize(
         ⌜ Coded (λ answer. Amortized (shapeFrom shape) b (now (c .entry)) (now (witness .entry)) (now (z .entry)) answer
         (now (z .exit))) x ⌝ }
 {
-    let its = sizes::shape(shape);
-    let answer = lizkarg::amortize(its, b, c, witness, z);
+    let given = sizes::shape(shape);
+    let answer = lizkarg::amortize(given, b, c, witness, z);
     types::code(answer)
 }
 
@@ -177,9 +177,9 @@ pub extern "C" fn lizkarg_verify(
         (now (c .entry))) (transcriptOf (now (u1 .entry)) (now (p .entry)) (now («second_b» .entry)) (now (u2 .entry)))
         (now (opening .entry))) ⌝ }
 {
-    let its = sizes::sizes(sizes);
+    let given = sizes::sizes(sizes);
     let answer = lizkarg::verify(
-        its,
+        given,
         a_matrix,
         b_matrix,
         c_matrix,

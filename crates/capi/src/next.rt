@@ -1,4 +1,4 @@
-// The next instance for C: its constraints, and the parts of its witness.
+// The next instance for C: given constraints, and the parts of given witness.
 ghost use mathlib.Core.Path.{_≡_};
 ghost use Rattle.fold.specs.Arguments.{statementOf, drawsOf, transcriptOf};
 ghost use Rattle.fold.specs.Arguments.{partRefusalOf};
@@ -51,9 +51,9 @@ pub extern "C" fn lizkarg_next_instance(
         (now (c .entry))) (transcriptOf (now (u1 .entry)) (now (p .entry)) (now («second_b» .entry)) (now (u2 .entry))) nu mu
         (now (out .entry)) answer (now (out .exit))) x ⌝ }
 {
-    let its = sizes::sizes(sizes);
+    let given = sizes::sizes(sizes);
     let answer = lizkarg::next_instance(
-        its,
+        given,
         nu,
         mu,
         a_matrix,
@@ -82,8 +82,8 @@ pub extern "C" fn lizkarg_next_instance(
 pub extern "C" fn lizkarg_next_part_refusal(sizes: CPartSizes, part: usize, opening: &[i32]) -> u8
     ensures { λ x. ⌜ x ≡ partRefusalOf (partSizesFrom sizes) part (now (opening .entry)) ⌝ }
 {
-    let its = sizes::part_sizes(sizes);
-    next_part_refusal(its, part, opening)
+    let given = sizes::part_sizes(sizes);
+    next_part_refusal(given, part, opening)
 }
 
 // The place in the opening of what `lizkarg::next_part` hands back.
@@ -91,8 +91,8 @@ pub extern "C" fn lizkarg_next_part_refusal(sizes: CPartSizes, part: usize, open
 pub extern "C" fn lizkarg_next_part(sizes: CPartSizes, part: usize, opening: &[i32]) -> CPart
     ensures { λ x. ⌜ Placed (partSizesFrom sizes) part (now (opening .entry)) (placeFrom x) ⌝ }
 {
-    let its = sizes::part_sizes(sizes);
-    let place = next_place(its, part, opening);
+    let given = sizes::part_sizes(sizes);
+    let place = next_place(given, part, opening);
     CPart {
         start: place.start,
         length: place.length,

@@ -37,8 +37,12 @@ fn text_code(answer: WriteAnswer) -> CText
 pub extern "C" fn lizkarg_sheet_bytes(sizes: CSizes, nu: usize, mu: usize) -> usize
     ensures { λ m. ⌜ m ≡ sheetBytes (record { sizes = sizesFrom sizes; nu = nu; mu = mu }) ⌝ }
 {
-    let its = sizes::sizes(sizes);
-    lizkarg::sheet_bytes(SheetSizes { sizes: its, nu, mu })
+    let given = sizes::sizes(sizes);
+    lizkarg::sheet_bytes(SheetSizes {
+        sizes: given,
+        nu,
+        mu,
+    })
 }
 
 // The writer: `lizkarg::write_sheet`.
@@ -53,7 +57,15 @@ pub extern "C" fn lizkarg_write_sheet(
     ensures { λ r.
         ⌜ TextCoded (record { sizes = sizesFrom sizes; nu = nu; mu = mu }) (now (numbers .entry)) (now (text .entry)) r (now (text .exit)) ⌝ }
 {
-    let its = sizes::sizes(sizes);
-    let answer = lizkarg::write_sheet(SheetSizes { sizes: its, nu, mu }, numbers, text);
+    let given = sizes::sizes(sizes);
+    let answer = lizkarg::write_sheet(
+        SheetSizes {
+            sizes: given,
+            nu,
+            mu,
+        },
+        numbers,
+        text,
+    );
     text_code(answer)
 }

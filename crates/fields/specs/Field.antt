@@ -2,7 +2,6 @@
 --     fieldText z     the 16 bytes of a number
 --     Fits16 z        the numbers that 16 columns hold
 --     headerBytes     the length of a header
---     blanks k        k blanks
 use mathlib.Core.Bool.{Bool, true, false, cond}
 use mathlib.Core.List.{List, [], _∷_, _++_}
 use Prim.Native.Nat.{ℕ, zero, suc, _+_, _/_, _%_}
@@ -41,7 +40,3 @@ pub record Fits16 (z : ℤ) : Type 0 where
 -- the bytes of a header: eighteen fields and a line feed
 abbrev pub headerBytes : ℕ
 headerBytes = 289
-
-unfoldable pub blanks : ℕ → List ℕ
-blanks zero = []
-blanks (suc k) = blanks k ++ (32 ∷ [])

@@ -1,5 +1,6 @@
 -- Numbers on lines, by place. The numbers are counted from 0, `ends i` says that number i is the last of its line, and the first field
 -- starts at byte `at` of the text.
+--     blanks k                    k blanks
 --     fieldWidth, feed            how many bytes a field takes, with a line feed if it ends a line, and that line feed
 --     place ends at i             the byte where number i starts
 --     laid ends at text n         the first n fields are numbers, with a line feed after the last of each line
@@ -19,6 +20,10 @@ use Rattle.fields.specs.declared.walk.End.{End}
 use Rattle.fields.specs.declared.walk.End.the-variants.{At, Broken}
 use Rattle.fields.specs.Fields.{fieldAt, isNumber, numberIn}
 use Rattle.fields.specs.Field.{fieldText, headerBytes}
+
+unfoldable pub blanks : ℕ → List ℕ
+blanks zero = []
+blanks (suc k) = blanks k ++ (32 ∷ [])
 
 -- "each line ends with one line feed"
 unfoldable pub fieldWidth : Bool → ℕ

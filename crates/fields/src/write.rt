@@ -4,8 +4,8 @@ ghost use mathlib.Core.List.{_++_};
 ghost use Prim.Native.Nat.{_+_, _≤_};
 ghost use lib.ListN.{length, take, drop};
 ghost use Rattle.integers.specs.Over.{over};
-ghost use Rattle.fields.specs.Field.{columns, signedText, blanks};
-ghost use Rattle.fields.specs.Place.{fieldWidth, feed};
+ghost use Rattle.fields.specs.Field.{columns, signedText};
+ghost use Rattle.fields.specs.Place.{blanks, fieldWidth, feed};
 use crate::field::column_byte;
 
 // The 16 bytes from `at` on become blanks.

@@ -1,5 +1,4 @@
 // Kind 1, the next instance.
-ghost use lib.ListN.{length};
 ghost use Rattle.next_cases.specs.Runs.{NextOfLists, InstanceRun};
 use crate::input::FILL;
 use crate::input::LISTS;

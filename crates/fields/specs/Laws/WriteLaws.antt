@@ -16,8 +16,8 @@ use lib.Seq.{take-suc, take-add, take-at, set-at, length-take-le}
 use borrow.Author.Tests.{lt-ltb}
 use Rattle.integers.specs.Over.{over}
 use Rattle.integers.specs.Laws.OverLaws.{over-is, over-nil, over-step, part-over, drop-over, length-over}
-use Rattle.fields.specs.Field.{columnByte, minusDue, columns, signedText, blanks}
-use Rattle.fields.specs.Place.{fieldWidth, feed}
+use Rattle.fields.specs.Field.{columnByte, minusDue, columns, signedText}
+use Rattle.fields.specs.Place.{blanks, fieldWidth, feed}
 use Rattle.fields.specs.Laws.FieldLaws.{length-columns, length-signed}
 
 over-left : (out : List ℕ) (a : ℕ) (l : List ℕ) (x : ℕ) → a < length out → set (over out (suc a) l) a x ≡ over out a (x ∷ l)

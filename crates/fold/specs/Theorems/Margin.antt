@@ -1,6 +1,7 @@
 -- SPECIFICATION 6.g: "Accepted carries the margin of check 9: the bound minus the squared length, β'² minus that of all digits."
 --     margin-is          accepted with m: m and the squared length of all digits are together the target bound
 --     margin-exactly     an answer of kind 0 is accepted with m exactly if they are
+--     number-is          the number of an answer of kind 0 and that length are together the target bound
 use mathlib.Core.Path.{_≡_, sym, ap, _∙_}
 use mathlib.Core.Logic.{_↔_}
 use mathlib.Core.List.{List}
@@ -30,9 +31,9 @@ module _ (𝓢 : Statement) (𝓓 : Draws) (𝓣 : Transcript) (o : List ℤ) wh
       let (unrefused, _) = judged-accepted (firstFailing (verifyTests 𝓢 𝓓 𝓣 o)) (verdict 𝓢 𝓓 𝓣 o) e in
       rw unrefused (ap Judged (accepted 𝓢 𝓓 𝓣 o (accepted-opening 𝓢 𝓓 𝓣 o e .facts)))
 
-  left-over : kindOf (verification 𝓢 𝓓 𝓣 o) ≡ 0 → margin 𝓢 𝓓 𝓣 o + normSq o ≡ target
+  margin-left : kindOf (verification 𝓢 𝓓 𝓣 o) ≡ 0 → margin 𝓢 𝓓 𝓣 o + normSq o ≡ target
   unfolding margin₉
-  left-over e =
+  margin-left e =
       let opening = accepted-opening 𝓢 𝓓 𝓣 o e in
       omega (arith, opening .facts .short, digits-length d n r tz κ t₁ t₂ o (opening .sized))
 
@@ -40,12 +41,15 @@ module _ (𝓢 : Statement) (𝓓 : Draws) (𝓣 : Transcript) (o : List ℤ) wh
   margin-is m e =
       let kind : kindOf (verification 𝓢 𝓓 𝓣 o) ≡ 0 = ap kindOf e in
       let same : m ≡ margin 𝓢 𝓓 𝓣 o = ap numberOf (sym e ∙ accepted-with kind) in
-      omega (arith, same, left-over kind)
+      omega (arith, same, margin-left kind)
 
   pub margin-exactly : kindOf (verification 𝓢 𝓓 𝓣 o) ≡ 0 → (m : ℕ) → (verification 𝓢 𝓓 𝓣 o ≡ Judged (Accepted m)) ↔ (m + normSq o ≡ target)
   margin-exactly e m = (
     margin-is m,
     λ whole.
-        let same : margin 𝓢 𝓓 𝓣 o ≡ m = omega (arith, whole, left-over e) in
+        let same : margin 𝓢 𝓓 𝓣 o ≡ m = omega (arith, whole, margin-left e) in
         accepted-with e ∙ ap (λ k. Judged (Accepted k)) same,
   )
+
+  pub number-is : kindOf (verification 𝓢 𝓓 𝓣 o) ≡ 0 → numberOf (verification 𝓢 𝓓 𝓣 o) + normSq o ≡ target
+  number-is e = rw (accepted-with e) (margin-left e)

@@ -4,7 +4,6 @@ use Rattle.fold.specs.Answers.{firstFailing, judged}
 use Rattle.fold.specs.Sizes.{pairs, functionSize, tSize, garbageSize, restSize, openingSize, ceiling, nextRank, nextParts, nextCount}
 use Rattle.fold.specs.Statement.{part, wholeAt, wholeConstant, termAt, termConstant}
 use Rattle.fold.specs.Messages.{elements, times, garbageDigits, t, g, tDigits, gDigits, outer₁, u₁, p, b″}
-use Rattle.fold.specs.Sizes.{five}
 use Rattle.fold.specs.Messages.{aggregateConstant, half, h, hDigits, outer₂, u₂, z, zDigits, opening}
 use Rattle.fold.specs.Opening.{block, tPlace, gPlace, hPlace, zOf, tOf, garbageOf, zLength, tgLength, hLength}
 use Rattle.fold.specs.Verdict.{check₁, check₂, check₃, check₄, check₅, check₆, check₇, check₈, check₉, margin₉, verdict}

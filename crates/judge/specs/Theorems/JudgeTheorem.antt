@@ -128,11 +128,11 @@ judgement-kind zero (Failed k) = omega arith
 judgement-kind (suc n) v = omega arith
 
 -- a text is longer than the program reads, or not
-pub by-length : (P : Answer → Type 0) (text : List ℕ) → P (Refused 12)
+pub by-text-length : (P : Answer → Type 0) (text : List ℕ) → P (Refused 12)
     → (length text ≤ 65536 → P (answered (firstFailing (readingTests (roomOf text) text))
     (Judged (sheetVerdict (sizesOf (headerNumbers text)) (bodyNumbers (sizesOf (headerNumbers text)) text)))))
     → P (judgedText text)
-by-length P text longer other = step (leb (length text) 65536) refl
+by-text-length P text longer other = step (leb (length text) 65536) refl
   where
     step : (t : Bool) → leb (length text) 65536 ≡ t → P (judgedText text)
     step true e = let h = leb-true (length text) 65536 e in subst P (sym (text-answer text h)) (other h)
@@ -151,7 +151,7 @@ judgement-of (suc n) v w e = let f : _≡_ {A = ℕ} 0 1 = cc in absurd (omega a
 
 pub judged-sheet : (text : List ℕ) (v : Verdict) → judgedText text ≡ Judged v → Sheet text v
 unfolding reading
-judged-sheet text v = by-length (λ (a : Answer). a ≡ Judged v → Sheet text v) text longer within
+judged-sheet text v = by-text-length (λ (a : Answer). a ≡ Judged v → Sheet text v) text longer within
   where
     longer : Refused 12 ≡ Judged v → Sheet text v
     longer e = let f : _≡_ {A = ℕ} 0 1 = cc in absurd (omega arith)
@@ -168,7 +168,7 @@ judged-sheet text v = by-length (λ (a : Answer). a ≡ Judged v → Sheet text 
         record { text-is = exactly .0; numbers = exactly .1; verdict-is = same }
 
 pub kind-printed : (text : List ℕ) → kindOf (judgedText text) ≤ 2
-kind-printed text = by-length (λ (a : Answer). kindOf a ≤ 2) text (omega arith) (λ h. judgement-kind _ _)
+kind-printed text = by-text-length (λ (a : Answer). kindOf a ≤ 2) text (omega arith) (λ h. judgement-kind _ _)
 
 pub never-written : (text : List ℕ) → judgedText text ≡ Written → ⊥
 never-written text e = let three : 3 ≤ 2 = subst (λ (a : Answer). kindOf a ≤ 2) e (kind-printed text) in omega arith
@@ -203,5 +203,5 @@ no-refused-seven (suc n) v never e = never (ap numberOf e)
 
 pub never-seven : (text : List ℕ) → judgedText text ≡ Refused 7 → ⊥
 never-seven text =
-    by-length (λ (a : Answer). a ≡ Refused 7 → ⊥) text (λ e. let f : _≡_ {A = ℕ} 12 7 = ap numberOf e in omega arith)
+    by-text-length (λ (a : Answer). a ≡ Refused 7 → ⊥) text (λ e. let f : _≡_ {A = ℕ} 12 7 = ap numberOf e in omega arith)
     (λ h. no-refused-seven _ _ (no-seven (readingTests (roomOf text) text) (reading-seven text)))

@@ -11,7 +11,8 @@ use Rattle.fold.specs.Answers.{firstFailing}
 use Rattle.fold.specs.Refusals.{allOf, anyOf, between, degree, rank, parts, constraintCount, projectionCount, commitmentRank, base, digitCount}
 use Rattle.fold.specs.Refusals.{chunks, lengthBound}
 use Rattle.fold.specs.Sizes.{pairs, functionSize, tSize, garbageSize, restSize, openingSize}
-use Rattle.fields.specs.Field.{columnByte, minusDue, columns, signedText, fieldText, blanks}
+use Rattle.fields.specs.Field.{columnByte, minusDue, columns, signedText, fieldText}
+use Rattle.fields.specs.Place.{blanks}
 use Rattle.fields.specs.Sections.{matrixCount, wholeCount, rowCount, lastCount}
 use Rattle.sheet.specs.Reading.{headerTests, size, sizesOf, sheetSizesOf}
 use Rattle.sheet.specs.Layout.{lineText, SheetNumbers}
