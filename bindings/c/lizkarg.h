@@ -25,8 +25,8 @@ enum { LIZKARG_ACCEPTED = 0, LIZKARG_FAILED = 1, LIZKARG_REFUSED = 2, LIZKARG_WR
 /* An answer as two numbers. number: where accepted, the margin (0..999999999999999), which is the target bound minus the squared length of
  * all digits of the opening; the check that failed (1..9); the refusal (1..13); else 0.
  *
- * The number has 64 bits since it holds the margin, here and in the three structs below that hold an answer. Code that was built against a
- * header in which it has 8 must be compiled anew; the structs of sizes are as they were. All structs here are the C interface's own: they
+ * The number has 64 bits because it holds the margin, here and in the three structs below that hold an answer. Code that was built against a
+ * header in which it has 8 must be compiled anew; the structs of sizes are the same in both. All structs here are the C interface's own: they
  * stay where the library's change. */
 typedef struct {
     uint8_t kind;

@@ -149,6 +149,6 @@ partSizesFrom c =
       mu = c .mu;
     }
 
--- a part's place
+-- the place of a part that C is told, as the library's
 abbrev pub placeFrom : CPart → Place
 placeFrom c = record { start = c .start; length = c .length }

@@ -1,4 +1,4 @@
-// The library for C: each call of the library under a name that begins with `lizkarg_`. A call's contract is the library's, with given
+// The library for C: each call of the library under a name that begins with `lizkarg_`. A call's contract is the library's, with its
 // answer as two numbers. C's rules hold of what is lent: bindings/c/lizkarg.h.
 ghost use mathlib.Core.Path.{_≡_};
 ghost use Rattle.fold.specs.Arguments.{statementOf, drawsOf, transcriptOf};

@@ -1,4 +1,4 @@
-// The next instance for C: given constraints, and the parts of given witness.
+// The next instance for C: its constraints, and the parts of its witness.
 ghost use mathlib.Core.Path.{_≡_};
 ghost use Rattle.fold.specs.Arguments.{statementOf, drawsOf, transcriptOf};
 ghost use Rattle.fold.specs.Arguments.{partRefusalOf};
