@@ -62,7 +62,7 @@ def examples():
     yield "whole-case-too-long", failed(9), whole_case_text(target_beta_squared=12)
     s, y = small_run(PARTS)
     yield "parts", accepted(0), sheet.write_sheet(s, y)
-    yield "parts-wide-digits", accepted(0), sheet.write_sheet(least_bounds(s, carried_z(s, y)), carried_z(s, y))
+    yield "parts-wide-digits", refused(15), sheet.write_sheet(least_bounds(s, carried_z(s, y)), carried_z(s, y))
     yield "projection-too-long", failed(1), sheet.write_sheet(s._replace(beta_squared=s.beta_squared - 1), y)
     _, g, _ = block_starts(s)
     garbage = with_commitments(s, moved(y, "opening", g + s.t2 * s.d))

@@ -12,6 +12,7 @@ import random
 import fold
 import ring
 import stored
+import low_digits
 from fixtures import (
     SMALL, challenge, check_faults, honest_case, kept_draws, margin_sides, moved, random_lists, random_sizes, replaced, short_lists,
     sides_of_challenges, uniform,
@@ -186,6 +187,21 @@ def margins(rng):
         yield line, output
 
 
+def digit_widths(rng):
+    """Row 15: low digits on both sides of half their base, wide top digits, other rows and failing checks beside it, honest digits of half their base."""
+    odd, even = (low_digits.FREE._replace(**bases) for bases in (low_digits.ODD, low_digits.EVEN))
+    groups = (
+        low_digits.sides(odd, ((0, 1), (-1, -1))), low_digits.sides(even, ((0, -1), (-1, 1))), low_digits.far_low_digits(even), low_digits.wide_tops(odd, (1,)),
+        low_digits.with_rows(even), low_digits.with_checks(odd), low_digits.recomposed(rng, SMALL, ((0, 1),)),
+        low_digits.halves(rng, SMALL._replace(n=2, r=2, b=4, b1=6, b2=2, t2=3)),
+    )
+    for group in groups:
+        for name, answer, s, y in group:
+            line, output = case(VERIFY, s, y)
+            assert output == stored.answer_numbers(answer), name
+            yield line, output
+
+
 def files():
     """Input and output. Of the first groups the challenges of degree 64 are kept ones."""
     rng = random.Random(20)
@@ -195,6 +211,7 @@ def files():
     rng = random.Random(21)
     cases += [line for group in (honest_at_64, challenge_sides) for line in group(rng)]
     cases += margins(random.Random(22))
+    cases += digit_widths(random.Random(23))
     stdin = stored.numbers_text(line for line, _ in cases)
     assert len(stdin) <= LARGEST_INPUT_BYTES, len(stdin)
     assert max(len(line) for line, _ in cases) <= LARGEST_LINE_NUMBERS

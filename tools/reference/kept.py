@@ -2,8 +2,9 @@
 
     python3 tools/reference/kept.py OLD      OLD is the folder of the older tree
 
-"Stored lines of kind 0 are compared by kind alone from now on, and their margins with the definition; the other lines are compared whole." Which
-lines are verdicts follows from what a case asks for, not from how its line looks. A case is known by its input, its place may change.
+"Stored lines of kind 0 are compared by kind alone from now on, and their margins with the definition; the other lines are compared whole." An opening
+with a wide low digit that was judged turns: "whatever their verdict was, they are refused by 15 now." Its verdict is to be 2 15, and no other's is.
+Which lines are verdicts follows from what a case asks for, not from how its line looks. A case is known by its input, its place may change.
 
 A line for each file, and before it one for each difference. Exit status: 0 no difference; 1 some, or a case is lost; 3 the command was wrong.
 """
@@ -18,7 +19,7 @@ from fold_cases import NUMBERED, SIZES
 from next_cases import FOLD_READS, FOLD_WRITES, next_list
 from next_fixtures import second_lists
 from sizes import CALLS, Sizes
-from stored import numbers_text
+from stored import answer_numbers, numbers_text
 from writer_cases import SHOWN_BYTES
 
 ROOT = Path(__file__).resolve().parents[2]
@@ -210,19 +211,31 @@ def shown(text):
     return text[:80].decode("ascii", "backslashreplace").strip() + (" .." if len(text) > 80 else "")
 
 
+# The kinds of a judgement, and the answer to a wide low digit.
+ACCEPTED, FAILED = 0, 1
+WIDE = ("refused", 15)
+
+
 def expected_line(case, at):
-    """The line that is to be stored for an older one: each margin after kind 0 is the definition's, all else as it was. And how many margins it has."""
+    """The line that is to be stored for an older one: a judgement on a wide opening is 2 15, each other margin after kind 0 is the definition's, all else
+    as it was. And how many margins it has, and how many verdicts turned.
+    """
     line, places = case.lines[at], case.verdicts.get(at, [])
     numbers = list(map(int, line.split())) if places else []
-    kept = [place for place in places if numbers[place] == 0]
-    if not kept:
-        return line, 0
-    for place, (kind, number) in zip(places, case.judged(), strict=True):
-        if place in kept:
+    if not any(numbers[place] in (ACCEPTED, FAILED) for place in places):
+        return line, 0, 0
+    margins = turned = 0
+    for place, answer in zip(places, case.judged(), strict=True):
+        kind, number = answer
+        if numbers[place] in (ACCEPTED, FAILED) and answer == WIDE:
+            numbers[place : place + 2] = answer_numbers(WIDE)
+            turned += 1
+        elif numbers[place] == ACCEPTED:
             if kind != "accepted":
-                return f"no line: the second implementation says {kind} {number}".encode(), 0
+                return f"no line: the second implementation says {kind} {number}".encode(), 0, 0
             numbers[place + 1] = number
-    return case.line(numbers), len(kept)
+            margins += 1
+    return case.line(numbers) if margins or turned else line, margins, turned
 
 
 def compare(name, older, newer):
@@ -230,7 +243,7 @@ def compare(name, older, newer):
     known = defaultdict(list)
     for case in newer:
         known[case.input].append(case)
-    whole_lines = kind_lines = margins = differences = 0
+    whole_lines = kind_lines = turned_lines = margins = differences = 0
     for number, case in enumerate(older, start=1):
         if not known[case.input]:
             print(f"{name}: case {number} is LOST: {shown(case.input)}")
@@ -242,15 +255,16 @@ def compare(name, older, newer):
             differences += 1
             continue
         for at, line in enumerate(stored):
-            expected, count = expected_line(case, at)
-            whole_lines, kind_lines, margins = whole_lines + (count == 0), kind_lines + (count > 0), margins + count
+            expected, count, turned = expected_line(case, at)
+            whole_lines, kind_lines, turned_lines = whole_lines + (count == turned == 0), kind_lines + (count > 0), turned_lines + (turned > 0)
+            margins += count
             if line != expected:
                 print(f"{name}: case {number}, line {at + 1} is {shown(line)}, not {shown(expected)}")
                 differences += 1
     new = sum(map(len, known.values()))
     print(
         f"{name}: {len(older)} cases kept before, {new} new; {whole_lines} lines compared whole, {kind_lines} of kind 0 by kind alone, "
-        f"{margins} margins compared with the definition; {differences} differences", flush=True,
+        f"{margins} margins compared with the definition; {turned_lines} turned to 2 15; {differences} differences", flush=True,
     )
     return differences == 0
 

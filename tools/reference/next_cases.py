@@ -129,6 +129,7 @@ def files():
     with kept_draws():
         cases = run_groups(next_groups.KEPT_GROUPS, random.Random(30))
     cases += run_groups(next_groups.GROUPS, random.Random(31))
+    cases += run_groups(next_groups.WIDE_GROUPS, random.Random(32))
     assert max(len(line) for line, _ in cases) <= LARGEST_LINE_NUMBERS
     yield "crates/next_cases/stdin", numbers_text(line for line, _ in cases)
     yield "crates/next_cases/stdout", numbers_text(output for _, output in cases)

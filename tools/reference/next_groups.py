@@ -3,7 +3,8 @@
 import fold
 import ring
 import sizes
-from fixtures import least_beta_squared, moved, replaced, short_lists, sides_of_challenges, whole_case
+import low_digits
+from fixtures import SMALL, least_beta_squared, moved, replaced, short_lists, sides_of_challenges, whole_case
 from next_fixtures import FIRST, honest_lists, two_folds
 from sizes import CALLS, LENGTHS
 
@@ -136,6 +137,17 @@ def challenge_sides(rng):
     yield (1, s, replaced(y, "u1", 0, -ring.LARGEST - 1))
 
 
+def wide_statements(rng):
+    """Statements of openings with wide low digits, which the next instance does not take: written; failed 1 and 2 as without them."""
+    odd, even = (low_digits.FREE._replace(**bases) for bases in (low_digits.ODD, low_digits.EVEN))
+    yield (1, odd, low_digits.wide(odd, low_digits.at_half(odd)))
+    for check, (s, y) in low_digits.check_faults(even).items():
+        if check in (1, 2, 5, 8):
+            yield (1, s, low_digits.wide(s, y))
+    for _, _, s, y in low_digits.recomposed(rng, SMALL, ((0, 1),)):
+        yield (1, s, y)
+
+
 # Cases of kind 2
 
 def places(s):
@@ -190,6 +202,14 @@ def refused_parts(rng):
             yield (2, s._replace(nu=nu, mu=mu), i, opening)
 
 
+def wide_parts(rng):
+    """Every part of an opening with wide low digits."""
+    s = low_digits.FREE._replace(**low_digits.EVEN)
+    for _, _, s, y in low_digits.far_low_digits(s):
+        for i in range(1, sizes.next_multiplicity(s) + 1):
+            yield (2, s, i, y["opening"])
+
+
 # Cases of kind 3
 
 def folded_twice(rng):
@@ -197,6 +217,7 @@ def folded_twice(rng):
         yield (3, *case)
 
 
-# Those whose challenges of degree 64 are kept ones (kept_draws), and the others.
+# Those whose challenges of degree 64 are kept ones (kept_draws), those on both sides of the rule for challenges, and those of wide openings.
 KEPT_GROUPS = (whole_case_cut, every_degree, bases, sides, judged, refused, all_parts, refused_parts, folded_twice)
 GROUPS = (challenge_sides,)
+WIDE_GROUPS = (wide_statements, wide_parts)

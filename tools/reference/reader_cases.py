@@ -1,7 +1,7 @@
 """Stored input and output of the test program for the calls that read and write a sheet, crates/sheet_cases.
 
 Input: stored.sheets_text, then the cases of writer_cases.py. Output: five lines for each case here, then those of writer_cases.py.
-Honest sheets are kept ones, but for challenge_sides and margins: their openings are by the older rule of the low digit (ring.kept_rule).
+Honest sheets are kept ones, but for challenge_sides, margins and wide_digits: their openings are by the older rule of the low digit (ring.kept_rule).
 
     count                           how many numbers the header's sizes give
     kind number header shown(X)     three times, for a slice of one number less than the count, of as many, and of one more: the reader's
@@ -17,6 +17,7 @@ import sys
 
 import ring
 import sheet
+import low_digits
 import writer_cases
 from fixtures import SMALL, honest, margin_sides, replaced, sides_of_challenges, whole_case_text
 from sheet_faults import ROWS, header_with
@@ -74,6 +75,21 @@ def margins(rng):
         yield name, text
 
 
+def wide_digits(rng):
+    """A wide low digit in each block: the reader takes them, the judge refuses by 15; digits at half, wide top digits and lower rows beside them."""
+    odd, even = (low_digits.FREE._replace(**bases) for bases in (low_digits.ODD, low_digits.EVEN))
+    groups = (
+        low_digits.sides(odd, ((-1, 1),)), low_digits.far_low_digits(even), low_digits.wide_tops(even, (-1,)), low_digits.with_rows(odd),
+        low_digits.recomposed(rng, SMALL, ((0, 1),)),
+    )
+    for name, answer, s, y in (case for group in groups for case in group if case[1] != ("refused", 7)):
+        text = sheet.write_sheet(s, y)
+        assert sheet.judge(text) == answer, name
+        kind, _ = sheet.read_sheet(text)
+        assert (kind == "read") == (answer[0] != "refused" or answer[1] == 15), name
+        yield name, text
+
+
 def case_lines(text):
     """The output of a case, as lists of numbers."""
     count = sheet.sheet_numbers(text)
@@ -88,7 +104,7 @@ def all_cases():
     rng = random.Random(14)
     with ring.kept_rule():
         cases = [case for group in (good_sheets, refused_sheets) for case in group(rng)]
-    return cases + list(challenge_sides(random.Random(17))) + list(margins(random.Random(19)))
+    return cases + list(challenge_sides(random.Random(17))) + list(margins(random.Random(19))) + list(wide_digits(random.Random(25)))
 
 
 def files():

@@ -147,7 +147,8 @@ digit_rule = low_digit
 @contextmanager
 def kept_rule():
     """Within it `digits` goes by the older rule, so that kept openings can be made: "Openings kept under an older rule, by
-    which such a value always had the low digit -B/2, are judged as before, since the verifier only recomposes."
+    which such a value always had the low digit -B/2, are judged as before, since the verifier recomposes digits, and both halves
+    are narrow (7.i)."
     """
     global digit_rule
     outside, digit_rule = digit_rule, low_digit_of_kept
@@ -166,6 +167,11 @@ def digits(base, count, x):
         x = (x - digit) // base
     result.append(x)
     return result
+
+
+def is_narrow(base, digit):
+    """ "each low digit x of the opening, of a base B, has 2·|x| ≤ B." "B/2 is not rounded". """
+    return 2 * abs(digit) <= base
 
 
 def recompose(base, digits_of_x):

@@ -6,10 +6,10 @@
 The input of all cases: stored.sheets_text. With the argument `names` the script prints a line for each case: its number, its answer, its
 count of bytes, its group and name; last the count of cases by answer.
 
-Honest sheets are kept ones, but for the last three groups: their openings are by the older rule of the low digit (ring.kept_rule), their
+Honest sheets are kept ones, but for the last seven groups: their openings are by the older rule of the low digit (ring.kept_rule), their
 challenges of degree 64 by the rule of the smaller degrees (kept_draws).
 
-Groups, in sheet_checks.py, sheet_numbers.py and sheet_faults.py; a case's name says what is changed.
+Groups, in sheet_checks.py, sheet_numbers.py, sheet_faults.py and sheet_widths.py; a case's name says what is changed.
 
     whole_case             the whole case of SPECIFICATION 12.4
     every_degree           honest sheets at every degree below 64, sizes apart from one another; bounds that just hold or just fail
@@ -18,8 +18,8 @@ Groups, in sheet_checks.py, sheet_numbers.py and sheet_faults.py; a case's name 
     failing_checks         each check fails alone; every two at once; some three at once
     last_rows              faults in the last row of A, u1, u2, t, in each b'' and in the last p
     fifth_aggregate        faults that are seen only in the fifth of the five second functions
-    wide_digits            digits far beyond their base, accepted since recomposition is modulo q, or failed 9
-    wrapped_lengths        squared lengths whose sums modulo 2^64 would hold
+    wide_digits            digits far beyond their base that recompose to the right values: refused by 15
+    wrapped_lengths        squared lengths whose sums modulo 2^64 would hold; those of digits refused by 15
     changed_numbers        one number of an honest sheet changed, in range
     ends_of_the_range      ±2147483598 and ±2147483599 in every list; numbers that 32 bits would cut to a good one
     order_of_numbers       8, 9, 10 by number and not by place; 12 before them
@@ -34,6 +34,10 @@ Groups, in sheet_checks.py, sheet_numbers.py and sheet_faults.py; a case's name 
     even_halves            z, t, g and h with numbers half a base from two multiples; honest sheets by the rule, and by the older one
     challenge_sides        challenges of degree 64 by their counts, of one part and of two; of degree 32 by their squared length
     margins                the target bound on both sides of the squared length, and at its largest
+    other_values_modulo_q  narrow digits of values that are greater or less by q, accepted since recomposition is modulo q, or failed 9 or 3
+    wrapped_top_digits     squared lengths of digits, the low ones narrow, whose sums modulo 2^64 would hold
+    one_digit_moved        a low digit moved and still narrow, a top digit at the end of the range; the whole case to bases of 2
+    digit_widths           low digits on both sides of half their base, top digits of any width, other rows and failing checks beside 15
 """
 
 import random
@@ -45,6 +49,7 @@ import sheet
 import sheet_checks
 import sheet_faults
 import sheet_numbers
+import sheet_widths
 import stored
 from fixtures import accepted, kept_draws, whole_case_text
 
@@ -66,6 +71,9 @@ def all_cases():
         cases = [case for group in groups for case in judged(*group)]
     for group, seed in ((sheet_checks.even_halves, 15), (sheet_numbers.challenge_sides, 16), (sheet_checks.margins, 18)):
         cases += judged(group, random.Random(seed))
+    rng = random.Random(24)
+    for group in sheet_widths.GROUPS:
+        cases += judged(group, rng)
     return cases
 
 

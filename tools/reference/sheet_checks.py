@@ -8,8 +8,8 @@ import fold
 import ring
 import sheet
 from fixtures import (
-    OPEN, SMALL, accepted, block_starts, bounded, challenge, failed, honest, least_bounds, margin_sides, moved, random_lists, replaced, uniform,
-    whole_case_text, with_commitments, with_constraints,
+    OPEN, SMALL, accepted, block_starts, bounded, challenge, failed, honest, least_bounds, margin_sides, moved, random_lists, refused, replaced,
+    uniform, whole_case_text, with_commitments, with_constraints,
 )
 from sizes import LARGEST_BOUND, Sizes, constant_term_constraint_length, whole_constraint_length
 
@@ -164,14 +164,14 @@ def wide_digits(rng):
             blocks = (("z", n * d - 1, n * d, b), ("t", t, s.kappa * d, b1), ("g", g, d, b2), ("h", h + d - 1, d, b1))
             for block, place, gap, base in blocks:
                 wide = carried(s, y, [(place, gap)], base, by)
-                yield f"d = {d}, {by} bases of a low digit of {block}", accepted(0), (least_bounds(s, wide), wide)
+                yield f"d = {d}, {by} bases of a low digit of {block}", refused(15), (least_bounds(s, wide), wide)
         far = carried(s, y, [(place, d * n) for place in range(n * d)], b, 99999)
-        yield f"d = {d}, 99999 bases of all of z", accepted(0), (least_bounds(s, far), far)
+        yield f"d = {d}, 99999 bases of all of z", refused(15), (least_bounds(s, far), far)
         bounds = least_bounds(s, far)
         bounds = bounds._replace(target_beta_squared=bounds.target_beta_squared - 1)
-        yield f"d = {d}, 99999 bases of all of z, β'² one less", failed(9), (bounds, far)
+        yield f"d = {d}, 99999 bases of all of z, β'² one less", refused(15), (bounds, far)
         wrong = carried(s, far, [(t, s.kappa * d)], b1, 1) | {"u1": far["u1"]}
-        yield f"d = {d}, 99999 bases of all of z, u1 kept, t low digit too", failed(3), (bounds, wrong)
+        yield f"d = {d}, 99999 bases of all of z, u1 kept, t low digit too", refused(15), (bounds, wrong)
     # the same value modulo q only: 65437 + 65535·65536 = q
     s = SMALL._replace(b=65536, b1=65536)
     y = fold.honest(s, random_lists(rng, s, True))
@@ -179,12 +179,12 @@ def wide_digits(rng):
     numbers[0] += 65437
     numbers[2] += 65535
     wide = y | {"opening": numbers}
-    yield "z greater by q", accepted(0), (least_bounds(s, wide), wide)
+    yield "z greater by q", refused(15), (least_bounds(s, wide), wide)
     numbers = list(y["opening"])
     numbers[4] -= 65437
     numbers[6] -= 65535
     wide = with_commitments(s, y | {"opening": numbers})
-    yield "t less by q", accepted(0), (least_bounds(s, wide), wide)
+    yield "t less by q", refused(15), (least_bounds(s, wide), wide)
 
 
 def wrapped_lengths(rng):
@@ -212,7 +212,7 @@ def wrapped_lengths(rng):
             if ring.squared_norm(numbers) % 2**bits <= LARGEST_BOUND:
                 break
         wide = y | {"opening": numbers}
-        yield f"squared length of the digits modulo 2^{bits}", failed(9), (s, wide)
+        yield f"squared length of the digits modulo 2^{bits}", refused(15), (s, wide)
     p = [ring.LARGEST] * 8
     s = SMALL._replace(n=2, w=8)
     y = fold.honest(s, random_lists(rng, s, True) | {"omega": [0] * 40})

@@ -195,7 +195,9 @@ def header_over_a_body():
     for name in ("b", "b1", "beta_squared", "target_beta_squared"):
         for value in SIZE_SIDES[name][0]:
             header, body = header_with(**{name: value})
-            yield f"{name} = {value}", accepted(value - 13 if name == "target_beta_squared" else 0), header + body
+            wide = name in ("b", "b1") and value == 2
+            judged = accepted(value - 13 if name == "target_beta_squared" else 0)
+            yield f"{name} = {value}", refused(15) if wide else judged, header + body
     for b2 in (2, 3, 65536):
         header, body = header_with(b2=b2)
         yield f"b2 = {b2}", failed(6), header + body

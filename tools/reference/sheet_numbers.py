@@ -17,7 +17,7 @@ def number_base(rng, n, r):
 
 def ends_of_the_range(rng):
     s, y = number_base(rng, 2, 1)
-    inside = {"projections": refused(9), "c": refused(10)}
+    inside = {"projections": refused(9), "c": refused(10), "opening": refused(15)}
     for k, name in enumerate(SHEET_LISTS):
         first, last = (0, -1) if k % 2 else (-1, 0)
         yield f"{name}[{first}] = 2147483599", refused(8), (s, replaced(y, name, first, 2147483599))

@@ -5,7 +5,7 @@ Every list is flat: numbers one after another in the order of the sheet. Quotati
 
 from collections import namedtuple
 
-from ring import DEGREES, are_projection_entries, in_range, is_challenge
+from ring import DEGREES, are_projection_entries, in_range, is_challenge, is_narrow
 
 # "Header: d n r K L w κ κ1 κ2 b b1 b2 t1 t2 ν μ β² β'²."
 Sizes = namedtuple(
@@ -119,6 +119,37 @@ LENGTHS = {
 SHEET_LISTS = tuple(LENGTHS)[: tuple(LENGTHS).index("opening") + 1]
 
 
+# The digits of the opening
+
+# A block of it: its base, how many values it has, how many digits a value has, and how many numbers a digit of a value has.
+Block = namedtuple("Block", "base values digits width")
+
+
+def digit_blocks(s):
+    """ "z low, z high; t by part, then digit, then row; g and h by i, then j, then digit." "B is b for z low, b1 for the t and h digits, b2 for
+    the g digits." The blocks by name, in the opening's order.
+    """
+    P = pair_count(s.r)
+    return {
+        "z": Block(s.b, 1, 2, s.n * s.d), "t": Block(s.b1, s.r, s.t1, s.kappa * s.d), "g": Block(s.b2, P, s.t2, s.d), "h": Block(s.b1, P, s.t1, s.d),
+    }
+
+
+def digit_places(s):
+    """For each block its places in the opening as two lists: those of low digits, and those of top digits, "The top digit of each value (z high; the
+    last of the t1 digits of t and of h, the last of the t2 digits of g)".
+    """
+    places, start = {}, 0
+    for name, (_, values, digits, width) in digit_blocks(s).items():
+        low, top = [], []
+        for _ in range(values):
+            low += range(start, start + (digits - 1) * width)
+            top += range(start + (digits - 1) * width, start + digits * width)
+            start += digits * width
+        places[name] = (low, top)
+    return places
+
+
 # Refusals
 
 # What each call takes: sizes; lists whose numbers it reads, in the order of the library's arguments; lists of which only the length
@@ -203,6 +234,12 @@ def number_refusal(s, lists):
     return 0
 
 
+def is_wide(s, opening):
+    """Row 15: "the absolute value of a low digit is more than half its base (verifier only)"."""
+    blocks = digit_blocks(s)
+    return not all(is_narrow(blocks[name].base, opening[place]) for name, (low, _) in digit_places(s).items() for place in low)
+
+
 def refusal(call, s, lists, part=None):
     """The number of the row by which the call is refused, 0 if by none: "Lowest number first; a call tests only what it takes."
 
@@ -222,4 +259,7 @@ def refusal(call, s, lists, part=None):
     # 11: "n' above 256 (next instance only)"
     if call == "next_instance" and next_rank(s) > LARGEST_RANK:
         return 11
+    # 15: "the absolute value of a low digit is more than half its base (verifier only)"; "The row counts after 10 and before every check."
+    if call == "verify" and is_wide(s, lists["opening"]):
+        return 15
     return 0

@@ -3,11 +3,12 @@
 import random
 
 import fold
+import low_digits
 import ring
 import sheet
 import sizes
 from fixtures import (
-    SEVERAL_PARTS, SMALL, accepted, block_starts, bounded, challenge, check_faults, counted, failed, honest, honest_case, margin_sides, moved, random_lists,
+    BASES, SEVERAL_PARTS, SMALL, accepted, block_starts, bounded, challenge, check_faults, counted, failed, honest, honest_case, margin_sides, moved, random_lists,
     random_sizes, refused, replaced, short_lists, sides_of_challenges, sides_of_the_target, whole_case, whole_case_text, with_commitments,
 )
 from sizes import LARGEST_BOUND, Sizes
@@ -90,6 +91,12 @@ def test_refusals_in_order():
     assert sizes.refusal("verify", one_row, lists | {"projections": [2, 2147483599], "c": [3, 0]}) == 8
     assert sizes.refusal("verify", one_row, lists | {"projections": [1, -1]}) == 0
     assert fold.answer("verify", s, x | {"c": [0, 0], "opening": outside[:-1]}) == refused(7)
+    # A low digit of z, to base 4: the verifier alone looks at it, after the challenges.
+    wide = [3] + x["opening"][1:]
+    assert sizes.refusal("verify", s, x | {"opening": wide}) == 15 and sizes.refusal("verify", s, x | {"opening": [2] + wide[1:]}) == 0
+    assert sizes.refusal("verify", s, x | {"opening": wide, "c": [3, 0]}) == 10
+    assert all(sizes.refusal(call, s, x | {"opening": wide, "witness": [1, 2]}) == 0 for call in sizes.CALLS if call not in ("verify", "next_part"))
+    assert sizes.refusal("next_part", s, x | {"opening": wide}, 1) == 0
 
 
 def test_honest_runs():
@@ -147,7 +154,8 @@ def test_margin_of_every_block():
         low, high = y["opening"][place], y["opening"][place + gap]
         wide = with_commitments(s, moved(moved(y, "opening", place, base), "opening", place + gap, -1))
         moved_by = low**2 + high**2 - (low + base) ** 2 - (high - 1) ** 2
-        assert moved_by and fold.answer("verify", s, wide) == accepted(before + moved_by)
+        assert moved_by and fold.verdict(s, wide) == accepted(before + moved_by)
+        assert fold.answer("verify", s, wide) == (refused(15) if 2 * abs(low + base) > base else accepted(before + moved_by))
 
 
 def test_margin_past_64_bits():
@@ -160,7 +168,15 @@ def test_margin_past_64_bits():
         numbers[8 + place] += by
         numbers[place] = ring.centred(numbers[place] - s.b * by)
     assert ring.squared_norm(numbers) > 2**64 and fold.margin(s, {"opening": numbers}) < 0
-    assert fold.answer("verify", s, y | {"opening": numbers}) == failed(9)
+    assert fold.verdict(s, y | {"opening": numbers}) == failed(9) and fold.answer("verify", s, y | {"opening": numbers}) == refused(15)
+    # narrow: with c = 0 the digits of t are free
+    s = SMALL._replace(kappa=4)
+    y = fold.honest(s, random_lists(random.Random(15), s, True) | {"c": ring.zero(s.d)})
+    numbers = list(y["opening"])
+    for place in sizes.digit_places(s)["t"][1]:
+        numbers[place] = ring.LARGEST
+    assert ring.squared_norm(numbers) > 2**64
+    assert fold.answer("verify", s, with_commitments(s, y | {"opening": numbers})) == failed(9)
 
 
 def test_degree_64():
@@ -238,18 +254,104 @@ def test_first_failing_check():
     assert fold.answer("next_instance", s, y | faults[3] | faults[8])[0] == "written"
 
 
-def carried(rng, base, digit_elements):
-    """The digits of one value, with a multiple of the base moved from a digit to the next: wide, but the value is the same."""
+def narrow_sizes(rng):
+    """Random sizes, bases and counts of digits."""
+    return random_sizes(rng)._replace(t1=rng.choice((2, 3, 4)), t2=rng.choice((2, 3, 4)))
+
+
+def wide_low_digits(s, y):
+    """How many low digits are wide, by the opening as it is read: "the absolute value of a low digit is more than half its base". """
+    o = fold.read_opening(s, y)
+    t = [fold.flat(part[: (s.t1 - 1) * s.kappa]) for part in fold.cut(o.t_digits, s.t1 * s.kappa)]
+    g, h = ([fold.flat(value[:-1]) for value in fold.cut(digits, count)] for digits, count in ((o.g_digits, s.t2), (o.h_digits, s.t1)))
+    blocks = ((s.b, [fold.flat(o.z_low)]), (s.b1, t), (s.b2, g), (s.b1, h))
+    return sum(abs(x) > base / 2 for base, values in blocks for value in values for x in value)
+
+
+def test_low_digits():
+    """Row 15 exactly where a low digit is wide, whatever the top digits are; after it the verdict is as without the row."""
+    rng = random.Random(16)
+    seen = {}
+    for _ in range(150):
+        s = narrow_sizes(rng)
+        y = fold.honest(s, random_lists(rng, s, rng.random() < 0.5))
+        assert not wide_low_digits(s, y) and not sizes.is_wide(s, y["opening"])
+        for _ in range(4):
+            name = rng.choice("ztgh")
+            base, places = sizes.digit_blocks(s)[name].base, sizes.digit_places(s)[name]
+            low = rng.random() < 0.7
+            number = rng.choice((1, -1)) * rng.choice((base // 2, base // 2 + 1, (base + 1) // 2, base, ring.LARGEST, 2**30))
+            changed = replaced(y, "opening", rng.choice(places[0 if low else 1]), number)
+            wide = wide_low_digits(s, changed)
+            assert wide == (1 if low and 2 * abs(number) > base else 0) and sizes.is_wide(s, changed["opening"]) == (wide > 0)
+            assert fold.answer("verify", s, changed) == (refused(15) if wide else fold.verdict(s, changed))
+            case = (name, low, wide, base % 2)
+            seen[case] = seen.get(case, 0) + 1
+    assert len(seen) == 4 * 3 * 2 and min(seen.values()) >= 3, seen
+
+
+def test_digit_places():
+    """Each place of the opening once, by block; the blocks are those of the opening as it is read."""
+    rng = random.Random(17)
+    for _ in range(30):
+        s = narrow_sizes(rng)
+        places = sizes.digit_places(s)
+        assert sorted(place for block in places.values() for place in block[0] + block[1]) == list(range(sizes.LENGTHS["opening"](s)))
+        o = fold.read_opening(s, {"opening": list(range(sizes.LENGTHS["opening"](s)))})
+        for name, elements in zip("ztgh", (o.z_low + o.z_high, o.t_digits, o.g_digits, o.h_digits), strict=True):
+            assert sorted(places[name][0] + places[name][1]) == fold.flat(elements)
+        assert places["z"] == (fold.flat(o.z_low), fold.flat(o.z_high))
+
+
+def test_sides_of_low_digits():
+    """ "A low digit of 2 or -2 to base 4, 1 or -1 to base 3 is taken, one more in absolute value refused; a top digit of 2147483598 is taken." Beside
+    other rows and failing checks; digits that recompose to the right values; halves by both rules.
+    """
+    rng = random.Random(18)
+    assert [[ring.is_narrow(base, x) for x in range(4)] for base in (3, 4, 5)] == [[1, 1, 0, 0], [1, 1, 1, 0], [1, 1, 1, 0]]
+    assert all(ring.is_narrow(base, x) == ring.is_narrow(base, -x) == (abs(x) <= base / 2) for base in BASES for x in range(base + 2))
+    counts = {}
+    for bases in (low_digits.ODD, low_digits.EVEN, low_digits.OTHER_ODD, low_digits.OTHER_EVEN, {"b": 4, "b1": 3, "b2": 4}):
+        for changes in ({}, {"t1": 4, "t2": 3, "kappa": 2}):
+            s = low_digits.FREE._replace(**bases, **changes)
+            groups = (
+                low_digits.sides(s), low_digits.far_low_digits(s), low_digits.wide_tops(s), low_digits.with_rows(s), low_digits.with_checks(s),
+                low_digits.failing_checks(s),
+            )
+            for name, answer, sized, y in (case for group in groups for case in group):
+                assert fold.answer("verify", sized, y) == answer, (s, name)
+                counts[answer[0] if answer[0] == "accepted" else answer] = True
+                # what the next instance answers does not depend on the opening
+                if answer == refused(15):
+                    assert sizes.refusal("next_instance", sized, y) == 0 and fold.answer_next_part(sized, y, 1)[0] == 0
+    assert set(counts) == {"accepted", *map(failed, range(1, 10)), *map(refused, (7, 8, 9, 10, 15))}
+    for s in (SMALL, SMALL._replace(n=2, r=2, L=1, w=1, b=3, b1=255, b2=5, t1=4, t2=4), SMALL._replace(d=64, b=16)):
+        for name, answer, sized, y in low_digits.recomposed(rng, s):
+            assert fold.answer("verify", sized, y) == answer, (s, name)
+    for bases in ({"b": 4, "b1": 6, "b2": 2}, {"b": 2, "b1": 4, "b2": 65536}, {"b": 256, "b1": 2, "b2": 8}):
+        for name, answer, sized, y in low_digits.halves(rng, SMALL._replace(n=2, r=2, t1=3, t2=3, **bases)):
+            assert fold.answer("verify", sized, y) == answer, (bases, name)
+
+
+def other_digits(rng, base, digit_elements):
+    """Other narrow digits of the same value modulo q: a half with its other sign and the next digit moved, or the digits of the value plus or minus q."""
     result = [list(element) for element in digit_elements]
-    e, k = rng.randrange(len(result) - 1), rng.randrange(len(result[0]))
-    times = rng.choice((-2, -1, 1, 2))
-    result[e][k] += times * base
-    result[e + 1][k] -= times
-    return result if ring.in_range(fold.flat(result)) else digit_elements
+    halves = [(e, k) for e, element in enumerate(result[:-1]) for k, x in enumerate(element) if 2 * abs(x) == base]
+    if halves and rng.random() < 0.7:
+        e, k = rng.choice(halves)
+        result[e + 1][k] += 1 if result[e][k] > 0 else -1
+        result[e][k] = -result[e][k]
+    else:
+        k = rng.randrange(len(result[0]))
+        value = sum(element[k] * base**e for e, element in enumerate(result)) + rng.choice((-ring.Q, ring.Q))
+        for element, digit in zip(result, ring.digits(base, len(result), value), strict=True):
+            element[k] = digit
+    narrow = all(ring.is_narrow(base, x) for x in fold.flat(result[:-1]))
+    return result if narrow and ring.in_range(fold.flat(result)) else digit_elements
 
 
 def gadget_columns(s, x):
-    """Make B and C such that moving a multiple of the base from a digit to the next leaves u1 as it is."""
+    """Make B and C such that other digits of the same value modulo q leave u1 as it is."""
     for name, count, base, gap in (("b_matrix", s.t1, s.b1, s.kappa), ("c_matrix", s.t2, s.b2, 1)):
         rows = fold.matrix(s, x[name], s.kappa1)
         for row in rows:
@@ -275,12 +377,12 @@ def test_two_openings():
             o = fold.read_opening(s, second)
             g = fold.cut(o.g_digits, s.t2)
             k = rng.randrange(len(g))
-            g[k] = carried(rng, s.b2, g[k])
+            g[k] = other_digits(rng, s.b2, g[k])
             t_place = rng.randrange(s.r * s.kappa)
             part, row = divmod(t_place, s.kappa)
             places = [(part * s.t1 + e) * s.kappa + row for e in range(s.t1)]
             t = list(o.t_digits)
-            for place, element in zip(places, carried(rng, s.b1, [t[place] for place in places]), strict=True):
+            for place, element in zip(places, other_digits(rng, s.b1, [t[place] for place in places]), strict=True):
                 t[place] = element
             second["opening"] = fold.flat(o.z_low + o.z_high + t + fold.flat(g) + o.h_digits)
         bound = max(ring.squared_norm(y["opening"]) for y in (first, second))

@@ -3,8 +3,11 @@
 import contextlib
 import io
 
+import fold_cases
 import kept
-from fixtures import whole_case_text
+import low_digits
+import sheet
+from fixtures import replaced, whole_case_text
 from sheet import line_text
 from stored import numbers_text
 
@@ -43,6 +46,53 @@ def test_kept_verdicts():
     newer = cases()
     newer[1] = newer[1]._replace(lines=[b"0 7\n"])
     assert "case 2, line 1" in difference(cases(before), newer)
+
+
+def wide_texts():
+    """A wide opening; one that is refused by 10, too; one whose low digits are at half their base."""
+    s = low_digits.FREE._replace(**low_digits.EVEN)
+    half = low_digits.at_half(s)
+    wide = low_digits.wide(s, half)
+    return [sheet.write_sheet(s, y) for y in (wide, replaced(wide, "c", 0, 3), half)]
+
+
+def test_turned_verdicts():
+    """A judgement on a wide opening is 2 15 now, whatever it was; no other line is. A refusal by another row stays."""
+    texts = wide_texts()
+    accepted = [0, sheet.judge(texts[2])[1]]
+    now = cases([[2, 15], [2, 10], accepted], texts)
+    for judgement in ([0, 0], [0, 77], [1, 3], [1, 9]):
+        before = cases([judgement, [2, 10], [0, 0]], texts)
+        assert not difference(before, now)
+        # it did not turn, or it turned to another row or check
+        for line in (judgement, [2, 8], [2, 10], [1, 1], [0, 15]):
+            assert "case 1, line 1" in difference(before, cases([line, [2, 10], accepted], texts))
+    assert not difference(now, now)
+    before = cases([[1, 3], [2, 10], [0, 0]], texts)
+    # what was refused, and what is not wide, does not turn
+    assert "case 2, line 1" in difference(before, cases([[2, 15], [2, 15], accepted], texts))
+    assert "case 3, line 1" in difference(before, cases([[2, 15], [2, 10], [2, 15]], texts))
+    assert "case 1, line 1" in difference(cases([[1, 9]], TEXTS[2:3]), cases([[2, 15]], TEXTS[2:3]))
+    # kept by an older tree as refused by 15: it stays
+    assert "case 1, line 1" in difference(now, before)
+    said = io.StringIO()
+    with contextlib.redirect_stdout(said):
+        assert kept.compare("file", before, now)
+    assert "1 lines compared whole, 1 of kind 0 by kind alone, 1 margins compared with the definition; 1 turned to 2 15; 0 differences" in said.getvalue()
+
+
+def test_turned_calls():
+    """The same in fold_cases, whose cases are numbers: the verifier's lines turn, those of the messages do not."""
+    s = low_digits.FREE._replace(**low_digits.ODD)
+    y = low_digits.wide(s, low_digits.at_half(s))
+    line, output = fold_cases.case(fold_cases.VERIFY, s, y)
+    assert output == [2, 15]
+    given = numbers_text([line])
+    before, now = (list(kept.fold_cases(given, numbers_text([stored]))) for stored in ([1, 6], [2, 15]))
+    assert not difference(before, now) and "case 1, line 1" in difference(before, before)
+    line, output = fold_cases.case(5, s, y | {"witness": [0] * 8})
+    before, now = (list(kept.fold_cases(numbers_text([line]), numbers_text([stored]))) for stored in (output, [2, 15] + output[2:]))
+    assert "case 1, line 1" in difference(before, now)
 
 
 def test_kept_cases():

@@ -3,6 +3,7 @@
 import random
 
 import fold
+import low_digits
 import ring
 import sizes
 from fixtures import accepted, counted, honest_case, moved, random_lists, refused, sides_of_challenges, whole_case
@@ -30,7 +31,7 @@ def test_refusals_of_a_part():
 
 
 def corrupted(rng, s, y):
-    """One list of the verifier with one number changed, or the opening with digits that are not the honest ones."""
+    """One list of the verifier with one number changed, or the opening with digits that are not the honest ones: wide ones, mostly, of the same z."""
     way = rng.random()
     if way < 0.2:
         low = rng.randrange(s.n * s.d)
@@ -41,7 +42,10 @@ def corrupted(rng, s, y):
 
 
 def test_accepted_exactly_if_the_next_instance_is_solved():
-    """Demand 2: "an opening is accepted exactly if, padded, it solves the next instance"."""
+    """Demand 2: "an opening that gets past row 15 is accepted exactly if, padded, it solves the next instance. An opening with a wide low digit is not
+    accepted, though padded it may solve the next instance, which does not test digits." And back: "A solution of the next instance whose padding is zero
+    is, with the padding cut off, an accepted opening if its digits are narrow too".
+    """
     rng = random.Random(6)
     seen = set()
     for _ in range(120):
@@ -49,10 +53,11 @@ def test_accepted_exactly_if_the_next_instance_is_solved():
         if rng.random() < 0.3:
             honest |= {name: [0] * len(honest[name]) for name in ("b_matrix", "c_matrix", "d_matrix", "u1", "u2")}
         for y in (honest, corrupted(rng, s, honest)):
-            answer = fold.answer("verify", s, y)
+            answer, wide = fold.answer("verify", s, y), sizes.is_wide(s, y["opening"])
+            assert (answer == refused(15)) == wide
             kind, content = fold.answer("next_instance", s, y)
             if not (fold.check_1(s, y) and fold.check_2(s, y)):
-                assert (kind, content) == answer
+                assert (kind, content) == fold.verdict(s, y) and answer in ((kind, content), refused(15))
                 continue
             statement = fold.next_statement(s, y)
             written = content["next_whole"]
@@ -61,13 +66,28 @@ def test_accepted_exactly_if_the_next_instance_is_solved():
             assert len(statement.whole) == sizes.next_constraint_count(s)
             witness = fold.next_witness(s, y)
             assert len(witness) == statement.r and all(len(part) == statement.n for part in witness)
-            assert fold.solves(statement, witness) == (answer[0] == "accepted")
+            solved = fold.solves(statement, witness)
+            assert (solved and not wide) == (answer[0] == "accepted") and solved == (fold.verdict(s, y)[0] == "accepted")
             if answer[0] == "accepted":
                 assert answer[1] == statement.beta_squared - ring.squared_norm(fold.flat(fold.flat(witness)))
             joined = fold.flat(fold.answer_next_part(s, y, part)[1] for part in range(1, statement.r + 1))
             assert joined == y["opening"]
-            seen.add(answer[1] if answer[0] == "failed" else "accepted")
-    assert seen == {"accepted", 3, 4, 5, 6, 7, 8, 9}, seen
+            seen.add((answer[1], solved) if answer == refused(15) else answer[1] if answer[0] == "failed" else "accepted")
+    assert seen == {"accepted", 3, 4, 5, 6, 7, 8, 9, (15, True), (15, False)}, seen
+
+
+def test_wide_solutions_of_the_next_instance():
+    """A padded opening with one wide low digit, in each block, solves the next instance and is refused by 15; the honest one, of the same values, is accepted."""
+    rng = random.Random(10)
+    for s in (FIRST, FIRST._replace(n=3, r=2, L=1, w=1, b=3, b1=255, b2=5, t1=4, t2=4, nu=2, mu=3)):
+        for name, answer, sized, y in low_digits.recomposed(rng, s):
+            kind, content = fold.answer("next_instance", sized, y)
+            statement, witness = fold.next_statement(sized, y), fold.next_witness(sized, y)
+            assert kind == "written" and fold.whole_constraints(s.d, statement.n, statement.r, content["next_whole"]) == statement.whole
+            assert fold.solves(statement, witness) and fold.answer("verify", sized, y) == answer, name
+            # read back: the chunks without their padding are the opening
+            joined = fold.flat(fold.answer_next_part(sized, y, part)[1] for part in range(1, statement.r + 1))
+            assert joined == y["opening"] and (answer == refused(15)) == sizes.is_wide(sized, joined) == (name != "honest")
 
 
 def test_next_instance_of_the_whole_case():

@@ -6,6 +6,7 @@ import sys
 from pathlib import Path
 
 import fold
+import low_digits
 import ring
 import sheet
 import sheet_cases
@@ -212,6 +213,29 @@ def test_sides_of_challenges():
             assert sheet.write_into(s, numbers, b"")[0] == refused(10)
             assert sheet.read_sheet(text, len(numbers) - 1) == refused(7)
             assert sheet.judge(text + b" ") == refused(12)
+
+
+def test_wide_digits():
+    """ "of what the reader took, the verifier refuses by 15 what has a wide low digit, and nothing else": such sheets are read and written back byte for byte."""
+    rng = random.Random(21)
+    seen = set()
+    for bases in (low_digits.ODD, low_digits.EVEN):
+        s = low_digits.FREE._replace(**bases)
+        groups = (low_digits.sides(s), low_digits.wide_tops(s), low_digits.with_rows(s), low_digits.with_checks(s), low_digits.recomposed(rng, SMALL))
+        for name, answer, sized, y in (case for group in groups for case in group if case[1] != refused(7)):
+            text, numbers = sheet.write_sheet(sized, y), sheet.flat_numbers(y)
+            assert sheet.judge(text) == answer, name
+            taken = answer[0] != "refused" or answer[1] == 15
+            assert sheet.read_sheet(text) == (("read", (sized, y)) if taken else answer), name
+            written = sheet.write_into(sized, numbers, marked(len(text)))
+            assert written == ((("written", 0), len(text), text) if taken else (answer, 0, marked(len(text)))), name
+            assert sheet.judge(text + b" ") == refused(12)
+            seen.add(answer[0] if answer[0] != "refused" else answer[1])
+    assert seen == {"accepted", "failed", 8, 9, 10, 15}
+    s = low_digits.FREE._replace(**low_digits.ODD)
+    wide = sheet.write_sheet(s, low_digits.wide(s, low_digits.at_half(s)))
+    program = subprocess.run([sys.executable, sheet.__file__], input=wide, capture_output=True, check=True)
+    assert program.stdout == b"               2              15\n" and not program.stderr
 
 
 def test_texts_written_again():

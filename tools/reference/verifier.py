@@ -29,7 +29,7 @@ def read_opening(s, x):
 
 
 def recomposed_z(s, x):
-    """ "digits are lent and recomposed (its section 5.3), with no width test." """
+    """ "digits are lent and recomposed (its section 5.3)." """
     o = read_opening(s, x)
     return [ring.recompose_element(s.b, [low, high]) for low, high in zip(o.z_low, o.z_high, strict=True)]
 

@@ -21,6 +21,7 @@ from collections import Counter
 
 import ring
 import sheet
+import low_digits
 from fixtures import OPEN, SMALL, challenges, counted, sides_of_challenges, uniform, whole_case
 from sheet_faults import SIZE_SIDES
 from sheet_numbers import ONE_MORE
@@ -228,6 +229,15 @@ def challenge_sides(rng):
     yield "d = 64, rows 10 and 13", s, numbers, sheet.text_length(s) - 1
 
 
+def wide_digits(rng):
+    """A wide low digit in each block is written, also at the end of the range; 8, 9, 10 and 13 come as without it."""
+    odd, even = (low_digits.FREE._replace(**bases) for bases in (low_digits.ODD, low_digits.EVEN))
+    for group in (low_digits.sides(odd, ((-1, 1),)), low_digits.far_low_digits(even), low_digits.with_rows(odd), low_digits.recomposed(rng, SMALL, ((0, 1),))):
+        for name, _, s, y in group:
+            yield name, s, sheet.flat_numbers(y), sheet.text_length(s)
+    yield "rows 13 and 15", s, sheet.flat_numbers(y), sheet.text_length(s) - 1
+
+
 # One fault for each row, in sizes, numbers or room.
 FAULTS = {
     1: lambda s, numbers, room: (s._replace(d=3), numbers, room),
@@ -275,7 +285,7 @@ GROUPS = (good_numbers, buffers, widths, long_texts, header_sides, huge_sizes, c
 
 def all_cases():
     """The cases as (group, name, sizes, numbers, room)."""
-    groups = zip(GROUPS + (challenge_sides,), [random.Random(15)] * len(GROUPS) + [random.Random(16)])
+    groups = zip(GROUPS + (challenge_sides, wide_digits), [random.Random(15)] * len(GROUPS) + [random.Random(16), random.Random(26)])
     return [(group.__name__, *case) for group, rng in groups for case in group(rng)]
 
 
