@@ -23,7 +23,7 @@ extern "C" {
 enum { LIZKARG_ACCEPTED = 0, LIZKARG_FAILED = 1, LIZKARG_REFUSED = 2, LIZKARG_WRITTEN = 3 };
 
 /* An answer as two numbers. number: where accepted, the margin (0..999999999999999), which is the target bound minus the squared length of
- * all digits of the opening; the check that failed (1..9); the refusal (1..13); else 0.
+ * all digits of the opening; the check that failed (1..9); the refusal (1..13, 15); else 0.
  *
  * The number has 64 bits because it holds the margin, here and in the three structs below that hold an answer. Code that was built against a
  * header in which it has 8 must be compiled anew; the structs of sizes are the same in both. All structs here are the C interface's own: they
@@ -115,7 +115,8 @@ lizkarg_answer lizkarg_amortize(lizkarg_shape shape, size_t b,
     const int32_t *c, size_t c_len, const int32_t *witness, size_t witness_len, int32_t *z, size_t z_len);
 
 /* The verifier. opening: z low, z high, t, g and h digits, in this order in one list. Accepted with the margin; failed with the first
- * check that fails; or refused 1 to 4, 6 to 10. */
+ * check that fails; or refused 1 to 4, 6 to 10, 15 (a low digit x of a base B with 2·|x| > B: B is b for z low, b1 for t and h, b2 for g;
+ * the top digit of each value, z high among them, is free). */
 lizkarg_answer lizkarg_verify(lizkarg_sizes sizes,
     const int32_t *a_matrix, size_t a_matrix_len, const int32_t *b_matrix, size_t b_matrix_len,
     const int32_t *c_matrix, size_t c_matrix_len, const int32_t *d_matrix, size_t d_matrix_len,
@@ -145,7 +146,7 @@ uint8_t lizkarg_next_part_refusal(lizkarg_part_sizes sizes, size_t part, const i
 lizkarg_part lizkarg_next_part(lizkarg_part_sizes sizes, size_t part, const int32_t *opening, size_t opening_len);
 
 /* Judges a sheet as the program does: accepted with the margin; failed with the first check that fails; or refused 12 (also where the text
- * is longer than 65536 bytes), 1 to 6, 8 to 10. */
+ * is longer than 65536 bytes), 1 to 6, 8 to 10, 15. */
 lizkarg_answer lizkarg_judge_sheet(const uint8_t *text, size_t text_len);
 
 /* How many numbers a sheet with this header holds after it: the numbers_len of lizkarg_read_sheet. 0 where the header is refused, by 12 or

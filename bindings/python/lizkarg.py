@@ -49,6 +49,7 @@ class Refused(Exception):
         11: "the next instance has more than 256 elements to a part",
         12: "the text is no sheet, or longer than 65536 bytes",
         13: "the buffer is shorter than the text",
+        15: "a low digit is more than half its base",
     }
 
     def __init__(self, number):
@@ -344,7 +345,7 @@ def prove(sizes, witness, *, a_matrix, b_matrix, c_matrix, d_matrix, whole, cons
 
 
 def verify(sizes, proof):
-    """The verdict: Accepted(margin) or Failed(check). Refused 1 to 4, 6 to 10."""
+    """The verdict: Accepted(margin) or Failed(check). Refused 1 to 4, 6 to 10, 15."""
     return _judged(_call("verify", _sized(_Sizes, sizes), *map(_numbers, proof)))
 
 
@@ -376,7 +377,7 @@ def next_witness(sizes, nu, mu, opening):
 
 
 def judge_sheet(text):
-    """The verdict on a sheet of at most 65536 bytes, as the program prints it: Accepted(margin) or Failed(check). Refused 12, 1 to 6, 8 to 10."""
+    """The verdict on a sheet of at most 65536 bytes, as the program prints it: Accepted(margin) or Failed(check). Refused 12, 1 to 6, 8 to 10, 15."""
     return _judged(_call("judge_sheet", _bytes(text)))
 
 

@@ -19,12 +19,13 @@ import case
 import examples
 import fold
 import lizkarg
+import low_digits
 import ring
 import sheet
 import sizes as reference
 from fixtures import SMALL, challenges, honest, margin_sides, random_lists, random_sizes, sides_of_challenges, uniform
 from library import library_sizes as taken
-from library import library_verdict
+from library import library_answer, library_verdict
 from lizkarg import Accepted, Failed, Proof, Refused
 
 GIVEN = [name for name in Proof._fields if name not in ("u1", "p", "second_b", "u2", "opening")] + ["witness"]
@@ -70,9 +71,10 @@ def test_answers():
     assert str(Failed(9)) == "failed: check 9, the digits are longer than the target bound"
     assert str(Refused(7)) == "refused: 7, a list's length is not what the sizes give"
     assert str(Refused(13)) == "refused: 13, the buffer is shorter than the text"
+    assert str(Refused(15)) == "refused: 15, a low digit is more than half its base"
     # the command verdict --words says the same; but it knows no parts
     said = re.findall(r"[012]\.[0-9*]+\) echo (?:'([^']*)'|\"([^\"]*)\") ;;", (ROOT / "verdict").read_text())
-    rows = [str(Refused(number)).replace("L, w or a part number", "L or w") for number in range(1, 13) if number not in (7, 11)]
+    rows = [str(Refused(number)).replace("L, w or a part number", "L or w") for number in (1, 2, 3, 4, 5, 6, 8, 9, 10, 12, 15)]
     assert [one or other for one, other in said] == [str(Accepted("$2")), *(str(Failed(check)) for check in range(1, 10)), *rows]
 
 
@@ -115,6 +117,9 @@ def test_refusals():
         assert refusal(lizkarg.verify, z, proof._replace(u1=[bad, *proof.u1[1:]])) == 8, bad
     assert refusal(lizkarg.verify, z, proof._replace(projections=[2, *proof.projections[1:]])) == 9
     assert refusal(lizkarg.verify, z, proof._replace(c=[3, *proof.c[1:]])) == 10
+    wide = proof._replace(opening=[3, *proof.opening[1:]])
+    assert refusal(lizkarg.verify, z, wide) == 15 and refusal(lizkarg.verify, z, wide._replace(c=[3, *proof.c[1:]])) == 10
+    assert refusal(lizkarg.verify, z, proof._replace(opening=[2, *proof.opening[1:]])) == 0
     assert refusal(lizkarg.next_instance, z, 8, 1, proof) == 5
     assert refusal(lizkarg.next_instance, z, 0, 1, proof) == 5
     assert refusal(lizkarg.next_instance, z, 2**64, 1, proof) == 5
@@ -160,6 +165,35 @@ def test_margins():
     for margin in (0, 1, 255, 256, 65535, 65536, 2**32 - 1, 2**32, 10**15 - 1 - s.target_beta_squared):
         assert lizkarg.verify(z._replace(target=z.target + margin), proof) == Accepted(margin)
     assert lizkarg.verify(z._replace(target=z.target - 1), proof) == Failed(9)
+
+
+def test_low_digits():
+    """Low digits on both sides of half their base, wide top digits, lower rows and failing checks beside them, through every call that takes an opening."""
+    rng = random.Random(15)
+    answers = set()
+    for bases in (low_digits.ODD, low_digits.EVEN, low_digits.OTHER_ODD, low_digits.OTHER_EVEN):
+        s = low_digits.FREE._replace(**bases)
+        groups = (
+            low_digits.sides(s), low_digits.far_low_digits(s), low_digits.wide_tops(s), low_digits.with_rows(s), low_digits.with_checks(s),
+            low_digits.failing_checks(s), low_digits.recomposed(rng, SMALL._replace(r=2, L=1, w=1)),
+        )
+        for name, answer, sized, y in (case for group in groups for case in group):
+            z, cut, proof = taken(sized), (sized.nu, sized.mu), Proof(**y)
+            assert library_answer(lizkarg.verify, z, proof) == answer, name
+            answers.add(answer[:1] if answer[0] == "accepted" else answer)
+            if answer == ("refused", 7):
+                continue
+            text = sheet.write_sheet(sized, y)
+            assert library_answer(lizkarg.judge_sheet, text) == answer, name
+            row = 0 if answer[0] != "refused" or answer[1] == 15 else answer[1]
+            assert refusal(lizkarg.read_sheet, text) == refusal(lizkarg.write_sheet, z, *cut, proof) == row, name
+            if row == 0:
+                assert lizkarg.read_sheet(text) == (z, *cut, proof) and lizkarg.write_sheet(z, *cut, proof) == text, name
+                assert next_answer(z, sized, proof) == fold.answer("next_instance", sized, y), name
+                assert lizkarg.next_witness(z, *cut, proof.opening) == fold.flat(fold.flat(fold.next_witness(sized, y))), name
+    assert answers == {("accepted",), *(("failed", check) for check in range(1, 10)), *(("refused", row) for row in (7, 8, 9, 10, 15))}
+    for name, answer, sized, y in low_digits.halves(rng, SMALL._replace(n=2, r=2, b=4, b1=6, b2=2, t1=3, t2=3)):
+        assert library_answer(lizkarg.verify, taken(sized), Proof(**y)) == answer, name
 
 
 def test_refusals_of_the_writer():
@@ -247,16 +281,16 @@ def test_written_corpus():
     at, written = 17, 0
     for number in range(int(cases[:16])):
         count = int(cases[at:at + 16])
-        text, kind = cases[at + 17:at + 17 + count], int(lines[33 * number:33 * number + 16])
+        text, (kind, row) = cases[at + 17:at + 17 + count], map(int, lines[33 * number:33 * number + 33].split())
         at += count + 18
         if refusal(lizkarg.read_sheet, text):
             assert kind == 2, number
             continue
-        assert kind < 2 or count > 65536, number
+        assert kind < 2 or row == 15 or count > 65536, number
         read = lizkarg.read_sheet(text)
         assert lizkarg.write_sheet(read.sizes, read.nu, read.mu, read.proof) == text, number
         written += 1
-    assert at == len(cases) and written == 261
+    assert at == len(cases) and written == 350
 
 
 if __name__ == "__main__":

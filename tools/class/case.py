@@ -19,6 +19,9 @@ TOO_LONG = [[6, 2], [0, 1], [-3, 1]]
 # Another target bound for the same opening.
 ROOMY = 120
 
+# A low digit of z, and what is added to it so that it is wide; its high digit takes it back.
+WIDE_PLACE, WIDE_BY = 1, -4
+
 # For the exercises: other challenges, and readings with the same sums that are shorter.
 OTHER_C = [[0, 1], [1, 0], [1, 0]]
 SHORTER = [[1, 1], [1, 1], [1, 2]]
@@ -65,6 +68,15 @@ def honest(readings=READINGS):
     y = fold.honest(SIZES, x)
     s = SIZES._replace(target_beta_squared=ring.squared_norm(fold.honest(SIZES, lists(READINGS))["opening"]))
     return s, x, y
+
+
+def wide():
+    """Sizes and lists with a wide low digit in z: the value is the same, and all nine checks hold under the target ROOMY."""
+    s, _, y = honest()
+    opening = list(y["opening"])
+    opening[WIDE_PLACE] += WIDE_BY
+    opening[WIDE_PLACE + s.n * s.d] -= WIDE_BY // s.b
+    return s._replace(target_beta_squared=ROOMY), y | {"opening": opening}
 
 
 def pair(e):

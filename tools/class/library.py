@@ -11,7 +11,7 @@ import sheet
 sys.path.insert(0, str(Path(__file__).resolve().parent.parent.parent / "bindings/python"))
 
 import lizkarg
-from lizkarg import Accepted, Failed, Proof, Sizes
+from lizkarg import Accepted, Failed, Proof, Refused, Sizes
 
 # fields of lizkarg.Sizes that the second implementation names otherwise
 OTHERWISE = {"k": "K", "l": "L", "bound": "beta_squared", "target": "target_beta_squared"}
@@ -25,6 +25,15 @@ def library_verdict(verdict):
     """The second implementation's verdict, as the library's."""
     kind, number = verdict
     return {"accepted": Accepted, "failed": Failed}[kind](number)
+
+
+def library_answer(call, *arguments):
+    """What a call of the library that judges answers, as the second implementation's answer."""
+    try:
+        verdict = call(*arguments)
+    except Refused as refused:
+        return ("refused", refused.number)
+    return ("accepted", verdict.margin) if isinstance(verdict, Accepted) else ("failed", verdict.check)
 
 
 def library_text(s, lists):
@@ -50,10 +59,10 @@ def same_changed_digits():
         changed = list(y["opening"])
         changed[place] += 1
         z = y | {"opening": changed}
-        verdict = library_verdict(fold.verdict(s, z))
-        assert lizkarg.verify(library_sizes(s), Proof(**z)) == verdict, place
+        answer = fold.answer("verify", s, z)
+        assert library_answer(lizkarg.verify, library_sizes(s), Proof(**z)) == answer, place
         assert library_text(s, z) == sheet.write_sheet(s, z), place
-        assert lizkarg.judge_sheet(sheet.write_sheet(s, z)) == verdict, place
+        assert library_answer(lizkarg.judge_sheet, sheet.write_sheet(s, z)) == answer, place
     return len(y["opening"])
 
 
@@ -72,6 +81,6 @@ def compare(sheets):
     digits = same_changed_digits()
     same_next_instance()
     for known, verdict, text in sheets:
-        assert lizkarg.judge_sheet(text) == library_verdict(verdict), known
+        assert library_answer(lizkarg.judge_sheet, text) == verdict, known
         assert library_text(*sheet.read_sheet(text)[1]) == text, known
     print(f"the proved library makes the same {numbers} numbers and the same sheets and gives the same verdicts, also with each of {digits} digits changed")

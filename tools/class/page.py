@@ -60,6 +60,7 @@ def sheets():
     yield "class-changed-digit", ("failed", 5), sheet.write_sheet(s, y | {"opening": changed})
     long_s, _, long_y = case.honest(case.TOO_LONG)
     yield "class-too-long", ("failed", 1), sheet.write_sheet(long_s, long_y)
+    yield "class-wide-digit", ("refused", 15), sheet.write_sheet(*case.wide())
 
 
 # ---- the page
@@ -95,6 +96,10 @@ def page():
         """The sum of the digits at place `at` of each number, each number having `count`."""
         return add(*digit_elements[at::count])
 
+    def total(block):
+        """How many digits a block has."""
+        return next(len(fold.flat(entries)) for known, entries in lengths if known == block)
+
     def weighted(row, values, count):
         """A row of a fingerprint's matrix times the digits: what each place counts, the sum of the digits there, the product."""
         return [(row[at], summed(values, count, at), times(row[at], summed(values, count, at))) for at in range(count)]
@@ -125,15 +130,25 @@ def page():
     for place in range(len(y["opening"])):
         moved = list(y["opening"])
         moved[place] += 1
-        kind, number = fold.verdict(s, y | {"opening": moved})
+        kind, number = fold.answer("verify", s, y | {"opening": moved})
         block = next(block for block, end in blocks(s) if place < end)
         named.setdefault((block, kind, number), 0)
         named[block, kind, number] += 1
+    widened = sum(count for (_, kind, _), count in named.items() if kind == "refused")
+    low = [y["opening"][place] for block in sizes.digit_places(s).values() for place in block[0]]
+    assert widened == low.count(2) > 0 and all(number == 15 for _, kind, number in named if kind == "refused"), "the page says that these were 2"
     long_s, long_x, long_y = case.honest(case.TOO_LONG)
     other_z = add(*(times(e, slot[0]) for e, slot in zip(case.OTHER_C, slots)))
     assert times(a, other_z) == add(*(times(case.OTHER_C[i], t[i]) for i in range(3))) and times(other_z, other_z) == verifier.garbage_sum(s, y | {"c": fold.flat(case.OTHER_C)}, g)
     assert fold.message_1(s, case.lists(case.READINGS[::-1]))["u1"] == y["u1"]
     assert case.codes(case.SHORTER) == case.codes(case.READINGS)
+    wide_s, wide_y = case.wide()
+    wide_low, wide_high = (wide_y["opening"][case.WIDE_PLACE + at] for at in (0, s.n * s.d))
+    wide_value = wide_low + wide_high * s.b
+    assert wide_value == z[case.WIDE_PLACE] == y["opening"][case.WIDE_PLACE] and 2 * abs(wide_low) > s.b and not y["opening"][case.WIDE_PLACE + s.n * s.d]
+    assert fold.verdict(wide_s, wide_y) == ("accepted", 10), "the page says that all nine checks hold"
+    top = max(x for block in sizes.digit_places(s).values() for x in (y["opening"][place] for place in block[1]))
+    assert [top, 0] == ring.element_digits(s.b1, s.t1, h[2, 2])[1] and 2 * top > s.b1, "the page says that h33 has it"
 
     return f"""# A class with one control unit
 
@@ -298,12 +313,30 @@ Read it as you read a tread gauge: it says how much was left before the wear lim
 
 ## One changed digit
 
-Somebody changes one digit in the archive by one. Which check says so?
+Somebody adds one to one digit in the archive. What does the program say?
 
-{table(["changed", "verdict", "for so many digits"], [[f"a {block} digit", f"{kind} {number}", f"{count} of {count}"] for (block, kind, number), count in named.items()])}
+{table(["changed", "verdict", "for so many digits"], [[f"a {block} digit", f"{kind} {number}", f"{count} of {total(block)}"] for (block, kind, number), count in named.items()])}
 
     ./verdict --words examples/class-changed-digit.sheet
 {program_line("class-changed-digit")}
+
+The {widened} that are refused are low digits of 2, which become 3. The next section tells why.
+
+## A digit that is too wide
+
+A wheel of an odometer shows 0 to 9. One that shows 14 can still be read, as 4 and one carried; but nobody would write it. Here the wheels have signs: to base {s.b} a low digit goes from -2 to 2, from minus
+half of the base to plus half. Both halves are allowed. To base 3 it goes from -1 to 1, since half of 3 is one and a half.
+
+The top wheel, the high digit, is free: there is no wheel beyond it to carry to, so it shows whatever is left. The high digit of h33 is {top}, and that is right.
+
+The second place of z is {wide_value}, which is {wide_value} + 0·{s.b}. A tool could also send {wide_low} + {wide_high}·{s.b}: it is {wide_value} again, and all nine checks hold. With the bound of {case.ROOMY} the margin would be {fold.verdict(wide_s, wide_y)[1]}. But the low digit {wide_low}
+is beyond half of {s.b}, and the program turns the sheet away before it makes any check:
+
+    ./verdict --words examples/class-wide-digit.sheet
+{program_line("class-wide-digit")}
+
+2 says refused, 15 says why: a low digit is more than half its base. It does not say that the readings were wrong; the garage wants one habit of writing digits, so that sheets can be read side by side.
+Whoever still has the readings can make the sheet anew. Sheets from the archive are turned away alike.
 
 ## Readings that are too large
 
@@ -318,12 +351,13 @@ the rows give p = {", ".join(str(k) for k in long_y["p"])}, and 2·({" + ".join(
 1. Make z from other drawn pairs, say {", ".join(f"c{i + 1} = {pair(e)}" for i, e in enumerate(case.OTHER_C))}, and make checks 5 and 6 by hand.
 2. Exchange the readings of slots 1 and 3. Both codes are met. Does u1 stay?
 3. Find three slots that meet both codes, with squares that add up to less than {s.beta_squared}.
-4. Open examples/class.sheet in an editor (docs/SHEET.md says where each list stands), change one number, and say before the program does which check will fail.
+4. Open examples/class.sheet in an editor (docs/SHEET.md says where each list stands), change one number, and say before the program does which check will fail, or why it is refused.
 5. In the same sheet, make the last number of the first line 150, keeping it in its columns. Which line will the program print? And with {length - 1}?
+6. Which of these can be digits, low; high, to base {s.b}: 2; 7 and -3; 0 and -2; -9? What number is each of them?
 
 Answers. 1: z = {pair(other_z)}; check 5 has {pair(times(a, other_z))} on both sides, check 6 {pair(times(other_z, other_z))}. 2: It does, since on this page a digit counts alike
 for all slots; in a real unit each digit has a number of its own. 3: For one,
-{", ".join(f"{slot[0]} and {slot[1]}" for slot in case.SHORTER)}: the squares add up to {sum(k * k for slot in case.SHORTER for k in slot)}. 5: 0 {150 - length}, since 150 - {length} = {150 - length}; and 1 9.
+{", ".join(f"{slot[0]} and {slot[1]}" for slot in case.SHORTER)}: the squares add up to {sum(k * k for slot in case.SHORTER for k in slot)}. 5: 0 {150 - length}, since 150 - {length} = {150 - length}; and 1 9. 6: The first, {recomposed(s.b, 2, 7)}, and the last, {recomposed(s.b, -2, -9)}; -3; 0 is -3, but its low digit is too wide: 1; -1 is the same number.
 """
 
 
@@ -347,6 +381,12 @@ def expected(s, x, y):
     ]
 
 
+def recomposed(base, low, high):
+    """The number of two digits, of which the low one is narrow."""
+    assert ring.is_narrow(base, low)
+    return ring.recompose(base, [low, high])
+
+
 def blocks(s):
     """The opening's blocks with the place after each."""
     end = 0
@@ -360,7 +400,11 @@ def program_line(wanted):
     for known, (kind, number), text in sheets():
         if known == wanted:
             assert sheet.judge(text) == (kind, number), (known, sheet.judge(text))
-            said = {"accepted": f"accepted: all nine checks hold, margin {number}", "failed": f"failed: check {number}, " + {1: "the projection p is too long", 5: "A z is not the sum of the c_i t_i"}.get(number, "")}[kind]
+            found = {1: "the projection p is too long", 5: "A z is not the sum of the c_i t_i", 15: "a low digit is more than half its base"}
+            said = {
+                "accepted": f"accepted: all nine checks hold, margin {number}", "failed": f"failed: check {number}, {found.get(number)}",
+                "refused": f"refused: {number}, {found.get(number)}",
+            }[kind]
             return "    " + sheet.output_line((kind, number)).decode().rstrip("\n") + "  " + said
     raise KeyError(wanted)
 

@@ -85,8 +85,8 @@ def plain(words):
 
 def paragraphs():
     found = set(re.findall(r"^## (\d+) ", SPECIFICATION, re.MULTILINE)) | set(re.findall(r"^\*\*(\d+\.\w+)\*\*", SPECIFICATION, re.MULTILINE))
-    for section, first, last in re.findall(r"^\*\*(\d+)\.(\d+) to \d+\.(\d+)\*\*", SPECIFICATION, re.MULTILINE):
-        found |= {f"{section}.{k}" for k in range(int(first), int(last) + 1)}
+    for section, first, last, more in re.findall(r"^\*\*(\d+)\.(\d+) to \d+\.(\d+)(?: and \d+\.(\d+))?\*\*", SPECIFICATION, re.MULTILINE):
+        found |= {f"{section}.{k}" for k in range(int(first), int(last) + 1)} | ({f"{section}.{more}"} if more else set())
     return found
 
 

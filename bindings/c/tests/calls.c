@@ -317,6 +317,52 @@ static void challenges(void) {
     through(64, c, 0);
 }
 
+/* ---- low digits */
+
+/* One number of the opening, all others and all other lists zero: the verifier and the judge refuse it by 15, or neither does; the next instance, the reader
+ * and the writer take it. */
+static void opened(lizkarg_sizes sizes, size_t place, int32_t number, int wide) {
+    stored x = {0}, *s = &x;
+    size_t d = sizes.d;
+    list numbers = filled(ALL_ELEMENTS * d, 0), rest = numbers, next = blank(NEXT_ELEMENTS * d), found = blank(numbers.length);
+    list *lists[] = {&x.a_matrix, &x.b_matrix, &x.c_matrix, &x.d_matrix, &x.whole, &x.constant_terms, &x.u1, &x.projections, &x.p, &x.psi, &x.omega,
+        &x.second_b, &x.alpha, &x.delta, &x.u2, &x.c, &x.opening};
+    for (int i = 0; i < 17; i++) *lists[i] = (list){rest.at, ELEMENTS[i] * d}, rest.at += ELEMENTS[i] * d;
+    x.opening.at[place] = number;
+    size_t size = lizkarg_sheet_bytes(sizes, 1, 1);
+    uint8_t *text = sheet_text(sizes, numbers, size), *again = room(size, 1);
+    lizkarg_answer verdict = verify(s, sizes), judged = lizkarg_judge_sheet(text, size);
+    HOLD(wide ? verdict.kind == LIZKARG_REFUSED && verdict.number == 15 : verdict.kind == LIZKARG_FAILED);
+    HOLD(judged.kind == verdict.kind && judged.number == verdict.number);
+    ANSWER(next_instance(s, sizes, 1, 1, next), LIZKARG_WRITTEN, 0);
+    lizkarg_sheet read = lizkarg_read_sheet(text, size, LIST(found));
+    HOLD(read.kind == LIZKARG_WRITTEN && read.number == 0 && equal(found, numbers));
+    lizkarg_text written = lizkarg_write_sheet(sizes, 1, 1, LIST(numbers), again, size);
+    HOLD(written.kind == LIZKARG_WRITTEN && written.number == 0 && !memcmp(again, text, size));
+    /* a lower row beside it */
+    x.c.at[0] = 3;
+    ANSWER(verify(s, sizes), LIZKARG_REFUSED, 10);
+    free(numbers.at), free(next.at), free(found.at), free(text), free(again);
+}
+
+/* Each number of the opening on both sides of half its base, and at the end of the range. A value has two digits of one element each, so that the elements with
+ * an even number hold low digits: of z, then two parts of t, then three pairs of g and of h. */
+static void digits(void) {
+    static const size_t bases[][3] = {{3, 4, 65535}, {4, 65535, 3}, {65536, 5, 2}};
+    name = "low digits";
+    for (int i = 0; i < 3; i++) {
+        size_t b = bases[i][0], b1 = bases[i][1], b2 = bases[i][2];
+        lizkarg_sizes sizes = {.d = 2, .n = 1, .r = 2, .kappa = 1, .kappa1 = 1, .kappa2 = 1, .b = b, .b1 = b1, .b2 = b2, .t1 = 2, .t2 = 2};
+        for (size_t place = 0; place < ELEMENTS[16] * 2; place++) {
+            size_t e = place / 2;
+            int low = e % 2 == 0;
+            int32_t half = (int32_t)((e < 2 ? b : e < 6 ? b1 : e < 12 ? b2 : b1) / 2), sizes_of_x[] = {half, half + 1, 1 << 30, 2147483598};
+            for (int k = 0; k < 4; k++)
+                for (int sign = -1; sign <= 1; sign += 2) opened(sizes, place, sign * sizes_of_x[k], low && k > 0);
+        }
+    }
+}
+
 static lizkarg_element element(int32_t zeroth, int32_t first, int32_t second) { return (lizkarg_element){{zeroth, first, second}}; }
 
 /* (1+2X)(3+4X) is -5+10X modulo X^2+1, 3+10X+8X^2 modulo X^4+1. */
@@ -342,6 +388,7 @@ int main(int argc, char **argv) {
         sheets(&s);
     }
     challenges();
+    digits();
     products();
     return report();
 }

@@ -84,7 +84,7 @@ static uint8_t *printed(const taken *x, size_t *size) {
     return (uint8_t *)text;
 }
 
-/* The text is that of the numbers, and they are those of the text. The program takes it if it is not too long. */
+/* The text is that of the numbers, and they are those of the text. If it is not too long the program judges it, or refuses it by 15. */
 static void same(const taken *x, const uint8_t *text, size_t size) {
     lizkarg_list numbers = {room(x->numbers.length, sizeof(int32_t)), x->numbers.length};
     HOLD(lizkarg_sheet_numbers(text, size) == numbers.length);
@@ -93,7 +93,7 @@ static void same(const taken *x, const uint8_t *text, size_t size) {
     HOLD(sheet.kind == LIZKARG_WRITTEN && sheet.nu == x->nu && sheet.mu == x->mu && !memcmp(&sizes, &x->sizes, sizeof sizes));
     HOLD(!memcmp(numbers.numbers, x->numbers.numbers, numbers.length * sizeof(int32_t)));
     lizkarg_answer judged = lizkarg_judge_sheet(text, size);
-    HOLD(size > MOST ? judged.kind == LIZKARG_REFUSED && judged.number == 12 : judged.kind != LIZKARG_REFUSED);
+    HOLD(size > MOST ? judged.kind == LIZKARG_REFUSED && judged.number == 12 : judged.kind != LIZKARG_REFUSED || judged.number == 15);
     buffers(x, text, size);
     free(numbers.numbers);
 }

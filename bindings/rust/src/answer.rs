@@ -34,6 +34,7 @@ impl Refused {
             11 => "the next instance has more than 256 elements to a part",
             12 => "the text is no sheet, or longer than 65536 bytes",
             13 => "the buffer is shorter than the text",
+            15 => "a low digit is more than half its base",
             _ => "a row that this binding does not know",
         }
     }

@@ -147,7 +147,7 @@ impl<'a> Proof<'a> {
     /// The verdict: the first check that fails, or accepted with the margin.
     ///
     /// # Errors
-    /// Refused 1 to 4, 6 to 10.
+    /// Refused 1 to 4, 6 to 10, 15.
     pub fn verify(&self) -> Result<Verdict, Refused> {
         let Proof { statement: s, draws: v, messages: m } = self;
         raw::lizkarg_verify(

@@ -57,7 +57,7 @@ impl Sheet {
 /// The verdict on a sheet of at most 65536 bytes, as the program prints it.
 ///
 /// # Errors
-/// Refused 12, 1 to 6, 8 to 10.
+/// Refused 12, 1 to 6, 8 to 10, 15.
 pub fn judge_sheet(text: &[u8]) -> Result<Verdict, Refused> {
     raw::lizkarg_judge_sheet(text).judged()
 }

@@ -72,6 +72,7 @@ fn words() {
     assert_eq!(error.to_string(), "refused: 7, a list's length is not what the sizes give");
     assert_ne!(Refused(11).reason(), Refused(99).reason());
     assert_eq!(Refused(13).to_string(), "refused: 13, the buffer is shorter than the text");
+    assert_eq!(Refused(15).to_string(), "refused: 15, a low digit is more than half its base");
 }
 
 /// The command `verdict --words` says the same; but it knows no parts.
@@ -84,8 +85,42 @@ fn words_of_the_command() {
     for check in 1..=9 {
         assert!(said(Failed(check).to_string()), "{}", Failed(check));
     }
-    for row in [1, 2, 3, 4, 5, 6, 8, 9, 10, 12] {
+    for row in [1, 2, 3, 4, 5, 6, 8, 9, 10, 12, 15] {
         assert!(said(Refused(row).to_string().replace("L, w or a part number", "L or w")), "{}", Refused(row));
+    }
+}
+
+/// Row 15: a low digit of z, t, g and h on both sides of half its base, with both signs, and a top digit at the end of the range. The reader, the writer and
+/// the next instance take them all.
+#[test]
+fn low_digits() {
+    let sheet = Sheet::read(&text(CASE)).unwrap();
+    let (most, opening) = (2147483598, 48);
+    for (b, b1, b2) in [(4, 8, 4), (5, 9, 3), (65536, 65535, 65536), (65535, 65536, 65535), (2, 8, 2)] {
+        for (block, base) in [b, b1, b2, b1].into_iter().enumerate() {
+            let (low, top, half) = (opening + 4 * block, opening + 4 * block + 2, base as i32 / 2);
+            for (place, x, wide) in [
+                (low, half, false), (low + 1, half, false), (low, half + 1, true), (low + 1, half + 1, true), (low + 1, 1 << 30, true),
+                (low, most, true), (top, half + 1, false), (top + 1, most, false),
+            ] {
+                for x in [x, -x] {
+                    let mut changed = sheet.clone();
+                    (changed.sizes.b, changed.sizes.b1, changed.sizes.b2) = (b, b1, b2);
+                    // bases that make the other digits narrow
+                    changed.numbers[opening..].fill(0);
+                    changed.numbers[place] = x;
+                    let answer = changed.proof().verify();
+                    assert_eq!(answer == Err(Refused(15)), wide, "{b} {b1} {b2}, {place}: {x}");
+                    assert_eq!(answer.is_err(), wide);
+                    let text = changed.write().unwrap();
+                    assert_eq!(judge_sheet(&text), answer);
+                    assert_eq!(Sheet::read(&text).as_ref(), Ok(&changed));
+                    assert!(matches!(changed.proof().next_instance(changed.cut), Ok(Next::Written(_))));
+                    changed.numbers[46] = 3;
+                    assert_eq!(changed.proof().verify(), Err(Refused(10)));
+                }
+            }
+        }
     }
 }
 

@@ -88,5 +88,5 @@ fn examples() {
             written += 1;
         }
     }
-    assert_eq!(written, 12);
+    assert_eq!(written, 13);
 }

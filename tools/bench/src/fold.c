@@ -2,7 +2,7 @@
  *   -DKERNEL=1  the library's algorithm as it is: the same loops, formulas and data layout
  *   -DKERNEL=0  one % per term of a product        -DKERNEL=2  FLINT's nmod_poly
  * and -DNAME=.. for the implementation's name; 0 and 2 sum the projection rows one by one, by multiplications, and form all <s_i, s_j> in
- * message 3. It tests no sizes and no lengths. With -DTESTS=1 it looks through what it is lent as the library does (rows 8 to 10), and its
+ * message 3. It tests no sizes and no lengths. With -DTESTS=1 it looks through what it is lent as the library does (rows 8 to 10, 15), and its
  * product takes elements by value and tests them. -DCENTRED=1: ring.h. */
 #include "next.h"
 
@@ -91,6 +91,19 @@ static void test_challenges(const lizkarg_sizes *s, const lists *l) {
 }
 
 static void test_witness(const lists *l) { NUMBERS(witness); }
+
+/* The low digits of so many values, each of `digits` digits of `width` numbers: at most half their base. */
+static void test_low_digits(const int32_t *xs, size_t values, size_t digits, size_t width, size_t base) {
+    for (size_t i = 0; i < values; i++) within_range(xs + i * digits * width, (digits - 1) * width, (int32_t)(base / 2));
+}
+
+static void test_opening(const lizkarg_sizes *s, const lists *l) {
+    within_range(l->z, l->n.opening, MOST);
+    test_low_digits(l->z, 1, 2, s->n * s->d, s->b);
+    test_low_digits(l->t, s->r, s->t1, s->kappa * s->d, s->b1);
+    test_low_digits(l->g, pairs(s->r), s->t2, s->d, s->b2);
+    test_low_digits(l->h, pairs(s->r), s->t1, s->d, s->b1);
+}
 
 /* ---- messages */
 
@@ -232,7 +245,7 @@ static lizkarg_answer verify(const lizkarg_sizes *s, const lists *l) {
     int good = 1;
     uint64_t first, margin;
     test_commit(l), test_wholes(l), test_seconds(l), test_messages(l), test_challenges(s, l);
-    within_range(l->z, l->n.opening, MOST);
+    test_opening(s, l);
     if ((first = first_checks(s, l))) return failed(first);
     for (size_t k = 0; k < s->kappa1; k++)
         good &= same(d, load_element(d, l->u1 + k * d), add(d, inner(d, m, l->b_matrix + k * m * d, l->t), inner(d, g, l->c_matrix + k * g * d, l->g)));

@@ -6,6 +6,7 @@ use lizkarg::{Cut, Draws, Messages, Proof, Prover, Statement};
 use plain::lists::{self, Room, Sizes};
 use plain::messages::{self, Function};
 use plain::refusals::{self, Refusal};
+use plain::ring::{elements, flat};
 use plain::verdict::{self, Verdict};
 use std::cell::OnceCell;
 use std::collections::BTreeMap;
@@ -183,9 +184,20 @@ pub fn verify(tally: &mut Tally, case: &Case) -> Answer {
 pub fn plain_verify(case: &Case) -> Answer {
     match refusals::verify(case.s, case.l) {
         Err(number) => Refused(number),
-        Ok(()) => match verdict::verdict(case.s, case.l, case.second()) {
-            Verdict::Accepted(margin) => Judged(Accepted(margin)),
-            Verdict::Failed(check) => Judged(Failed(check)),
-        },
+        Ok(()) => plain_judgement(case),
     }
+}
+
+/// The second implementation's judgement on lists that are not refused, or by 15 alone.
+pub fn plain_judgement(case: &Case) -> Answer {
+    match verdict::verdict(case.s, case.l, case.second()) {
+        Verdict::Accepted(margin) => Judged(Accepted(margin)),
+        Verdict::Failed(check) => Judged(Failed(check)),
+    }
+}
+
+/// u1 and u2 formed anew from the opening as it is.
+pub fn commit_anew(s: &Sizes, l: &mut Lists) {
+    let [_, t, g, h] = s.blocks().map(|block| elements(s.d, &l.opening[block.start..block.start + block.values * block.digits * block.width]));
+    (l.u1, l.u2) = (flat(&messages::first_outer(s, l, &t, &g)), flat(&messages::second_outer(s, l, &h)));
 }

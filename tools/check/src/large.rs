@@ -1,5 +1,5 @@
 //! Folds at product size and at the limits: all five messages, the verdict, each block damaged, the next instance, a second fold.
-use crate::answer::Answer::Judged;
+use crate::answer::Answer::{Judged, Refused};
 use crate::calls::*;
 use crate::case::{self, Lists, LARGEST_BOUND, MOST};
 use crate::next_calls::*;
@@ -34,6 +34,11 @@ fn change(xs: &mut [i32], at: usize) {
     xs[at] = if xs[at] == 7 { 8 } else { 7 };
 }
 
+/// A digit that is another one, and narrow to every base.
+fn change_digit(xs: &mut [i32], at: usize) {
+    xs[at] = if xs[at] == 0 { 1 } else { 0 };
+}
+
 /// Each message and each block of the opening damaged: the check that must fail is known.
 fn damage(tally: &mut Tally, rng: &mut Random, s: &Sizes, l: &Lists) {
     let room = s.room();
@@ -53,10 +58,10 @@ fn damage(tally: &mut Tally, rng: &mut Random, s: &Sizes, l: &Lists) {
         failed("u1", 3, &wide, &mut |x| change(&mut x.u1, rng.below(room.u1)));
         failed("u2", 4, &wide, &mut |x| change(&mut x.u2, rng.below(room.u2)));
         failed("b'' constant", 2, &wide, &mut |x| change(&mut x.second_b, rng.below(5) * s.d));
-        failed("z low or high", 5, &wide, &mut |x| change(&mut x.opening, rng.below(t)));
-        failed("t", 3, &wide, &mut |x| change(&mut x.opening, t + rng.below(g - t)));
-        failed("g", 3, &wide, &mut |x| change(&mut x.opening, g + rng.below(h - g)));
-        failed("h", 4, &wide, &mut |x| change(&mut x.opening, h + rng.below(end - h)));
+        failed("z low or high", 5, &wide, &mut |x| change_digit(&mut x.opening, rng.below(t)));
+        failed("t", 3, &wide, &mut |x| change_digit(&mut x.opening, t + rng.below(g - t)));
+        failed("g", 3, &wide, &mut |x| change_digit(&mut x.opening, g + rng.below(h - g)));
+        failed("h", 4, &wide, &mut |x| change_digit(&mut x.opening, h + rng.below(end - h)));
         let k = rng.below(5);
         if !zero(&l.delta, k) {
             failed("b'' elsewhere", 8, &wide, &mut |x| change(&mut x.second_b, k * s.d + 1 + rng.below(s.d - 1)));
@@ -74,7 +79,7 @@ fn damage(tally: &mut Tally, rng: &mut Random, s: &Sizes, l: &Lists) {
             x.b_matrix.fill(0);
             x.opening[t..g].fill(0);
             x.u1 = flat(&messages::first_outer(s, x, &elements(s.d, &x.opening[t..g]), &elements(s.d, &x.opening[g..h])));
-            change(&mut x.opening, rng.below(t));
+            change_digit(&mut x.opening, rng.below(t));
         });
         let at = rng.below(end - h);
         let (i, j) = s.pairs()[at / (s.t1 * s.d)];
@@ -82,7 +87,7 @@ fn damage(tally: &mut Tally, rng: &mut Random, s: &Sizes, l: &Lists) {
             failed("D zero, h", 7, &wide, &mut |x| {
                 x.d_matrix.fill(0);
                 x.u2.fill(0);
-                change(&mut x.opening, h + at);
+                change_digit(&mut x.opening, h + at);
             });
         }
     }
@@ -90,6 +95,23 @@ fn damage(tally: &mut Tally, rng: &mut Random, s: &Sizes, l: &Lists) {
         failed("bound", 1, &Sizes { bound: s.bound - 1, ..*s }, &mut |_| ());
     }
     failed("target", 9, &Sizes { target: s.target - 1, ..*s }, &mut |_| ());
+}
+
+/// A low digit of each block one beyond half its base, in the first value and in the last: refused by 15. At half, or a top digit far out: judged.
+fn widen(tally: &mut Tally, rng: &mut Random, s: &Sizes, l: &Lists) {
+    for block in s.blocks() {
+        let half = (block.base / 2) as i32;
+        for value in [0, block.values - 1] {
+            let (low, top) = block.places().nth(value).unwrap();
+            let low = low.start + rng.below(low.len());
+            let top = top.start + rng.below(top.len());
+            for (at, x, refused) in [(low, half + 1, true), (low, -half - 1, true), (low, half, false), (low, -half, false), (top, MOST, false), (top, -MOST, false)] {
+                let mut bad = l.clone();
+                bad.opening[at] = x;
+                assert_eq!(judged(tally, s, &bad) == Refused(15), refused, "{block:?}, {at}: {x}");
+            }
+        }
+    }
 }
 
 /// The next instance, and nothing written where a check fails or the call is refused.
@@ -162,6 +184,7 @@ pub fn run(tally: &mut Tally, seed: u64) {
             writes(tally, &mut rng, &s, &l);
         }
         damage(tally, &mut rng, &s, &l);
+        widen(tally, &mut rng, &s, &l);
         again(tally, &mut rng, &case);
         if next::rank(&s) > 256 {
             again(tally, &mut rng, &Case::new(&Sizes { nu: 1, mu: 14, ..s }, &l));

@@ -7,8 +7,8 @@ use crate::random::Random;
 use crate::small::{judge, read, writes};
 use lizkarg::Verdict::{Accepted, Failed};
 use plain::lists::Sizes;
-use plain::ring::{elements, flat, squared_length};
-use plain::{messages, next, refusals, sheet};
+use plain::ring::squared_length;
+use plain::{next, refusals, sheet};
 
 fn base() -> Sizes {
     Sizes {
@@ -169,23 +169,82 @@ fn margins(tally: &mut Tally) {
             assert_eq!(verdict(tally, &s, &l), Judged(answer));
             assert_eq!(judge(tally, &sheet::write(&s, &l)), Judged(answer));
         }
-        wide_digits(tally, &s, &l, length);
+        other_digits(tally, &s, &l, length);
     }
 }
 
-/// A base moved from a digit to the next, in z, t, g and h, by which the values stay: the margin moves by the squares of both digits.
-fn wide_digits(tally: &mut Tally, s: &Sizes, l: &Lists, length: u64) {
-    let room = s.room();
-    let (t, g, h) = (room.z, room.z + room.t, room.z + room.t + room.g);
-    for (at, gap, base) in [(0, s.n * s.d, s.b), (t, s.kappa * s.d, s.b1), (g, s.d, s.b2), (h, s.d, s.b1)] {
-        let mut wide = l.clone();
-        wide.opening[at] += base as i32;
-        wide.opening[at + gap] -= 1;
-        let blocks = [&wide.opening[t..g], &wide.opening[g..h], &wide.opening[h..]].map(|block| elements(s.d, block));
-        (wide.u1, wide.u2) = (flat(&messages::first_outer(s, &wide, &blocks[0], &blocks[1])), flat(&messages::second_outer(s, &wide, &blocks[2])));
-        assert_ne!(squared_length(&wide.opening) as u64, length);
-        assert_eq!(verdict(tally, s, &wide), honest(s, &wide));
+/// q added to or taken from a value of z, t, g and h, by which it stays modulo q: q is 65536² - 99, and the low digit, to base 65536, stays narrow. The
+/// margin moves by the squares of both digits.
+fn other_digits(tally: &mut Tally, s: &Sizes, l: &Lists, length: u64) {
+    for block in s.blocks() {
+        let mut other = l.clone();
+        let sign = if l.opening[block.start] >= 0 { 1 } else { -1 };
+        other.opening[block.start] -= sign * 99;
+        other.opening[block.start + block.width] += sign * 65536;
+        commit_anew(s, &mut other);
+        assert_ne!(squared_length(&other.opening) as u64, length);
+        assert_eq!(verdict(tally, s, &other), honest(s, &other));
     }
+}
+
+/// Row 15: each block to odd and even bases, the first low digit of its first value and the last of its last, on both sides of half its base, far out and
+/// with both signs; top digits at the end of the range; wide digits of the right values, which the reader, the writer and the next instance take.
+fn low_digits(tally: &mut Tally) {
+    let mut rng = Random::new(10);
+    for (b, b1, b2) in [(3, 255, 65535), (4, 256, 65536), (65535, 65536, 255), (65536, 65535, 256), (2, 16, 17), (5, 17, 16)] {
+        let counted = |base: usize| if base > 4096 { 2 } else { 8 };
+        let s = Sizes { d: 2, kappa: 2, b, b1, b2, t1: counted(b1), t2: counted(b2), ..base() };
+        let mut l = case::random(&mut rng, &s, true);
+        let second = fold(tally, &s, &mut l);
+        let answer = verify(tally, &Case::formed(&s, &l, second));
+        assert!(matches!(answer, Judged(Accepted(_) | Failed(9))), "{answer:?}");
+        for block in s.blocks() {
+            let (low, top) = (block.places().next().unwrap().0.start, block.places().last().unwrap());
+            let half = (block.base / 2) as i32;
+            for (size, wide) in [(half, false), (half + 1, true), (block.base as i32, true), (1 << 30, true), (MOST, true)] {
+                for (at, is_low) in [(low, true), (top.0.end - 1, true), (top.1.start, false), (top.1.end - 1, false)] {
+                    for x in [size, -size] {
+                        let mut changed = l.clone();
+                        changed.opening[at] = x;
+                        through_digits(tally, &s, &changed, wide && is_low);
+                        commit_anew(&s, &mut changed);
+                        through_digits(tally, &s, &changed, wide && is_low);
+                    }
+                }
+            }
+            for at in [low, top.0.end - 1] {
+                let mut carried = l.clone();
+                let sign = if l.opening[at] >= 0 { 1 } else { -1 };
+                carried.opening[at] += sign * block.base as i32;
+                carried.opening[at + block.width] -= sign;
+                commit_anew(&s, &mut carried);
+                assert!(matches!(plain_judgement(&Case::new(&s, &carried)), Judged(Accepted(_) | Failed(9))), "{block:?}");
+                through_digits(tally, &s, &carried, true);
+                let written = next_instance(tally, &Case::new(&s, &carried), instance_room(&s)).expect("a next instance");
+                assert!(next::meets(&next::sizes(&s), &written, &next::witness(&s, &carried.opening)), "{block:?}");
+            }
+        }
+    }
+}
+
+/// An opening through every call that takes it: the verifier and the judge refuse it by 15, or neither does; the reader and the writer take it.
+fn through_digits(tally: &mut Tally, s: &Sizes, l: &Lists, wide: bool) {
+    let text = sheet::write(s, l);
+    assert_eq!(verdict(tally, s, l) == Refused(15), wide);
+    assert_eq!(judge(tally, &text) == Refused(15), wide);
+    assert!(sheet::read(&text, None).is_ok());
+    read(tally, &text, l.in_sheet_order().len());
+    writes(tally, &mut Random::new(11), s, l);
+    // a lower row beside it
+    let mut lower = l.clone();
+    lower.c[0] = 3;
+    assert_eq!(verdict(tally, s, &lower), Refused(10));
+    lower.projections[0] = 2;
+    assert_eq!(verdict(tally, s, &lower), Refused(9));
+    lower.u2[0] = MOST + 1;
+    assert_eq!(verdict(tally, s, &lower), Refused(8));
+    lower.opening.push(0);
+    assert_eq!(verdict(tally, s, &lower), Refused(7));
 }
 
 /// Valid sheets of 65536 and of 65537 bytes.
@@ -206,6 +265,7 @@ fn long_sheets(tally: &mut Tally) {
 pub fn run(tally: &mut Tally) {
     whole_case(tally);
     margins(tally);
+    low_digits(tally);
     challenges(tally);
     sizes(tally);
     ranks(tally);

@@ -47,6 +47,32 @@ fn damage_list(rng: &mut Random, l: &mut Lists) {
     }
 }
 
+/// A digit of the opening, mostly a low one: at half its base, one more, a base, or far out, with either sign. Or other digits of the same value, of which a
+/// low one is wide, the commitments formed anew: all checks hold but perhaps check 9.
+fn damage_digit(rng: &mut Random, s: &Sizes, l: &mut Lists) {
+    let block = rng.pick(&s.blocks());
+    let value = rng.below(block.values);
+    let (low, top) = block.places().nth(value).unwrap();
+    let low_at = low.start + rng.below(low.len());
+    let (half, base) = ((block.base / 2) as i32, block.base as i32);
+    if rng.once_in(3) {
+        let sign = if l.opening[low_at] >= 0 { 1 } else { -1 };
+        let next = l.opening[low_at + block.width] - sign;
+        if next.abs() <= MOST {
+            l.opening[low_at] += sign * base;
+            l.opening[low_at + block.width] = next;
+            commit_anew(s, l);
+        }
+        return;
+    }
+    let at = if rng.once_in(4) { top.start + rng.below(top.len()) } else { low_at };
+    let size = rng.pick(&[half, half, half + 1, half + 1, (base + 1) / 2, base, 2 * half + 1, 1 << 30, MOST]);
+    l.opening[at] = rng.pick(&[size, -size]);
+    if rng.once_in(2) {
+        commit_anew(s, l);
+    }
+}
+
 fn damage_room(rng: &mut Random, room: &mut Room) {
     let each = [
         &mut room.z, &mut room.t, &mut room.g, &mut room.h, &mut room.u1, &mut room.p, &mut room.second_b, &mut room.u2,
@@ -206,7 +232,8 @@ fn sheets_of_damaged(tally: &mut Tally, rng: &mut Random, s: &Sizes, l: &Lists) 
     }
 }
 
-/// The next instance: accepted exactly if the padded opening solves it (the bound apart, which is check 9). `answer` is the verifier's.
+/// The next instance: accepted exactly if the padded opening solves it (the bound apart, which is check 9) and its low digits are narrow; a wide one that is
+/// refused by 15 may solve it, exactly if the checks hold. `answer` is the verifier's.
 fn next_of(tally: &mut Tally, rng: &mut Random, case: &Case, answer: Answer) {
     let (s, l) = (case.s, case.l);
     parts(tally, s, &l.opening);
@@ -218,7 +245,8 @@ fn next_of(tally: &mut Tally, rng: &mut Random, case: &Case, answer: Answer) {
     let Some(written) = next_instance(tally, case, room + rng.once_in(8) as usize) else { return };
     let after = next::sizes(s);
     let solved = next::meets(&after, &written, &next::witness(s, &l.opening));
-    assert_eq!(solved, matches!(answer, Judged(Accepted(_) | Failed(9))), "next instance");
+    let judgement = if answer == Refused(15) { plain_judgement(case) } else { answer };
+    assert_eq!(solved, matches!(judgement, Judged(Accepted(_) | Failed(9))), "next instance");
     let free = case::small(rng);
     if rng.once_in(4) && after.r * after.n * after.d * (after.k + free.w) < 200_000 {
         let least = rng.once_in(2);
@@ -261,12 +289,13 @@ fn statement(tally: &mut Tally, seed: u64, number: u64, sizes: fn(&mut Random) -
     }
 }
 
-/// A fold with a size, a list or a length damaged, through all calls.
+/// A fold with a size, a list, a length or a digit damaged, through all calls.
 fn damaged(tally: &mut Tally, rng: &mut Random, undamaged: Sizes, mut l: Lists) {
     let (mut s, mut room) = (undamaged, undamaged.room());
-    match rng.below(8) {
+    match rng.below(11) {
         0 => damage_size(rng, &mut s),
         1 => damage_room(rng, &mut room),
+        8..=10 => damage_digit(rng, &s, &mut l),
         2 => {
             damage_list(rng, &mut l);
             damage_list(rng, &mut l);
@@ -281,7 +310,7 @@ fn damaged(tally: &mut Tally, rng: &mut Random, undamaged: Sizes, mut l: Lists) 
     let case = Case::new(&s, &l);
     let answer = all_calls(tally, &case, &room);
     match answer {
-        Judged(_) if refusals::sizes(&s, true).is_ok() => next_of(tally, rng, &case, answer),
+        Judged(_) | Refused(15) if refusals::sizes(&s, true).is_ok() => next_of(tally, rng, &case, answer),
         _ => refused_next(tally, rng, &undamaged, &s, &l),
     }
     sheets_of_damaged(tally, rng, &s, &l);

@@ -1,5 +1,5 @@
 //! The sizes of a fold and its lists.
-use std::ops::Deref;
+use std::ops::{Deref, Range};
 
 /// "Header: d n r K L w κ κ1 κ2 b b1 b2 t1 t2 ν μ β² β'²"; `bound` is β² and `target` is β'².
 #[derive(Clone, Copy, Debug, PartialEq, Eq)]
@@ -79,6 +79,18 @@ impl Sizes {
         }
     }
 
+    /// The blocks of the opening, "the digits of z, t, g, h".
+    pub fn blocks(&self) -> [Block; 4] {
+        let (pairs, room) = (self.pair_count(), self.room());
+        let (t, g) = (room.z, room.z + room.t);
+        [
+            Block { start: 0, base: self.b, values: 1, digits: 2, width: self.n * self.d },
+            Block { start: t, base: self.b1, values: self.r, digits: self.t1, width: self.kappa * self.d },
+            Block { start: g, base: self.b2, values: pairs, digits: self.t2, width: self.d },
+            Block { start: g + room.g, base: self.b1, values: pairs, digits: self.t1, width: self.d },
+        ]
+    }
+
     /// How many numbers each list has.
     pub fn lengths(&self) -> Lists<usize> {
         let room = self.room();
@@ -116,6 +128,28 @@ pub struct Room {
     pub p: usize,
     pub second_b: usize,
     pub u2: usize,
+}
+
+/// A block of the opening: where it starts, its base, how many values it has, how many digits a value has, and how many numbers a digit has.
+/// The digits of a value follow one another, lowest first.
+#[derive(Clone, Copy, Debug)]
+pub struct Block {
+    pub start: usize,
+    pub base: usize,
+    pub values: usize,
+    pub digits: usize,
+    pub width: usize,
+}
+
+impl Block {
+    /// The places of each value's digits: the low ones, then the top one.
+    pub fn places(self) -> impl Iterator<Item = (Range<usize>, Range<usize>)> {
+        (0..self.values).map(move |value| {
+            let first = self.start + value * self.digits * self.width;
+            let top = first + (self.digits - 1) * self.width;
+            (first..top, top..top + self.width)
+        })
+    }
 }
 
 /// A list that is owned or lent.

@@ -93,6 +93,14 @@ fn challenges(d: usize, c: &[i32]) -> Refusal {
     row(10, c.chunks(d).all(|c| challenge(d, c)))
 }
 
+// Row 15
+
+/// "each low digit x of the opening, of a base B, has 2·|x| ≤ B." The opening has the length that the sizes give.
+fn low_digits(s: &Sizes, opening: &[i32]) -> Refusal {
+    let narrow = |base: usize, x: i32| 2 * (x as i64).abs() <= base as i64;
+    row(15, s.blocks().into_iter().all(|block| block.places().all(|(low, _)| opening[low].iter().all(|x| narrow(block.base, *x)))))
+}
+
 // The calls
 
 /// Message 1.
@@ -152,14 +160,15 @@ fn judged(s: &Sizes, l: &Lists<impl Numbers>, opening: Option<&[i32]>, writes: &
     challenges(s.d, &l.c)
 }
 
-/// Rows 7 to 10 of the verifier.
+/// Rows 7 to 10 of the verifier, which are those of a sheet.
 pub fn numbers(s: &Sizes, l: &Lists<impl Numbers>) -> Refusal {
     judged(s, l, Some(&l.opening), &[])
 }
 
 pub fn verify(s: &Sizes, l: &Lists<impl Numbers>) -> Refusal {
     sizes(s, false)?;
-    numbers(s, l)
+    numbers(s, l)?;
+    low_digits(s, &l.opening)
 }
 
 /// The next instance, which takes no opening; `room` is the length of the slice that it writes.
@@ -177,4 +186,73 @@ pub fn next_part(s: &Sizes, part: usize, opening: usize) -> Refusal {
     digits([], [s.t1, s.t2])?;
     chunks(s)?;
     row(7, opening == s.lengths().opening)
+}
+
+#[cfg(test)]
+mod tests {
+    use super::*;
+
+    fn sizes_of(b: usize, b1: usize, b2: usize) -> Sizes {
+        Sizes {
+            d: 2, n: 2, r: 2, k: 0, l: 0, w: 1, kappa: 2, kappa1: 1, kappa2: 1, b, b1, b2, t1: 3, t2: 4, nu: 1, mu: 1, bound: 0, target: 0,
+        }
+    }
+
+    /// Both sides of half, odd and even bases, each low digit of each block with both signs; every top digit is free.
+    #[test]
+    fn low_digits_of_each_block() {
+        for (b, b1, b2) in [(2, 3, 4), (3, 4, 5), (65535, 65536, 2), (65536, 2, 65535), (5, 255, 256)] {
+            let s = sizes_of(b, b1, b2);
+            let mut l = Lists::zeros(&s);
+            let mut seen = 0;
+            for block in s.blocks() {
+                for (low, top) in block.places() {
+                    for (at, is_low) in low.map(|at| (at, true)).chain(top.map(|at| (at, false))) {
+                        let half = (block.base / 2) as i32;
+                        for (x, wide) in [(half, false), (half + 1, true), (MOST as i32, true), (1 << 30, true)] {
+                            for x in [x, -x] {
+                                l.opening[at] = x;
+                                assert_eq!(verify(&s, &l), row(15, !(wide && is_low)), "{block:?}, {at}, {x}");
+                                assert_eq!(numbers(&s, &l), Ok(()));
+                                assert_eq!(next_instance(&s, &l, next::sizes(&s).lengths().whole), Ok(()));
+                            }
+                        }
+                        l.opening[at] = 0;
+                        seen += 1;
+                    }
+                }
+            }
+            assert_eq!(seen, l.opening.len());
+        }
+    }
+
+    /// Rows 6 to 10 come before 15; a low digit out of range is 8.
+    #[test]
+    fn lower_rows_first() {
+        let s = sizes_of(4, 4, 4);
+        let mut l = Lists::zeros(&s);
+        l.opening[0] = 3;
+        assert_eq!(verify(&s, &l), Err(15));
+        let bad = |edit: &dyn Fn(&mut Lists<Vec<i32>>)| {
+            let mut bad = l.clone();
+            edit(&mut bad);
+            verify(&s, &bad)
+        };
+        assert_eq!(verify(&Sizes { target: 1_000_000_000_000_000, ..s }, &l), Err(6));
+        assert_eq!(bad(&|x| x.opening.push(0)), Err(7));
+        assert_eq!(bad(&|x| x.u2[0] = MOST as i32 + 1), Err(8));
+        assert_eq!(bad(&|x| x.projections[0] = 2), Err(9));
+        assert_eq!(bad(&|x| x.c[0] = 3), Err(10));
+        for x in [i32::MIN, i32::MAX, MOST as i32 + 1, -MOST as i32 - 1] {
+            assert_eq!(bad(&|l| l.opening[1] = x), Err(8));
+        }
+    }
+
+    /// The blocks are the opening, each place once.
+    #[test]
+    fn blocks_are_the_opening() {
+        let s = sizes_of(4, 4, 4);
+        let places: Vec<usize> = s.blocks().into_iter().flat_map(|block| block.places().flat_map(|(low, top)| low.chain(top))).collect();
+        assert_eq!(places, (0..s.lengths().opening).collect::<Vec<_>>());
+    }
 }
