@@ -175,7 +175,7 @@ def test_low_digits():
         s = low_digits.FREE._replace(**bases)
         groups = (
             low_digits.sides(s), low_digits.far_low_digits(s), low_digits.wide_tops(s), low_digits.with_rows(s), low_digits.with_checks(s),
-            low_digits.failing_checks(s), low_digits.recomposed(rng, SMALL._replace(r=2, L=1, w=1)),
+            low_digits.failing_checks(s), low_digits.recomposed(rng, SMALL._replace(r=2, L=1, w=1)), low_digits.sides(s._replace(t1=4, t2=3, kappa=2)),
         )
         for name, answer, sized, y in (case for group in groups for case in group):
             z, cut, proof = taken(sized), (sized.nu, sized.mu), Proof(**y)

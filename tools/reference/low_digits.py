@@ -7,7 +7,7 @@ sum of h_11 and h_22 zero, so that all checks hold but check 9, which the target
 import fold
 import ring
 from fixtures import SMALL, accepted, failed, least_bounds, moved, refused, replaced, short_lists
-from sizes import LARGEST_BOUND, LENGTHS, SHEET_LISTS, digit_blocks, digit_places
+from sizes import LENGTHS, SHEET_LISTS, digit_blocks, digit_places
 
 FREE = SMALL._replace(d=2, n=2, r=2, K=0, beta_squared=0, mu=2)
 

@@ -100,8 +100,14 @@ fn low_digits() {
         for (block, base) in [b, b1, b2, b1].into_iter().enumerate() {
             let (low, top, half) = (opening + 4 * block, opening + 4 * block + 2, base as i32 / 2);
             for (place, x, wide) in [
-                (low, half, false), (low + 1, half, false), (low, half + 1, true), (low + 1, half + 1, true), (low + 1, 1 << 30, true),
-                (low, most, true), (top, half + 1, false), (top + 1, most, false),
+                (low, half, false),
+                (low + 1, half, false),
+                (low, half + 1, true),
+                (low + 1, half + 1, true),
+                (low + 1, 1 << 30, true),
+                (low, most, true),
+                (top, half + 1, false),
+                (top + 1, most, false),
             ] {
                 for x in [x, -x] {
                     let mut changed = sheet.clone();
