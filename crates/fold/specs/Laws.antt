@@ -11,6 +11,7 @@ pub mod LaidOut
 pub mod Layout
 pub mod MessageLaws
 pub mod MessageRanges
+pub mod NarrowLaws
 pub mod NextLaws
 pub mod NextOrder
 pub mod NextSolves

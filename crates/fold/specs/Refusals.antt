@@ -2,15 +2,16 @@
 -- the list of its tests with their numbers, in the order in which they are tried. Sizes are integers here, since a sheet may hold any.
 use mathlib.Core.Bool.{Bool, true, false, cond}
 use mathlib.Core.List.{List, [], _∷_, _++_, map}
-use Prim.Native.Nat.{ℕ, _+_, _*_}
+use Prim.Native.Nat.{ℕ, _+_, _*_, _-_}
 use lib.Dec.{leb, eqb}
 use lib.ListN.{length, take, drop}
 use lib.IntN.{ℤ, pos, negsuc}
 use Rattle.ring.specs.Element.{every}
-use Rattle.residues.specs.Range.{allWithin, coefficients, projectionEntries, challenge}
+use Rattle.residues.specs.Range.{allWithin, coefficients, projectionEntries, challenge, allNarrow}
 use Rattle.residues.specs.Digits.{leastBase, mostBase}
 use Rattle.fold.specs.Limits.{mostRank, mostParts, mostConstraints, mostProjections, mostCommitmentRank, mostDigits, mostChunks, mostBound}
-use Rattle.fold.specs.Sizes.{five, functionSize, tSize, garbageSize, restSize, openingSize, nextRank, nextParts, nextCount}
+use Rattle.fold.specs.Sizes.{five, pairs, functionSize, tSize, garbageSize, restSize, openingSize, nextRank, nextParts, nextCount}
+use Rattle.fold.specs.Opening.{tPlace, gPlace, hPlace}
 use Rattle.fold.specs.Statement.{Relation}
 use Rattle.fold.specs.Statement.{Statement, Draws, Transcript}
 
@@ -75,6 +76,22 @@ sized xs k = eqb (length xs) k
 -- row 10: "challenge outside the rule", for each of the r elements of c
 unfoldable pub challenges : (d r : ℕ) (c : List ℤ) → Bool
 challenges d r c = every r (λ i. challenge (take d (drop (i * d) c)))
+
+-- row 15: "the absolute value of a low digit is more than half its base". So many blocks stand one after the other; each holds the t digits, lowest
+-- first, of as many elements as there are rows. "The top digit of each value .. is free": a block's last digit is not looked at.
+unfoldable pub lowNarrow : (d count t rows base : ℕ) (xs : List ℤ) → Bool
+lowNarrow d count t rows base xs =
+    every count (λ i. allNarrow base (take ((t - 1) * (rows * d)) (drop (i * (t * (rows * d))) xs)))
+
+-- "B is b for z low, b1 for the t and h digits, b2 for the g digits": z is one block, t one for each part, g and h one for each pair
+unfoldable pub narrowDigits : (d n r tz κ b b₁ b₂ t₁ t₂ : ℕ) (o : List ℤ) → Bool
+narrowDigits d n r tz κ b b₁ b₂ t₁ t₂ o =
+    allOf
+    (lowNarrow d 1 tz n b o
+    ∷ lowNarrow d r t₁ κ b₁ (drop (tPlace tz n * d) o)
+    ∷ lowNarrow d (pairs r) t₂ 1 b₂ (drop (gPlace tz n r κ t₁ * d) o)
+    ∷ lowNarrow d (pairs r) t₁ 1 b₁ (drop (hPlace tz n r κ t₁ t₂ * d) o)
+    ∷ [])
 
 -- ---- the lengths that the sizes give, in numbers
 
@@ -266,6 +283,11 @@ amortizeTests d n r tz b c s zs =
     amortizeBounds d n r b
     ++ ((7, allOf (amortizeLengths d n r tz c s zs)) ∷ (8, allOf (inRange (c ∷ s ∷ []))) ∷ (10, challenges d r c) ∷ [])
 
+-- every low digit of the opening o is narrow
+abbrev pub narrow : Statement → (o : List ℤ) → Bool
+narrow 𝓢 o =
+    narrowDigits (𝓢 .relation .d) (𝓢 .relation .n) (𝓢 .relation .r) (𝓢 .tz) (𝓢 .κ) (𝓢 .b) (𝓢 .b₁) (𝓢 .b₂) (𝓢 .t₁) (𝓢 .t₂) o
+
 -- what is lent beside the messages: the statement and the draws
 module _ (𝓢 : Statement) (𝓓 : Draws) where
   open Statement 𝓢 using (relation, w, tz, κ, κ₁, κ₂, b, b₁, b₂, t₁, t₂, target, A, B, C, D)
@@ -318,7 +340,7 @@ module _ (𝓢 : Statement) (𝓓 : Draws) (𝓣 : Transcript) where
       ++ (boundTests 𝓢 𝓓
       ++ ((7, allOf (sized o (openingSize tz n r κ t₁ t₂ * d) ∷ lengths))
       ∷ (8, allOf (coefficients o ∷ ranges))
-      ∷ drawTests 𝓢 𝓓))
+      ∷ (drawTests 𝓢 𝓓 ++ ((15, narrow 𝓢 o) ∷ []))))
 
   -- the next instance, cut into ν and μ chunks and written to out; "11: n' above 256"
   unfoldable pub nextTests : (ν μ : ℕ) (out : List ℤ) → List (ℕ × Bool)

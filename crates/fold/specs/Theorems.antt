@@ -1,6 +1,7 @@
 pub mod FirstRefusal
 pub mod HonestRuns
 pub mod HonestFormed
+pub mod NarrowDigits
 pub mod MessagesTaken
 pub mod LowestFirst
 pub mod Challenges

@@ -1,7 +1,7 @@
--- The conditions of rows 8, 9 and 10 (SPECIFICATION 7) on the numbers of a slice.
+-- The conditions of rows 8, 9, 10 and 15 (SPECIFICATION 7) on the numbers of a slice.
 use mathlib.Core.Bool.{Bool, false, cond, not, _&&_}
 use mathlib.Core.List.{List, [], _∷_}
-use Prim.Native.Nat.{ℕ, _+_}
+use Prim.Native.Nat.{ℕ, _+_, _*_}
 use lib.Dec.{leb, eqb}
 use lib.ListN.{length}
 use lib.IntN.{ℤ, natAbs}
@@ -46,3 +46,7 @@ shortChallenge xs = cond (allWithin 2 xs) (leb (normSq xs) 71) false
 -- the rule of the challenge's own degree
 unfoldable pub challenge : List ℤ → Bool
 challenge xs = cond (eqb (length xs) 64) (countedChallenge xs) (shortChallenge xs)
+
+-- row 15, for low digits to base b: none has an absolute value of "more than half its base"
+unfoldable pub allNarrow : ℕ → List ℤ → Bool
+allNarrow b xs = all (λ x. leb (natAbs x * 2) b) xs

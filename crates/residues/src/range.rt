@@ -1,9 +1,10 @@
-// The tests of refusals 8, 9 and 10 on slices.
+// The tests of refusals 8, 9, 10 and 15 on slices.
 ghost use mathlib.Core.Path.{_≡_};
 ghost use mathlib.Core.Bool.{cond};
 ghost use lib.Dec.{eqb};
 ghost use lib.IntN.{natAbs};
-ghost use Rattle.residues.specs.Range.{between, allBetween, coefficients, projectionEntries, countOf, countedChallenge, shortChallenge, challenge};
+ghost use Rattle.residues.specs.Digits.{Base};
+ghost use Rattle.residues.specs.Range.{between, allBetween, coefficients, projectionEntries, countOf, countedChallenge, shortChallenge, challenge, allNarrow};
 use crate::length::compare;
 use crate::length::is_within;
 
@@ -107,4 +108,13 @@ pub fn is_challenge(xs: &[i32]) -> bool
         return is_counted_challenge(xs);
     }
     is_short_challenge(xs)
+}
+
+// No number of xs has an absolute value of more than half the base. Numbers are whole: for an odd base, half of the number below it is the most.
+pub fn are_narrow(base: usize, xs: &[i32]) -> bool
+    requires { ⌜ Base base ⌝ }
+    ensures { λ r. ⌜ r ≡ allNarrow base (now (xs .entry)) ⌝ }
+{
+    let half = (base / 2) as i32;
+    all_between(-half, half, xs)
 }

@@ -3,6 +3,7 @@ use Prim.Native.Nat.{ℕ, zero, suc, _+_, _-_, _*_, _≤_, _<_}
 use mathlib.Core.Path.{_≡_, refl, sym, ap, _∙_}
 use mathlib.Core.Logic.{_⊎_, inl, inr}
 use native.Mathlib.Nat.{le-refl, eq-or-lt-of-le, sub-self, add-sub-cancel-left}
+use native.Mathlib.Decide.{decLe}
 use native.Mathlib.Omega.{arith}
 use Rattle.algebra.specs.CommRing.{CommRing}
 use Rattle.algebra.specs.Laws.RingLaws.{add-left-comm}
@@ -27,6 +28,37 @@ start-mono w i (suc n) l = pick (start-mono w i n) (eq-or-lt-of-le l)
         rw same (le-refl (start w n + w n))
     pick before (inr h) = omega (arith, before (omega arith))
 
+-- every place before the end of n blocks lies in one of them
+pub record BlockOf (w : ℕ → ℕ) (n place : ℕ) : Type 0 where
+  pub block : ℕ
+  pub offset : ℕ
+  pub below : block < n
+  pub inside : offset < w block
+  pub is : start w block + offset ≡ place
+
+pub block-of : (w : ℕ → ℕ) (n place : ℕ) → place < start w n → BlockOf w n place
+unfolding start
+block-of w zero place h = absurd (omega arith)
+block-of w (suc n) place h = pick (block-of w n place) (decLe (start w n) place)
+  where
+    pick : (place < start w n → BlockOf w n place) → Dec (start w n ≤ place) → BlockOf w (suc n) place
+    pick earlier (yes l) = record { block = n; offset = place - start w n; below = omega arith; inside = omega arith; is = omega arith }
+    pick earlier (no l) =
+        let before = earlier (omega arith) in
+        record {
+          block = before .block;
+          offset = before .offset;
+          below = omega (arith, before .below);
+          inside = before .inside;
+          is = before .is;
+        }
+
+-- blocks of one width
+pub start-same : (m n : ℕ) → start (λ _. m) n ≡ n * m
+unfolding start
+start-same m zero = omega arith
+start-same m (suc n) = omega (arith, start-same m n)
+
 -- the first pair, one step along a row, and from the end of a row to the next one
 pub pair-zero : (r : ℕ) → pair r 0 0 ≡ 0
 unfolding pair start
@@ -43,6 +75,26 @@ pair-end r = omega arith
 pub pair-bound : (r i j : ℕ) → i ≤ j → j < r → pair r i j < pairs-count r
 unfolding pair pairs-count
 pair-bound r i j h l = omega (arith, start-mono (λ k. r - k) i r (omega arith))
+
+-- every place is that of a pair
+pub record PairOf (r place : ℕ) : Type 0 where
+  pub i : ℕ
+  pub j : ℕ
+  pub ordered : i ≤ j
+  pub below : j < r
+  pub is : pair r i j ≡ place
+
+pub pair-of : (r place : ℕ) → place < pairs-count r → PairOf r place
+unfolding pair pairs-count
+pair-of r place h =
+    let at = block-of (λ k. r - k) r place h in
+    record {
+      i = at .block;
+      j = at .block + at .offset;
+      ordered = omega arith;
+      below = omega (arith, at .below, at .inside);
+      is = omega (arith, at .is);
+    }
 
 -- twice the rows up to i, as a polynomial in i
 rows-twice : (r i : ℕ) → i ≤ r → start (λ k. r - k) i * 2 + i * i ≡ i * (r * 2 + 1)

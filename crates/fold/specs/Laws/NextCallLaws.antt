@@ -1,19 +1,20 @@
 -- The calls of the next instance: when everything is written, and what the part that is handed back is.
 use mathlib.Core.Path.{_≡_, refl, sym, _∙_}
+use mathlib.Core.Bool.{true}
 use mathlib.Core.Logic.{_↔_}
 use mathlib.Core.List.{List, _++_}
 use Prim.Native.Nat.{ℕ, zero, suc, _-_, _*_}
 use native.Mathlib.Omega.{arith}
 use lib.ListN.{length, take, drop, replicate}
 use lib.IntN.{ℤ, pos}
-use Rattle.fold.specs.declared.Answer.the-variants.{Written}
+use Rattle.fold.specs.declared.Answer.the-variants.{Written, Refused}
 use Rattle.fold.specs.Answers.{kindOf, firstFailing, answered, checked, written}
 use Rattle.fold.specs.Sizes.{restSize, openingSize, nextRank, nextParts, nextCount}
 use Rattle.fold.specs.Statement.{Statement, Draws, Transcript}
 use Rattle.fold.specs.Verification.{verification}
 use Rattle.fold.specs.Statement.{Solves}
 use Rattle.fold.specs.Verdict.{messageChecks}
-use Rattle.fold.specs.Refusals.{nextTests, partTests, wholeLength}
+use Rattle.fold.specs.Refusals.{narrow, nextTests, partTests, wholeLength}
 use Rattle.fold.specs.Laws.RefusalLaws.{passes-refusal, allOf-all, between-iff, sized-iff}
 use Rattle.fold.specs.Known.CallLimits.{chunk-limits}
 use Rattle.fold.specs.Laws.TestLaws.{holds}
@@ -21,7 +22,7 @@ use Rattle.fold.specs.Chunks.{width, padded, unpadded, ZeroPadding}
 use Rattle.fold.specs.Laws.PaddingLaws.{chunk-padded}
 use Rattle.fold.specs.NextInstance.{nextWhole, nextWitness, relationOf, m, n′, r′, constraint}
 use Rattle.fold.specs.Laws.NextSolves.{FirstChecks}
-use Rattle.fold.specs.Theorems.NextInstanceTheorem.{next-instance-judged, solution-accepted}
+use Rattle.fold.specs.Theorems.NextInstanceTheorem.{next-instance-judged, next-instance-past, solution-accepted}
 use Rattle.fold.specs.NextCall.{firstChecks, nextAnswer, nextOut, partRefusal, nextPart}
 use Rattle.fold.specs.Laws.LaidOut.{length-written}
 
@@ -65,12 +66,20 @@ module _ (𝓢 : Statement) (𝓓 : Draws) (𝓣 : Transcript) (ν μ : ℕ) (ou
 
     pub next-instance-written : (o : List ℤ)
         → length o ≡ openingSize (𝓢 .tz) (𝓢 .relation .n) (𝓢 .relation .r) (𝓢 .κ) (𝓢 .t₁) (𝓢 .t₂) * 𝓢 .relation .d
+        → narrow 𝓢 o ≡ true
         → (kindOf (verification 𝓢 𝓓 𝓣 o) ≡ 0) ↔ Solves (relationOf 𝓢 𝓓 𝓣 ν μ out′) (nextWitness 𝓢 𝓓 𝓣 ν μ o)
     next-instance-written = let (none, pass) = written-iff .0 e in rw numbers (next-instance-judged 𝓢 𝓓 𝓣 ν μ out none pass)
+
+    pub past-written : (o : List ℤ)
+        → length o ≡ openingSize (𝓢 .tz) (𝓢 .relation .n) (𝓢 .relation .r) (𝓢 .κ) (𝓢 .t₁) (𝓢 .t₂) * 𝓢 .relation .d
+        → (verification 𝓢 𝓓 𝓣 o ≡ Refused 15 → ⊥)
+        → (kindOf (verification 𝓢 𝓓 𝓣 o) ≡ 0) ↔ Solves (relationOf 𝓢 𝓓 𝓣 ν μ out′) (nextWitness 𝓢 𝓓 𝓣 ν μ o)
+    past-written = let (none, pass) = written-iff .0 e in rw numbers (next-instance-past 𝓢 𝓓 𝓣 ν μ out none pass)
 
     pub solution-written : (s : List ℤ)
         → length s ≡ r′ 𝓢 𝓓 𝓣 ν μ * n′ 𝓢 𝓓 𝓣 ν μ * 𝓢 .relation .d
         → ZeroPadding (𝓢 .relation .d) (𝓢 .tz) (𝓢 .relation .n) ν (m 𝓢 𝓓 𝓣 ν μ) μ s
+        → narrow 𝓢 (unpadded (𝓢 .relation .d) (𝓢 .tz) (𝓢 .relation .n) ν (m 𝓢 𝓓 𝓣 ν μ) μ s) ≡ true
         → Solves (relationOf 𝓢 𝓓 𝓣 ν μ out′) s
         → kindOf (verification 𝓢 𝓓 𝓣 (unpadded (𝓢 .relation .d) (𝓢 .tz) (𝓢 .relation .n) ν (m 𝓢 𝓓 𝓣 ν μ) μ s)) ≡ 0
     solution-written = let (none, pass) = written-iff .0 e in rw numbers (solution-accepted 𝓢 𝓓 𝓣 ν μ out none pass)

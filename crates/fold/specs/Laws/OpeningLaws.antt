@@ -3,10 +3,10 @@
 use mathlib.Core.Path.{_≡_, sym, ap, _∙_}
 use mathlib.Core.List.{List, _++_}
 use Prim.Native.Nat.{ℕ, _+_, _*_, _<_}
-use native.Mathlib.Nat.{add-assoc}
+use native.Mathlib.Nat.{add-assoc, add-mul}
 use native.Mathlib.Omega.{arith}
 use lib.ListN.{length, take, drop, length-append, length-drop, take-append-drop}
-use lib.Seq.{drop-drop, take-all}
+use lib.Seq.{drop-at, drop-drop, take-all}
 use lib.IntN.{ℤ}
 use Rattle.integers.specs.Sums.{normSq}
 use Rattle.integers.specs.Laws.SumLaws.{normSq-append}
@@ -65,3 +65,24 @@ module _ (d n r tz κ t₁ t₂ : ℕ) (zs ts gs hs : List ℤ) (z-length : leng
       ∙ el-after d zs (ts ++ (gs ++ hs)) (tz * n) (tSize r κ t₁ + (garbageSize r t₂ + y)) z-length
       ∙ el-after d ts (gs ++ hs) (tSize r κ t₁) (garbageSize r t₂ + y) t-length
       ∙ el-after d gs hs (garbageSize r t₂) y g-length
+
+  -- the opening from the place of t on, from that of g, from that of h
+  pub from-t : drop (tPlace tz n * d) (opening zs ts gs hs) ≡ ts ++ (gs ++ hs)
+  unfolding opening tPlace
+  from-t = drop-at zs (ts ++ (gs ++ hs)) (tz * n * d) z-length
+
+  pub from-g : drop (gPlace tz n r κ t₁ * d) (opening zs ts gs hs) ≡ gs ++ hs
+  unfolding gPlace
+  from-g =
+      ap (λ k. drop k (opening zs ts gs hs)) (add-mul (tPlace tz n) (tSize r κ t₁) d)
+      ∙ sym (drop-drop (tSize r κ t₁ * d) (tPlace tz n * d) (opening zs ts gs hs))
+      ∙ ap (drop (tSize r κ t₁ * d)) from-t
+      ∙ drop-at ts (gs ++ hs) (tSize r κ t₁ * d) t-length
+
+  pub from-h : drop (hPlace tz n r κ t₁ t₂ * d) (opening zs ts gs hs) ≡ hs
+  unfolding hPlace
+  from-h =
+      ap (λ k. drop k (opening zs ts gs hs)) (add-mul (gPlace tz n r κ t₁) (garbageSize r t₂) d)
+      ∙ sym (drop-drop (garbageSize r t₂ * d) (gPlace tz n r κ t₁ * d) (opening zs ts gs hs))
+      ∙ ap (drop (garbageSize r t₂ * d)) from-g
+      ∙ drop-at gs hs (garbageSize r t₂ * d) g-length

@@ -1,4 +1,5 @@
--- What it says that the verifier accepts: its call is not refused, so the opening has its length and range, and the verdict is of kind 0.
+-- What it says that the verifier accepts: its call is not refused, so the opening has its length and range and narrow low digits, and the verdict is
+-- of kind 0.
 use mathlib.Core.Path.{_≡_, refl}
 use mathlib.Core.Bool.{true}
 use mathlib.Core.List.{List}
@@ -13,7 +14,7 @@ use Rattle.fold.specs.Answers.{kindOf, firstFailing, answered}
 use Rattle.fold.specs.Sizes.{openingSize}
 use Rattle.fold.specs.Statement.{Relation, Statement, Draws, Transcript}
 use Rattle.fold.specs.Verdict.{verdict}
-use Rattle.fold.specs.Refusals.{verifyTests}
+use Rattle.fold.specs.Refusals.{narrow, verifyTests}
 use Rattle.fold.specs.Laws.RefusalLaws.{allOf-all, sized-length, challenges-iff}
 use Rattle.fold.specs.Laws.TestLaws.{holds}
 use Rattle.fold.specs.Verification.{verification}
@@ -33,6 +34,7 @@ module _ (𝓢 : Statement) (𝓓 : Draws) (𝓣 : Transcript) (o : List ℤ) wh
     pub facts : Accepts 𝓢 𝓓 𝓣 o
     pub sized : length o ≡ openingSize tz n r κ t₁ t₂ * d
     pub small : coefficients o ≡ true
+    pub digits-narrow : narrow 𝓢 o ≡ true
     pub rule : (i : ℕ) → i < r → challenge (take d (drop (i * d) c)) ≡ true
 
   pub accepted-opening : kindOf (verification 𝓢 𝓓 𝓣 o) ≡ 0 → AcceptedOpening
@@ -44,5 +46,6 @@ module _ (𝓢 : Statement) (𝓓 : Draws) (𝓣 : Transcript) (o : List ℤ) wh
         facts = accepts 𝓢 𝓓 𝓣 o passed;
         sized = sized-length o _ (search (allOf-all _ (row 7)));
         small = search (allOf-all _ (row 8));
+        digits-narrow = row 15;
         rule = challenges-iff d r c .0 (row 10);
       }

@@ -1,32 +1,36 @@
--- Demand 2 (SPECIFICATION 8.8): "When the checks on projection and constant terms pass and the next instance is not too large, an opening is accepted
--- exactly if, padded, it solves the next instance." SPECIFICATION 8.9: "A solution of the next instance whose padding is zero is, with the padding
--- cut off, an accepted opening." For any number tz of z digits.
+-- Demand 2 (SPECIFICATION 8.8): "When the checks on projection and constant terms pass and the next instance is not too large, an opening that gets
+-- past row 15 is accepted exactly if, padded, it solves the next instance." SPECIFICATION 8.9: "A solution of the next instance whose padding is zero
+-- is, with the padding cut off, an accepted opening if its digits are narrow too." For any number tz of z digits.
+--     next-instance                    of the verdict, whatever the digits' width
+--     next-instance-judged             of the verifier's answer, where the low digits are narrow
+--     next-instance-past               the same where the answer is not refused 15
+--     next-solution, solution-accepted the same of solutions with zero padding
 use mathlib.Core.Path.{_≡_, refl, sym, subst, _∙_}
 use mathlib.Core.Logic.{_↔_}
 use mathlib.Core.Bool.{Bool, true, false}
-use mathlib.Core.List.{List}
+use mathlib.Core.List.{List, [], _∷_}
 use Prim.Native.Nat.{ℕ, _*_, _≤_, _<_}
 use native.Mathlib.Nat.{mul-assoc, mul-le-mul}
 use native.Mathlib.Omega.{arith}
 use lib.Dec.{ltb}
-use lib.ListN.{length, getD}
+use lib.ListN.{length, getD, take, drop}
 use lib.IntN.{ℤ, pos, natAbs}
 use borrow.Author.Tests.{ltb-true, ltb-false}
 use Rattle.integers.specs.Sums.{sq, normSq}
 use Rattle.integers.specs.Laws.SumLaws.{normSq-summand}
 use Rattle.residues.specs.Range.{coefficients}
 use Rattle.residues.specs.Laws.RangeLaws.{coefficients-of}
-use Rattle.fold.specs.declared.Answer.the-variants.{Judged}
+use Rattle.fold.specs.declared.Answer.the-variants.{Judged, Refused}
 use Rattle.fold.specs.Answers.{kindOf, firstFailing, testOf, answered}
 use Rattle.fold.specs.Sizes.{openingSize}
 use Rattle.fold.specs.Statement.{Relation, Solves}
 use Rattle.fold.specs.Statement.{Statement, Draws, Transcript}
 use Rattle.fold.specs.Verdict.{verdict}
 use Rattle.fold.specs.Laws.Accepted.{accepts, accepted-iff}
-use Rattle.fold.specs.Refusals.{verifyTests, nextTests}
-use Rattle.fold.specs.Laws.RefusalLaws.{passes-refusal, allOf-all, allOf-cons, allOf-tail, sized-iff, lengthBound-most}
+use Rattle.fold.specs.Refusals.{narrow, verifyTests, nextTests}
+use Rattle.fold.specs.Laws.RefusalLaws.{_&_, passes-refusal, allOf-all, allOf-cons, allOf-tail, sized-iff, lengthBound-most}
 use Rattle.fold.specs.Known.CallLimits.{chunk-limits}
-use Rattle.fold.specs.Laws.TestLaws.{holds}
+use Rattle.fold.specs.Laws.TestLaws.{holds, failed, after-passes}
 use Rattle.fold.specs.Verification.{verification}
 use Rattle.fold.specs.Laws.VerificationLaws.{judged-accepted}
 use Rattle.fold.specs.Chunks.{unpadded, ZeroPadding}
@@ -71,15 +75,21 @@ module _ (𝓢 : Statement) (𝓓 : Draws) (𝓣 : Transcript) (ν μ : ℕ) (ou
   unfolding nextTests
   small-target = lengthBound-most target (search (allOf-all _ (row 6)))
 
-  -- an opening whose length and range are right is not refused
-  unrefused-opening : (o : List ℤ) → length o ≡ openingSize tz n r κ t₁ t₂ * d → coefficients o ≡ true → firstFailing (verifyTests 𝓢 𝓓 𝓣 o) ≡ 0
+  -- an opening whose length and range are right is refused by row 15 or not at all
+  opening-refusal : (o : List ℤ) → length o ≡ openingSize tz n r κ t₁ t₂ * d → coefficients o ≡ true
+      → firstFailing (verifyTests 𝓢 𝓓 𝓣 o) ≡ firstFailing ((15, narrow 𝓢 o) ∷ [])
   unfolding nextTests verifyTests
-  unrefused-opening o size range =
+  opening-refusal o size range =
       let row₇ = allOf-cons _ _ (sized-iff o _ .1 size) (allOf-tail _ _ (row 7)) in
       let row₈ = allOf-cons _ _ range (row 8) in
-      passes-refusal (verifyTests 𝓢 𝓓 𝓣 o) (row 1, (row 2, (row 3, (row 4, (row 6, (row₇, (row₈, (row 9, (row 10, tt)))))))))
+      after-passes (take 9 (verifyTests 𝓢 𝓓 𝓣 o)) (drop 9 (verifyTests 𝓢 𝓓 𝓣 o))
+      (row 1 & row 2 & row 3 & row 4 & row 6 & row₇ & row₈ & row 9 & row 10 & tt)
 
-  -- "an opening is accepted exactly if, padded, it solves the next instance": its verdict, and the verifier's answer. An opening has its length;
+  unrefused-opening : (o : List ℤ) → length o ≡ openingSize tz n r κ t₁ t₂ * d → coefficients o ≡ true → narrow 𝓢 o ≡ true
+      → firstFailing (verifyTests 𝓢 𝓓 𝓣 o) ≡ 0
+  unrefused-opening o size range thin = opening-refusal o size range ∙ passes-refusal ((15, narrow 𝓢 o) ∷ []) (thin & tt)
+
+  -- "is accepted exactly if, padded, it solves the next instance": its verdict, and the verifier's answer. An opening has its length;
   -- numbers out of range are refused, and are longer than any bound.
   module _ (o : List ℤ) (size : length o ≡ openingSize tz n r κ t₁ t₂ * d) where
     pub next-instance : (kindOf (Judged (verdict 𝓢 𝓓 𝓣 o)) ≡ 0) ↔ Solves (nextRelation 𝓢 𝓓 𝓣 ν μ) (nextWitness 𝓢 𝓓 𝓣 ν μ o)
@@ -93,12 +103,26 @@ module _ (𝓢 : Statement) (𝓓 : Draws) (𝓣 : Transcript) (ν μ : ℕ) (ou
     solving-range h =
         short-coefficients o (omega (arith, normSq-padded d tz n ν (m 𝓢 𝓓 𝓣 ν μ) μ some-ν some-μ o size, h .short, small-target))
 
-    pub next-instance-judged : (kindOf (verification 𝓢 𝓓 𝓣 o) ≡ 0) ↔ Solves (nextRelation 𝓢 𝓓 𝓣 ν μ) (nextWitness 𝓢 𝓓 𝓣 ν μ o)
+    accepted-solves : kindOf (verification 𝓢 𝓓 𝓣 o) ≡ 0 → Solves (nextRelation 𝓢 𝓓 𝓣 ν μ) (nextWitness 𝓢 𝓓 𝓣 ν μ o)
+    accepted-solves e = next-instance .0 (judged-accepted (firstFailing (verifyTests 𝓢 𝓓 𝓣 o)) (verdict 𝓢 𝓓 𝓣 o) e .1)
+
+    pub next-instance-judged : narrow 𝓢 o ≡ true
+        → (kindOf (verification 𝓢 𝓓 𝓣 o) ≡ 0) ↔ Solves (nextRelation 𝓢 𝓓 𝓣 ν μ) (nextWitness 𝓢 𝓓 𝓣 ν μ o)
     unfolding answered
-    next-instance-judged = (
-      λ e. next-instance .0 (judged-accepted (firstFailing (verifyTests 𝓢 𝓓 𝓣 o)) (verdict 𝓢 𝓓 𝓣 o) e .1),
-      λ h. rw (unrefused-opening o size (solving-range h)) (next-instance .1 h),
-    )
+    next-instance-judged thin = (accepted-solves, λ h. rw (unrefused-opening o size (solving-range h) thin) (next-instance .1 h))
+
+    -- with a wide low digit the answer is 15, though the padded opening solves the next instance
+    pub solving-refused : Solves (nextRelation 𝓢 𝓓 𝓣 ν μ) (nextWitness 𝓢 𝓓 𝓣 ν μ o) → narrow 𝓢 o ≡ false → verification 𝓢 𝓓 𝓣 o ≡ Refused 15
+    unfolding answered
+    solving-refused h wide = rw (opening-refusal o size (solving-range h) ∙ failed (15, narrow 𝓢 o) [] wide)
+
+    pub next-instance-past : (verification 𝓢 𝓓 𝓣 o ≡ Refused 15 → ⊥)
+        → (kindOf (verification 𝓢 𝓓 𝓣 o) ≡ 0) ↔ Solves (nextRelation 𝓢 𝓓 𝓣 ν μ) (nextWitness 𝓢 𝓓 𝓣 ν μ o)
+    next-instance-past past = pick (narrow 𝓢 o) refl
+      where
+        pick : (t : Bool) → narrow 𝓢 o ≡ t → (kindOf (verification 𝓢 𝓓 𝓣 o) ≡ 0) ↔ Solves (nextRelation 𝓢 𝓓 𝓣 ν μ) (nextWitness 𝓢 𝓓 𝓣 ν μ o)
+        pick true e = next-instance-judged e
+        pick false e = (accepted-solves, λ h. absurd (past (solving-refused h e)))
 
     -- a padded opening has zero padding, so that what is said of such solutions below is said of it
     pub next-padding : ZeroPadding d tz n ν (m 𝓢 𝓓 𝓣 ν μ) μ (nextWitness 𝓢 𝓓 𝓣 ν μ o)
@@ -117,16 +141,16 @@ module _ (𝓢 : Statement) (𝓓 : Draws) (𝓣 : Transcript) (ν μ : ℕ) (ou
     unfolding openingSize
     length-cutOff = length-unpadded d tz n ν (m 𝓢 𝓓 𝓣 ν μ) μ some-ν some-μ s length-s zeros
 
-    -- "A solution of the next instance whose padding is zero is, with the padding cut off, an accepted opening"
+    -- "A solution of the next instance whose padding is zero is, with the padding cut off, an accepted opening": its verdict
     pub next-solution : Solves (nextRelation 𝓢 𝓓 𝓣 ν μ) s → kindOf (Judged (verdict 𝓢 𝓓 𝓣 cutOff)) ≡ 0
     next-solution h =
         let back = padded-unpadded d tz n ν (m 𝓢 𝓓 𝓣 ν μ) μ some-ν some-μ s length-s zeros in
         accepted-iff 𝓢 𝓓 𝓣 cutOff .1
         (accepts-of 𝓢 𝓓 𝓣 ν μ cutOff some-ν some-μ length-cutOff pass (subst (Solves (nextRelation 𝓢 𝓓 𝓣 ν μ)) (sym back) h))
 
-    -- and the verifier accepts it
-    pub solution-accepted : Solves (nextRelation 𝓢 𝓓 𝓣 ν μ) s → kindOf (verification 𝓢 𝓓 𝓣 cutOff) ≡ 0
+    -- and the verifier accepts it "if its digits are narrow too"
+    pub solution-accepted : narrow 𝓢 cutOff ≡ true → Solves (nextRelation 𝓢 𝓓 𝓣 ν μ) s → kindOf (verification 𝓢 𝓓 𝓣 cutOff) ≡ 0
     unfolding answered
-    solution-accepted h =
+    solution-accepted thin h =
         let range = coefficients-unpadded d tz n ν (m 𝓢 𝓓 𝓣 ν μ) μ s (short-coefficients s (omega (arith, h .short, small-target))) in
-        rw (unrefused-opening cutOff length-cutOff range) (next-solution h)
+        rw (unrefused-opening cutOff length-cutOff range thin) (next-solution h)

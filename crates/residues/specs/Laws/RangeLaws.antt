@@ -7,17 +7,18 @@
 --     coefficients-.., projections-..   the same at the bounds of rows 8 and 9
 --     counted-tests, short-tests        row 10: the two rules as tests
 --     challenge-64, -other              which of them is asked
+--     allNarrow-at, -of, narrow-between row 15: the test by index, and as code asks it
 use mathlib.Core.Path.{_≡_, refl, sym, ap, ap₂, _∙_}
 use mathlib.Core.Bool.{Bool, true, false, cond, not, _&&_}
 use mathlib.Core.List.{List, [], _∷_, _++_}
-use Prim.Native.Nat.{ℕ, suc, _+_, _≤_, _<_}
+use Prim.Native.Nat.{ℕ, zero, suc, _+_, _*_, _/_, _≤_, _<_}
 use native.Mathlib.Nat.{le-trans}
 use native.Mathlib.Numerals.{add-one}
 use native.Mathlib.Omega.{arith}
 use lib.Dec.{leb, ltb, eqb}
 use lib.ListN.{length, getD, take, drop}
 use lib.Seq.{take-suc, take-all}
-use lib.IntN.{ℤ, pos, negsuc, natAbs}
+use lib.IntN.{ℤ, pos, negsuc, negℤ, natAbs}
 use borrow.Author.Tests.{le-leb, lt-leb, leb-true, ltb-true, ltb-false, le-ltb, eq-eqb, ne-eqb}
 use Rattle.integers.specs.Lists.{all}
 use Rattle.integers.specs.Sums.{normSq}
@@ -25,7 +26,7 @@ use Rattle.integers.specs.Laws.AllLaws.{both-and, all-at, all-of, all-join, all
 use Rattle.residues.specs.declared.length.Margin.{Margin}
 use Rattle.residues.specs.Length.{remaining, holds}
 use Rattle.residues.specs.Laws.LengthLaws.{holds-remaining}
-use Rattle.residues.specs.Range.{between, allBetween, allWithin, coefficients, projectionEntries, countOf, countedChallenge, shortChallenge, challenge}
+use Rattle.residues.specs.Range.{between, allBetween, allWithin, coefficients, projectionEntries, countOf, countedChallenge, shortChallenge, challenge, allNarrow}
 
 -- ---- the test by index
 
@@ -174,3 +175,34 @@ challenge-64 xs h = ap (λ (t : Bool). cond t (countedChallenge xs) (shortChalle
 pub challenge-other : (xs : List ℤ) → (length xs ≡ 64 → ⊥) → challenge xs ≡ shortChallenge xs
 unfolding challenge
 challenge-other xs h = ap (λ (t : Bool). cond t (countedChallenge xs) (shortChallenge xs)) (ne-eqb (length xs) 64 h)
+
+-- ---- row 15
+
+pub allNarrow-at : (b : ℕ) (xs : List ℤ) → allNarrow b xs ≡ true → (i : ℕ) → natAbs (getD xs i (pos 0)) * 2 ≤ b
+unfolding allNarrow
+allNarrow-at b xs e i = leb-true _ b (all-at (λ x. leb (natAbs x * 2) b) xs (pos 0) (le-leb 0 b (omega arith)) e i)
+
+pub allNarrow-of : (b : ℕ) (xs : List ℤ) → ((i : ℕ) → i < length xs → natAbs (getD xs i (pos 0)) * 2 ≤ b) → allNarrow b xs ≡ true
+unfolding allNarrow
+allNarrow-of b xs h = all-of (λ x. leb (natAbs x * 2) b) xs (pos 0) (λ i l. le-leb _ b (h i l))
+
+-- x ≤ b/2, with b/2 rounded down, is 2x ≤ b
+half-narrow : (b x : ℕ) → leb x (b / 2) ≡ leb (x * 2) b
+half-narrow b x = pick (ltb (b / 2) x) refl
+  where
+    pick : (t : Bool) → ltb (b / 2) x ≡ t → leb x (b / 2) ≡ leb (x * 2) b
+    pick true e = lt-leb x (b / 2) (ltb-true (b / 2) x e) ∙ sym (lt-leb (x * 2) b (omega (arith, ltb-true (b / 2) x e)))
+    pick false e = le-leb x (b / 2) (ltb-false (b / 2) x e) ∙ sym (le-leb (x * 2) b (omega (arith, ltb-false (b / 2) x e)))
+
+within-narrow : (b : ℕ) (xs : List ℤ) → allWithin (b / 2) xs ≡ allNarrow b xs
+unfolding allWithin allNarrow all
+within-narrow b [] = refl
+within-narrow b (x ∷ xs) = rw (half-narrow b (natAbs x), within-narrow b xs) refl
+
+-- from -b/2 to b/2
+pub narrow-between : (b : ℕ) (xs : List ℤ) → 2 ≤ b → allBetween (negℤ (pos (b / 2))) (pos (b / 2)) xs ≡ allNarrow b xs
+narrow-between b xs h = by (b / 2) refl ∙ within-narrow b xs
+  where
+    by : (m : ℕ) → b / 2 ≡ m → allBetween (negℤ (pos (b / 2))) (pos (b / 2)) xs ≡ allWithin (b / 2) xs
+    by zero e = absurd (omega (arith, e))
+    by (suc m) e = rw e (between-bound m xs)
