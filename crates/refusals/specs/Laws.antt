@@ -1,3 +1,4 @@
+pub mod BlockPlaces
 pub mod FitLaws
 pub mod ListLaws
 pub mod ProductLaws

@@ -2,6 +2,7 @@
 // are products of them, and lengths before what the lists hold.
 pub mod draws;
 pub mod lengths;
+pub mod narrow;
 pub mod next;
 pub mod part;
 pub mod ranges;
@@ -33,6 +34,7 @@ use limits::bounds::project_bounds;
 use limits::bounds::verify_bounds;
 use limits::rows::degree;
 use limits::rows::first;
+use narrow::narrow_digits;
 use ranges::challenges;
 use ranges::constraint_ranges;
 use ranges::is_element;
@@ -288,7 +290,8 @@ pub fn verify_refusal(
         )
         & are_coefficients(c);
     let rule = challenges(sizes.shape.d, sizes.shape.r, c);
-    first(ranges, 8, first(entries, 9, first(rule, 10, 0)))
+    let narrow = narrow_digits(Z_DIGITS, sizes, opening);
+    first(ranges, 8, first(entries, 9, first(rule, 10, first(narrow, 15, 0))))
 }
 
 // The ring product: the degree and two elements by value.

@@ -7,7 +7,7 @@ use Rattle.fold.specs.Laws.TestLaws.{stops}
 use Rattle.limits.specs.Bounds.{verifyBoundsOf}
 use Rattle.limits.specs.Laws.RowLaws.{end, _&_, joined-row}
 use Rattle.limits.specs.Laws.StageLaws.{single, none, append-rows}
-use Rattle.refusals.specs.Laws.FitLaws.{unfit, fit, fitting-last}
+use Rattle.refusals.specs.Laws.FitLaws.{unfit, fit, fitting, fitting-last}
 use Rattle.limits.specs.Known.StageLimits.{verify-sized}
 use Rattle.refusals.proofs.verify_refusal.Statement.{statement}
 use Rattle.refusals.proofs.verify_refusal.Tie as tie
@@ -73,6 +73,20 @@ challenges-requires c κs =
     let fits = fitting-last _ (append-rows _ _ lists (c6 .draw-lengths .ensures)) (c5 .if2 .left) in
     sized-length _ _ fits
 
+narrow-digits-requires : tie.Need-narrow-digits-requires
+narrow-digits-requires c κs =
+    let c6 = c .before .before .before .before .before .before in
+    let c7 = c6 .before in
+    let c8 = c7 .before in
+    let c9 = c8 .before in
+    let c10 = c9 .before in
+    let c11 = c10 .before in
+    let c12 = c11 .before in
+    let opened = append-rows _ _ (joined-row (c10 .opening-fits .ensures & end)) (c9 .message-lengths .ensures) in
+    let lists = append-rows _ _ opened (c8 .matrix-lengths .ensures) in
+    let fits = fitting _ (append-rows _ _ lists (c7 .draw-lengths .ensures)) (c6 .if2 .left) in
+    ((omega arith, omega arith), (verify-sized (c12 .before .args .sizes) (c12 .verify-bounds .ensures) (c11 .if1 .left), sized-length _ _ (fits .0)))
+
 returns-3 : tie.Need-returns-3
 unfolding verifyTests
 returns-3 c =
@@ -91,17 +105,20 @@ returns-3 c =
     let c13 = c12 .before in
     let c14 = c13 .before in
     let c15 = c14 .before in
-    let m = c15 .before .args .sizes in
-    let opened = append-rows _ _ (joined-row (c13 .opening-fits .ensures & end)) (c12 .message-lengths .ensures) in
-    let lists = append-rows _ _ opened (c11 .matrix-lengths .ensures) in
-    let fits = append-rows _ _ lists (c10 .draw-lengths .ensures) in
-    let messages = append-rows _ _ (joined-row (c7 .are-coefficients .ensures & end)) (c6 .message-ranges .ensures) in
-    let read = append-rows _ _ messages (c5 .constraint-ranges .ensures) in
-    let ranges = append-rows _ _ read (joined-row (c4 .are-coefficients2 .ensures & end)) in
-    fit (verifyBoundsOf m) 7 _ _ refl (c15 .verify-bounds .ensures) (c14 .if1 .left) fits (c9 .if2 .left)
-    (single 8 _ ranges (c .first3 .ensures)
-    (single 9 _ (c8 .are-projection-entries .ensures) (c1 .first2 .ensures)
-    (single 10 _ (c3 .challenges .ensures) (c2 .first .ensures) none)))
+    let c16 = c15 .before in
+    let c17 = c16 .before in
+    let m = c17 .before .args .sizes in
+    let opened = append-rows _ _ (joined-row (c15 .opening-fits .ensures & end)) (c14 .message-lengths .ensures) in
+    let lists = append-rows _ _ opened (c13 .matrix-lengths .ensures) in
+    let fits = append-rows _ _ lists (c12 .draw-lengths .ensures) in
+    let messages = append-rows _ _ (joined-row (c9 .are-coefficients .ensures & end)) (c8 .message-ranges .ensures) in
+    let read = append-rows _ _ messages (c7 .constraint-ranges .ensures) in
+    let ranges = append-rows _ _ read (joined-row (c6 .are-coefficients2 .ensures & end)) in
+    fit (verifyBoundsOf m) 7 _ _ refl (c17 .verify-bounds .ensures) (c16 .if1 .left) fits (c11 .if2 .left)
+    (single 8 _ ranges (c .first4 .ensures)
+    (single 9 _ (c10 .are-projection-entries .ensures) (c1 .first3 .ensures)
+    (single 10 _ (c5 .challenges .ensures) (c2 .first2 .ensures)
+    (single 15 _ (c4 .narrow-digits .ensures) (c3 .first .ensures) none))))
 
 pub verify-refusal-spec : {M : Type 1} → statement M
 verify-refusal-spec =
@@ -120,6 +137,8 @@ verify-refusal-spec =
     constraint-ranges-requires
     (λ c κs. tt)
     challenges-requires
+    narrow-digits-requires
+    (λ c κs. tt)
     (λ c κs. tt)
     (λ c κs. tt)
     (λ c κs. tt)
