@@ -4,6 +4,7 @@ pub mod WorkedValues
 pub mod RefusalCases
 pub mod LimitCases
 pub mod ListCases
+pub mod NarrowCases
 pub mod ProductCases
 pub mod SecondCaseNumbers
 pub mod SecondCase

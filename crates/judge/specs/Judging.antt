@@ -1,8 +1,9 @@
 -- SPECIFICATION 10: the answer to a text, and the line that says it.
 --     sheetStatement, sheetDraws, sheetTranscript, sheetOpening    what the verifier takes from a sheet
+--     sheetNarrow               row 15, which the verifier tests of it and the reader does not
 --     judgedText text           the answer to a text
 --     verdictLine answer        the line that the program prints
-use mathlib.Core.Bool.{cond}
+use mathlib.Core.Bool.{Bool, cond}
 use mathlib.Core.List.{List, [], _∷_}
 use Prim.Native.Nat.{ℕ}
 use lib.Dec.{leb}
@@ -14,6 +15,7 @@ use Rattle.fold.specs.Statement.{Statement, Draws, Transcript}
 use Rattle.fold.specs.Arguments.{statementOf, drawsOf, transcriptOf}
 use Rattle.fold.specs.Answers.{kindOf, numberOf}
 use Rattle.fold.specs.Verification.{verification}
+use Rattle.fold.specs.Refusals.{narrow}
 use Rattle.fold.specs.declared.Sizes.{Sizes}
 use Rattle.sheet.specs.declared.reader.SheetAnswer.{SheetAnswer}
 use Rattle.fields.specs.Sections.{total}
@@ -36,6 +38,10 @@ module _ (s : Sizes) (xs : List ℤ) where
 
   abbrev pub sheetOpening : List ℤ
   sheetOpening = list 16
+
+  -- the low digits of the opening are narrow
+  abbrev pub sheetNarrow : Bool
+  sheetNarrow = narrow sheetStatement sheetOpening
 
   -- what the verifier answers to the numbers of a sheet
   unfoldable pub judgedNumbers : Answer

@@ -13,10 +13,11 @@ use Rattle.fold.specs.Answers.{firstFailing}
 use Rattle.fold.specs.Arguments.{statementOf, drawsOf, transcriptOf, commitSizesOf, garbageSizesOf}
 use Rattle.fold.specs.Statement.{Meets, Statement, Draws}
 use Rattle.fold.specs.Messages.{opening}
+use Rattle.fold.specs.Verdict.{verdict}
 use Rattle.fold.specs.Verification.{verification}
 use Rattle.fold.specs.Refusals.{boundTests}
 use Rattle.fold.specs.Theorems.HonestRuns.{HonestVerdict}
-use Rattle.fold.specs.Laws.HonestWritten.{honest-written, tested, left}
+use Rattle.fold.specs.Laws.HonestWritten.{honest-written, judged-written, tested, left}
 use Rattle.lizkarg.specs.Calls.{Committed, Projected, Aggregated, GarbageCommitted, Amortized}
 
 module _ (sizes : Sizes) (A B C D whole constantTerms projections ψ ω α δ c s : List ℤ) where
@@ -44,6 +45,19 @@ module _ (sizes : Sizes) (A B C D whole constantTerms projections ψ ω α δ c 
       let one = run .message-1 in
       let four = run .message-4 in
       honest-written 𝓢 𝓓 s refl (tested 𝓢 𝓓 s _ _ _ _ _ _ (one .answer-is) (four .answer-is) (run .message-5 .answer-is) bounds) meets
+      (left _ _ _ (one .answer-is) (one .u-is)) (left _ _ _ (run .message-2 .answer-is) (run .message-2 .p-is))
+      (left _ _ _ (run .message-3 .answer-is) (run .message-3 .b-is)) (left _ _ _ (four .answer-is) (four .u-is))
+      (left _ _ _ (run .message-5 .answer-is) (run .message-5 .z-is)) (left _ _ _ (one .answer-is) (one .t-is))
+      (left _ _ _ (one .answer-is) (one .g-is)) (left _ _ _ (four .answer-is) (four .h-is)) is
+
+  -- "Then the verifier does not refuse the honest messages and opening either": not by row 15 and by no other, whatever the witness
+  pub honest-judged : {u₁ p b″ u₂ z t g h : List ℤ} → HonestRun u₁ p b″ u₂ z t g h → firstFailing (boundTests 𝓢 𝓓) ≡ 0
+      → (answer : Answer) → answer ≡ verification 𝓢 𝓓 (transcriptOf u₁ p b″ u₂) (opening z t g h)
+      → answer ≡ Judged (verdict 𝓢 𝓓 (transcriptOf u₁ p b″ u₂) (opening z t g h))
+  honest-judged run bounds answer is =
+      let one = run .message-1 in
+      let four = run .message-4 in
+      judged-written 𝓢 𝓓 s (tested 𝓢 𝓓 s _ _ _ _ _ _ (one .answer-is) (four .answer-is) (run .message-5 .answer-is) bounds)
       (left _ _ _ (one .answer-is) (one .u-is)) (left _ _ _ (run .message-2 .answer-is) (run .message-2 .p-is))
       (left _ _ _ (run .message-3 .answer-is) (run .message-3 .b-is)) (left _ _ _ (four .answer-is) (four .u-is))
       (left _ _ _ (run .message-5 .answer-is) (run .message-5 .z-is)) (left _ _ _ (one .answer-is) (one .t-is))

@@ -1,5 +1,6 @@
 -- Demand 1
 pub mod Refusals
+pub mod NarrowDigits
 -- Demand 2
 pub mod NextInstance
 -- Demand 3

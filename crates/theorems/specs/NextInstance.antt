@@ -1,8 +1,13 @@
--- Demand 2 (SPECIFICATION 8.8): "When the checks on projection and constant terms pass and the next instance is not too large, an opening is accepted
--- exactly if, padded, it solves the next instance."
+-- Demand 2 (SPECIFICATION 8.8): "When the checks on projection and constant terms pass and the next instance is not too large, an opening that gets
+-- past row 15 is accepted exactly if, padded, it solves the next instance."
 -- Where the call `next_instance` answered `Written`, so that nothing was refused, n' is at most 256 and checks 1 and 2 passed. Its promise is
 -- `NextCalled`; that of `verify` is `answer ≡ verification ..`, accepted where its kind is 0. The next instance is the relation whose constraints are the numbers that the call
 -- wrote: `relationOf out′`, with K' = κ+κ1+κ2+3, L' = 0 and the bound β'². `nextWitness o` is the padded opening.
+--     accepted-exactly    an opening that gets past row 15: its answer is not refused 15
+--     narrow-accepted     an opening with narrow low digits: row 15 by index is `Narrow`, crates/fold/specs/Theorems/NarrowDigits.antt
+--     wide-refused        an opening that, padded, solves the next instance and has a wide low digit is refused by 15
+--     solution-accepts    a solution with zero padding, "if its digits are narrow too"
+-- That an accepted opening has narrow low digits is `accepted-narrow`, NarrowDigits.antt.
 use mathlib.Core.Path.{_≡_, sym, ap, _∙_}
 use mathlib.Core.Logic.{_↔_}
 use mathlib.Core.List.{List}
@@ -10,14 +15,15 @@ use Prim.Native.Nat.{ℕ, _*_}
 use lib.ListN.{length}
 use lib.IntN.{ℤ}
 use Rattle.fold.specs.declared.Answer.{Answer}
-use Rattle.fold.specs.declared.Answer.the-variants.{Written}
+use Rattle.fold.specs.declared.Answer.the-variants.{Refused, Written}
 use Rattle.fold.specs.Answers.{kindOf}
 use Rattle.fold.specs.Sizes.{openingSize}
 use Rattle.fold.specs.Statement.{Relation, Solves, Statement, Draws, Transcript}
 use Rattle.fold.specs.Verification.{verification}
 use Rattle.fold.specs.Chunks.{unpadded, ZeroPadding}
 use Rattle.fold.specs.NextInstance.{m, n′, r′, nextWitness, relationOf}
-use Rattle.fold.specs.Laws.NextCallLaws.{next-instance-written, solution-written}
+use Rattle.fold.specs.Laws.NextCallLaws.{next-instance-written, past-written, wide-written, solution-written}
+use Rattle.fold.specs.Theorems.NarrowDigits.{Narrow, narrow-exactly}
 use Rattle.next_instance.specs.Calls.{NextCalled}
 
 module _ (𝓢 : Statement) (𝓓 : Draws) (𝓣 : Transcript) (ν μ : ℕ) (out out′ : List ℤ) (called : NextCalled 𝓢 𝓓 𝓣 ν μ out Written out′) where
@@ -25,13 +31,24 @@ module _ (𝓢 : Statement) (𝓓 : Draws) (𝓣 : Transcript) (ν μ : ℕ) (ou
   open Relation relation using (d, n, r)
 
   -- an opening has the length that the sizes give
-  pub accepted-exactly : (o : List ℤ) → length o ≡ openingSize tz n r κ t₁ t₂ * d → (answer : Answer) → answer ≡ verification 𝓢 𝓓 𝓣 o
-      → (kindOf answer ≡ 0) ↔ Solves (relationOf 𝓢 𝓓 𝓣 ν μ out′) (nextWitness 𝓢 𝓓 𝓣 ν μ o)
-  accepted-exactly o size answer is = rw is (next-instance-written 𝓢 𝓓 𝓣 ν μ out (sym (called .answer-is)) (called .out-is) o size)
+  module _ (o : List ℤ) (size : length o ≡ openingSize tz n r κ t₁ t₂ * d) (answer : Answer) (is : answer ≡ verification 𝓢 𝓓 𝓣 o) where
+    pub accepted-exactly : (answer ≡ Refused 15 → ⊥) → (kindOf answer ≡ 0) ↔ Solves (relationOf 𝓢 𝓓 𝓣 ν μ out′) (nextWitness 𝓢 𝓓 𝓣 ν μ o)
+    accepted-exactly past =
+        rw is (past-written 𝓢 𝓓 𝓣 ν μ out (sym (called .answer-is)) (called .out-is) o size (λ e. past (is ∙ e)))
 
-  -- "A solution of the next instance whose padding is zero is, with the padding cut off, an accepted opening": r' parts of n' elements
+    pub narrow-accepted : Narrow 𝓢 o → (kindOf answer ≡ 0) ↔ Solves (relationOf 𝓢 𝓓 𝓣 ν μ out′) (nextWitness 𝓢 𝓓 𝓣 ν μ o)
+    narrow-accepted digits =
+        rw is (next-instance-written 𝓢 𝓓 𝓣 ν μ out (sym (called .answer-is)) (called .out-is) o size (narrow-exactly 𝓢 o .1 digits))
+
+    pub wide-refused : Solves (relationOf 𝓢 𝓓 𝓣 ν μ out′) (nextWitness 𝓢 𝓓 𝓣 ν μ o) → (Narrow 𝓢 o → ⊥) → answer ≡ Refused 15
+    wide-refused solves wide =
+        is ∙ wide-written 𝓢 𝓓 𝓣 ν μ out (sym (called .answer-is)) (called .out-is) o size solves (λ e. wide (narrow-exactly 𝓢 o .0 e))
+
+  -- "A solution of the next instance whose padding is zero is, with the padding cut off, an accepted opening if its digits are narrow too": r' parts of
+  -- n' elements
   pub solution-accepts : (s : List ℤ) → length s ≡ r′ 𝓢 𝓓 𝓣 ν μ * n′ 𝓢 𝓓 𝓣 ν μ * d → ZeroPadding d tz n ν (m 𝓢 𝓓 𝓣 ν μ) μ s
-      → Solves (relationOf 𝓢 𝓓 𝓣 ν μ out′) s
+      → Narrow 𝓢 (unpadded d tz n ν (m 𝓢 𝓓 𝓣 ν μ) μ s) → Solves (relationOf 𝓢 𝓓 𝓣 ν μ out′) s
       → (answer : Answer) → answer ≡ verification 𝓢 𝓓 𝓣 (unpadded d tz n ν (m 𝓢 𝓓 𝓣 ν μ) μ s) → kindOf answer ≡ 0
-  solution-accepts s sized zeros solves answer is =
-      ap kindOf is ∙ solution-written 𝓢 𝓓 𝓣 ν μ out (sym (called .answer-is)) (called .out-is) s sized zeros solves
+  solution-accepts s sized zeros digits solves answer is =
+      ap kindOf is
+      ∙ solution-written 𝓢 𝓓 𝓣 ν μ out (sym (called .answer-is)) (called .out-is) s sized zeros (narrow-exactly 𝓢 _ .1 digits) solves

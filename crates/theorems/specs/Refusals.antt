@@ -1,6 +1,6 @@
 -- Demand 1 (SPECIFICATION 7.h): "Refused, by the table's numbers and with lent memory untouched: sizes or bounds outside the limits, a slice of the
 -- wrong length, a coefficient out of range, a projection entry other than -1, 0, 1, a challenge outside the rule, a next instance too large, a broken
--- sheet, a buffer shorter than the text. All else is answered; every call ends and does nothing undefined."
+-- sheet, a buffer shorter than the text, a low digit of more than half its base. All else is answered; every call ends and does nothing undefined."
 -- One theorem for each call, from its promise alone: it is refused by k exactly when the test of row k is the first of its tests that fails, and
 -- then nothing lent has changed (`Refuses`, crates/fold/specs/Theorems/FirstRefusal.antt). That a call ends and does nothing undefined is part of its proof.
 use mathlib.Core.Path.{_≡_, refl, _∙_}

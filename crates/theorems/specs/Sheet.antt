@@ -1,14 +1,15 @@
 -- SPECIFICATION 10: the program's line is the verdict on the numbers of a sheet.
 -- For the answers of `judge_sheet`, whose promise is `answer ≡ judgedText text`.
---     sheet-judged      the sheet of numbers h, xs is judged by the verdict on them: the verifier refuses nothing that the reader took
---     judged-sheet      a text that is judged is the sheet of the numbers read from it
---     written-judged    what `write_sheet` put down, of at most 65536 bytes, is judged by the verdict on the numbers that it was given
---     text-refuses      a text of at most 65536 bytes is refused by the first of the reader's tests that fails; a longer one by 12
---     verify-refuses    `verify` refuses the numbers of a sheet exactly as the reader does: by the first of rows 8 to 10 that fails
+--     sheet-judged      the sheet of numbers h, xs with narrow low digits is judged by the verdict on them; with a wide one, `sheet-wide`, it is 15
+--     judged-sheet      a text that is judged is the sheet of the numbers read from it, and its low digits are narrow
+--     written-answer    what `write_sheet` put down, of at most 65536 bytes, is answered so for the numbers that it was given
+--     text-refuses      a text of at most 65536 bytes is refused by the first of the reader's tests and row 15 that fails; a longer one by 12
+--     verify-refuses    `verify` refuses the numbers of a sheet as the reader does, by the first of rows 8 to 10 that fails, and after them by row 15
 -- What the reader takes is `sheet-exactly` (crates/sheet/specs/Theorems/SheetTheorems.antt); that reader and writer undo each other is `written-read`
 -- and `read-written` (crates/writer/specs/Theorems/WriterTheorems.antt); their refusals are `read-refuses` and `write-refuses` (Refusals.antt).
 use mathlib.Core.Path.{_≡_, refl, sym, ap, _∙_}
-use mathlib.Core.List.{List}
+use mathlib.Core.Bool.{true, false}
+use mathlib.Core.List.{List, _++_}
 use Prim.Native.Nat.{ℕ, _≤_, _<_}
 use native.Mathlib.Omega.{arith}
 use lib.ListN.{length, take}
@@ -16,7 +17,7 @@ use lib.IntN.{ℤ}
 use Rattle.fold.specs.declared.Answer.{Answer}
 use Rattle.fold.specs.declared.Answer.the-variants.{Refused, Judged}
 use Rattle.fold.specs.declared.Verdict.{Verdict}
-use Rattle.fold.specs.Answers.{firstFailing}
+use Rattle.fold.specs.Answers.{firstFailing, answered}
 use Rattle.fold.specs.Theorems.FirstRefusal.{Refuses, judgement-refuses}
 use Rattle.sheet.specs.Layout.{fields, bodyLines, sheetText, SheetNumbers}
 use Rattle.sheet.specs.Reading.{headerTests, sizesOf, numberTests, bodyTests, readingTests}
@@ -25,27 +26,32 @@ use Rattle.writer.specs.declared.WriteAnswer.the-variants.{Length}
 use Rattle.writer.specs.Writing.{headerFields, writtenText, SheetWritten}
 use Rattle.writer.specs.Laws.LengthLaws.{sizes-given}
 use Rattle.writer.specs.Theorems.WriterTheorems.{written-exactly, text-put}
-use Rattle.judge.specs.Judging.{judgedNumbers, judgedText}
-use Rattle.judge.specs.Theorems.JudgeTheorem.{sheetVerdict, roomOf, Sheet, numbers-answer}
+use Rattle.judge.specs.Judging.{sheetNarrow, judgedNumbers, judgedText}
+use Rattle.judge.specs.Theorems.JudgeTheorem.{sheetVerdict, wideTest, textTests, Sheet, numbers-answer}
 use Rattle.judge.specs.Theorems.JudgeTheorem as judge
 
-pub sheet-judged : (h xs : List ℤ) → SheetNumbers h xs → length (sheetText h xs) ≤ 65536 → (answer : Answer) → answer ≡ judgedText (sheetText h xs)
-    → answer ≡ Judged (sheetVerdict (sizesOf h) xs)
-sheet-judged h xs numbers fits answer is = is ∙ judge.sheet-judged h xs numbers fits
+module _ (h xs : List ℤ) (numbers : SheetNumbers h xs) (fits : length (sheetText h xs) ≤ 65536) (answer : Answer)
+    (is : answer ≡ judgedText (sheetText h xs)) where
+  pub sheet-judged : sheetNarrow (sizesOf h) xs ≡ true → answer ≡ Judged (sheetVerdict (sizesOf h) xs)
+  sheet-judged thin = is ∙ judge.sheet-judged h xs numbers fits thin
+
+  pub sheet-wide : sheetNarrow (sizesOf h) xs ≡ false → answer ≡ Refused 15
+  sheet-wide wide = is ∙ judge.sheet-wide h xs numbers fits wide
 
 pub judged-sheet : (text : List ℕ) (answer : Answer) → answer ≡ judgedText text → (v : Verdict) → answer ≡ Judged v → Sheet text v
 judged-sheet text answer is v e = judge.judged-sheet text v (sym is ∙ e)
 
-pub written-judged : {h : SheetSizes} {xs : List ℤ} {before after : List ℕ} {m : ℕ} → SheetWritten h xs before (Length m) after → m ≤ 65536
-    → (answer : Answer) → answer ≡ judgedText (take m after) → answer ≡ Judged (sheetVerdict (h .sizes) xs)
+pub written-answer : {h : SheetSizes} {xs : List ℤ} {before after : List ℕ} {m : ℕ} → SheetWritten h xs before (Length m) after → m ≤ 65536
+    → (answer : Answer) → answer ≡ judgedText (take m after)
+    → answer ≡ answered (firstFailing (wideTest (h .sizes) xs)) (Judged (sheetVerdict (h .sizes) xs))
 unfolding writtenText
-written-judged {h} {xs} {m = m} call fits answer is =
+written-answer {h} {xs} {m = m} call fits answer is =
     let (numbers, same, room) = written-exactly call m .0 refl in
     rw (sizes-given h) at
-    (sheet-judged (headerFields h) xs numbers (omega (arith, same, fits)) answer (is ∙ ap judgedText (text-put call .0)))
+    (is ∙ ap judgedText (text-put call .0) ∙ judge.sheet-answer (headerFields h) xs numbers (omega (arith, same, fits)))
 
 pub text-refuses : (text : List ℕ) → length text ≤ 65536 → (answer : Answer) → answer ≡ judgedText text
-    → Refuses (readingTests (roomOf text) text) answer Unit
+    → Refuses (textTests text) answer Unit
 unfolding readingTests headerTests bodyTests numberTests
 text-refuses text fits answer is = judgement-refuses _ refl _ (is ∙ judge.text-answer text fits)
 
@@ -53,6 +59,6 @@ pub longer-refused : (text : List ℕ) → 65536 < length text → (answer : Ans
 longer-refused text long answer is = is ∙ judge.refused-longer text long
 
 pub verify-refuses : (h xs : List ℤ) → firstFailing (headerTests h) ≡ 0 → length xs ≡ fields (bodyLines (sizesOf h))
-    → (answer : Answer) → answer ≡ judgedNumbers (sizesOf h) xs → Refuses (numberTests (sizesOf h) xs) answer Unit
+    → (answer : Answer) → answer ≡ judgedNumbers (sizesOf h) xs → Refuses (numberTests (sizesOf h) xs ++ wideTest (sizesOf h) xs) answer Unit
 unfolding numberTests
 verify-refuses h xs header count answer is = judgement-refuses _ refl _ (is ∙ numbers-answer h xs header count)

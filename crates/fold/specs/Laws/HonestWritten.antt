@@ -10,11 +10,12 @@ use Rattle.fold.specs.Answers.{firstFailing, answered, written}
 use Rattle.fold.specs.Arguments.{transcriptOf}
 use Rattle.fold.specs.Statement.{Relation, Meets, Statement, Draws}
 use Rattle.fold.specs.Messages.{opening, zDigits}
+use Rattle.fold.specs.Verdict.{verdict}
 use Rattle.fold.specs.Verification.{verification}
 use Rattle.fold.specs.Refusals.{boundTests, proverTests, commitTests, garbageTests, amortizeTests}
 use Rattle.fold.specs.Honest.{honestT, honestG, honestH, honestTranscript}
 use Rattle.fold.specs.Theorems.MessagesTaken.{messages-test-all}
-use Rattle.fold.specs.Theorems.HonestRuns.{HonestVerdict, honest-answers}
+use Rattle.fold.specs.Theorems.HonestRuns.{HonestVerdict, honest-judged, honest-answers}
 
 -- a call that answers `Written` was not refused, and left what it promises
 written-zero : (n : ℕ) → Written ≡ answered n Written → n ≡ 0
@@ -46,3 +47,12 @@ module _ (𝓢 : Statement) (𝓓 : Draws) (s : List ℤ) where
       → HonestVerdict 𝓢 p (opening z t g h) (λ v. answer ≡ Judged v)
   honest-written two unrefused meets u-is p-is b-is v-is z-is t-is g-is h-is is =
       rw (is, u-is, p-is, b-is, v-is, z-is, t-is, g-is, h-is) (honest-answers 𝓢 𝓓 s two unrefused meets)
+
+  -- whatever the witness
+  pub judged-written : firstFailing (proverTests 𝓢 𝓓 s) ≡ 0 → {u₁ p b″ u₂ z t g h : List ℤ} {answer : Answer}
+      → u₁ ≡ honestTranscript 𝓢 𝓓 s .u₁ → p ≡ honestTranscript 𝓢 𝓓 s .p → b″ ≡ honestTranscript 𝓢 𝓓 s .b″ → u₂ ≡ honestTranscript 𝓢 𝓓 s .u₂
+      → z ≡ zDigits d n r tz b c s → t ≡ honestT 𝓢 𝓓 s → g ≡ honestG 𝓢 𝓓 s → h ≡ honestH 𝓢 𝓓 s
+      → answer ≡ verification 𝓢 𝓓 (transcriptOf u₁ p b″ u₂) (opening z t g h)
+      → answer ≡ Judged (verdict 𝓢 𝓓 (transcriptOf u₁ p b″ u₂) (opening z t g h))
+  judged-written unrefused u-is p-is b-is v-is z-is t-is g-is h-is is =
+      is ∙ rw (u-is, p-is, b-is, v-is, z-is, t-is, g-is, h-is) (honest-judged 𝓢 𝓓 s unrefused)

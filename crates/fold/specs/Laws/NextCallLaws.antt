@@ -22,7 +22,7 @@ use Rattle.fold.specs.Chunks.{width, padded, unpadded, ZeroPadding}
 use Rattle.fold.specs.Laws.PaddingLaws.{chunk-padded}
 use Rattle.fold.specs.NextInstance.{nextWhole, nextWitness, relationOf, m, n′, r′, constraint}
 use Rattle.fold.specs.Laws.NextSolves.{FirstChecks}
-use Rattle.fold.specs.Theorems.NextInstanceTheorem.{next-instance-judged, next-instance-past, solution-accepted}
+use Rattle.fold.specs.Theorems.NextInstanceTheorem.{next-instance-judged, next-instance-past, solving-refused, solution-accepted}
 use Rattle.fold.specs.NextCall.{firstChecks, nextAnswer, nextOut, partRefusal, nextPart}
 use Rattle.fold.specs.Laws.LaidOut.{length-written}
 
@@ -75,6 +75,11 @@ module _ (𝓢 : Statement) (𝓓 : Draws) (𝓣 : Transcript) (ν μ : ℕ) (ou
         → (verification 𝓢 𝓓 𝓣 o ≡ Refused 15 → ⊥)
         → (kindOf (verification 𝓢 𝓓 𝓣 o) ≡ 0) ↔ Solves (relationOf 𝓢 𝓓 𝓣 ν μ out′) (nextWitness 𝓢 𝓓 𝓣 ν μ o)
     past-written = let (none, pass) = written-iff .0 e in rw numbers (next-instance-past 𝓢 𝓓 𝓣 ν μ out none pass)
+
+    pub wide-written : (o : List ℤ)
+        → length o ≡ openingSize (𝓢 .tz) (𝓢 .relation .n) (𝓢 .relation .r) (𝓢 .κ) (𝓢 .t₁) (𝓢 .t₂) * 𝓢 .relation .d
+        → Solves (relationOf 𝓢 𝓓 𝓣 ν μ out′) (nextWitness 𝓢 𝓓 𝓣 ν μ o) → (narrow 𝓢 o ≡ true → ⊥) → verification 𝓢 𝓓 𝓣 o ≡ Refused 15
+    wide-written = let (none, pass) = written-iff .0 e in rw numbers (solving-refused 𝓢 𝓓 𝓣 ν μ out none pass)
 
     pub solution-written : (s : List ℤ)
         → length s ≡ r′ 𝓢 𝓓 𝓣 ν μ * n′ 𝓢 𝓓 𝓣 ν μ * 𝓢 .relation .d

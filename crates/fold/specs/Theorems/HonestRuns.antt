@@ -58,7 +58,11 @@ module _ (𝓢 : Statement) (𝓓 : Draws) (s : List ℤ) where
   pub honest-runs : tz ≡ 2 → firstFailing (proverTests 𝓢 𝓓 s) ≡ 0 → Meets relation s → HonestVerdict 𝓢 (𝓣 .p) o (λ v. verdict 𝓢 𝓓 𝓣 o ≡ v)
   honest-runs two unrefused meets = honest-runs-shaped (shaped 𝓢 𝓓 s unrefused (omega arith)) meets
 
-  -- the verifier's answer: it refuses none of this
+  -- the verifier's answer: it refuses none of this, whatever the witness
+  pub honest-judged : firstFailing (proverTests 𝓢 𝓓 s) ≡ 0 → verification 𝓢 𝓓 𝓣 o ≡ Judged (verdict 𝓢 𝓓 𝓣 o)
+  unfolding answered
+  honest-judged unrefused = rw (honest-formed 𝓢 𝓓 s unrefused) refl
+
   pub honest-answers : tz ≡ 2 → firstFailing (proverTests 𝓢 𝓓 s) ≡ 0 → Meets relation s
       → HonestVerdict 𝓢 (𝓣 .p) o (λ v. verification 𝓢 𝓓 𝓣 o ≡ Judged v)
   unfolding answered

@@ -8,7 +8,8 @@ use Rattle.fold.specs.Messages.{aggregateConstant, half, h, hDigits, outer₂, 
 use Rattle.fold.specs.Opening.{block, tPlace, gPlace, hPlace, zOf, tOf, garbageOf, zLength, tgLength, hLength}
 use Rattle.fold.specs.Verdict.{check₁, check₂, check₃, check₄, check₅, check₆, check₇, check₈, check₉, margin₉, verdict}
 use Rattle.fold.specs.Refusals.{allOf, anyOf, between, degree, rank, parts, constraintCount, projectionCount, commitmentRank}
-use Rattle.fold.specs.Refusals.{base, digitCount, chunks, lengthBound, sized, challenges, wholeLength, constantTermsLength, projectionLength}
+use Rattle.fold.specs.Refusals.{base, digitCount, chunks, lengthBound, sized, challenges, lowNarrow, narrowDigits}
+use Rattle.fold.specs.Refusals.{wholeLength, constantTermsLength, projectionLength}
 use Rattle.fold.specs.Refusals.{commitTests, projectTests, aggregateTests, garbageTests, amortizeTests}
 use Rattle.fold.specs.Refusals.{proverTests, verifyTests, nextTests, partTests, isElement, productTests}
 use Rattle.fold.specs.Chunks.{chunk, width, cut, cutPadded, padded, trimmed, unpadded}
@@ -40,7 +41,7 @@ unfolding allOf anyOf between degree rank parts constraintCount projectionCount 
 ranges-compute = tt
 
 unfoldable pub lengths-compute : Unit {0}
-unfolding ranges-compute sized challenges wholeLength constantTermsLength projectionLength firstFailing
+unfolding ranges-compute sized challenges lowNarrow narrowDigits wholeLength constantTermsLength projectionLength firstFailing
 lengths-compute = tt
 
 unfoldable pub refusals-compute : Unit {0}

@@ -74,6 +74,11 @@ message₅Refusal d c s = firstFailing (amortizeTests d 1 1 2 4 c s (zeros (2 * 
 abbrev pub challengeRefusals : ℕ → List ℤ → List ℕ
 challengeRefusals d c = message₅Refusal d c (zeros d) ∷ verifierRefusalWith d 1 1 4 2 2 5 c ∷ nextRefusalWith d 1 1 4 2 2 5 c 1 1 ∷ []
 
+-- the refusal of the verifier for one part of rank 1 and degree 2: the base of z, the challenge, z low and z high
+abbrev pub openingRefusal : ℕ → (c low high : List ℤ) → List ℕ
+openingRefusal b c low high =
+    firstFailing (verifyTests (statement 2 1 1 b 2 2 5) (drawsWith 2 1 1 b 2 2 5 c) (transcript 2 1 1 b 2 2 5) (low ++ high ++ zeros (restSize 1 1 2 2 * 2))) ∷ []
+
 -- so many numbers 0, +1 and -2
 abbrev pub ofCounts : (none ones twos : ℕ) → List ℤ
 ofCounts none ones twos = replicate ones (+ 1) ++ replicate twos (- 2) ++ zeros none
@@ -132,6 +137,14 @@ pub record RefusalCases : Type 0 where
   pub twos-11 : challengeRefusals 64 (ofCounts 22 31 11) ++ challengeRefusals 64 (ofCounts 23 30 11) ≡ replicate 6 10
   pub other-71 :
       challengeRefusals 64 (ofCounts 20 35 9) ++ challengeRefusals 64 (ofCounts 26 27 11) ++ challengeRefusals 64 (ofCounts 32 19 13) ≡ replicate 9 10
+  -- row 15: "3 to base 4; 2 to base 3"; "A low digit of 2 or -2 to base 4, 1 or -1 to base 3 is taken, one more in absolute value refused; a top digit
+  -- of 2147483598 is taken." After row 10
+  pub low-half : openingRefusal 4 (zeros 2) (+ 2 ∷ - 2 ∷ []) (zeros 2) ++ openingRefusal 3 (zeros 2) (+ 1 ∷ - 1 ∷ []) (zeros 2) ≡ 0 ∷ 0 ∷ []
+  pub low-above : openingRefusal 4 (zeros 2) (+ 3 ∷ + 0 ∷ []) (zeros 2) ++ openingRefusal 3 (zeros 2) (+ 2 ∷ + 0 ∷ []) (zeros 2) ≡ 15 ∷ 15 ∷ []
+  pub low-below : openingRefusal 4 (zeros 2) (+ 0 ∷ - 3 ∷ []) (zeros 2) ++ openingRefusal 3 (zeros 2) (+ 0 ∷ - 2 ∷ []) (zeros 2) ≡ 15 ∷ 15 ∷ []
+  pub top-largest : openingRefusal 4 (zeros 2) (zeros 2) (+ 2147483598 ∷ - 2147483598 ∷ []) ≡ 0 ∷ []
+  pub ten-before-fifteen : openingRefusal 4 (+ 3 ∷ + 0 ∷ []) (+ 3 ∷ + 0 ∷ []) (zeros 2) ≡ 10 ∷ []
+  pub eight-before-fifteen : openingRefusal 4 (zeros 2) (+ 3 ∷ + 0 ∷ []) (+ 2147483599 ∷ + 0 ∷ []) ≡ 8 ∷ []
   -- row 11: "m = 3200, μ = 1", "n' 256/257"
   pub rest-3200 : restSize 16 8 8 8 ≡ 3200
   pub rank-3200 : nextRefusal 2 16 8 4 8 8 5 1 1 ≡ 11
@@ -180,6 +193,12 @@ refusal-cases =
       ones-32 = refl;
       twos-11 = refl;
       other-71 = refl;
+      low-half = refl;
+      low-above = refl;
+      low-below = refl;
+      top-largest = refl;
+      ten-before-fifteen = refl;
+      eight-before-fifteen = refl;
       rest-3200 = refl;
       rank-3200 = refl;
       length-before-rank = refl;

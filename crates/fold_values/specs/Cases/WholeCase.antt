@@ -1,6 +1,7 @@
 -- SPECIFICATION 12.4: the whole case, computed. "Its witness is 1+2X." Every field of WholeCase is closed, and holds by computation
 -- alone, so this file pins the definitions to numbers that stand in the specification. What SPECIFICATION 12.1 says of it stands in WorkedValues.
 use mathlib.Core.Path.{_≡_, refl}
+use mathlib.Core.Bool.{true, false}
 use mathlib.Core.List.{List, [], _∷_}
 use Prim.Native.Nat.{ℕ, zero, suc, _<_, _≤_}
 use native.Mathlib.Omega.{arith}
@@ -15,7 +16,7 @@ use Rattle.fold.specs.Statement.{Solves, part, function, wholeAt, wholeConstant
 use Rattle.fold.specs.Statement.{Statement, Draws, Transcript}
 use Rattle.fold.specs.Verdict.{verdict}
 use Rattle.fold.specs.Honest.{honestTranscript, honestOpening}
-use Rattle.fold.specs.Refusals.{verifyTests, proverTests}
+use Rattle.fold.specs.Refusals.{narrow, verifyTests, proverTests}
 use Rattle.fold_values.specs.Cases.Computing.{fold-computes}
 
 abbrev pub whole : List ℤ
@@ -52,11 +53,11 @@ draws = record { projections = []; ψ = []; ω = []; α = + 1 ∷ + 0 ∷ []; δ
 abbrev pub transcript : Transcript
 transcript = record { u₁ = + 2 ∷ + 2 ∷ []; p = []; b″ = 10 zeros∷ []; u₂ = + 0 ∷ + 0 ∷ [] }
 
--- z low, z high, t, g, h: an element a line
-abbrev pub digits : List ℤ
-digits =
-    - 2 ∷ + 1
-    ∷ + 0 ∷ + 0
+-- z low, z high, t, g, h: an element a line. The first number of z is low + 4·high
+abbrev pub digitsWith : (low high : ℤ) → List ℤ
+digitsWith low high =
+    low ∷ + 1
+    ∷ high ∷ + 0
     ∷ + 1 ∷ + 2
     ∷ + 0 ∷ + 0
     ∷ + 1 ∷ + 0
@@ -64,6 +65,9 @@ digits =
     ∷ + 0 ∷ + 0
     ∷ + 0 ∷ + 0
     ∷ []
+
+abbrev pub digits : List ℤ
+digits = digitsWith (- 2) (+ 0)
 
 -- "Its witness is 1+2X": it solves the statement
 wholly-met
@@ -86,6 +90,11 @@ pub record WholeCase : Type 0 where
   -- "The program of verdicts prints 0 0 in its two fields; with 20 in place of 13 it prints 0 7."
   pub accepted : verdict (case 13) draws transcript digits ≡ Accepted 0
   pub accepted-20 : verdict (case 20) draws transcript digits ≡ Accepted 7
+  -- its low digits are narrow; with the same z as -6 + 4·1 one is wide, though its verdict is the same but for the margin
+  pub digits-narrow : narrow (case 13) digits ≡ true
+  pub digits-wide : narrow (case 13) (digitsWith (- 6) (+ 1)) ≡ false
+  pub wide-verdict : verdict (case 46) draws transcript (digitsWith (- 6) (+ 1)) ≡ Accepted 0
+  pub wide-refused : firstFailing (verifyTests (case 46) draws transcript (digitsWith (- 6) (+ 1))) ≡ 15
   -- neither the verifier nor the prover is refused
   pub verifier-not-refused : firstFailing (verifyTests (case 13) draws transcript digits) ≡ 0
   pub prover-not-refused : firstFailing (proverTests (case 13) draws witness) ≡ 0
@@ -98,6 +107,10 @@ whole-case =
       opening-honest = refl;
       accepted = refl;
       accepted-20 = refl;
+      digits-narrow = refl;
+      digits-wide = refl;
+      wide-verdict = refl;
+      wide-refused = refl;
       verifier-not-refused = refl;
       prover-not-refused = refl;
     }

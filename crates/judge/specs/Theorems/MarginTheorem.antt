@@ -26,7 +26,7 @@ use Rattle.sheet.specs.Layout.{lineText}
 use Rattle.sheet.specs.Laws.AnswerLaws.{reading-passed}
 use Rattle.sheet.specs.Laws.HeaderLaws.{header-bounded}
 use Rattle.judge.specs.Judging.{sheetStatement, sheetDraws, sheetTranscript, sheetOpening, judgedNumbers, judgedText, verdictLine}
-use Rattle.judge.specs.Theorems.JudgeTheorem.{roomOf, by-text-length, judgement-of, taken}
+use Rattle.judge.specs.Theorems.JudgeTheorem.{roomOf, textTests, by-text-length, judgement-of, read-and-narrow, numbers-judged}
 
 module _ (text : List ℕ) where
   abbrev s : Sizes
@@ -40,8 +40,8 @@ module _ (text : List ℕ) where
   margin-read m = by-text-length (λ (a : Answer). a ≡ Judged (Accepted m) → m + normSq (sheetOpening s xs) ≡ s .target) text
       (λ e. let no : _≡_ {A = ℕ} 2 0 = ap kindOf e in absurd (omega arith))
       (λ fits e.
-      let (none, same) = judgement-of (firstFailing (readingTests (roomOf text) text)) (Accepted m) _ e in
-      margin-is (sheetStatement s xs) (sheetDraws s xs) (sheetTranscript s xs) (sheetOpening s xs) m (taken text none ∙ ap Judged (sym same)))
+      let (none, same) = judgement-of (firstFailing (textTests text)) (Accepted m) _ e in
+      margin-is (sheetStatement s xs) (sheetDraws s xs) (sheetTranscript s xs) (sheetOpening s xs) m (numbers-judged text none ∙ ap Judged (sym same)))
 
 -- an answer of kind 0 is accepted with its number
 carries : (a : Answer) → kindOf a ≡ 0 → a ≡ Judged (Accepted (numberOf a))
@@ -88,12 +88,12 @@ pub number-printed : (text : List ℕ) → numberOf (judgedText text) ≤ 999999
 unfolding verdict margin₉ readingTests headerTests bodyTests numberTests
 number-printed text =
     by-text-length (λ (a : Answer). numberOf a ≤ 999999999999999) text (omega arith)
-    (λ fits. answered-number _ _ (omega (arith, first-up-to 12 (readingTests (roomOf text) text) refl))
+    (λ fits. answered-number _ _ (omega (arith, first-up-to 15 (textTests text) refl))
     (λ none. judged-number _ _ (omega (arith, check)) (omega (arith, bounded none .target-small))))
   where
     check : firstFailing (checks (sheetStatement (s text) (xs text)) (sheetDraws (s text) (xs text)) (sheetTranscript (s text) (xs text))
         (sheetOpening (s text) (xs text))) ≤ 9
     check = first-up-to 9 _ refl
 
-    bounded : firstFailing (readingTests (roomOf text) text) ≡ 0 → VerifySized (s text)
-    bounded none = header-bounded (headerNumbers text) (reading-passed (roomOf text) text none .sizes)
+    bounded : firstFailing (textTests text) ≡ 0 → VerifySized (s text)
+    bounded none = header-bounded (headerNumbers text) (reading-passed (roomOf text) text (read-and-narrow text none .0) .sizes)

@@ -16,7 +16,7 @@ use Rattle.residues.specs.Modulus.{q, red, cent, centred}
 use Rattle.ring.specs.Element.{every, lift, el, coeffs, array, number, same}
 use Rattle.residues.specs.Digits.{halfway, leavesEven, evenHalf, low, rest, rests, digit, split}
 use Rattle.ring.specs.Joined.{joined}
-use Rattle.residues.specs.Range.{allWithin, coefficients, projectionEntries, countOf, countedChallenge, shortChallenge, challenge}
+use Rattle.residues.specs.Range.{allWithin, coefficients, projectionEntries, countOf, countedChallenge, shortChallenge, challenge, allNarrow}
 
 unfoldable pub integers-compute : Unit {0}
 unfolding total sq normSq tab all flat emod centre
@@ -43,7 +43,7 @@ unfolding q red cent centred every lift el coeffs array number same
 elements-compute = tt
 
 unfoldable pub digits-compute : Unit {0}
-unfolding halfway leavesEven evenHalf low rest rests digit split joined allWithin coefficients projectionEntries countOf countedChallenge shortChallenge challenge
+unfolding halfway leavesEven evenHalf low rest rests digit split joined allWithin coefficients projectionEntries countOf countedChallenge shortChallenge challenge allNarrow
 digits-compute = tt
 
 unfoldable pub ring-computes : Unit {0}

@@ -47,14 +47,21 @@ headerWith target =
 abbrev pub header : List ℤ
 header = headerWith 13
 
--- A, B, C, D; the constraint; u1; b''; α; δ; u2; c; the opening
-abbrev pub numbers : List ℤ
-numbers =
+-- A, B, C, D; the constraint; u1; b''; α; δ; u2; c; the opening, with the first number of z low and of z high
+abbrev pub numbersWith : (low high : ℤ) → List ℤ
+numbersWith low high =
     + 1 ∷ + 0 ∷ + 1 ∷ 3 zeros∷ + 1 ∷ 3 zeros∷ + 1 ∷ + 0 ∷ + 1 ∷ + 0
     ∷ + 1 ∷ 3 zeros∷ - 3 ∷ + 4
     ∷ + 2 ∷ + 2
     ∷ 10 zeros∷ + 1 ∷ 11 zeros∷ 2 zeros∷ + 0 ∷ + 1
-    ∷ - 2 ∷ + 1 ∷ 2 zeros∷ + 1 ∷ + 2 ∷ 2 zeros∷ + 1 ∷ + 0 ∷ - 1 ∷ + 1 ∷ 4 zeros∷ []
+    ∷ low ∷ + 1 ∷ high ∷ + 0 ∷ + 1 ∷ + 2 ∷ 2 zeros∷ + 1 ∷ + 0 ∷ - 1 ∷ + 1 ∷ 4 zeros∷ []
+
+abbrev pub numbers : List ℤ
+numbers = numbersWith (- 2) (+ 0)
+
+-- with the same z as -6 + 4·1
+abbrev pub wideNumbers : List ℤ
+wideNumbers = numbersWith (- 6) (+ 1)
 
 -- 32 lines of two fields
 whole-lines : (target : ℕ) → bodyLines (sizesOf (headerWith target)) ≡ copies 32 (2 ∷ [])
@@ -62,13 +69,14 @@ unfolding bodyLines matrixLines wholeLines termLines rowLines numberLines lastLi
     pairs pairs-count start tSize garbageSize restSize openingSize
 whole-lines target = refl
 
-whole-sheets : SheetNumbers header numbers × SheetNumbers (headerWith 20) numbers
+whole-sheets : SheetNumbers header numbers × SheetNumbers (headerWith 20) numbers × SheetNumbers (headerWith 46) wideNumbers
 unfolding headerTests numberTests firstFailing size sizesOf allOf anyOf between degree rank parts constraintCount projectionCount commitmentRank base
     digitCount chunks lengthBound coefficients projectionEntries allWithin challenges challenge shortChallenge every all tab normSq sq projectionsIn challengesIn listAt listLengths
     wholeLength constantTermsLength projectionLength functionSize fields copies pairs pairs-count start tSize garbageSize openingSize restSize
 whole-sheets = (
   record { header = refl; fit = coefficients-fit header refl; sizes = refl; count = rw (whole-lines 13) refl; numbers = refl },
   record { header = refl; fit = coefficients-fit (headerWith 20) refl; sizes = refl; count = rw (whole-lines 20) refl; numbers = refl },
+  record { header = refl; fit = coefficients-fit (headerWith 46) refl; sizes = refl; count = rw (whole-lines 46) refl; numbers = refl },
 )
 
 pub whole-numbers : SheetNumbers header numbers
@@ -76,6 +84,10 @@ whole-numbers = whole-sheets .0
 
 pub whole-numbers-20 : SheetNumbers (headerWith 20) numbers
 whole-numbers-20 = whole-sheets .1
+
+-- the reader does not test digits
+pub wide-numbers : SheetNumbers (headerWith 46) wideNumbers
+wide-numbers = whole-sheets .2
 
 -- the reader takes the whole case and gives its numbers back
 pub whole-read : Read 64 (sheetText header numbers) header numbers
