@@ -291,7 +291,11 @@ pub fn verify_refusal(
         & are_coefficients(c);
     let rule = challenges(sizes.shape.d, sizes.shape.r, c);
     let narrow = narrow_digits(Z_DIGITS, sizes, opening);
-    first(ranges, 8, first(entries, 9, first(rule, 10, first(narrow, 15, 0))))
+    first(
+        ranges,
+        8,
+        first(entries, 9, first(rule, 10, first(narrow, 15, 0))),
+    )
 }
 
 // The ring product: the degree and two elements by value.

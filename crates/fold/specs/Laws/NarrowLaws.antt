@@ -106,8 +106,12 @@ lowNarrow-append d count t rows base xs ys size all = lowNarrow-of d count t row
     number : LowNarrow d count t rows base (xs ++ ys)
     number i e k x h l m g =
         let inside : ((i * t + e) * rows + k) * d + x < length xs =
-        omega (arith, size, block-fits (count * t * rows) d ((i * t + e) * rows + k) x
-        (block-fits (count * t) rows (i * t + e) k (block-fits count t i e h (omega arith)) m) g) in
+        omega (
+          arith,
+          size,
+          block-fits (count * t * rows) d ((i * t + e) * rows + k) x
+              (block-fits (count * t) rows (i * t + e) k (block-fits count t i e h (omega arith)) m) g,
+        ) in
         rw (List·getD-append xs ys (pos 0) (((i * t + e) * rows + k) * d + x) inside) (lowNarrow-at d count t rows base xs all i e k x h l m g)
 
 -- ---- the digits of the messages

@@ -27,6 +27,10 @@ use Rattle.fold.specs.Limits.{mostBound, mostCommitmentRank, mostConstra
 pub false-true : {A : Type 0} → false ≡ true → A
 false-true e = absurd (subst T (sym e) tt)
 
+pub never-true : (t : Bool) → (t ≡ true → ⊥) → t ≡ false
+never-true true never = absurd (never refl)
+never-true false never = refl
+
 -- ---- the tests of a call
 
 -- each test of a list holds

@@ -61,7 +61,7 @@ module _ (𝓢 : Statement) (𝓓 : Draws) (s : List ℤ) where
   -- the verifier's answer: it refuses none of this, whatever the witness
   pub honest-judged : firstFailing (proverTests 𝓢 𝓓 s) ≡ 0 → verification 𝓢 𝓓 𝓣 o ≡ Judged (verdict 𝓢 𝓓 𝓣 o)
   unfolding answered
-  honest-judged unrefused = rw (honest-formed 𝓢 𝓓 s unrefused) refl
+  honest-judged unrefused = rw (honest-formed 𝓢 𝓓 s unrefused)
 
   pub honest-answers : tz ≡ 2 → firstFailing (proverTests 𝓢 𝓓 s) ≡ 0 → Meets relation s
       → HonestVerdict 𝓢 (𝓣 .p) o (λ v. verification 𝓢 𝓓 𝓣 o ≡ Judged v)

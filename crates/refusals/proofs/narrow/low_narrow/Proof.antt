@@ -49,8 +49,11 @@ mul-block c = omega (arith, block-small (c .args .t) (c .args .rows) (c .args .d
 mul-low : tie.Need-mul-low Inv-loop μ-loop
 mul-low c =
     let fewer : c .args .t - 1 ≤ c .args .t = omega arith in
-    omega (arith, mul-le-mul-right (c .args .rows * c .args .d) fewer,
-    block-small (c .args .t) (c .args .rows) (c .args .d) (omega arith) (omega arith) (omega arith))
+    omega (
+      arith,
+      mul-le-mul-right (c .args .rows * c .args .d) fewer,
+      block-small (c .args .t) (c .args .rows) (c .args .d) (omega arith) (omega arith) (omega arith),
+    )
 
 mul-start : tie.Need-mul-start Inv-loop μ-loop
 mul-start c = omega (arith, c .pre .1 .1 .1)

@@ -14,8 +14,10 @@ low-narrow-requires c κs =
     let m = s .args .sizes in
     let l = s .pre .1 .0 in (
       l .shaped .degree,
-      ((s .pre .0 .0, omega (arith, s .pre .0 .1), l .shaped .rank-small),
-      (l .base, omega (arith, s .pre .1 .1, z-within (m .shape .d) (m .shape .n) (m .shape .r) (s .args .tz) (m .kappa) (m .t1) (m .t2)))),
+      (
+        (s .pre .0 .0, omega (arith, s .pre .0 .1), l .shaped .rank-small),
+        (l .base, omega (arith, s .pre .1 .1, z-within (m .shape .d) (m .shape .n) (m .shape .r) (s .args .tz) (m .kappa) (m .t1) (m .t2))),
+      ),
     )
 
 low-narrow-requires-2 : tie.Need-low-narrow-requires-2
@@ -24,10 +26,14 @@ low-narrow-requires-2 c κs =
     let m = s .args .sizes in
     let l = s .pre .1 .0 in (
       l .shaped .degree,
-      ((omega (arith, l .t₁-least), l .t₁-most, omega (arith, l .κ-small)),
-      (l .base₁,
-      rw (c .before .before .before .t-place .ensures)
-      (omega (arith, s .pre .1 .1, t-within (m .shape .d) (m .shape .n) (m .shape .r) (s .args .tz) (m .kappa) (m .t1) (m .t2))))),
+      (
+        (omega (arith, l .t₁-least), l .t₁-most, omega (arith, l .κ-small)),
+        (
+          l .base₁,
+          rw (c .before .before .before .t-place .ensures)
+              (omega (arith, s .pre .1 .1, t-within (m .shape .d) (m .shape .n) (m .shape .r) (s .args .tz) (m .kappa) (m .t1) (m .t2))),
+        ),
+      ),
     )
 
 low-narrow-requires-3 : tie.Need-low-narrow-requires-3
@@ -36,10 +42,14 @@ low-narrow-requires-3 c κs =
     let m = s .args .sizes in
     let l = s .pre .1 .0 in (
       l .shaped .degree,
-      ((omega (arith, l .t₂-least), l .t₂-most, omega arith),
-      (l .base₂,
-      rw (c .before .before .before .g-place .ensures, c .before .before .before .before .before .pair-count .ensures)
-      (omega (arith, s .pre .1 .1, g-within (m .shape .d) (m .shape .n) (m .shape .r) (s .args .tz) (m .kappa) (m .t1) (m .t2))))),
+      (
+        (omega (arith, l .t₂-least), l .t₂-most, omega arith),
+        (
+          l .base₂,
+          rw (c .before .before .before .g-place .ensures, c .before .before .before .before .before .pair-count .ensures)
+              (omega (arith, s .pre .1 .1, g-within (m .shape .d) (m .shape .n) (m .shape .r) (s .args .tz) (m .kappa) (m .t1) (m .t2))),
+        ),
+      ),
     )
 
 low-narrow-requires-4 : tie.Need-low-narrow-requires-4
@@ -48,10 +58,14 @@ low-narrow-requires-4 c κs =
     let m = s .args .sizes in
     let l = s .pre .1 .0 in (
       l .shaped .degree,
-      ((omega (arith, l .t₁-least), l .t₁-most, omega arith),
-      (l .base₁,
-      rw (c .before .before .before .h-place .ensures, c .before .before .before .before .before .before .pair-count .ensures)
-      (omega (arith, s .pre .1 .1, h-within (m .shape .d) (m .shape .n) (m .shape .r) (s .args .tz) (m .kappa) (m .t1) (m .t2))))),
+      (
+        (omega (arith, l .t₁-least), l .t₁-most, omega arith),
+        (
+          l .base₁,
+          rw (c .before .before .before .h-place .ensures, c .before .before .before .before .before .before .pair-count .ensures)
+              (omega (arith, s .pre .1 .1, h-within (m .shape .d) (m .shape .n) (m .shape .r) (s .args .tz) (m .kappa) (m .t1) (m .t2))),
+        ),
+      ),
     )
 
 returns : tie.Need-returns
