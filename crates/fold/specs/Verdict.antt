@@ -1,5 +1,5 @@
 -- SPECIFICATION 6: checks 1 to 9 over the recomposed digits of an opening, and the first that fails.
--- "The paper's Figure 3 takes z and splits it; here digits are lent and recomposed (its section 5.3), with no width test."
+-- "The paper's Figure 3 takes z and splits it; here digits are lent and recomposed (its section 5.3)."
 -- The opening is one list; x, y stand for its blocks as functions of the place, `block d o a` for the elements from place a on.
 use mathlib.Core.Bool.{Bool}
 use mathlib.Core.List.{List, [], _∷_, _++_}

@@ -1,7 +1,7 @@
 -- SPECIFICATION 7.i: "each low digit x of the opening, of a base B, has 2·|x| ≤ B." Row 15: "the absolute value of a low digit is more than half its
 -- base (verifier only)". For the answers of `verify`, whose promise is `answer ≡ verification ..`, and of `judge_sheet`, whose promise is
--- `answer ≡ judgedText text`. `Narrow` (crates/fold/specs/Theorems/NarrowDigits.antt) says it by digit.
---     refused-15         refused by 15 exactly when the test of every lower row holds and not all low digits are narrow
+-- `answer ≡ judgedText text`. `Narrow` and `Wide` (crates/fold/specs/Theorems/NarrowDigits.antt) say it by digit.
+--     refused-15         refused by 15, where the tests of all lower rows hold, "exactly when the absolute value of a low digit is more than half its base"
 --     accepted-narrow    an accepted opening has narrow low digits
 --     sheet-narrow       so has that of a sheet that is judged
 -- That honest messages never meet 15 is `honest-judged` (HonestRuns.antt); what it means for the next instance stands in NextInstance.antt.
@@ -17,31 +17,28 @@ use Rattle.fold.specs.declared.Answer.the-variants.{Refused, Judged}
 use Rattle.fold.specs.declared.Verdict.{Verdict}
 use Rattle.fold.specs.Answers.{kindOf, testOf}
 use Rattle.fold.specs.Statement.{Statement, Draws, Transcript}
-use Rattle.fold.specs.Refusals.{narrow, verifyTests}
+use Rattle.fold.specs.Refusals.{verifyTests}
 use Rattle.fold.specs.Verification.{verification}
-use Rattle.fold.specs.Laws.RefusalLaws.{false-true, never-true}
 use Rattle.fold.specs.Laws.TestLaws.{first-iff}
 use Rattle.fold.specs.Laws.VerificationLaws.{accepted-opening}
 use Rattle.fold.specs.Theorems.FirstRefusal.{fails-first, first-fails}
 use Rattle.fold.specs.Theorems.LowestFirst.{verify-rising}
-use Rattle.fold.specs.Theorems.NarrowDigits.{Narrow, narrow-exactly}
+use Rattle.fold.specs.Theorems.NarrowDigits.{Narrow, narrow-exactly, Wide, wide-exactly}
 use Rattle.sheet.specs.Reading.{headerNumbers, sizesOf}
 use Rattle.judge.specs.Judging.{sheetStatement, sheetOpening, judgedText}
 use Rattle.judge.specs.Theorems.JudgeTheorem.{numbersOf, judged-sheet}
 use Rattle.theorems.specs.Refusals.{verify-refuses}
 
 module _ (𝓢 : Statement) (𝓓 : Draws) (𝓣 : Transcript) (o : List ℤ) (answer : Answer) (is : answer ≡ verification 𝓢 𝓓 𝓣 o) where
-  pub refused-15 : (answer ≡ Refused 15) ↔ (((j : ℕ) → j < 15 → testOf j (verifyTests 𝓢 𝓓 𝓣 o) ≡ true) × (Narrow 𝓢 o → ⊥))
+  pub refused-15 : (answer ≡ Refused 15) ↔ (((j : ℕ) → j < 15 → testOf j (verifyTests 𝓢 𝓓 𝓣 o) ≡ true) × Wide 𝓢 o)
   unfolding verifyTests
   refused-15 =
       let exactly = verify-refuses 𝓢 𝓓 𝓣 o answer is .exactly 15 in
       let first = first-iff (verifyTests 𝓢 𝓓 𝓣 o) (verify-rising 𝓢 𝓓 𝓣 o) 15 (omega arith) in (
         λ e.
             let one = first .0 (fails-first _ 15 (exactly .0 e)) in
-            (one .lower, λ digits. false-true (sym (one .fails) ∙ narrow-exactly 𝓢 o .1 digits)),
-        λ h.
-            let wide = never-true (narrow 𝓢 o) (λ e. h .1 (narrow-exactly 𝓢 o .0 e)) in
-            exactly .1 (first-fails _ 14 (first .1 (record { fails = wide; lower = h .0 }))),
+            (one .lower, wide-exactly 𝓢 o .0 (one .fails)),
+        λ h. exactly .1 (first-fails _ 14 (first .1 (record { fails = wide-exactly 𝓢 o .1 (h .1); lower = h .0 }))),
       )
 
   pub accepted-narrow : kindOf answer ≡ 0 → Narrow 𝓢 o

@@ -23,7 +23,7 @@ use Rattle.fold.specs.Verification.{verification}
 use Rattle.fold.specs.Chunks.{unpadded, ZeroPadding}
 use Rattle.fold.specs.NextInstance.{m, n′, r′, nextWitness, relationOf}
 use Rattle.fold.specs.Laws.NextCallLaws.{next-instance-written, past-written, wide-written, solution-written}
-use Rattle.fold.specs.Theorems.NarrowDigits.{Narrow, narrow-exactly}
+use Rattle.fold.specs.Theorems.NarrowDigits.{Narrow, narrow-exactly, Wide, wide-exactly}
 use Rattle.next_instance.specs.Calls.{NextCalled}
 
 module _ (𝓢 : Statement) (𝓓 : Draws) (𝓣 : Transcript) (ν μ : ℕ) (out out′ : List ℤ) (called : NextCalled 𝓢 𝓓 𝓣 ν μ out Written out′) where
@@ -40,9 +40,9 @@ module _ (𝓢 : Statement) (𝓓 : Draws) (𝓣 : Transcript) (ν μ : ℕ) (ou
     narrow-accepted digits =
         rw is (next-instance-written 𝓢 𝓓 𝓣 ν μ out (sym (called .answer-is)) (called .out-is) o size (narrow-exactly 𝓢 o .1 digits))
 
-    pub wide-refused : Solves (relationOf 𝓢 𝓓 𝓣 ν μ out′) (nextWitness 𝓢 𝓓 𝓣 ν μ o) → (Narrow 𝓢 o → ⊥) → answer ≡ Refused 15
+    pub wide-refused : Solves (relationOf 𝓢 𝓓 𝓣 ν μ out′) (nextWitness 𝓢 𝓓 𝓣 ν μ o) → Wide 𝓢 o → answer ≡ Refused 15
     wide-refused solves wide =
-        is ∙ wide-written 𝓢 𝓓 𝓣 ν μ out (sym (called .answer-is)) (called .out-is) o size solves (λ e. wide (narrow-exactly 𝓢 o .0 e))
+        is ∙ wide-written 𝓢 𝓓 𝓣 ν μ out (sym (called .answer-is)) (called .out-is) o size solves (wide-exactly 𝓢 o .1 wide)
 
   -- "A solution of the next instance whose padding is zero is, with the padding cut off, an accepted opening if its digits are narrow too": r' parts of
   -- n' elements

@@ -1,9 +1,10 @@
 -- Row 15 by index: `lowNarrow` says that each digit below the top one of each block has at most half its base. And the honest digits keep it.
 --     LowNarrow, lowNarrow-exactly     the blocks of one list
+--     WideDigit, lowNarrow-false       where the test does not hold, a wide low digit
 --     lowNarrow-append                 with another list after it
 --     narrow-zDigits, .., -hDigits     the digits that messages 1, 4 and 5 write
 use mathlib.Core.Path.{_≡_, refl, sym, ap, subst, _∙_}
-use mathlib.Core.Bool.{true}
+use mathlib.Core.Bool.{true, false}
 use mathlib.Core.Logic.{_↔_}
 use mathlib.Core.List.{List, _++_}
 use Prim.Native.Nat.{ℕ, _+_, _-_, _*_, _≤_, _<_}
@@ -18,9 +19,9 @@ use Rattle.algebra.specs.Triangle.{pair, pairs-count}
 use Rattle.algebra.specs.Laws.TriangleLaws.{BlockOf, block-of, start-same, pair-of}
 use Rattle.residues.specs.Digits.{split}
 use Rattle.residues.specs.Laws.DigitLaws.{digit-low-bound, length-split, getD-split}
-use Rattle.residues.specs.Laws.RangeLaws.{allNarrow-at, allNarrow-of}
+use Rattle.residues.specs.Laws.RangeLaws.{allNarrow-at, allNarrow-of, allNarrow-false}
 use Rattle.ring.specs.Element.{R, coeffs}
-use Rattle.ring.specs.Laws.ElementEquality.{every-true, true-every}
+use Rattle.ring.specs.Laws.ElementEquality.{every-true, true-every, every-false}
 use Rattle.ring.specs.Laws.ElementLaws.{length-coeffs}
 use Rattle.fold.specs.Sizes.{pairs}
 use Rattle.fold.specs.Messages.{elements, t, z, garbageDigits, tDigits, gDigits, hDigits, zDigits}
@@ -54,6 +55,30 @@ module _ (d count t rows base : ℕ) (xs : List ℤ) where
       let one = allNarrow-at base _ (every-true count _ all i h) ((e * rows + k) * d + x) in
       rw (at i ((e * rows + k) * d + x) inside, digit-place i e k x) at one
 
+  -- number y of a block's low digits is number x of row k of digit e
+  record LowDigitAt (y : ℕ) : Type 0 where
+    e : ℕ
+    k : ℕ
+    x : ℕ
+    low : e + 1 < t
+    row : k < rows
+    number : x < d
+    is : (e * rows + k) * d + x ≡ y
+
+  low-digit : (y : ℕ) → y < (t - 1) * (rows * d) → LowDigitAt y
+  low-digit y l =
+      let digit = block-at (t - 1) (rows * d) y l in
+      let row = block-at rows d (digit .offset) (digit .inside) in
+      record {
+        e = digit .block;
+        k = row .block;
+        x = row .offset;
+        low = omega (arith, digit .below);
+        row = row .below;
+        number = row .inside;
+        is = omega (arith, digit .is, row .is, start-same (rows * d) (digit .block), start-same d (row .block));
+      }
+
   pub lowNarrow-of : LowNarrow → lowNarrow d count t rows base xs ≡ true
   unfolding lowNarrow
   lowNarrow-of all = true-every count _ (λ i h. allNarrow-of base _ (λ y l. number i h y (short i y l)))
@@ -64,17 +89,44 @@ module _ (d count t rows base : ℕ) (xs : List ℤ) where
       number : (i : ℕ) → i < count → (y : ℕ) → y < (t - 1) * (rows * d)
           → natAbs (getD (take ((t - 1) * (rows * d)) (drop (i * (t * (rows * d))) xs)) y (pos 0)) * 2 ≤ base
       number i h y l =
-          let digit = block-at (t - 1) (rows * d) y l in
-          let row = block-at rows d (digit .offset) (digit .inside) in
-          let e = digit .block in
-          let k = row .block in
-          let x = row .offset in
-          let is : y ≡ (e * rows + k) * d + x =
-          omega (arith, sym (digit .is), sym (row .is), start-same (rows * d) e, start-same d k) in
-          rw (at i y l, is, digit-place i e k x) (all i e k x h (omega (arith, digit .below)) (row .below) (row .inside))
+          let one = low-digit y l in
+          rw (at i y l, ← (one .is), digit-place i (one .e) (one .k) (one .x)) (all i (one .e) (one .k) (one .x) h (one .low) (one .row) (one .number))
 
   pub lowNarrow-exactly : (lowNarrow d count t rows base xs ≡ true) ↔ LowNarrow
   lowNarrow-exactly = (lowNarrow-at, lowNarrow-of)
+
+  -- a low digit of more than half its base
+  pub record WideDigit : Type 0 where
+    pub i : ℕ
+    pub e : ℕ
+    pub k : ℕ
+    pub x : ℕ
+    pub block : i < count
+    pub low : e + 1 < t
+    pub row : k < rows
+    pub number : x < d
+    pub wide : base < natAbs (getD xs (((i * t + e) * rows + k) * d + x) (pos 0)) * 2
+
+  pub lowNarrow-false : lowNarrow d count t rows base xs ≡ false → WideDigit
+  unfolding lowNarrow
+  lowNarrow-false f =
+      let block = every-false count _ f in
+      let one = allNarrow-false base _ (block .fails) in
+      let i = block .place in
+      let y = one .place in
+      let l : y < (t - 1) * (rows * d) = omega (arith, one .inside, length-take ((t - 1) * (rows * d)) (drop (i * (t * (rows * d))) xs)) in
+      let digit = low-digit y l in
+      record {
+        i = i;
+        e = digit .e;
+        k = digit .k;
+        x = digit .x;
+        block = block .below;
+        low = digit .low;
+        row = digit .row;
+        number = digit .number;
+        wide = rw (at i y l, ← (digit .is), digit-place i (digit .e) (digit .k) (digit .x)) at (one .wide);
+      }
 
   -- blocks that each are the digits of some numbers
   pub record SplitAt (i : ℕ) : Type 0 where

@@ -1,6 +1,6 @@
 -- The calls of the next instance: when everything is written, and what the part that is handed back is.
 use mathlib.Core.Path.{_≡_, refl, sym, _∙_}
-use mathlib.Core.Bool.{true}
+use mathlib.Core.Bool.{true, false}
 use mathlib.Core.Logic.{_↔_}
 use mathlib.Core.List.{List, _++_}
 use Prim.Native.Nat.{ℕ, zero, suc, _-_, _*_}
@@ -78,7 +78,7 @@ module _ (𝓢 : Statement) (𝓓 : Draws) (𝓣 : Transcript) (ν μ : ℕ) (ou
 
     pub wide-written : (o : List ℤ)
         → length o ≡ openingSize (𝓢 .tz) (𝓢 .relation .n) (𝓢 .relation .r) (𝓢 .κ) (𝓢 .t₁) (𝓢 .t₂) * 𝓢 .relation .d
-        → Solves (relationOf 𝓢 𝓓 𝓣 ν μ out′) (nextWitness 𝓢 𝓓 𝓣 ν μ o) → (narrow 𝓢 o ≡ true → ⊥) → verification 𝓢 𝓓 𝓣 o ≡ Refused 15
+        → Solves (relationOf 𝓢 𝓓 𝓣 ν μ out′) (nextWitness 𝓢 𝓓 𝓣 ν μ o) → narrow 𝓢 o ≡ false → verification 𝓢 𝓓 𝓣 o ≡ Refused 15
     wide-written = let (none, pass) = written-iff .0 e in rw numbers (solving-refused 𝓢 𝓓 𝓣 ν μ out none pass)
 
     pub solution-written : (s : List ℤ)

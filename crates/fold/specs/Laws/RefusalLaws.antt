@@ -123,6 +123,17 @@ all-allOf (t ∷ ts) a = both-true t (allOf ts) (a .0) (all-allOf ts (a .1))
 pub allOf-iff : (ts : List Bool) → (allOf ts ≡ true) ↔ All ts
 allOf-iff ts = (allOf-all ts, all-allOf ts)
 
+-- one that fails
+abbrev pub SomeFails : List Bool → Type 0
+SomeFails [] = ⊥
+SomeFails (t ∷ ts) = (t ≡ false) ⊎ SomeFails ts
+
+pub allOf-false : (ts : List Bool) → allOf ts ≡ false → SomeFails ts
+unfolding allOf
+allOf-false [] e = false-true (sym e)
+allOf-false (true ∷ ts) e = inr (allOf-false ts e)
+allOf-false (false ∷ ts) e = inl refl
+
 pub all-join : (ts us : List Bool) → All ts → All us → All (ts ++ us)
 all-join [] us a b = b
 all-join (t ∷ ts) us a b = (a .0, all-join ts us (a .1) b)

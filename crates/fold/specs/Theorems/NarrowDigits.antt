@@ -2,10 +2,11 @@
 -- digits." "The top digit of each value .. is free". By index, as recomposition reads the digits (zOf, tOf, garbageOf; Opening.antt): digit e is low
 -- where e + 1 is below the number of digits.
 --     Narrow, narrow-exactly     the test of the row holds exactly where each low digit is narrow
+--     Wide, wide-exactly         it fails "exactly when the absolute value of a low digit is more than half its base"
 use mathlib.Core.Path.{_≡_, ap, subst}
-use mathlib.Core.Bool.{true}
-use mathlib.Core.Logic.{_↔_}
-use mathlib.Core.List.{List}
+use mathlib.Core.Bool.{true, false}
+use mathlib.Core.Logic.{_↔_, _⊎_, inl, inr}
+use mathlib.Core.List.{List, [], _∷_}
 use Prim.Native.Nat.{ℕ, _+_, _*_, _≤_, _<_}
 use native.Mathlib.Omega.{arith}
 use lib.ListN.{getD, drop}
@@ -17,8 +18,8 @@ use Rattle.fold.specs.Sizes.{pairs}
 use Rattle.fold.specs.Statement.{Statement, Relation}
 use Rattle.fold.specs.Opening.{tPlace, gPlace, hPlace}
 use Rattle.fold.specs.Refusals.{lowNarrow, narrowDigits, narrow}
-use Rattle.fold.specs.Laws.RefusalLaws.{_&_, allOf-all, all-allOf}
-use Rattle.fold.specs.Laws.NarrowLaws.{LowNarrow, lowNarrow-at, lowNarrow-of}
+use Rattle.fold.specs.Laws.RefusalLaws.{_&_, never-true, allOf-all, all-allOf, SomeFails, allOf-false}
+use Rattle.fold.specs.Laws.NarrowLaws.{LowNarrow, lowNarrow-at, lowNarrow-of, WideDigit, lowNarrow-false}
 
 module _ (𝓢 : Statement) (o : List ℤ) where
   open Statement 𝓢 using (relation, tz, κ, b, b₁, b₂, t₁, t₂)
@@ -93,3 +94,35 @@ module _ (𝓢 : Statement) (o : List ℤ) where
               let first : i ≡ 0 = omega (arith, h) in
               let same : ((i * tz + e) * n + k) * d + x ≡ (0 + (e * n + k)) * d + x = rw first (omega arith) in
               rw same (all .z e k x l m g)
+
+  -- a wide low digit of z, of t, of g or of h
+  abbrev pub Wide : Type 0
+  Wide =
+      WideDigit d 1 tz n b o
+      ⊎ (WideDigit d r t₁ κ b₁ (drop (tPlace tz n * d) o)
+      ⊎ (WideDigit d (pairs r) t₂ 1 b₂ (drop (gPlace tz n r κ t₁ * d) o) ⊎ WideDigit d (pairs r) t₁ 1 b₁ (drop (hPlace tz n r κ t₁ t₂ * d) o)))
+
+  not-narrow : (count t rows base : ℕ) (xs : List ℤ) → WideDigit d count t rows base xs → lowNarrow d count t rows base xs ≡ true → ⊥
+  not-narrow count t rows base xs w e =
+      omega (arith, w .wide, lowNarrow-at d count t rows base xs e (w .i) (w .e) (w .k) (w .x) (w .block) (w .low) (w .row) (w .number))
+
+  pub wide-exactly : (narrow 𝓢 o ≡ false) ↔ Wide
+  unfolding narrowDigits
+  wide-exactly = (λ f. to (allOf-false _ f), λ w. never-true (narrow 𝓢 o) (back w))
+    where
+      to : SomeFails (
+          lowNarrow d 1 tz n b o
+          ∷ lowNarrow d r t₁ κ b₁ (drop (tPlace tz n * d) o)
+          ∷ lowNarrow d (pairs r) t₂ 1 b₂ (drop (gPlace tz n r κ t₁ * d) o)
+          ∷ lowNarrow d (pairs r) t₁ 1 b₁ (drop (hPlace tz n r κ t₁ t₂ * d) o)
+          ∷ []) → Wide
+      to (inl f) = inl (lowNarrow-false d 1 tz n b o f)
+      to (inr (inl f)) = inr (inl (lowNarrow-false d r t₁ κ b₁ _ f))
+      to (inr (inr (inl f))) = inr (inr (inl (lowNarrow-false d (pairs r) t₂ 1 b₂ _ f)))
+      to (inr (inr (inr (inl f)))) = inr (inr (inr (lowNarrow-false d (pairs r) t₁ 1 b₁ _ f)))
+
+      back : Wide → narrow 𝓢 o ≡ true → ⊥
+      back (inl w) e = not-narrow 1 tz n b o w (allOf-all _ e .0)
+      back (inr (inl w)) e = not-narrow r t₁ κ b₁ _ w (allOf-all _ e .1 .0)
+      back (inr (inr (inl w))) e = not-narrow (pairs r) t₂ 1 b₂ _ w (allOf-all _ e .1 .1 .0)
+      back (inr (inr (inr w))) e = not-narrow (pairs r) t₁ 1 b₁ _ w (allOf-all _ e .1 .1 .1 .0)

@@ -28,7 +28,7 @@ use Rattle.fold.specs.Statement.{Statement, Draws, Transcript}
 use Rattle.fold.specs.Verdict.{verdict}
 use Rattle.fold.specs.Laws.Accepted.{accepts, accepted-iff}
 use Rattle.fold.specs.Refusals.{narrow, verifyTests, nextTests}
-use Rattle.fold.specs.Laws.RefusalLaws.{_&_, false-true, never-true, passes-refusal, allOf-all, allOf-cons, allOf-tail, sized-iff, lengthBound-most}
+use Rattle.fold.specs.Laws.RefusalLaws.{_&_, passes-refusal, allOf-all, allOf-cons, allOf-tail, sized-iff, lengthBound-most}
 use Rattle.fold.specs.Known.CallLimits.{chunk-limits}
 use Rattle.fold.specs.Laws.TestLaws.{holds, failed, after-passes}
 use Rattle.fold.specs.Verification.{verification}
@@ -112,9 +112,9 @@ module _ (𝓢 : Statement) (𝓓 : Draws) (𝓣 : Transcript) (ν μ : ℕ) (ou
     next-instance-judged thin = (accepted-solves, λ h. rw (unrefused-opening o size (solving-range h) thin) (next-instance .1 h))
 
     -- with a wide low digit the answer is 15, though the padded opening solves the next instance
-    pub solving-refused : Solves (nextRelation 𝓢 𝓓 𝓣 ν μ) (nextWitness 𝓢 𝓓 𝓣 ν μ o) → (narrow 𝓢 o ≡ true → ⊥) → verification 𝓢 𝓓 𝓣 o ≡ Refused 15
+    pub solving-refused : Solves (nextRelation 𝓢 𝓓 𝓣 ν μ) (nextWitness 𝓢 𝓓 𝓣 ν μ o) → narrow 𝓢 o ≡ false → verification 𝓢 𝓓 𝓣 o ≡ Refused 15
     unfolding answered
-    solving-refused h wide = rw (opening-refusal o size (solving-range h) ∙ failed (15, narrow 𝓢 o) [] (never-true (narrow 𝓢 o) wide))
+    solving-refused h wide = rw (opening-refusal o size (solving-range h) ∙ failed (15, narrow 𝓢 o) [] wide)
 
     pub next-instance-past : (verification 𝓢 𝓓 𝓣 o ≡ Refused 15 → ⊥)
         → (kindOf (verification 𝓢 𝓓 𝓣 o) ≡ 0) ↔ Solves (nextRelation 𝓢 𝓓 𝓣 ν μ) (nextWitness 𝓢 𝓓 𝓣 ν μ o)
@@ -122,7 +122,7 @@ module _ (𝓢 : Statement) (𝓓 : Draws) (𝓣 : Transcript) (ν μ : ℕ) (ou
       where
         pick : (t : Bool) → narrow 𝓢 o ≡ t → (kindOf (verification 𝓢 𝓓 𝓣 o) ≡ 0) ↔ Solves (nextRelation 𝓢 𝓓 𝓣 ν μ) (nextWitness 𝓢 𝓓 𝓣 ν μ o)
         pick true e = next-instance-judged e
-        pick false e = (accepted-solves, λ h. absurd (past (solving-refused h (λ t. false-true (sym e ∙ t)))))
+        pick false e = (accepted-solves, λ h. absurd (past (solving-refused h e)))
 
     -- a padded opening has zero padding, so that what is said of such solutions below is said of it
     pub next-padding : ZeroPadding d tz n ν (m 𝓢 𝓓 𝓣 ν μ) μ (nextWitness 𝓢 𝓓 𝓣 ν μ o)

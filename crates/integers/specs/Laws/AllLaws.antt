@@ -1,6 +1,7 @@
 -- A test computed over a whole list, and its rule at each index.
 --     both-left, both-right, both-true, both-and    a conjunction of two tests
 --     all-at, all-of                                the test over the list gives the rule at each index, and the other way round
+--     all-false                                     where it does not hold, an index at which it fails
 --     all-append, all-join, all-part, all-last      joined lists, a part of one, one element more
 use mathlib.Core.Path.{_≡_, refl, sym, ap, subst, _∙_}
 use mathlib.Core.Bool.{Bool, true, false, cond, _&&_}
@@ -50,6 +51,20 @@ module _ {A : Type 0} (test : A → Bool) where
   unfolding all
   all-of [] z h = refl
   all-of (x ∷ xs) z h = both-true (test x) (all test xs) (h 0 (omega arith)) (all-of xs z (λ i l. h (suc i) (omega arith)))
+
+  pub record FailsAt (xs : List A) (z : A) : Type 0 where
+    pub place : ℕ
+    pub inside : place < length xs
+    pub fails : test (getD xs place z) ≡ false
+
+  pub all-false : (xs : List A) (z : A) → all test xs ≡ false → FailsAt xs z
+  unfolding all
+  all-false [] z e = absurd (subst T e tt)
+  all-false (x ∷ xs) z e = step (all-false xs z) (test x) refl e
+    where
+      step : (all test xs ≡ false → FailsAt xs z) → (t : Bool) → test x ≡ t → cond t (all test xs) false ≡ false → FailsAt (x ∷ xs) z
+      step later true q f = let one = later f in record { place = suc (one .place); inside = omega (arith, one .inside); fails = one .fails }
+      step later false q f = record { place = 0; inside = omega arith; fails = q }
 
   pub all-append : (xs ys : List A) → all test (xs ++ ys) ≡ cond (all test xs) (all test ys) false
   unfolding all

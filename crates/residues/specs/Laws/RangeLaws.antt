@@ -7,7 +7,8 @@
 --     coefficients-.., projections-..   the same at the bounds of rows 8 and 9
 --     counted-tests, short-tests        row 10: the two rules as tests
 --     challenge-64, -other              which of them is asked
---     allNarrow-at, -of, narrow-between row 15: the test by index, and as code asks it
+--     allNarrow-at, -of, -false         row 15: the test by index
+--     narrow-between                    and as code asks it
 use mathlib.Core.Path.{_≡_, refl, sym, ap, ap₂, _∙_}
 use mathlib.Core.Bool.{Bool, true, false, cond, not, _&&_}
 use mathlib.Core.List.{List, [], _∷_, _++_}
@@ -19,10 +20,10 @@ use lib.Dec.{leb, ltb, eqb}
 use lib.ListN.{length, getD, take, drop}
 use lib.Seq.{take-suc, take-all}
 use lib.IntN.{ℤ, pos, negsuc, negℤ, natAbs}
-use borrow.Author.Tests.{le-leb, lt-leb, leb-true, ltb-true, ltb-false, le-ltb, eq-eqb, ne-eqb}
+use borrow.Author.Tests.{le-leb, lt-leb, leb-true, leb-false, ltb-true, ltb-false, le-ltb, eq-eqb, ne-eqb}
 use Rattle.integers.specs.Lists.{all}
 use Rattle.integers.specs.Sums.{normSq}
-use Rattle.integers.specs.Laws.AllLaws.{both-and, all-at, all-of, all-join, all-part, all-last}
+use Rattle.integers.specs.Laws.AllLaws.{both-and, all-at, all-of, all-false, all-join, all-part, all-last}
 use Rattle.residues.specs.declared.length.Margin.{Margin}
 use Rattle.residues.specs.Length.{remaining, holds}
 use Rattle.residues.specs.Laws.LengthLaws.{holds-remaining}
@@ -185,6 +186,18 @@ allNarrow-at b xs e i = leb-true _ b (all-at (λ x. leb (natAbs x * 2) b) xs (po
 pub allNarrow-of : (b : ℕ) (xs : List ℤ) → ((i : ℕ) → i < length xs → natAbs (getD xs i (pos 0)) * 2 ≤ b) → allNarrow b xs ≡ true
 unfolding allNarrow
 allNarrow-of b xs h = all-of (λ x. leb (natAbs x * 2) b) xs (pos 0) (λ i l. le-leb _ b (h i l))
+
+-- a number of more than half the base
+pub record WideAt (b : ℕ) (xs : List ℤ) : Type 0 where
+  pub place : ℕ
+  pub inside : place < length xs
+  pub wide : b < natAbs (getD xs place (pos 0)) * 2
+
+pub allNarrow-false : (b : ℕ) (xs : List ℤ) → allNarrow b xs ≡ false → WideAt b xs
+unfolding allNarrow
+allNarrow-false b xs e =
+    let one = all-false (λ x. leb (natAbs x * 2) b) xs (pos 0) e in
+    record { place = one .place; inside = one .inside; wide = leb-false _ b (one .fails) }
 
 -- x ≤ b/2, with b/2 rounded down, is 2x ≤ b
 half-narrow : (b x : ℕ) → leb x (b / 2) ≡ leb (x * 2) b

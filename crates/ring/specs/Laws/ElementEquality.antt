@@ -13,7 +13,7 @@ use borrow.Author.Tests.{eq-eqb, eqb-true}
 use Rattle.integers.specs.Remainder.{emod}
 use Rattle.integers.specs.Lists.{tab, all}
 use Rattle.integers.specs.Laws.ListLaws.{length-tab, getD-tab, tab-cong, tab-suc}
-use Rattle.integers.specs.Laws.AllLaws.{all-at, all-of, all-last}
+use Rattle.integers.specs.Laws.AllLaws.{all-at, all-of, all-false, all-last}
 use Rattle.algebra.specs.Laws.ResidueLaws.{residue-eq}
 use Rattle.algebra.specs.Polynomial.{coeff}
 use Rattle.residues.specs.Modulus.{q, Zq}
@@ -31,6 +31,18 @@ pub true-every : (n : ℕ) (p : ℕ → Bool) → ((k : ℕ) → k < n → p k �
 unfolding every
 true-every n p h =
     all-of (λ t. t) (tab n p) true (λ k l. let below : k < n = omega (arith, l, length-tab n p) in getD-tab n p k true below ∙ h k below)
+
+pub record FailsBelow (n : ℕ) (p : ℕ → Bool) : Type 0 where
+  pub place : ℕ
+  pub below : place < n
+  pub fails : p place ≡ false
+
+pub every-false : (n : ℕ) (p : ℕ → Bool) → every n p ≡ false → FailsBelow n p
+unfolding every
+every-false n p e =
+    let one = all-false (λ t. t) (tab n p) true e in
+    let below : one .place < n = omega (arith, one .inside, length-tab n p) in
+    record { place = one .place; below = below; fails = sym (getD-tab n p (one .place) true below) ∙ one .fails }
 
 pub every-zero : (p : ℕ → Bool) → every 0 p ≡ true
 unfolding every tab all
