@@ -3,7 +3,7 @@
 --     WideDigit, lowNarrow-false       where the test does not hold, a wide low digit
 --     lowNarrow-append                 with another list after it
 --     narrow-zDigits, .., -hDigits     the digits that messages 1, 4 and 5 write
-use mathlib.Core.Path.{_≡_, refl, sym, ap, subst, _∙_}
+use mathlib.Core.Path.{_≡_, ap, _∙_}
 use mathlib.Core.Bool.{true, false}
 use mathlib.Core.Logic.{_↔_}
 use mathlib.Core.List.{List, _++_}

@@ -3,7 +3,7 @@
 -- where e + 1 is below the number of digits.
 --     Narrow, narrow-exactly     the test of the row holds exactly where each low digit is narrow
 --     Wide, wide-exactly         it fails "exactly when the absolute value of a low digit is more than half its base"
-use mathlib.Core.Path.{_≡_, ap, subst}
+use mathlib.Core.Path.{_≡_}
 use mathlib.Core.Bool.{true, false}
 use mathlib.Core.Logic.{_↔_, _⊎_, inl, inr}
 use mathlib.Core.List.{List, [], _∷_}
