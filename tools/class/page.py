@@ -320,7 +320,7 @@ Somebody adds one to one digit in the archive. What does the program say?
     ./verdict --words examples/class-changed-digit.sheet
 {program_line("class-changed-digit")}
 
-The {widened} that are refused are low digits of 2, which become 3. The next section tells why.
+Those that are refused, {widened} of them, are low digits of 2, which become 3. The next section tells why.
 
 ## A digit that is too wide
 

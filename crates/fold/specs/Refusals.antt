@@ -77,13 +77,13 @@ sized xs k = eqb (length xs) k
 unfoldable pub challenges : (d r : ℕ) (c : List ℤ) → Bool
 challenges d r c = every r (λ i. challenge (take d (drop (i * d) c)))
 
--- row 15: "the absolute value of a low digit is more than half its base". So many blocks stand one after the other; each holds the t digits, lowest
--- first, of as many elements as there are rows. "The top digit of each value .. is free": a block's last digit is not looked at.
+-- row 15: "the absolute value of a low digit is more than half its base". So many groups stand one after the other; each holds the t digits, lowest
+-- first, of as many elements as there are rows. "The top digit of each value .. is free": a group's last digit is not looked at.
 unfoldable pub lowNarrow : (d count t rows base : ℕ) (xs : List ℤ) → Bool
 lowNarrow d count t rows base xs =
     every count (λ i. allNarrow base (take ((t - 1) * (rows * d)) (drop (i * (t * (rows * d))) xs)))
 
--- "B is b for z low, b1 for the t and h digits, b2 for the g digits": z is one block, t one for each part, g and h one for each pair
+-- "B is b for z low, b1 for the t and h digits, b2 for the g digits": z is one group, t has one for each part, g and h have one for each pair
 unfoldable pub narrowDigits : (d n r tz κ b b₁ b₂ t₁ t₂ : ℕ) (o : List ℤ) → Bool
 narrowDigits d n r tz κ b b₁ b₂ t₁ t₂ o =
     allOf

@@ -1,6 +1,6 @@
 -- SPECIFICATION 10: the answer to a text, and the line that says it.
 --     sheetStatement, sheetDraws, sheetTranscript, sheetOpening    what the verifier takes from a sheet
---     sheetNarrow               row 15, which the verifier tests of it and the reader does not
+--     sheetNarrow, wideTest     row 15, which the verifier tests of it and the reader does not
 --     judgedText text           the answer to a text
 --     verdictLine answer        the line that the program prints
 use mathlib.Core.Bool.{Bool, cond}
@@ -42,6 +42,10 @@ module _ (s : Sizes) (xs : List ℤ) where
   -- the low digits of the opening are narrow
   abbrev pub sheetNarrow : Bool
   sheetNarrow = narrow sheetStatement sheetOpening
+
+  -- row 15, which stands after the reader's tests
+  abbrev pub wideTest : List (ℕ × Bool)
+  wideTest = (15, sheetNarrow) ∷ []
 
   -- what the verifier answers to the numbers of a sheet
   unfoldable pub judgedNumbers : Answer

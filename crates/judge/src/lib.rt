@@ -45,7 +45,7 @@ fn lent_count(text: &[u8]) -> usize
 }
 
 // The answer to a text: "at most 65536 bytes (longer: 12, before all else)". The verifier tests the reader's numbers once more, as it does for
-// every caller, and refuses them by row 15 only: `refused-wide` (specs/Laws/PassLaws.antt).
+// every caller, and refuses them by row 15 only: `after-reading` (specs/Laws/PassLaws.antt).
 pub fn judge_sheet(text: &[u8]) -> Answer
     ensures { λ r. ⌜ r ≡ judgedText (now (text .entry)) ⌝ }
 {

@@ -1,4 +1,4 @@
-pub mod BlockPlaces
+pub mod DigitPlaces
 pub mod FitLaws
 pub mod ListLaws
 pub mod ProductLaws

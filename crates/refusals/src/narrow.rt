@@ -13,7 +13,7 @@ use fold::counts::pair_count;
 use fold::places;
 use residues::range::are_narrow;
 
-// The low digits of so many blocks, each of t digits of `rows` elements; the first starts at an element's place.
+// The low digits of so many groups, each of t digits of `rows` elements; the first starts at an element's place.
 fn low_narrow(
     d: usize,
     place: usize,
@@ -29,14 +29,14 @@ fn low_narrow(
     requires { ⌜ place * d + count * (t * (rows * d)) ≤ length (now xs) ⌝ }
     ensures { λ x. ⌜ x ≡ lowNarrow d count t rows base (drop (place * d) (now (xs .entry))) ⌝ }
 {
-    let digit = rows * d;
-    let block = t * digit;
-    let low = (t - 1) * digit;
+    let width = rows * d;
+    let group = t * width;
+    let low = (t - 1) * width;
     let start = place * d;
     let mut all = true;
     let mut i = 0;
     while i < count {
-        let at = start + i * block;
+        let at = start + i * group;
         let end = at + low;
         let one = are_narrow(base, &xs[at..end]);
         all = all & one;
@@ -45,7 +45,7 @@ fn low_narrow(
     all
 }
 
-// Row 15, where z has tz digits: z is one block, t has one for each part, g and h one for each pair.
+// Row 15, where z has tz digits: z is one group, t has one for each part, g and h have one for each pair.
 pub fn narrow_digits(tz: usize, sizes: Sizes, opening: &[i32]) -> bool
     requires { ⌜ (0 < tz) × (tz ≤ 2) ⌝ }
     requires { ⌜ VerifySized sizes ⌝ }

@@ -4,8 +4,8 @@
 -- `NextCalled`; that of `verify` is `answer ≡ verification ..`, accepted where its kind is 0. The next instance is the relation whose constraints are the numbers that the call
 -- wrote: `relationOf out′`, with K' = κ+κ1+κ2+3, L' = 0 and the bound β'². `nextWitness o` is the padded opening.
 --     accepted-exactly    an opening that gets past row 15: its answer is not refused 15
---     narrow-accepted     an opening with narrow low digits: row 15 by index is `Narrow`, crates/fold/specs/Theorems/NarrowDigits.antt
---     wide-refused        an opening that, padded, solves the next instance and has a wide low digit is refused by 15
+--     narrow-accepted     an opening with narrow low digits: row 15 by index is `NarrowOpening`, crates/fold/specs/Theorems/NarrowDigits.antt
+--     solving-refused     an opening that, padded, solves the next instance and has a wide low digit is refused by 15
 --     solution-accepts    a solution with zero padding, "if its digits are narrow too"
 -- That an accepted opening has narrow low digits is `accepted-narrow`, NarrowDigits.antt.
 use mathlib.Core.Path.{_≡_, sym, ap, _∙_}
@@ -23,7 +23,7 @@ use Rattle.fold.specs.Verification.{verification}
 use Rattle.fold.specs.Chunks.{unpadded, ZeroPadding}
 use Rattle.fold.specs.NextInstance.{m, n′, r′, nextWitness, relationOf}
 use Rattle.fold.specs.Laws.NextCallLaws.{next-instance-written, past-written, wide-written, solution-written}
-use Rattle.fold.specs.Theorems.NarrowDigits.{Narrow, narrow-exactly, Wide, wide-exactly}
+use Rattle.fold.specs.Theorems.NarrowDigits.{NarrowOpening, narrow-exactly, WideOpening, wide-exactly}
 use Rattle.next_instance.specs.Calls.{NextCalled}
 
 module _ (𝓢 : Statement) (𝓓 : Draws) (𝓣 : Transcript) (ν μ : ℕ) (out out′ : List ℤ) (called : NextCalled 𝓢 𝓓 𝓣 ν μ out Written out′) where
@@ -36,18 +36,18 @@ module _ (𝓢 : Statement) (𝓓 : Draws) (𝓣 : Transcript) (ν μ : ℕ) (ou
     accepted-exactly past =
         rw is (past-written 𝓢 𝓓 𝓣 ν μ out (sym (called .answer-is)) (called .out-is) o size (λ e. past (is ∙ e)))
 
-    pub narrow-accepted : Narrow 𝓢 o → (kindOf answer ≡ 0) ↔ Solves (relationOf 𝓢 𝓓 𝓣 ν μ out′) (nextWitness 𝓢 𝓓 𝓣 ν μ o)
+    pub narrow-accepted : NarrowOpening 𝓢 o → (kindOf answer ≡ 0) ↔ Solves (relationOf 𝓢 𝓓 𝓣 ν μ out′) (nextWitness 𝓢 𝓓 𝓣 ν μ o)
     narrow-accepted digits =
         rw is (next-instance-written 𝓢 𝓓 𝓣 ν μ out (sym (called .answer-is)) (called .out-is) o size (narrow-exactly 𝓢 o .1 digits))
 
-    pub wide-refused : Solves (relationOf 𝓢 𝓓 𝓣 ν μ out′) (nextWitness 𝓢 𝓓 𝓣 ν μ o) → Wide 𝓢 o → answer ≡ Refused 15
-    wide-refused solves wide =
+    pub solving-refused : Solves (relationOf 𝓢 𝓓 𝓣 ν μ out′) (nextWitness 𝓢 𝓓 𝓣 ν μ o) → WideOpening 𝓢 o → answer ≡ Refused 15
+    solving-refused solves wide =
         is ∙ wide-written 𝓢 𝓓 𝓣 ν μ out (sym (called .answer-is)) (called .out-is) o size solves (wide-exactly 𝓢 o .1 wide)
 
   -- "A solution of the next instance whose padding is zero is, with the padding cut off, an accepted opening if its digits are narrow too": r' parts of
   -- n' elements
   pub solution-accepts : (s : List ℤ) → length s ≡ r′ 𝓢 𝓓 𝓣 ν μ * n′ 𝓢 𝓓 𝓣 ν μ * d → ZeroPadding d tz n ν (m 𝓢 𝓓 𝓣 ν μ) μ s
-      → Narrow 𝓢 (unpadded d tz n ν (m 𝓢 𝓓 𝓣 ν μ) μ s) → Solves (relationOf 𝓢 𝓓 𝓣 ν μ out′) s
+      → NarrowOpening 𝓢 (unpadded d tz n ν (m 𝓢 𝓓 𝓣 ν μ) μ s) → Solves (relationOf 𝓢 𝓓 𝓣 ν μ out′) s
       → (answer : Answer) → answer ≡ verification 𝓢 𝓓 𝓣 (unpadded d tz n ν (m 𝓢 𝓓 𝓣 ν μ) μ s) → kindOf answer ≡ 0
   solution-accepts s sized zeros digits solves answer is =
       ap kindOf is

@@ -26,8 +26,8 @@ use Rattle.writer.specs.declared.WriteAnswer.the-variants.{Length}
 use Rattle.writer.specs.Writing.{headerFields, writtenText, SheetWritten}
 use Rattle.writer.specs.Laws.LengthLaws.{sizes-given}
 use Rattle.writer.specs.Theorems.WriterTheorems.{written-exactly, text-put}
-use Rattle.judge.specs.Judging.{sheetNarrow, judgedNumbers, judgedText}
-use Rattle.judge.specs.Theorems.JudgeTheorem.{sheetVerdict, wideTest, textTests, Sheet, numbers-answer}
+use Rattle.judge.specs.Judging.{sheetNarrow, wideTest, judgedNumbers, judgedText}
+use Rattle.judge.specs.Theorems.JudgeTheorem.{sheetVerdict, textTests, Sheet, numbers-answer}
 use Rattle.judge.specs.Theorems.JudgeTheorem as judge
 
 module _ (h xs : List ℤ) (numbers : SheetNumbers h xs) (fits : length (sheetText h xs) ≤ 65536) (answer : Answer)

@@ -17,7 +17,6 @@ use Rattle.ring.specs.Laws.DigitElements.{joined-cong, joined-split}
 use Rattle.fold.specs.Sizes.{pairs, tSize, garbageSize}
 use Rattle.fold.specs.Laws.Layout.{length-triangle, getD-triangle}
 use Rattle.fold.specs.Messages.{elements, garbageDigits, tDigits, gDigits, hDigits, zDigits}
-use Rattle.fold.specs.Sizes.{five}
 use Rattle.fold.specs.Messages as Messages
 use Rattle.fold.specs.Opening.{zOf, tOf, garbageOf}
 
@@ -86,20 +85,19 @@ module _ (d n r κ b₁ t₁ : ℕ) (A s : List ℤ) where
 
 -- g and h
 module _ (d r b t : ℕ) (x : ℕ → ℕ → R d .Carrier) where
-  pair-digits : ℕ → ℕ → List ℤ
+  abbrev pub pair-digits : ℕ → ℕ → List ℤ
   pair-digits i j = split b t (coeffs d (x i j))
 
-  pair-length : (i j : ℕ) → i ≤ j → j < r → length (pair-digits i j) ≡ t * d
-  unfolding pair-digits
+  pub pair-length : (i j : ℕ) → i ≤ j → j < r → length (pair-digits i j) ≡ t * d
   pair-length i j _ _ = length-split b t (coeffs d (x i j)) ∙ ap (λ m. t * m) (length-coeffs d (x i j))
 
   pub length-garbageDigits : length (garbageDigits d r b t x) ≡ garbageSize r t * d
-  unfolding garbageDigits garbageSize pairs pair-digits
+  unfolding garbageDigits garbageSize pairs
   length-garbageDigits = omega (arith, length-triangle r (t * d) pair-digits pair-length)
 
   el-garbageDigits : (i j e : ℕ) → i ≤ j → j < r → e < t
       → el d (garbageDigits d r b t x) (pair r i j * t + e) ≡ el d (pair-digits i j) (e * 1 + 0)
-  unfolding garbageDigits pair-digits
+  unfolding garbageDigits
   el-garbageDigits i j e h l m = el-cong d (garbageDigits d r b t x) (pair-digits i j) (pair r i j * t + e) (e * 1 + 0) entry
     where
       entry : (k : ℕ) → k < d
@@ -113,7 +111,7 @@ module _ (d r b t : ℕ) (x : ℕ → ℕ → R d .Carrier) where
 
   pub garbageOf-digits : 2 ≤ b → 0 < t → (i j : ℕ) → i ≤ j → j < r
       → garbageOf d r b t (el d (garbageDigits d r b t x)) i j ≡ x i j
-  unfolding garbageOf pair-digits
+  unfolding garbageOf
   garbageOf-digits two some i j h l =
       let one-element : length (coeffs d (x i j)) ≡ 1 * d = omega (arith, length-coeffs d (x i j)) in
       joined-cong d b t _ _ (λ e m. el-garbageDigits i j e h l m)

@@ -1,11 +1,10 @@
--- Row 15 by index: `lowNarrow` says that each digit below the top one of each block has at most half its base. And the honest digits keep it.
---     LowNarrow, lowNarrow-exactly     the blocks of one list
+-- Row 15 by index: `lowNarrow` says that each digit below the top one of each group is at most half its base in absolute value. The honest digits are.
+--     LowNarrow, lowNarrow-at, -of     the groups of one list
 --     WideDigit, lowNarrow-false       where the test does not hold, a wide low digit
 --     lowNarrow-append                 with another list after it
 --     narrow-zDigits, .., -hDigits     the digits that messages 1, 4 and 5 write
 use mathlib.Core.Path.{_≡_, ap, _∙_}
 use mathlib.Core.Bool.{true, false}
-use mathlib.Core.Logic.{_↔_}
 use mathlib.Core.List.{List, _++_}
 use Prim.Native.Nat.{ℕ, _+_, _-_, _*_, _≤_, _<_}
 use native.Mathlib.Nat.{mul-assoc}
@@ -18,7 +17,7 @@ use Rattle.integers.specs.Laws.FlatLaws.{getD-flat, block-fits}
 use Rattle.algebra.specs.Triangle.{pair, pairs-count}
 use Rattle.algebra.specs.Laws.TriangleLaws.{BlockOf, block-of, start-same, pair-of}
 use Rattle.residues.specs.Digits.{split}
-use Rattle.residues.specs.Laws.DigitLaws.{digit-low-bound, length-split, getD-split}
+use Rattle.residues.specs.Laws.DigitLaws.{digit-low-bound, getD-split}
 use Rattle.residues.specs.Laws.RangeLaws.{allNarrow-at, allNarrow-of, allNarrow-false}
 use Rattle.ring.specs.Element.{R, coeffs}
 use Rattle.ring.specs.Laws.ElementEquality.{every-true, true-every, every-false}
@@ -26,7 +25,7 @@ use Rattle.ring.specs.Laws.ElementLaws.{length-coeffs}
 use Rattle.fold.specs.Sizes.{pairs}
 use Rattle.fold.specs.Messages.{elements, t, z, garbageDigits, tDigits, gDigits, hDigits, zDigits}
 use Rattle.fold.specs.Laws.Layout.{getD-triangle}
-use Rattle.fold.specs.Laws.MessageLaws.{length-elements, length-split-elements}
+use Rattle.fold.specs.Laws.MessageLaws.{length-elements, length-split-elements, pair-digits, pair-length}
 use Rattle.fold.specs.Refusals.{lowNarrow}
 
 -- place i of n blocks of width m
@@ -34,12 +33,12 @@ block-at : (n m place : ℕ) → place < n * m → BlockOf (λ _. m) n place
 block-at n m place h = block-of (λ _. m) n place (omega (arith, start-same m n))
 
 module _ (d count t rows base : ℕ) (xs : List ℤ) where
-  -- digit e of row k of block i, number x of its element
+  -- digit e of row k of group i, number x of its element
   abbrev pub LowNarrow : Type 0
   LowNarrow =
       (i e k x : ℕ) → i < count → e + 1 < t → k < rows → x < d → natAbs (getD xs (((i * t + e) * rows + k) * d + x) (pos 0)) * 2 ≤ base
 
-  -- number y of the low digits of block i
+  -- number y of the low digits of group i
   at : (i y : ℕ) → y < (t - 1) * (rows * d)
       → getD (take ((t - 1) * (rows * d)) (drop (i * (t * (rows * d))) xs)) y (pos 0) ≡ getD xs (i * (t * (rows * d)) + y) (pos 0)
   at i y h = getD-take ((t - 1) * (rows * d)) _ y (pos 0) h ∙ getD-drop (i * (t * (rows * d))) xs y (pos 0)
@@ -55,7 +54,7 @@ module _ (d count t rows base : ℕ) (xs : List ℤ) where
       let one = allNarrow-at base _ (every-true count _ all i h) ((e * rows + k) * d + x) in
       rw (at i ((e * rows + k) * d + x) inside, digit-place i e k x) at one
 
-  -- number y of a block's low digits is number x of row k of digit e
+  -- number y of a group's low digits is number x of row k of digit e
   record LowDigitAt (y : ℕ) : Type 0 where
     e : ℕ
     k : ℕ
@@ -92,16 +91,13 @@ module _ (d count t rows base : ℕ) (xs : List ℤ) where
           let one = low-digit y l in
           rw (at i y l, ← (one .is), digit-place i (one .e) (one .k) (one .x)) (all i (one .e) (one .k) (one .x) h (one .low) (one .row) (one .number))
 
-  pub lowNarrow-exactly : (lowNarrow d count t rows base xs ≡ true) ↔ LowNarrow
-  lowNarrow-exactly = (lowNarrow-at, lowNarrow-of)
-
   -- a low digit of more than half its base
   pub record WideDigit : Type 0 where
     pub i : ℕ
     pub e : ℕ
     pub k : ℕ
     pub x : ℕ
-    pub block : i < count
+    pub group : i < count
     pub low : e + 1 < t
     pub row : k < rows
     pub number : x < d
@@ -110,9 +106,9 @@ module _ (d count t rows base : ℕ) (xs : List ℤ) where
   pub lowNarrow-false : lowNarrow d count t rows base xs ≡ false → WideDigit
   unfolding lowNarrow
   lowNarrow-false f =
-      let block = every-false count _ f in
-      let one = allNarrow-false base _ (block .fails) in
-      let i = block .place in
+      let group = every-false count _ f in
+      let one = allNarrow-false base _ (group .fails) in
+      let i = group .place in
       let y = one .place in
       let l : y < (t - 1) * (rows * d) = omega (arith, one .inside, length-take ((t - 1) * (rows * d)) (drop (i * (t * (rows * d))) xs)) in
       let digit = low-digit y l in
@@ -121,35 +117,35 @@ module _ (d count t rows base : ℕ) (xs : List ℤ) where
         e = digit .e;
         k = digit .k;
         x = digit .x;
-        block = block .below;
+        group = group .below;
         low = digit .low;
         row = digit .row;
         number = digit .number;
         wide = rw (at i y l, ← (digit .is), digit-place i (digit .e) (digit .k) (digit .x)) at (one .wide);
       }
 
-  -- blocks that each are the digits of some numbers
+  -- groups that each are the digits of some numbers
   pub record SplitAt (i : ℕ) : Type 0 where
     pub values : List ℤ
     pub sized : length values ≡ rows * d
     pub reads : (y : ℕ) → y < t * (rows * d) → getD xs (i * (t * (rows * d)) + y) (pos 0) ≡ getD (split base t values) y (pos 0)
 
   pub split-narrow : 2 ≤ base → ((i : ℕ) → i < count → SplitAt i) → lowNarrow d count t rows base xs ≡ true
-  split-narrow two blocks = lowNarrow-of number
+  split-narrow two groups = lowNarrow-of number
     where
       number : LowNarrow
       number i e k x h l m g =
-          let block = blocks i h in
+          let group = groups i h in
           let inside : k * d + x < rows * d = block-fits rows d k x m g in
-          let place : (e * rows + k) * d + x ≡ e * length (block .values) + (k * d + x) = rw (block .sized) (omega arith) in
+          let place : (e * rows + k) * d + x ≡ e * length (group .values) + (k * d + x) = rw (group .sized) (omega arith) in
           let before : (e * rows + k) * d + x < t * (rows * d) = omega (arith, block-fits t (rows * d) e (k * d + x) (omega arith) inside) in
           rw (
             ← (digit-place i e k x),
-            block .reads ((e * rows + k) * d + x) before,
+            group .reads ((e * rows + k) * d + x) before,
             place,
-            getD-split base t (block .values) e (k * d + x) (omega arith) (rw (block .sized) inside),
+            getD-split base t (group .values) e (k * d + x) (omega arith) (rw (group .sized) inside),
           )
-          (digit-low-bound base two t e (getD (block .values) (k * d + x) (pos 0)) l)
+          (digit-low-bound base two t e (getD (group .values) (k * d + x) (pos 0)) l)
 
 pub lowNarrow-append : (d count t rows base : ℕ) (xs ys : List ℤ) → length xs ≡ count * (t * (rows * d))
     → lowNarrow d count t rows base xs ≡ true → lowNarrow d count t rows base (xs ++ ys) ≡ true
@@ -200,10 +196,7 @@ narrow-garbageDigits : (d r b t : ℕ) (x : ℕ → ℕ → R d .Carrier) → 2 
 unfolding garbageDigits pairs
 narrow-garbageDigits d r b t x two = split-narrow d (pairs-count r) t 1 b _ two at-pair
   where
-    wide : (i j : ℕ) → i ≤ j → j < r → length (split b t (coeffs d (x i j))) ≡ t * d
-    wide i j _ _ = length-split b t (coeffs d (x i j)) ∙ ap (λ m. t * m) (length-coeffs d (x i j))
-
-    at-pair : (p : ℕ) → p < pairs-count r → SplitAt d (pairs-count r) t 1 b (flat r (λ i. flat (r - i) (λ k. split b t (coeffs d (x i (i + k)))))) p
+    at-pair : (p : ℕ) → p < pairs-count r → SplitAt d (pairs-count r) t 1 b (flat r (λ i. flat (r - i) (λ k. pair-digits d r b t x i (i + k)))) p
     at-pair p h =
         let one = pair-of r p h in
         record {
@@ -211,8 +204,9 @@ narrow-garbageDigits d r b t x two = split-narrow d (pairs-count r) t 1 b _ two 
           sized = omega (arith, length-coeffs d (x (one .i) (one .j)));
           reads = λ y l.
               let place : p * (t * (1 * d)) + y ≡ pair r (one .i) (one .j) * (t * d) + y = rw (one .is) (omega arith) in
-              ap (λ a. getD (flat r (λ i. flat (r - i) (λ k. split b t (coeffs d (x i (i + k)))))) a (pos 0)) place
-              ∙ getD-triangle r (t * d) (λ i j. split b t (coeffs d (x i j))) wide (one .i) (one .j) y (pos 0) (one .ordered) (one .below) (omega (arith, l));
+              ap (λ a. getD (flat r (λ i. flat (r - i) (λ k. pair-digits d r b t x i (i + k)))) a (pos 0)) place
+              ∙ getD-triangle r (t * d) (pair-digits d r b t x) (pair-length d r b t x) (one .i) (one .j) y (pos 0) (one .ordered) (one .below)
+              (omega (arith, l));
         }
 
 pub narrow-gDigits : (d n r b₂ t₂ : ℕ) (s : List ℤ) → 2 ≤ b₂ → lowNarrow d (pairs r) t₂ 1 b₂ (gDigits d n r b₂ t₂ s) ≡ true

@@ -1,8 +1,8 @@
 -- Row 15 (SPECIFICATION 7.i): "each low digit x of the opening, of a base B, has 2·|x| ≤ B. B is b for z low, b1 for the t and h digits, b2 for the g
 -- digits." "The top digit of each value .. is free". By index, as recomposition reads the digits (zOf, tOf, garbageOf; Opening.antt): digit e is low
 -- where e + 1 is below the number of digits.
---     Narrow, narrow-exactly     the test of the row holds exactly where each low digit is narrow
---     Wide, wide-exactly         it fails "exactly when the absolute value of a low digit is more than half its base"
+--     NarrowOpening, narrow-exactly    the test of the row holds exactly where each low digit is narrow
+--     WideOpening, wide-exactly        it fails "exactly when the absolute value of a low digit is more than half its base"
 use mathlib.Core.Path.{_≡_}
 use mathlib.Core.Bool.{true, false}
 use mathlib.Core.Logic.{_↔_, _⊎_, inl, inr}
@@ -13,7 +13,7 @@ use lib.ListN.{getD, drop}
 use lib.Seq.{getD-drop}
 use lib.IntN.{ℤ, pos, natAbs}
 use Rattle.algebra.specs.Triangle.{pair}
-use Rattle.algebra.specs.Laws.TriangleLaws.{pair-bound, pair-of}
+use Rattle.algebra.specs.Laws.TriangleLaws.{pair-bound, PairOf, pair-of}
 use Rattle.fold.specs.Sizes.{pairs}
 use Rattle.fold.specs.Statement.{Statement, Relation}
 use Rattle.fold.specs.Opening.{tPlace, gPlace, hPlace}
@@ -26,103 +26,171 @@ module _ (𝓢 : Statement) (o : List ℤ) where
   open Relation relation using (d, n, r)
 
   -- number x of element y of the digits that start at a place
-  abbrev pub digit : (place y x : ℕ) → ℤ
-  digit place y x = getD o ((place + y) * d + x) (pos 0)
+  abbrev pub numberAt : (place y x : ℕ) → ℤ
+  numberAt place y x = getD o ((place + y) * d + x) (pos 0)
 
-  pub record Narrow : Type 0 where
-    pub z : (e k x : ℕ) → e + 1 < tz → k < n → x < d → natAbs (digit 0 (e * n + k) x) * 2 ≤ b
-    pub t : (i e k x : ℕ) → i < r → e + 1 < t₁ → k < κ → x < d → natAbs (digit (tPlace tz n) ((i * t₁ + e) * κ + k) x) * 2 ≤ b₁
-    pub g : (i j e x : ℕ) → i ≤ j → j < r → e + 1 < t₂ → x < d → natAbs (digit (gPlace tz n r κ t₁) (pair r i j * t₂ + e) x) * 2 ≤ b₂
-    pub h : (i j e x : ℕ) → i ≤ j → j < r → e + 1 < t₁ → x < d → natAbs (digit (hPlace tz n r κ t₁ t₂) (pair r i j * t₁ + e) x) * 2 ≤ b₁
+  pub record NarrowOpening : Type 0 where
+    pub z : (e k x : ℕ) → e + 1 < tz → k < n → x < d → natAbs (numberAt 0 (e * n + k) x) * 2 ≤ b
+    pub t : (i e k x : ℕ) → i < r → e + 1 < t₁ → k < κ → x < d → natAbs (numberAt (tPlace tz n) ((i * t₁ + e) * κ + k) x) * 2 ≤ b₁
+    pub g : (i j e x : ℕ) → i ≤ j → j < r → e + 1 < t₂ → x < d → natAbs (numberAt (gPlace tz n r κ t₁) (pair r i j * t₂ + e) x) * 2 ≤ b₂
+    pub h : (i j e x : ℕ) → i ≤ j → j < r → e + 1 < t₁ → x < d → natAbs (numberAt (hPlace tz n r κ t₁ t₂) (pair r i j * t₁ + e) x) * 2 ≤ b₁
+
+  -- a low digit of more than half its base: of z, of t, of the g or h digits from a place on
+  pub record WideZ : Type 0 where
+    pub e : ℕ
+    pub k : ℕ
+    pub x : ℕ
+    pub low : e + 1 < tz
+    pub row : k < n
+    pub number : x < d
+    pub wide : b < natAbs (numberAt 0 (e * n + k) x) * 2
+
+  pub record WideT : Type 0 where
+    pub i : ℕ
+    pub e : ℕ
+    pub k : ℕ
+    pub x : ℕ
+    pub part : i < r
+    pub low : e + 1 < t₁
+    pub row : k < κ
+    pub number : x < d
+    pub wide : b₁ < natAbs (numberAt (tPlace tz n) ((i * t₁ + e) * κ + k) x) * 2
+
+  pub record WideGarbage (place t base : ℕ) : Type 0 where
+    pub i : ℕ
+    pub j : ℕ
+    pub e : ℕ
+    pub x : ℕ
+    pub ordered : i ≤ j
+    pub below : j < r
+    pub low : e + 1 < t
+    pub number : x < d
+    pub wide : base < natAbs (numberAt place (pair r i j * t + e) x) * 2
+
+  abbrev pub WideOpening : Type 0
+  WideOpening = WideZ ⊎ (WideT ⊎ (WideGarbage (gPlace tz n r κ t₁) t₂ b₂ ⊎ WideGarbage (hPlace tz n r κ t₁ t₂) t₁ b₁))
+
+  -- ---- from the test's groups to the digits, and back
 
   -- what stands after a place
-  after : (place y x : ℕ) → getD (drop (place * d) o) (y * d + x) (pos 0) ≡ digit place y x
+  after : (place y x : ℕ) → getD (drop (place * d) o) (y * d + x) (pos 0) ≡ numberAt place y x
   after place y x =
       let same : place * d + (y * d + x) ≡ (place + y) * d + x = omega arith in
       rw (← same) (getD-drop (place * d) o (y * d + x) (pos 0))
 
-  -- one digit of one element for each pair
-  module _ (place t base : ℕ) where
-    abbrev Pairs : Type 0
-    Pairs = (i j e x : ℕ) → i ≤ j → j < r → e + 1 < t → x < d → natAbs (digit place (pair r i j * t + e) x) * 2 ≤ base
+  -- z is one group
+  z-place : (i e k x : ℕ) → i < 1 → ((i * tz + e) * n + k) * d + x ≡ (0 + (e * n + k)) * d + x
+  z-place i e k x h = let first : i ≡ 0 = omega (arith, h) in rw first (omega arith)
 
-    pairs-at : lowNarrow d (pairs r) t 1 base (drop (place * d) o) ≡ true → Pairs
+  -- g and h have one element a digit, for each pair
+  garbage-place : (t p e k x : ℕ) (one : PairOf r p) → k < 1 → ((p * t + e) * 1 + k) * d + x ≡ (pair r (one .i) (one .j) * t + e) * d + x
+  garbage-place t p e k x one m = let first : k ≡ 0 = omega (arith, m) in rw (one .is, first) (omega arith)
+
+  module _ (place t base : ℕ) where
+    abbrev NarrowGarbage : Type 0
+    NarrowGarbage = (i j e x : ℕ) → i ≤ j → j < r → e + 1 < t → x < d → natAbs (numberAt place (pair r i j * t + e) x) * 2 ≤ base
+
+    garbage-at : lowNarrow d (pairs r) t 1 base (drop (place * d) o) ≡ true → NarrowGarbage
     unfolding pairs
-    pairs-at all i j e x h l m g =
+    garbage-at all i j e x h l m g =
         let same : ((pair r i j * t + e) * 1 + 0) * d + x ≡ (pair r i j * t + e) * d + x = omega arith in
         rw (same, after place (pair r i j * t + e) x) at
         (lowNarrow-at d _ t 1 base _ all (pair r i j) e 0 x (pair-bound r i j h l) m (omega arith) g)
 
-    pairs-of : Pairs → lowNarrow d (pairs r) t 1 base (drop (place * d) o) ≡ true
+    garbage-of : NarrowGarbage → lowNarrow d (pairs r) t 1 base (drop (place * d) o) ≡ true
     unfolding pairs
-    pairs-of all = lowNarrow-of d _ t 1 base _ number
+    garbage-of all = lowNarrow-of d _ t 1 base _ number
       where
         number : LowNarrow d (pairs r) t 1 base (drop (place * d) o)
         number p e k x h l m g =
             let one = pair-of r p h in
-            let first : k ≡ 0 = omega (arith, m) in
-            let same : ((p * t + e) * 1 + k) * d + x ≡ (pair r (one .i) (one .j) * t + e) * d + x = rw (one .is, first) (omega arith) in
-            rw (same, after place (pair r (one .i) (one .j) * t + e) x) (all (one .i) (one .j) e x (one .ordered) (one .below) l g)
+            rw (garbage-place t p e k x one m, after place (pair r (one .i) (one .j) * t + e) x)
+            (all (one .i) (one .j) e x (one .ordered) (one .below) l g)
 
-  pub narrow-exactly : (narrow 𝓢 o ≡ true) ↔ Narrow
+    garbage-wide : WideDigit d (pairs r) t 1 base (drop (place * d) o) → WideGarbage place t base
+    unfolding pairs
+    garbage-wide w =
+        let one = pair-of r (w .i) (w .group) in
+        record {
+          i = one .i;
+          j = one .j;
+          e = w .e;
+          x = w .x;
+          ordered = one .ordered;
+          below = one .below;
+          low = w .low;
+          number = w .number;
+          wide = rw (garbage-place t (w .i) (w .e) (w .k) (w .x) one (w .row), after place (pair r (one .i) (one .j) * t + w .e) (w .x)) at (w .wide);
+        }
+
+  z-wide : WideDigit d 1 tz n b o → WideZ
+  z-wide w =
+      record {
+        e = w .e;
+        k = w .k;
+        x = w .x;
+        low = w .low;
+        row = w .row;
+        number = w .number;
+        wide = rw (z-place (w .i) (w .e) (w .k) (w .x) (w .group)) at (w .wide);
+      }
+
+  t-wide : WideDigit d r t₁ κ b₁ (drop (tPlace tz n * d) o) → WideT
+  t-wide w =
+      record {
+        i = w .i;
+        e = w .e;
+        k = w .k;
+        x = w .x;
+        part = w .group;
+        low = w .low;
+        row = w .row;
+        number = w .number;
+        wide = rw (after (tPlace tz n) ((w .i * t₁ + w .e) * κ + w .k) (w .x)) at (w .wide);
+      }
+
+  -- ---- the row
+
+  pub narrow-exactly : (narrow 𝓢 o ≡ true) ↔ NarrowOpening
   unfolding narrowDigits
   narrow-exactly = (to, back)
     where
-      to : narrow 𝓢 o ≡ true → Narrow
+      to : narrow 𝓢 o ≡ true → NarrowOpening
       to all =
           let (zs, (ts, (gs, (hs, _)))) = allOf-all _ all in
           record {
-            z = λ e k x l m g.
-                let same : ((0 * tz + e) * n + k) * d + x ≡ (0 + (e * n + k)) * d + x = omega arith in
-                rw same at (lowNarrow-at d 1 tz n b o zs 0 e k x (omega arith) l m g);
+            z = λ e k x l m g. rw (z-place 0 e k x (omega arith)) at (lowNarrow-at d 1 tz n b o zs 0 e k x (omega arith) l m g);
             t = λ i e k x h l m g.
                 rw (after (tPlace tz n) ((i * t₁ + e) * κ + k) x) at (lowNarrow-at d r t₁ κ b₁ _ ts i e k x h l m g);
-            g = pairs-at (gPlace tz n r κ t₁) t₂ b₂ gs;
-            h = pairs-at (hPlace tz n r κ t₁ t₂) t₁ b₁ hs;
+            g = garbage-at (gPlace tz n r κ t₁) t₂ b₂ gs;
+            h = garbage-at (hPlace tz n r κ t₁ t₂) t₁ b₁ hs;
           }
 
-      back : Narrow → narrow 𝓢 o ≡ true
+      back : NarrowOpening → narrow 𝓢 o ≡ true
       back all =
-          all-allOf _ (lowNarrow-of d 1 tz n b o z-number
+          all-allOf _ (lowNarrow-of d 1 tz n b o (λ i e k x h l m g. rw (z-place i e k x h) (all .z e k x l m g))
           & lowNarrow-of d r t₁ κ b₁ _ (λ i e k x h l m g. rw (after (tPlace tz n) ((i * t₁ + e) * κ + k) x) (all .t i e k x h l m g))
-          & pairs-of (gPlace tz n r κ t₁) t₂ b₂ (all .g)
-          & pairs-of (hPlace tz n r κ t₁ t₂) t₁ b₁ (all .h)
+          & garbage-of (gPlace tz n r κ t₁) t₂ b₂ (all .g)
+          & garbage-of (hPlace tz n r κ t₁ t₂) t₁ b₁ (all .h)
           & tt)
-        where
-          z-number : LowNarrow d 1 tz n b o
-          z-number i e k x h l m g =
-              let first : i ≡ 0 = omega (arith, h) in
-              let same : ((i * tz + e) * n + k) * d + x ≡ (0 + (e * n + k)) * d + x = rw first (omega arith) in
-              rw same (all .z e k x l m g)
 
-  -- a wide low digit of z, of t, of g or of h
-  abbrev pub Wide : Type 0
-  Wide =
-      WideDigit d 1 tz n b o
-      ⊎ (WideDigit d r t₁ κ b₁ (drop (tPlace tz n * d) o)
-      ⊎ (WideDigit d (pairs r) t₂ 1 b₂ (drop (gPlace tz n r κ t₁ * d) o) ⊎ WideDigit d (pairs r) t₁ 1 b₁ (drop (hPlace tz n r κ t₁ t₂ * d) o)))
+  not-both : NarrowOpening → WideOpening → ⊥
+  not-both all (inl w) = omega (arith, w .wide, all .z (w .e) (w .k) (w .x) (w .low) (w .row) (w .number))
+  not-both all (inr (inl w)) = omega (arith, w .wide, all .t (w .i) (w .e) (w .k) (w .x) (w .part) (w .low) (w .row) (w .number))
+  not-both all (inr (inr (inl w))) = omega (arith, w .wide, all .g (w .i) (w .j) (w .e) (w .x) (w .ordered) (w .below) (w .low) (w .number))
+  not-both all (inr (inr (inr w))) = omega (arith, w .wide, all .h (w .i) (w .j) (w .e) (w .x) (w .ordered) (w .below) (w .low) (w .number))
 
-  not-narrow : (count t rows base : ℕ) (xs : List ℤ) → WideDigit d count t rows base xs → lowNarrow d count t rows base xs ≡ true → ⊥
-  not-narrow count t rows base xs w e =
-      omega (arith, w .wide, lowNarrow-at d count t rows base xs e (w .i) (w .e) (w .k) (w .x) (w .block) (w .low) (w .row) (w .number))
-
-  pub wide-exactly : (narrow 𝓢 o ≡ false) ↔ Wide
+  pub wide-exactly : (narrow 𝓢 o ≡ false) ↔ WideOpening
   unfolding narrowDigits
-  wide-exactly = (λ f. to (allOf-false _ f), λ w. never-true (narrow 𝓢 o) (back w))
+  wide-exactly = (λ f. to (allOf-false _ f), λ w. never-true (narrow 𝓢 o) (λ e. not-both (narrow-exactly .0 e) w))
     where
       to : SomeFails (
           lowNarrow d 1 tz n b o
           ∷ lowNarrow d r t₁ κ b₁ (drop (tPlace tz n * d) o)
           ∷ lowNarrow d (pairs r) t₂ 1 b₂ (drop (gPlace tz n r κ t₁ * d) o)
           ∷ lowNarrow d (pairs r) t₁ 1 b₁ (drop (hPlace tz n r κ t₁ t₂ * d) o)
-          ∷ []) → Wide
-      to (inl f) = inl (lowNarrow-false d 1 tz n b o f)
-      to (inr (inl f)) = inr (inl (lowNarrow-false d r t₁ κ b₁ _ f))
-      to (inr (inr (inl f))) = inr (inr (inl (lowNarrow-false d (pairs r) t₂ 1 b₂ _ f)))
-      to (inr (inr (inr (inl f)))) = inr (inr (inr (lowNarrow-false d (pairs r) t₁ 1 b₁ _ f)))
-
-      back : Wide → narrow 𝓢 o ≡ true → ⊥
-      back (inl w) e = not-narrow 1 tz n b o w (allOf-all _ e .0)
-      back (inr (inl w)) e = not-narrow r t₁ κ b₁ _ w (allOf-all _ e .1 .0)
-      back (inr (inr (inl w))) e = not-narrow (pairs r) t₂ 1 b₂ _ w (allOf-all _ e .1 .1 .0)
-      back (inr (inr (inr w))) e = not-narrow (pairs r) t₁ 1 b₁ _ w (allOf-all _ e .1 .1 .1 .0)
+          ∷ []) → WideOpening
+      to (inl f) = inl (z-wide (lowNarrow-false d 1 tz n b o f))
+      to (inr (inl f)) = inr (inl (t-wide (lowNarrow-false d r t₁ κ b₁ _ f)))
+      to (inr (inr (inl f))) = inr (inr (inl (garbage-wide (gPlace tz n r κ t₁) t₂ b₂ (lowNarrow-false d (pairs r) t₂ 1 b₂ _ f))))
+      to (inr (inr (inr (inl f)))) = inr (inr (inr (garbage-wide (hPlace tz n r κ t₁ t₂) t₁ b₁ (lowNarrow-false d (pairs r) t₁ 1 b₁ _ f))))

@@ -94,7 +94,7 @@ pub record WholeCase : Type 0 where
   pub digits-narrow : narrow (case 13) digits ≡ true
   pub digits-wide : narrow (case 13) (digitsWith (- 6) (+ 1)) ≡ false
   pub wide-verdict : verdict (case 46) draws transcript (digitsWith (- 6) (+ 1)) ≡ Accepted 0
-  pub wide-refused : firstFailing (verifyTests (case 46) draws transcript (digitsWith (- 6) (+ 1))) ≡ 15
+  pub wide-refusal : firstFailing (verifyTests (case 46) draws transcript (digitsWith (- 6) (+ 1))) ≡ 15
   -- neither the verifier nor the prover is refused
   pub verifier-not-refused : firstFailing (verifyTests (case 13) draws transcript digits) ≡ 0
   pub prover-not-refused : firstFailing (proverTests (case 13) draws witness) ≡ 0
@@ -110,7 +110,7 @@ whole-case =
       digits-narrow = refl;
       digits-wide = refl;
       wide-verdict = refl;
-      wide-refused = refl;
+      wide-refusal = refl;
       verifier-not-refused = refl;
       prover-not-refused = refl;
     }

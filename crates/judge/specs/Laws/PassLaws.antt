@@ -1,10 +1,10 @@
 -- The verifier refuses the numbers of a sheet as the reader does, and after it by row 15: rows 1 to 4 and 6 are tested by the header's numbers, row 7
 -- holds by the sizes of the lists, and rows 8 to 10 are those of the other numbers.
 --     same-refusal    where the reader takes the header, the verifier's number is that of the reader's rows 8 to 10, then of row 15
---     refused-wide    so of the numbers that the reader took the verifier refuses by row 15 or not at all
+--     after-reading   so the numbers that the reader took are refused by row 15 or not at all
 use mathlib.Core.Path.{_≡_, refl, sym, ap, _∙_}
 use mathlib.Core.Bool.{Bool, true, false}
-use mathlib.Core.List.{List, [], _∷_, _++_}
+use mathlib.Core.List.{List, _∷_, _++_}
 use Prim.Native.Nat.{ℕ, _<_}
 use native.Mathlib.Omega.{arith}
 use lib.ListN.{length, getD, take, drop}
@@ -25,7 +25,7 @@ use Rattle.fields.specs.Sections.{total}
 use Rattle.sheet.specs.Laws.ListLaws.{length-list, coefficients-list, list-coefficients, lengths-total}
 use Rattle.sheet.specs.Laws.HeaderLaws.{header-passes}
 use Rattle.sheet.specs.Reading.{headerTests, sizesOf, sheetSizesOf, projectionsIn, challengesIn, numberTests}
-use Rattle.judge.specs.Judging.{sheetStatement, sheetDraws, sheetTranscript, sheetOpening, sheetNarrow}
+use Rattle.judge.specs.Judging.{sheetStatement, sheetDraws, sheetTranscript, sheetOpening, wideTest}
 
 module _ (s : Sizes) (xs : List ℤ) where
   module _ (count : length xs ≡ total s) where
@@ -122,11 +122,11 @@ module _ (h xs : List ℤ) (header : Passes (headerTests h)) (count : length xs 
   same-range : testOf 8 tests ≡ coefficients xs
   same-range = same-test (testOf 8 tests) (coefficients xs) range-to range-back
 
-  pub same-refusal : firstFailing tests ≡ firstFailing (numberTests (sizesOf h) xs ++ ((15, sheetNarrow (sizesOf h) xs) ∷ []))
+  pub same-refusal : firstFailing tests ≡ firstFailing (numberTests (sizesOf h) xs ++ wideTest (sizesOf h) xs)
   unfolding verifyTests numberTests projectionsIn challengesIn
   same-refusal =
       after-passes (take 6 tests) (drop 6 tests) early
-      ∙ ap (λ (t : Bool). firstFailing ((8, t) ∷ (drop 1 (numberTests (sizesOf h) xs) ++ ((15, sheetNarrow (sizesOf h) xs) ∷ [])))) same-range
+      ∙ ap (λ (t : Bool). firstFailing ((8, t) ∷ (drop 1 (numberTests (sizesOf h) xs) ++ wideTest (sizesOf h) xs))) same-range
 
-  pub refused-wide : Passes (numberTests (sizesOf h) xs) → firstFailing tests ≡ firstFailing ((15, sheetNarrow (sizesOf h) xs) ∷ [])
-  refused-wide numbers = same-refusal ∙ after-passes (numberTests (sizesOf h) xs) _ numbers
+  pub after-reading : Passes (numberTests (sizesOf h) xs) → firstFailing tests ≡ firstFailing (wideTest (sizesOf h) xs)
+  after-reading numbers = same-refusal ∙ after-passes (numberTests (sizesOf h) xs) _ numbers

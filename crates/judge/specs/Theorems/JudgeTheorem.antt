@@ -36,8 +36,8 @@ use Rattle.sheet.specs.Laws.BodyLaws.{body-total}
 use Rattle.sheet.specs.Laws.SheetLaws.{length-body}
 use Rattle.sheet.specs.Layout.{fields, bodyLines, sheetText, SheetNumbers}
 use Rattle.sheet.specs.Theorems.SheetTheorems.{sheet-exactly}
-use Rattle.judge.specs.Judging.{sheetStatement, sheetDraws, sheetTranscript, sheetOpening, sheetNarrow, judgedNumbers, judgedBy, judged, judgedText}
-use Rattle.judge.specs.Laws.PassLaws.{same-refusal, refused-wide}
+use Rattle.judge.specs.Judging.{sheetStatement, sheetDraws, sheetTranscript, sheetOpening, sheetNarrow, wideTest, judgedNumbers, judgedBy, judged, judgedText}
+use Rattle.judge.specs.Laws.PassLaws.{same-refusal, after-reading}
 
 -- the verdict on the numbers of a sheet
 abbrev pub sheetVerdict : Sizes → List ℤ → Verdict
@@ -54,10 +54,6 @@ numbersOf text = bodyNumbers (sizesOf (headerNumbers text)) text
 -- the verdict on them
 abbrev pub textVerdict : List ℕ → Verdict
 textVerdict text = sheetVerdict (sizesOf (headerNumbers text)) (numbersOf text)
-
--- row 15 of a sheet's numbers, which stands after the reader's tests
-abbrev pub wideTest : Sizes → List ℤ → List (ℕ × Bool)
-wideTest s xs = (15, sheetNarrow s xs) ∷ []
 
 -- the tests of a text of at most 65536 bytes: the reader's, then row 15
 abbrev pub textTests : List ℕ → List (ℕ × Bool)
@@ -100,7 +96,7 @@ taken text e =
     let passed = reading-passed (roomOf text) text e in
     let positive = header-bounded h (passed .sizes) .shaped .degree .positive in
     ap (λ (n : ℕ). answered n (Judged (textVerdict text)))
-    (refused-wide h (numbersOf text) (passed .sizes) (length-body s positive text ∙ body-total s) (passed .numbers))
+    (after-reading h (numbersOf text) (passed .sizes) (length-body s positive text ∙ body-total s) (passed .numbers))
 
 by-refusal : (text : List ℕ) (n : ℕ) → firstFailing (readingTests (roomOf text) text) ≡ n
     → judgedBy (sheetIf n (sheetSizesOf (headerNumbers text))) (numbersOf text) ≡ answered (firstFailing (textTests text)) (Judged (textVerdict text))

@@ -1,4 +1,4 @@
--- `refusals::narrow::low_narrow` meets its contract. The loop has tested the first i blocks. Assumes nothing.
+-- `refusals::narrow::low_narrow` meets its contract. The loop has tested the first i groups. Assumes nothing.
 use mathlib.Core.Path.{_≡_, sym, ap, _∙_}
 use mathlib.Core.List.{List}
 use Prim.Native.Nat.{ℕ, _+_, _-_, _*_, _<_, _≤_}
@@ -15,20 +15,20 @@ use Rattle.refusals.proofs.narrow.low_narrow.Statement.{statement}
 use Rattle.refusals.proofs.narrow.low_narrow.Tie as tie
 
 abbrev Inv-loop : tie.InvT-loop
-Inv-loop d place count t rows base xs digit block low start all₀ i₀ all i =
+Inv-loop d place count t rows base xs width group low start all₀ i₀ all i =
     Tested count (λ i. allNarrow base (take ((t - 1) * (rows * d)) (drop (i * (t * (rows * d))) (drop (place * d) xs)))) i all
 
 abbrev μ-loop : tie.MeasureT-loop
-μ-loop d place count t rows base xs digit block low start all₀ i₀ all i = count - i
+μ-loop d place count t rows base xs width group low start all₀ i₀ all i = count - i
 
--- the numbers of a digit, and of a block
-digit-small : (rows d : ℕ) → rows ≤ 256 → d ≤ 64 → rows * d ≤ 16384
-digit-small rows d h l = mul-le-mul h l
+-- the numbers of a digit, and of a group
+width-small : (rows d : ℕ) → rows ≤ 256 → d ≤ 64 → rows * d ≤ 16384
+width-small rows d h l = mul-le-mul h l
 
-block-small : (t rows d : ℕ) → t ≤ 8 → rows ≤ 256 → d ≤ 64 → t * (rows * d) ≤ 131072
-block-small t rows d f h l = mul-le-mul f (digit-small rows d h l)
+group-small : (t rows d : ℕ) → t ≤ 8 → rows ≤ 256 → d ≤ 64 → t * (rows * d) ≤ 131072
+group-small t rows d f h l = mul-le-mul f (width-small rows d h l)
 
--- the low digits of block i end before the last block does
+-- the low digits of group i end before the last group does
 low-inside : (start count t w i m : ℕ) → i < count → start + count * (t * w) ≤ m → start + i * (t * w) + (t - 1) * w ≤ m
 low-inside start count t w i m h l =
     let fewer : t - 1 ≤ t = omega arith in
@@ -40,11 +40,11 @@ inside c =
     let s = c .before .before in
     low-inside (s .args .place * s .args .d) (s .args .count) (s .args .t) (s .args .rows * s .args .d) (c .before .loop .i) _ (c .loop-test .taken) (s .pre .1 .1 .1)
 
-mul-digit : tie.Need-mul-digit Inv-loop μ-loop
-mul-digit c = omega (arith, digit-small (c .args .rows) (c .args .d) (omega arith) (omega arith))
+mul-width : tie.Need-mul-width Inv-loop μ-loop
+mul-width c = omega (arith, width-small (c .args .rows) (c .args .d) (omega arith) (omega arith))
 
-mul-block : tie.Need-mul-block Inv-loop μ-loop
-mul-block c = omega (arith, block-small (c .args .t) (c .args .rows) (c .args .d) (omega arith) (omega arith) (omega arith))
+mul-group : tie.Need-mul-group Inv-loop μ-loop
+mul-group c = omega (arith, group-small (c .args .t) (c .args .rows) (c .args .d) (omega arith) (omega arith) (omega arith))
 
 mul-low : tie.Need-mul-low Inv-loop μ-loop
 mul-low c =
@@ -52,7 +52,7 @@ mul-low c =
     omega (
       arith,
       mul-le-mul-right (c .args .rows * c .args .d) fewer,
-      block-small (c .args .t) (c .args .rows) (c .args .d) (omega arith) (omega arith) (omega arith),
+      group-small (c .args .t) (c .args .rows) (c .args .d) (omega arith) (omega arith) (omega arith),
     )
 
 mul-start : tie.Need-mul-start Inv-loop μ-loop
@@ -93,8 +93,8 @@ low-narrow-spec =
     (tie.spec
     Inv-loop
     μ-loop
-    mul-digit
-    mul-block
+    mul-width
+    mul-group
     (λ c. omega arith)
     mul-low
     mul-start

@@ -1,10 +1,10 @@
--- `refusals::narrow::narrow_digits` meets its contract: the test of each block of the opening, at its place. Assumes nothing.
+-- `refusals::narrow::narrow_digits` meets its contract: the test of the digits of z, t, g and h, each at its place. Assumes nothing.
 use native.Mathlib.Nat.{zero-mul}
 use native.Mathlib.Omega.{arith}
 use borrow.Author.Needs.{needs}
 use Rattle.fold.specs.Refusals.{narrowDigits}
 use Rattle.limits.specs.Laws.RowLaws.{end, _&_, joined-row}
-use Rattle.refusals.specs.Laws.BlockPlaces.{z-within, t-within, g-within, h-within}
+use Rattle.refusals.specs.Laws.DigitPlaces.{z-within, t-within, g-within, h-within}
 use Rattle.refusals.proofs.narrow.narrow_digits.Statement.{statement}
 use Rattle.refusals.proofs.narrow.narrow_digits.Tie as tie
 

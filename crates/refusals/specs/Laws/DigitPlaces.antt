@@ -1,4 +1,4 @@
--- The blocks of an opening whose z has tz digits end within it: z, t, g and h, as row 15 reads them.
+-- The digits of z, t, g and h end within an opening whose z has tz digits; counted as row 15 reads them, group by group.
 use Prim.Native.Nat.{ℕ, _+_, _*_, _≤_}
 use native.Mathlib.Omega.{arith}
 use Rattle.fold.specs.Sizes.{pairs, tSize, garbageSize, restSize, openingSize}
