@@ -353,11 +353,11 @@ the rows give p = {", ".join(str(k) for k in long_y["p"])}, and 2·({" + ".join(
 3. Find three slots that meet both codes, with squares that add up to less than {s.beta_squared}.
 4. Open examples/class.sheet in an editor (docs/SHEET.md says where each list stands), change one number, and say before the program does which check will fail, or why it is refused.
 5. In the same sheet, make the last number of the first line 150, keeping it in its columns. Which line will the program print? And with {length - 1}?
-6. Which of these can be digits, low; high, to base {s.b}: 2; 7 and -3; 0 and -2; -9? What number is each of them?
+6. Which of these can be a low and a high digit to base {s.b}: 2 and 7, or -3 and 0, or -2 and -9? What number is each pair?
 
 Answers. 1: z = {pair(other_z)}; check 5 has {pair(times(a, other_z))} on both sides, check 6 {pair(times(other_z, other_z))}. 2: It does, since on this page a digit counts alike
 for all slots; in a real unit each digit has a number of its own. 3: For one,
-{", ".join(f"{slot[0]} and {slot[1]}" for slot in case.SHORTER)}: the squares add up to {sum(k * k for slot in case.SHORTER for k in slot)}. 5: 0 {150 - length}, since 150 - {length} = {150 - length}; and 1 9. 6: The first, {recomposed(s.b, 2, 7)}, and the last, {recomposed(s.b, -2, -9)}; -3; 0 is -3, but its low digit is too wide: 1; -1 is the same number.
+{", ".join(f"{slot[0]} and {slot[1]}" for slot in case.SHORTER)}: the squares add up to {sum(k * k for slot in case.SHORTER for k in slot)}. 5: 0 {150 - length}, since 150 - {length} = {150 - length}; and 1 9. 6: The first, {recomposed(s.b, 2, 7)}, and the last, {recomposed(s.b, -2, -9)}; -3 and 0 are -3, but the low digit is too wide: 1 and -1 are the same number.
 """
 
 

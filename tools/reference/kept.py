@@ -3,7 +3,7 @@
     python3 tools/reference/kept.py OLD      OLD is the folder of the older tree
 
 "Stored lines of kind 0 are compared by kind alone from now on, and their margins with the definition; the other lines are compared whole." An opening
-with a wide low digit that was judged turns: "whatever their verdict was, they are refused by 15 now." Its verdict is to be 2 15, and no other's is.
+with a wide low digit that was judged turns: such openings "are refused by 15 now, whatever their verdict was." Its verdict is to be 2 15, and no other's is.
 Which lines are verdicts follows from what a case asks for, not from how its line looks. A case is known by its input, its place may change.
 
 A line for each file, and before it one for each difference. Exit status: 0 no difference; 1 some, or a case is lost; 3 the command was wrong.

@@ -355,8 +355,8 @@ def gadget_columns(s, x):
     for name, count, base, gap in (("b_matrix", s.t1, s.b1, s.kappa), ("c_matrix", s.t2, s.b2, 1)):
         rows = fold.matrix(s, x[name], s.kappa1)
         for row in rows:
-            for block in range(0, len(row), count * gap):
-                for place in range(block + gap, block + count * gap):
+            for group in range(0, len(row), count * gap):
+                for place in range(group + gap, group + count * gap):
                     row[place] = ring.scale(base, row[place - gap])
         x[name] = fold.flat(fold.flat(rows))
 

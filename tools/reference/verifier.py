@@ -42,7 +42,7 @@ def recomposed_t(s, x):
 
 def recomposed_pairs(s, base, count, digit_elements):
     """g_ij or h_ij, recomposed: a dictionary over the pairs."""
-    values = [ring.recompose_element(base, block) for block in cut(digit_elements, count)]
+    values = [ring.recompose_element(base, group) for group in cut(digit_elements, count)]
     return dict(zip(pairs(s.r), values, strict=True))
 
 

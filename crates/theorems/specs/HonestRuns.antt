@@ -3,6 +3,7 @@
 -- failed 9 exactly when the squared length of all its digits is above the target bound; otherwise accepted, with the target bound minus that length
 -- as margin."
 -- For what the five calls wrote and `verify` answers on it, by their promises alone; the cases: HonestVerdict, crates/fold/specs/Theorems/HonestRuns.antt.
+-- `honest-judged`: whatever the witness, `verify` refuses none of it.
 use mathlib.Core.Path.{_≡_, refl}
 use mathlib.Core.List.{List}
 use lib.IntN.{ℤ}

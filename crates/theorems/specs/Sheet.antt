@@ -1,4 +1,4 @@
--- SPECIFICATION 10: the program's line is the verdict on the numbers of a sheet.
+-- SPECIFICATION 10: the program's line is the verdict on the numbers of a sheet, or 15 where a low digit is wide.
 -- For the answers of `judge_sheet`, whose promise is `answer ≡ judgedText text`.
 --     sheet-judged      the sheet of numbers h, xs with narrow low digits is judged by the verdict on them; with a wide one, `sheet-wide`, it is 15
 --     judged-sheet      a text that is judged is the sheet of the numbers read from it, and its low digits are narrow

@@ -124,7 +124,7 @@ pub outer-end : (d r κ₂ t₁ m : ℕ) (D x : List ℤ) {out : List ℤ} → m
 unfolding u₂ outer₂
 outer-end d r κ₂ t₁ m D x is out = out ∙ ap (λ (m : ℕ). elements d κ₂ (λ k. times d m D k (el d x))) is
 
--- the h digits are pairs(r) blocks
+-- the h digits are pairs(r) groups
 pub digits-length : (d r t₁ : ℕ) {len count : ℕ} → count ≡ pairs r → len ≡ garbageSize r t₁ * d → len ≡ count * (t₁ * d)
 unfolding garbageSize
 digits-length d r t₁ is e = e ∙ rw is (omega arith)

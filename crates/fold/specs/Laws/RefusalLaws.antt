@@ -1,7 +1,7 @@
 -- Laws of the refusals: a call is not refused exactly when each of its tests holds, and what each test says.
 --     Passes, numbered, refusal-iff     the list of tests of a call
 --     passes-join, -front, -back, early-passes     lists of tests joined
---     All, allOf-iff, Any, anyOf-iff    the tests of one row
+--     All, allOf-iff, SomeFails, allOf-false, Any, anyOf-iff    the tests of one row
 --     between-iff, degree-fits, ..      the tests by name
 --     tested                            what each test says: `search (tested, ..)` finds a record of facts among tests that hold
 use mathlib.Core.Path.{_≡_, refl, sym, subst}

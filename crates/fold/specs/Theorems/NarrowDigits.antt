@@ -26,14 +26,14 @@ module _ (𝓢 : Statement) (o : List ℤ) where
   open Relation relation using (d, n, r)
 
   -- number x of element y of the digits that start at a place
-  abbrev pub numberAt : (place y x : ℕ) → ℤ
-  numberAt place y x = getD o ((place + y) * d + x) (pos 0)
+  abbrev pub coefficientAt : (place y x : ℕ) → ℤ
+  coefficientAt place y x = getD o ((place + y) * d + x) (pos 0)
 
   pub record NarrowOpening : Type 0 where
-    pub z : (e k x : ℕ) → e + 1 < tz → k < n → x < d → natAbs (numberAt 0 (e * n + k) x) * 2 ≤ b
-    pub t : (i e k x : ℕ) → i < r → e + 1 < t₁ → k < κ → x < d → natAbs (numberAt (tPlace tz n) ((i * t₁ + e) * κ + k) x) * 2 ≤ b₁
-    pub g : (i j e x : ℕ) → i ≤ j → j < r → e + 1 < t₂ → x < d → natAbs (numberAt (gPlace tz n r κ t₁) (pair r i j * t₂ + e) x) * 2 ≤ b₂
-    pub h : (i j e x : ℕ) → i ≤ j → j < r → e + 1 < t₁ → x < d → natAbs (numberAt (hPlace tz n r κ t₁ t₂) (pair r i j * t₁ + e) x) * 2 ≤ b₁
+    pub z : (e k x : ℕ) → e + 1 < tz → k < n → x < d → natAbs (coefficientAt 0 (e * n + k) x) * 2 ≤ b
+    pub t : (i e k x : ℕ) → i < r → e + 1 < t₁ → k < κ → x < d → natAbs (coefficientAt (tPlace tz n) ((i * t₁ + e) * κ + k) x) * 2 ≤ b₁
+    pub g : (i j e x : ℕ) → i ≤ j → j < r → e + 1 < t₂ → x < d → natAbs (coefficientAt (gPlace tz n r κ t₁) (pair r i j * t₂ + e) x) * 2 ≤ b₂
+    pub h : (i j e x : ℕ) → i ≤ j → j < r → e + 1 < t₁ → x < d → natAbs (coefficientAt (hPlace tz n r κ t₁ t₂) (pair r i j * t₁ + e) x) * 2 ≤ b₁
 
   -- a low digit of more than half its base: of z, of t, of the g or h digits from a place on
   pub record WideZ : Type 0 where
@@ -43,7 +43,7 @@ module _ (𝓢 : Statement) (o : List ℤ) where
     pub low : e + 1 < tz
     pub row : k < n
     pub number : x < d
-    pub wide : b < natAbs (numberAt 0 (e * n + k) x) * 2
+    pub wide : b < natAbs (coefficientAt 0 (e * n + k) x) * 2
 
   pub record WideT : Type 0 where
     pub i : ℕ
@@ -54,7 +54,7 @@ module _ (𝓢 : Statement) (o : List ℤ) where
     pub low : e + 1 < t₁
     pub row : k < κ
     pub number : x < d
-    pub wide : b₁ < natAbs (numberAt (tPlace tz n) ((i * t₁ + e) * κ + k) x) * 2
+    pub wide : b₁ < natAbs (coefficientAt (tPlace tz n) ((i * t₁ + e) * κ + k) x) * 2
 
   pub record WideGarbage (place t base : ℕ) : Type 0 where
     pub i : ℕ
@@ -65,7 +65,7 @@ module _ (𝓢 : Statement) (o : List ℤ) where
     pub below : j < r
     pub low : e + 1 < t
     pub number : x < d
-    pub wide : base < natAbs (numberAt place (pair r i j * t + e) x) * 2
+    pub wide : base < natAbs (coefficientAt place (pair r i j * t + e) x) * 2
 
   abbrev pub WideOpening : Type 0
   WideOpening = WideZ ⊎ (WideT ⊎ (WideGarbage (gPlace tz n r κ t₁) t₂ b₂ ⊎ WideGarbage (hPlace tz n r κ t₁ t₂) t₁ b₁))
@@ -73,7 +73,7 @@ module _ (𝓢 : Statement) (o : List ℤ) where
   -- ---- from the test's groups to the digits, and back
 
   -- what stands after a place
-  after : (place y x : ℕ) → getD (drop (place * d) o) (y * d + x) (pos 0) ≡ numberAt place y x
+  after : (place y x : ℕ) → getD (drop (place * d) o) (y * d + x) (pos 0) ≡ coefficientAt place y x
   after place y x =
       let same : place * d + (y * d + x) ≡ (place + y) * d + x = omega arith in
       rw (← same) (getD-drop (place * d) o (y * d + x) (pos 0))
@@ -88,7 +88,7 @@ module _ (𝓢 : Statement) (o : List ℤ) where
 
   module _ (place t base : ℕ) where
     abbrev NarrowGarbage : Type 0
-    NarrowGarbage = (i j e x : ℕ) → i ≤ j → j < r → e + 1 < t → x < d → natAbs (numberAt place (pair r i j * t + e) x) * 2 ≤ base
+    NarrowGarbage = (i j e x : ℕ) → i ≤ j → j < r → e + 1 < t → x < d → natAbs (coefficientAt place (pair r i j * t + e) x) * 2 ≤ base
 
     garbage-at : lowNarrow d (pairs r) t 1 base (drop (place * d) o) ≡ true → NarrowGarbage
     unfolding pairs

@@ -4,6 +4,7 @@
 --     next-instance                    of the verdict, whatever the digits' width
 --     next-instance-judged             of the verifier's answer, where the low digits are narrow
 --     next-instance-past               the same where the answer is not refused 15
+--     solving-refused                  with a wide low digit an opening that, padded, solves it is refused by 15
 --     next-solution, solution-accepted the same of solutions with zero padding
 use mathlib.Core.Path.{_≡_, refl, sym, subst, _∙_}
 use mathlib.Core.Logic.{_↔_}

@@ -1,5 +1,5 @@
 -- SPECIFICATION 12.4: the whole case, computed. "Its witness is 1+2X." Every field of WholeCase is closed, and holds by computation
--- alone, so this file pins the definitions to numbers that stand in the specification. What SPECIFICATION 12.1 says of it stands in WorkedValues.
+-- alone, so this file pins the definitions to numbers that stand in the specification, the wide digits to numbers of its own. What SPECIFICATION 12.1 says of it stands in WorkedValues.
 use mathlib.Core.Path.{_≡_, refl}
 use mathlib.Core.Bool.{true, false}
 use mathlib.Core.List.{List, [], _∷_}

@@ -46,8 +46,8 @@ whole-judged = sheet-judged header numbers whole-numbers (omega (arith, whole-le
 pub whole-judged-20 : judgedText (sheetText (headerWith 20) numbers) ≡ Judged (Accepted 7)
 whole-judged-20 = sheet-judged (headerWith 20) numbers whole-numbers-20 (omega (arith, whole-length .1)) (whole-narrow .1) ∙ ap Judged (whole-verdict .1)
 
-pub wide-refused : judgedText (sheetText (headerWith 46) wideNumbers) ≡ Refused 15
-wide-refused = sheet-wide (headerWith 46) wideNumbers wide-numbers (omega (arith, whole-length .2)) (whole-narrow .2)
+pub wide-judged : judgedText (sheetText (headerWith 46) wideNumbers) ≡ Refused 15
+wide-judged = sheet-wide (headerWith 46) wideNumbers wide-numbers (omega (arith, whole-length .2)) (whole-narrow .2)
 
 -- two fields of 0; 0 and 7; 2 and 15
 pub whole-line : verdictLine (judgedText (sheetText header numbers)) ≡ lineText (+ 0 ∷ + 0 ∷ [])
@@ -60,4 +60,4 @@ whole-line-20 = rw whole-judged-20 refl
 
 pub wide-line : verdictLine (judgedText (sheetText (headerWith 46) wideNumbers)) ≡ lineText (+ 2 ∷ + 15 ∷ [])
 unfolding verdictLine
-wide-line = rw wide-refused refl
+wide-line = rw wide-judged refl

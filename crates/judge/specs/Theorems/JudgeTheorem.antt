@@ -1,7 +1,7 @@
 -- The answer to a text: SPECIFICATION 10.
 --     numbers-answer    the verifier's refusal of a sheet's numbers is the reader's, then that of row 15
 --     text-answer       the reader's refusal, then that of row 15, or the verdict on the numbers
---     sheet-answer      the text of a sheet: refused by 15, or the verdict on its numbers
+--     sheet-answer      the text of a sheet: refused by 15 (`sheet-wide`), or the verdict on its numbers (`sheet-judged`)
 --     judged-sheet      and a text that is judged is the text of a sheet with narrow low digits
 --     refused-text      a text of at most 65536 bytes that the reader refuses is refused by its number; `refused-longer` for a longer one
 --     kind-printed      the kind is 0, 1 or 2: never "written"

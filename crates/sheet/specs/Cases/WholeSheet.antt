@@ -1,4 +1,5 @@
--- The whole case of SPECIFICATION 12.4 as a sheet: the lines that the header gives are those that stand there, and no row refuses its numbers.
+-- The whole case of SPECIFICATION 12.4 as a sheet: the lines that the header gives are those that stand there, and no row of the
+-- reader refuses its numbers, nor those with a wide low digit.
 use mathlib.Core.Path.{_≡_, refl}
 use mathlib.Core.List.{List, [], _∷_, _++_}
 use Prim.Native.Nat.{ℕ}
