@@ -6,8 +6,8 @@ use Rattle.fold.specs.Laws.RefusalLaws.{sized-length}
 use Rattle.fold.specs.Laws.TestLaws.{stops}
 use Rattle.limits.specs.Bounds.{verifyBoundsOf}
 use Rattle.limits.specs.Laws.RowLaws.{end, _&_, joined-row}
-use Rattle.limits.specs.Laws.StageLaws.{single, none, append-rows}
-use Rattle.refusals.specs.Laws.FitLaws.{unfit, fit, fitting, fitting-last}
+use Rattle.limits.specs.Laws.StageLaws.{single, none}
+use Rattle.refusals.specs.Laws.FitLaws.{unfit, fit, fitting, fitting-last, four-fit}
 use Rattle.limits.specs.Known.StageLimits.{verify-sized}
 use Rattle.refusals.proofs.verify_refusal.Statement.{statement}
 use Rattle.refusals.proofs.verify_refusal.Tie as tie
@@ -53,9 +53,7 @@ returns-2 c =
     let c5 = c4 .before in
     let c6 = c5 .before in
     let m = c6 .before .args .sizes in
-    let opened = append-rows _ _ (joined-row (c4 .opening-fits .ensures & end)) (c3 .message-lengths .ensures) in
-    let lists = append-rows _ _ opened (c2 .matrix-lengths .ensures) in
-    let fits = append-rows _ _ lists (c1 .draw-lengths .ensures) in
+    let fits = four-fit _ _ _ (c4 .opening-fits .ensures) (c3 .message-lengths .ensures) (c2 .matrix-lengths .ensures) (c1 .draw-lengths .ensures) in
     unfit (verifyBoundsOf m) 7 _ _ refl (c6 .verify-bounds .ensures) (c5 .if1 .left) fits (c .if2 .taken)
 
 constraint-ranges-requires : tie.Need-constraint-ranges-requires
@@ -63,29 +61,26 @@ constraint-ranges-requires c κs = c .before .before .are-projection-entries .en
 
 challenges-requires : tie.Need-challenges-requires
 challenges-requires c κs =
-    let c5 = c .before .before .before .before .before in
-    let c6 = c5 .before in
-    let c7 = c6 .before in
-    let c8 = c7 .before in
-    let c9 = c8 .before in
-    let opened = append-rows _ _ (joined-row (c9 .opening-fits .ensures & end)) (c8 .message-lengths .ensures) in
-    let lists = append-rows _ _ opened (c7 .matrix-lengths .ensures) in
-    let fits = fitting-last _ (append-rows _ _ lists (c6 .draw-lengths .ensures)) (c5 .if2 .left) in
-    sized-length _ _ fits
+    let left = c .before .before .before .before .before in
+    let drawn = left .before in
+    let matrices = drawn .before in
+    let messages = matrices .before in
+    let fits = four-fit _ _ _ (messages .before .opening-fits .ensures) (messages .message-lengths .ensures) (matrices .matrix-lengths .ensures) (drawn .draw-lengths .ensures) in
+    sized-length _ _ (fitting-last _ fits (left .if2 .left))
 
 narrow-digits-requires : tie.Need-narrow-digits-requires
 narrow-digits-requires c κs =
-    let c6 = c .before .before .before .before .before .before in
-    let c7 = c6 .before in
-    let c8 = c7 .before in
-    let c9 = c8 .before in
-    let c10 = c9 .before in
-    let c11 = c10 .before in
-    let c12 = c11 .before in
-    let opened = append-rows _ _ (joined-row (c10 .opening-fits .ensures & end)) (c9 .message-lengths .ensures) in
-    let lists = append-rows _ _ opened (c8 .matrix-lengths .ensures) in
-    let fits = fitting _ (append-rows _ _ lists (c7 .draw-lengths .ensures)) (c6 .if2 .left) in
-    ((omega arith, omega arith), (verify-sized (c12 .before .args .sizes) (c12 .verify-bounds .ensures) (c11 .if1 .left), sized-length _ _ (fits .0)))
+    let left = c .before .before .before .before .before .before in
+    let drawn = left .before in
+    let matrices = drawn .before in
+    let messages = matrices .before in
+    let opened = messages .before in
+    let sized = opened .before in
+    let bounds = sized .before in
+    let fits = four-fit _ _ _ (opened .opening-fits .ensures) (messages .message-lengths .ensures) (matrices .matrix-lengths .ensures) (drawn .draw-lengths .ensures) in (
+      (omega arith, omega arith),
+      (verify-sized (bounds .before .args .sizes) (bounds .verify-bounds .ensures) (sized .if1 .left), sized-length _ _ (fitting _ fits (left .if2 .left) .0)),
+    )
 
 returns-3 : tie.Need-returns-3
 unfolding verifyTests
@@ -108,12 +103,9 @@ returns-3 c =
     let c16 = c15 .before in
     let c17 = c16 .before in
     let m = c17 .before .args .sizes in
-    let opened = append-rows _ _ (joined-row (c15 .opening-fits .ensures & end)) (c14 .message-lengths .ensures) in
-    let lists = append-rows _ _ opened (c13 .matrix-lengths .ensures) in
-    let fits = append-rows _ _ lists (c12 .draw-lengths .ensures) in
-    let messages = append-rows _ _ (joined-row (c9 .are-coefficients .ensures & end)) (c8 .message-ranges .ensures) in
-    let read = append-rows _ _ messages (c7 .constraint-ranges .ensures) in
-    let ranges = append-rows _ _ read (joined-row (c6 .are-coefficients2 .ensures & end)) in
+    let fits = four-fit _ _ _ (c15 .opening-fits .ensures) (c14 .message-lengths .ensures) (c13 .matrix-lengths .ensures) (c12 .draw-lengths .ensures) in
+    let ranges =
+    four-fit _ _ _ (c9 .are-coefficients .ensures) (c8 .message-ranges .ensures) (c7 .constraint-ranges .ensures) (joined-row (c6 .are-coefficients2 .ensures & end)) in
     fit (verifyBoundsOf m) 7 _ _ refl (c17 .verify-bounds .ensures) (c16 .if1 .left) fits (c11 .if2 .left)
     (single 8 _ ranges (c .first4 .ensures)
     (single 9 _ (c10 .are-projection-entries .ensures) (c1 .first3 .ensures)
