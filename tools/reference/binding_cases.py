@@ -33,7 +33,7 @@ def places(s, y):
 
 
 def files():
-    assert len(set(zip(CASES["alike"][:-2], CASES["apart"][:-2]))) == len(Sizes._fields) - 2
+    assert len(set(zip(sizes.header_numbers(CASES["alike"])[:-2], sizes.header_numbers(CASES["apart"])[:-2]))) == len(sizes.HEADER) - 2
     rng = random.Random(13)
     for name, s in CASES.items():
         x = short_lists(rng, s)

@@ -262,9 +262,9 @@ def honest(rng, s, **given):
     return least_bounds(s, y), y
 
 
-def honest_case(rng):
-    """Sizes with bounds near those that decide, the prover's lists, the verifier's lists."""
-    s = random_sizes(rng)
+def honest_case(rng, **given):
+    """Sizes with bounds near those that decide, the prover's lists, the verifier's lists; `given` sizes stand in their place."""
+    s = random_sizes(rng)._replace(**given)
     x = random_lists(rng, s, rng.random() < 0.7)
     y = fold.honest(s, x)
     least, length = least_beta_squared(s, y), ring.squared_norm(y["opening"])
@@ -282,14 +282,17 @@ WHOLE_CASE_SIDES = {12: failed(9), 13: accepted(0), 20: accepted(7), LARGEST_BOU
 SEVERAL_PARTS = SMALL._replace(n=2, r=3, L=1, w=2, kappa=2, nu=1, mu=3)
 
 
-def margin_sides(rng):
+def margin_sides(rng, several=SEVERAL_PARTS):
     """The whole case and an honest run of several parts under target bounds on both sides of their squared length: name, answer, sizes, lists."""
     s, y = whole_case()
+    if several.tz == 1:
+        # its z has the high digit 0, so that the opening is the same without it
+        y |= {"opening": y["opening"][:2] + y["opening"][4:]}
     for bound, answer in WHOLE_CASE_SIDES.items():
-        yield f"whole case, β'² = {bound}", answer, s._replace(target_beta_squared=bound), y
-    y = fold.honest(SEVERAL_PARTS, short_lists(rng, SEVERAL_PARTS))
-    assert all(any(fold.flat(block)) for block in fold.read_opening(SEVERAL_PARTS, y)), "a block of zeros counts for nothing"
-    for answer, s in sides_of_the_target(SEVERAL_PARTS, y):
+        yield f"whole case, β'² = {bound}", answer, s._replace(target_beta_squared=bound, tz=several.tz), y
+    y = fold.honest(several, short_lists(rng, several))
+    assert all(any(fold.flat(block)) for block in fold.read_opening(several, y) if block), "a block of zeros counts for nothing"
+    for answer, s in sides_of_the_target(several, y):
         yield f"several parts, β'² = {s.target_beta_squared}", answer, s, y
 
 
@@ -321,13 +324,13 @@ def with_commitments(s, y):
     return y | {"u1": u1, "u2": fold.flat(fold.second_outer_commitment(s, y, o.h_digits))}
 
 
-def check_faults(rng):
-    """Sizes and lists that are accepted, and for checks 1 to 8 a change of one list by which it fails alone."""
+def check_faults(rng, **given):
+    """Sizes and lists that are accepted, and for checks 1 to 8 a change of one list by which it fails alone; `given` sizes stand in their place."""
     s = random_sizes(rng)._replace(
         d=4, n=2, r=2, K=1, L=1, w=1, kappa=1, kappa1=1, kappa2=1, b=16, b1=65536, t1=2, b2=16, t2=2, target_beta_squared=LARGEST_BOUND
-    )
+    )._replace(**given)
     x = random_lists(rng, s, True)
-    x |= {"psi": [1] * 5, "omega": [1] * 5, "alpha": ring.one(4), "delta": ring.one(4) * 5, "c": ring.one(4) * 2}
+    x |= {"psi": [1] * 5, "omega": [1] * 5, "alpha": ring.one(4), "delta": ring.one(4) * 5, "c": ring.one(4) * s.r}
     x |= {name: [0] * len(x[name]) for name in ("b_matrix", "c_matrix", "d_matrix")}
     y = fold.honest(s, x)
     t, g, h = block_starts(s)

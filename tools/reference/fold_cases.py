@@ -3,7 +3,8 @@
 Input: decimal numbers parted by single blanks, one case a line. A case is the number of a call, then the sixteen sizes
     d n r K L w κ κ1 κ2 b b1 b2 t1 t2 β² β'²
 and then the call's lists, each as its length and its numbers, in the order of sizes.CALLS; of a list that the call writes only
-the length is given, and the program fills it with FILL before the call.
+the length is given, and the program fills it with FILL before the call. Calls 1 to 5 are the messages, 6 is the verifier; 7 and 8 are 5 and 6 with z in
+one digit, and then b stands in its place and is not looked at.
 Output: a line for each case: the answer's kind and number, and then the numbers of the lists that the call wrote.
 """
 
@@ -17,22 +18,31 @@ from fixtures import (
     SMALL, challenge, check_faults, honest_case, kept_draws, margin_sides, moved, random_lists, random_sizes, replaced, short_lists,
     sides_of_challenges, uniform,
 )
-from sizes import CALLS, LARGEST_BOUND, LENGTHS, Sizes
+from sizes import CALLS, HEADER, LARGEST_BOUND, LENGTHS
 
 # the program's room
-LARGEST_INPUT_BYTES = 1048576
+LARGEST_INPUT_BYTES = 2097152
 LARGEST_LINE_NUMBERS = 16384
 
-SIZES = [name for name in Sizes._fields if name not in ("nu", "mu")]
+SIZES = [name for name in HEADER if name not in ("nu", "mu")]
 
 # the calls by their numbers in the input
 NUMBERED = dict(enumerate(("message_1", "message_2", "message_3", "message_4", "message_5", "verify"), start=1))
-VERIFY = 6
+AMORTIZE, VERIFY = 5, 6
+
+# those with z in one digit, and the calls that they are
+ONE_DIGIT = {7: AMORTIZE, 8: VERIFY}
+AMORTIZE_ONE, VERIFY_ONE = ONE_DIGIT
+
+
+def call_of(number):
+    return NUMBERED[ONE_DIGIT.get(number, number)]
 
 
 def case(number, s, x, lengths=None):
     """The input line and the output line of one call. `lengths` changes the lengths of lists that it writes."""
-    call = NUMBERED[number]
+    assert s.tz == (1 if number in ONE_DIGIT else 2) or number < AMORTIZE
+    call = call_of(number)
     _, reads, writes = CALLS[call]
     room = {name: [stored.FILL] * (lengths or {}).get(name, LENGTHS[name](s)) for name in writes}
     line = [number] + [getattr(s, name) for name in SIZES]

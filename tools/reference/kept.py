@@ -15,10 +15,10 @@ from pathlib import Path
 
 import fold
 import sheet
-from fold_cases import NUMBERED, SIZES
-from next_cases import FOLD_READS, FOLD_WRITES, next_list
+from fold_cases import ONE_DIGIT, SIZES, call_of
+from next_cases import FOLD_READS, FOLD_WRITES, PLAIN_KINDS, next_list
 from next_fixtures import second_lists
-from sizes import CALLS, Sizes
+from sizes import CALLS, HEADER, Sizes
 from stored import answer_numbers, numbers_text
 from writer_cases import SHOWN_BYTES
 
@@ -82,14 +82,14 @@ def judged_call(line):
     """The verifier's answer to a case of fold_cases."""
     numbers = Numbers(line)
     call, *sized = numbers.take(1 + len(SIZES))
-    s = Sizes(**dict(zip(SIZES, sized, strict=True)), nu=1, mu=1)
-    return [fold.answer(NUMBERED[call], s, numbers.lists(CALLS[NUMBERED[call]].reads))]
+    s = Sizes(**dict(zip(SIZES, sized, strict=True)), nu=1, mu=1, tz=1 if call in ONE_DIGIT else 2)
+    return [fold.answer(call_of(call), s, numbers.lists(CALLS[call_of(call)].reads))]
 
 
 def fold_cases(given, stored):
     """The call's number is the first of a line: that of the verifier answers a verdict."""
     for line, output in paired(lines_of(given), lines_of(stored)):
-        if NUMBERED[int(line.split()[0])] == "verify":
+        if call_of(int(line.split()[0])) == "verify":
             yield Case(line, [output], {0: [0]}, lambda line=line: judged_call(line), numbers_line)
         else:
             yield whole(line, [output])
@@ -102,13 +102,13 @@ TWO_VERDICTS = [MESSAGE_NUMBERS, 2 * MESSAGE_NUMBERS + 8]
 
 
 def judged_twice(line):
-    """The verdicts of both folds of a case of kind 3 of next_cases."""
+    """The verdicts of both folds of a case of kind 3 or 6 of next_cases."""
     numbers = Numbers(line)
-    numbers.take(1)
-    s = Sizes(*numbers.take(len(Sizes._fields)))
+    (kind,) = numbers.take(1)
+    s = Sizes(*numbers.take(len(HEADER)), tz=1 if kind > PLAIN_KINDS else 2)
     x = numbers.lists(FOLD_READS)
     *_, room = numbers.take(len(FOLD_WRITES) + 1)
-    following = Sizes(*numbers.take(len(Sizes._fields)))
+    following = Sizes(*numbers.take(len(HEADER)))
     draws = numbers.lists(FOLD_READS)
     y = fold.honest(s, x)
     _, constraints = next_list(s, y, room)
@@ -117,9 +117,9 @@ def judged_twice(line):
 
 
 def next_cases(given, stored):
-    """The first number of a line is its kind: 3 has two verdicts, 1 may fail and is never accepted, 2 asks for a part."""
+    """The first number of a line is its kind: 3 and 6 have two verdicts, 1 and 4 may fail and are never accepted, 2 and 5 ask for a part."""
     for line, output in paired(lines_of(given), lines_of(stored)):
-        if line.split()[0] == b"3":
+        if line.split()[0] in (b"3", b"6"):
             yield Case(line, [output], {0: TWO_VERDICTS}, lambda line=line: judged_twice(line), numbers_line)
         else:
             yield whole(line, [output])

@@ -1,7 +1,7 @@
 """Low digits on both sides of half their base, and top digits of any width: SPECIFICATION 7.i. Each case is (name, answer, sizes, lists).
 
 In a free statement all lists but the opening are zero, c too. t, g and h_12 are free then; z_2 = X·z_1 makes <z,z> zero, and h_22 = -h_11 makes the
-sum of h_11 and h_22 zero, so that all checks hold but check 9, which the target bound decides.
+sum of h_11 and h_22 zero, so that all checks hold but check 9, which the target bound decides. Where z has one digit it has no low digit.
 """
 
 import fold
@@ -32,7 +32,7 @@ def free_lists(s, low, top):
             opening[place] = low(k, blocks[name].base)
         for k, place in enumerate(tops):
             opening[place] = top(k)
-    for start in (0, s.n * s.d):
+    for start in range(0, LENGTHS["z_digits"](s), s.n * s.d):
         a, b = opening[start : start + s.d]
         opening[start + s.d : start + 2 * s.d] = [-b, a]
     value = s.t1 * s.d
@@ -60,7 +60,7 @@ def sides(s, tried=ALL_SIDES):
         yield f"low digits at half, sign {sign}", margin_of(s, y), s, y
     y = at_half(s)
     for name, (low, _) in digit_places(s).items():
-        for at, sign in tried:
+        for at, sign in tried if low else ():
             number = sign * (half(digit_blocks(s)[name].base) + 1)
             yield f"{name} low[{at}] = {number}", refused(15), s, replaced(y, "opening", low[at], number)
 
@@ -69,6 +69,8 @@ def far_low_digits(s):
     """Numbers whose double wraps in 32 bits: 2·2147483598 is -100 there, 2·1073741824 is -2147483648."""
     y = at_half(s)
     for (name, (low, _)), number in zip(digit_places(s).items(), (ring.LARGEST, -ring.LARGEST, 2**30, -(2**30)), strict=True):
+        if not low:
+            continue
         yield f"{name} low[-1] = {number}", refused(15), s, replaced(y, "opening", low[-1], number)
 
 
@@ -80,10 +82,11 @@ def wide_tops(s, signs=(1, -1)):
     places = {name: top for name, (_, top) in digit_places(s).items()}
     for sign in signs:
         end = sign * ring.LARGEST
-        in_z = replaced(replaced(y, "opening", s.n * s.d, end), "opening", s.n * s.d + 1, 0)
-        in_z = replaced(replaced(in_z, "opening", s.n * s.d + s.d, 0), "opening", s.n * s.d + s.d + 1, end)
+        z = places["z"][0]
+        in_z = replaced(replaced(y, "opening", z, end), "opening", z + 1, 0)
+        in_z = replaced(replaced(in_z, "opening", z + s.d, 0), "opening", z + s.d + 1, end)
         in_h = replaced(replaced(y, "opening", places["h"][0], end), "opening", places["h"][0] + 2 * value, -end)
-        yield f"z high = {end}", failed(9), s, in_z
+        yield f"{'z high' if s.tz == 2 else 'z'} = {end}", failed(9), s, in_z
         yield f"t top[-1] = {end}", failed(9), s, replaced(y, "opening", places["t"][-1], end)
         yield f"g top[0] = {end}", failed(9), s, replaced(y, "opening", places["g"][0], end)
         yield f"h top[0] = {end}", failed(9), s, in_h
@@ -91,7 +94,7 @@ def wide_tops(s, signs=(1, -1)):
 
 def wide(s, y):
     """The lists with the last low digit of t too wide by one."""
-    _, (low, _), *_ = digit_places(s).values()
+    low, _ = digit_places(s)["t"]
     return replaced(y, "opening", low[-1], half(s.b1) + 1)
 
 
@@ -103,8 +106,9 @@ def with_rows(s):
     yield "8, 15", refused(8), s, replaced(y, "u2", -1, ring.LARGEST + 1)
     yield "9, 15", refused(9), s, replaced(y, "projections", -1, 2)
     yield "10, 15", refused(10), s, replaced(y, "c", 0, -3)
-    yield "a low digit of 2147483599", refused(8), s, replaced(y, "opening", 0, ring.LARGEST + 1)
-    yield "a low digit of -2147483648", refused(8), s, replaced(y, "opening", 0, -(2**31))
+    first = "a low digit" if s.tz == 2 else "z"
+    yield f"{first} of 2147483599", refused(8), s, replaced(y, "opening", 0, ring.LARGEST + 1)
+    yield f"{first} of -2147483648", refused(8), s, replaced(y, "opening", 0, -(2**31))
 
 
 def check_faults(s):
@@ -164,8 +168,8 @@ def recomposed(rng, s, moves=((0, 1), (-1, 2))):
     """An honest run; then with bases moved to a low digit of each block from the next one: all checks hold, and it is refused."""
     y = fold.honest(s, short_lists(rng, s))
     yield "honest", margin_of(s, y), s, y
-    for name in digit_blocks(s):
-        for at, by in moves:
+    for name, (low, _) in digit_places(s).items():
+        for at, by in moves if low else ():
             other = carried(s, y, name, at, by)
             assert fold.verdict(s, other) == margin_of(s, other)
             yield f"{by} bases to {name} low[{at}]", refused(15), s, other
@@ -187,8 +191,9 @@ def halves(rng, s):
     even = fold.honest(s, x)
     with ring.kept_rule():
         kept = fold.honest(s, x)
-    assert all(digits != older for digits, older in zip(fold.read_opening(s, even), fold.read_opening(s, kept), strict=True))
+    differ = [digits != older for digits, older in zip(fold.read_opening(s, even), fold.read_opening(s, kept), strict=True)]
+    assert differ == [s.tz == 2] * 2 + [True] * 3
     for rule, y in (("the rule", even), ("the older rule", kept)):
         for name, (low, _) in digit_places(s).items():
-            assert any(2 * abs(y["opening"][place]) == digit_blocks(s)[name].base for place in low), (rule, name)
+            assert not low or any(2 * abs(y["opening"][place]) == digit_blocks(s)[name].base for place in low), (rule, name)
         yield f"digits of half their base by {rule}", accepted(0), least_bounds(s, y), y

@@ -1,6 +1,6 @@
 """Stored input and output of the test program for the next instance, crates/next_cases.
 
-Input: decimal numbers, one case a line, each number ended by one blank or line feed. A case is its kind (1, 2 or 3), then the eighteen sizes
+Input: decimal numbers, one case a line, each number ended by one blank or line feed. A case is its kind (1 to 6), then the eighteen sizes
     d n r K L w κ κ1 κ2 b b1 b2 t1 t2 ν μ β² β'²
 and then what its kind has, below. A list is its length and its numbers; "length of X" is one number. Every number fits 64 bits with a sign;
 a size or part -k stands for 2^64 - k. Every number of a list fits 32 bits with a sign.
@@ -29,6 +29,8 @@ Kind 3, a fold and a fold of the next instance. Nothing is refused here.
     Output: message 1's answer, sum(t), sum(g), sum(u1); message 2's answer, sum(p); message 3's answer, sum(b''); message 4's answer,
     sum(h), sum(u2); message 5's answer, sum(z); the verdict; next_instance's answer, sum(its list); sum(the second witness); and the
     second fold's messages and verdict in the same way.
+Kinds 4, 5 and 6: as 1, 2 and 3, with z in one digit in the fold, in kind 6 in the first one; b of it stands in its place and is not looked at. The second fold
+of kind 6 has two z digits.
 
 The longest list that is written has 24840 numbers in kind 1 and 2408 in kind 3, the longest that is read 630, 1036 and 576 in kinds 1,
 2 and 3; in kind 3 the longest opening has 1156 numbers and the longest second witness 256.
@@ -40,7 +42,7 @@ import fold
 import next_groups
 from fixtures import kept_draws
 from next_fixtures import second_lists
-from sizes import CALLS, LENGTHS
+from sizes import CALLS, LENGTHS, header_numbers
 from stored import FILL, answer_numbers, numbers_text, shown, summed, write
 
 MESSAGES = ("message_1", "message_2", "message_3", "message_4", "message_5")
@@ -49,10 +51,18 @@ NOT_DRAWN = {"whole": [], "constant_terms": [], "psi": [], "witness": []}
 FOLD_WRITES = "z_digits t_digits g_digits h_digits u1 p second_b u2".split()
 
 # The program's room.
+LARGEST_INPUT_BYTES = 2097152
 LARGEST_LINE_NUMBERS = 4096
 
 # The longest list that is written, by kind.
 LONGEST = {1: 24840, 3: 2408}
+
+# Kinds 4 to 6 are 1 to 3 with z in one digit.
+PLAIN_KINDS = 3
+
+
+def kind_number(kind, s):
+    return kind + (PLAIN_KINDS if s.tz == 1 else 0)
 
 
 # Numbers in
@@ -81,14 +91,14 @@ def next_instance(s, x, length=None):
     """Kind 1. `length` is that of the list to write, the right one if it is left out."""
     room = LENGTHS["next_whole"](s) if length is None else length
     assert room <= LONGEST[1]
-    line = [1] + [size_number(size) for size in s] + lists(x, CALLS["next_instance"].reads) + [room]
+    line = [kind_number(1, s)] + [size_number(size) for size in header_numbers(s)] + lists(x, CALLS["next_instance"].reads) + [room]
     answer, whole = next_list(s, x, room)
     return line, answer + shown(whole)
 
 
 def part(s, i, opening):
     """Kind 2."""
-    line = [2] + [size_number(size) for size in s] + [size_number(i), len(opening)] + opening
+    line = [kind_number(2, s)] + [size_number(size) for size in header_numbers(s)] + [size_number(i), len(opening)] + opening
     number, numbers = fold.answer_next_part(s, {"opening": opening}, i)
     return line, [number] + shown(numbers)
 
@@ -106,9 +116,10 @@ def fold_output(s, x):
 
 def twice(s, x, following, draws, expected):
     """Kind 3. `expected` are the two verdicts and the next instance's answer."""
+    assert following.tz == 2
     room = LENGTHS["next_whole"](s)
-    line = [3] + list(s) + lists(x, FOLD_READS) + [LENGTHS[name](s) for name in FOLD_WRITES] + [room]
-    line += list(following) + lists(draws | NOT_DRAWN, FOLD_READS) + [LENGTHS[name](following) for name in FOLD_WRITES]
+    line = [kind_number(3, s)] + header_numbers(s) + lists(x, FOLD_READS) + [LENGTHS[name](s) for name in FOLD_WRITES] + [room]
+    line += header_numbers(following) + lists(draws | NOT_DRAWN, FOLD_READS) + [LENGTHS[name](following) for name in FOLD_WRITES]
     assert max(LENGTHS[name](sized) for name in FOLD_WRITES for sized in (s, following)) <= room <= LONGEST[3]
     output, y = fold_output(s, x)
     answer, whole = next_list(s, y, room)
@@ -130,8 +141,10 @@ def files():
         cases = run_groups(next_groups.KEPT_GROUPS, random.Random(30))
     cases += run_groups(next_groups.GROUPS, random.Random(31))
     cases += run_groups(next_groups.WIDE_GROUPS, random.Random(32))
+    stdin = numbers_text(line for line, _ in cases)
+    assert len(stdin) <= LARGEST_INPUT_BYTES, len(stdin)
     assert max(len(line) for line, _ in cases) <= LARGEST_LINE_NUMBERS
-    yield "crates/next_cases/stdin", numbers_text(line for line, _ in cases)
+    yield "crates/next_cases/stdin", stdin
     yield "crates/next_cases/stdout", numbers_text(output for _, output in cases)
 
 

@@ -28,10 +28,10 @@ def honest_lists(rng, s, small=False):
 # Two folds
 
 def second_sizes(s, **free):
-    """The sizes of the next instance, with the sizes of its fold that are free."""
+    """The sizes of the next instance, with the sizes of its fold that are free; its fold has two z digits."""
     return s._replace(
         n=sizes.next_rank(s), r=sizes.next_multiplicity(s), K=sizes.next_constraint_count(s), L=0, beta_squared=s.target_beta_squared,
-        target_beta_squared=LARGEST_BOUND,
+        target_beta_squared=LARGEST_BOUND, tz=2,
     )._replace(**free)
 
 

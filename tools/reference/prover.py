@@ -108,13 +108,15 @@ def message_4(s, x):
 
 
 def message_5(s, x):
-    """ "Given c_1..c_r, z = Σ c_i s_i in two digits to base b." "Order: z low, z high". """
+    """ "Given c_1..c_r, z = Σ c_i s_i in two digits to base b, or in one (3.6). Written: z low, z high; with one digit z." """
     witness_parts = parts(s, x["witness"])
     challenges = elements(s.d, x["c"])
     z = [
         add_all(s.d, [multiply(c_i, s_i[k]) for c_i, s_i in zip(challenges, witness_parts, strict=True)])
         for k in range(s.n)
     ]
+    if s.tz == 1:
+        return {"z_digits": flat(z)}
     split = [element_digits(s.b, 2, z_k) for z_k in z]
     return {"z_digits": flat([low for low, _ in split] + [high for _, high in split])}
 

@@ -14,10 +14,11 @@ from verifier import check_1, check_2, read_opening
 
 def chunks(s, z_low, z_high, tail):
     """ "z low and z high are cut into ν chunks each of n/ν elements, the rest into μ chunks of m/μ elements, both rounded
-    up; the last chunks may be short or empty."
+    up; the last chunks may be short or empty. With one z digit z is cut so, into ν chunks": there is no z high, and no chunk of it.
     """
     result = []
-    for section, size, count in ((z_low, z_chunk(s), s.nu), (z_high, z_chunk(s), s.nu), (tail, tail_chunk(s), s.mu)):
+    z_high_count = s.nu if s.tz == 2 else 0
+    for section, size, count in ((z_low, z_chunk(s), s.nu), (z_high, z_chunk(s), z_high_count), (tail, tail_chunk(s), s.mu)):
         result += [section[k * size : (k + 1) * size] for k in range(count)]
     return result
 
@@ -51,11 +52,11 @@ def next_part(s, x, part):
 def next_constraint(s, quadratic=None, z=None, t=None, g=None, h=None, b=None):
     """One constraint of the next instance from its coefficients on z and on the digits of t, g, h; what is left out is zero.
 
-    `z` is the coefficient of z recomposed, so z low has it once and z high b times. "φ on padding is zero".
+    `z` is the coefficient of z recomposed, so z low has it once and z high b times; with one digit z has it. "φ on padding is zero".
     """
     zeros = {name: [ring.zero(s.d)] * (sizes.LENGTHS[name + "_digits"](s) // s.d) for name in "tgh"}
     z_low = z or [ring.zero(s.d)] * s.n
-    z_high = [scale(s.b, e) for e in z_low]
+    z_high = [scale(s.b, e) for e in z_low] if s.tz == 2 else []
     phi = padded_chunks(s, z_low, z_high, (t or zeros["t"]) + (g or zeros["g"]) + (h or zeros["h"]))
     a = {pair: (quadratic or {}).get(pair, ring.zero(s.d)) for pair in pairs(next_multiplicity(s))}
     return Constraint(Function(a, phi), b or ring.zero(s.d))
@@ -91,11 +92,11 @@ def garbage_coefficients(s, x, base, count):
 def next_check_6(s, x):
     """ "<z,z> = Σ g_ii c_i² + 2Σ_{i<j} g_ij c_i c_j"; "an empty chunk has the same a in check 6 as a full one".
 
-    With z = low + b·high, <z,z> = <low,low> + 2b<low,high> + b²<high,high>, chunk by chunk.
+    With z = low + b·high, <z,z> = <low,low> + 2b<low,high> + b²<high,high>, chunk by chunk. With one digit "each chunk of z with itself has a = 1 in check
+    6, and all other a are zero."
     """
-    quadratic = {}
-    for k in range(s.nu):
-        quadratic[k, k] = ring.one(s.d)
+    quadratic = {(k, k): ring.one(s.d) for k in range(s.nu)}
+    for k in range(s.nu) if s.tz == 2 else ():
         quadratic[k, k + s.nu] = scale(2 * s.b, ring.one(s.d))
         quadratic[k + s.nu, k + s.nu] = scale(s.b**2, ring.one(s.d))
     return next_constraint(s, quadratic=quadratic, g=garbage_coefficients(s, x, s.b2, s.t2))

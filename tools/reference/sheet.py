@@ -7,7 +7,7 @@ import re
 import sys
 
 import fold
-from sizes import LENGTHS, SHEET_LISTS, Sizes, function_length, number_refusal, size_refusal
+from sizes import HEADER, LENGTHS, SHEET_LISTS, Sizes, function_length, header_numbers, number_refusal, size_refusal
 
 # "Each number is decimal, right-justified with blanks in 16 columns".
 COLUMNS = 16
@@ -80,14 +80,14 @@ def line_widths(s):
 
 def text_length(s):
     """The bytes of a sheet of these sizes."""
-    return sum(COLUMNS * width + 1 for width in [len(s)] + line_widths(s))
+    return sum(COLUMNS * width + 1 for width in [len(HEADER)] + line_widths(s))
 
 
 def sheet_text(s, numbers):
     """ "Header: .. Then .. A, B, C, D by rows; ..; the opening. Nothing follows." "So numbers have one text". """
     rest = iter(numbers)
     lines = [[next(rest) for _ in range(width)] for width in line_widths(s)]
-    return b"".join(line_text(line) for line in [s] + lines)
+    return b"".join(line_text(line) for line in [header_numbers(s)] + lines)
 
 
 def write_sheet(s, x):
@@ -97,14 +97,14 @@ def write_sheet(s, x):
 
 def sheet_bytes(s):
     """How many bytes the text of a sheet of these sizes has; 0 where they are refused (1 to 6)."""
-    return 0 if size_refusal(Sizes._fields, s) else text_length(s)
+    return 0 if size_refusal(HEADER, s) else text_length(s)
 
 
 def write_refusal(s, numbers, room):
     """The row by which the writer is refused, 0 if by none: 1 to 6 as for a header, 7 for the count of numbers, 8 to 10 for the numbers; "13, after
     11, exactly when the buffer is shorter than the text." Sizes that 1 to 6 refuse give no length.
     """
-    number = size_refusal(Sizes._fields, s)
+    number = size_refusal(HEADER, s)
     if number:
         return number
     if len(numbers) != sum(line_widths(s)):
@@ -159,11 +159,11 @@ def read_body(s, text, position):
 def read_header(text):
     """ "The header's layout is read first (12), then 1 to 6". ("refused", number), or ("read", (sizes, where the other lines begin))."""
     try:
-        header, position = read_line(text, 0, len(Sizes._fields))
+        numbers, position = read_line(text, 0, len(HEADER))
     except Broken:
         return ("refused", SHEET_BROKEN)
-    s = Sizes(*header)
-    number = size_refusal(Sizes._fields, s)
+    s = Sizes(*numbers)
+    number = size_refusal(HEADER, s)
     return ("refused", number) if number else ("read", (s, position))
 
 
@@ -198,9 +198,9 @@ def read_into(text, numbers):
     """The reader's call: its answer, the header (all 0 where it refuses), and the lent slice afterwards: "Nothing lent is written"."""
     kind, content = read_sheet(text, len(numbers))
     if kind == "refused":
-        return (kind, content), [0] * len(Sizes._fields), numbers
+        return (kind, content), [0] * len(HEADER), numbers
     s, x = content
-    return ("written", 0), list(s), flat_numbers(x)
+    return ("written", 0), header_numbers(s), flat_numbers(x)
 
 
 # The program

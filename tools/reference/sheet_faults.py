@@ -6,7 +6,7 @@ A field's fault keeps the field's value where a lenient reader would see one, so
 import sheet
 from fixtures import accepted, failed, refused, whole_case_text
 from sheet import field_text
-from sizes import LARGEST_BOUND, Sizes
+from sizes import LARGEST_BOUND, Sizes, header_numbers
 
 BROKEN = refused(12)
 
@@ -170,8 +170,8 @@ BODIES = {"no body": b"", "a letter": b"a", "bytes 0 and 255": b"\0\xff" * 20, "
 def header_with(**changes):
     """The whole case's header with other sizes, and its body."""
     text = whole_case_text()
-    header = Sizes(*map(int, text[:288].split()))
-    return sheet.line_text(header._replace(**changes)), text[289:]
+    s = Sizes(*map(int, text[:288].split()))
+    return sheet.line_text(header_numbers(s._replace(**changes))), text[289:]
 
 
 def header_sides():

@@ -10,7 +10,7 @@ from fixtures import (
     SMALL, accepted, block_starts, failed, honest, least_bounds, moved, random_lists, refused, replaced, whole_case, with_commitments,
 )
 from sheet_faults import ROWS
-from sizes import LARGEST_BOUND, digit_blocks, digit_places
+from sizes import LARGEST_BOUND, digit_blocks, digit_places, header_numbers
 
 
 def with_another_q(s, y, values, times):
@@ -100,8 +100,8 @@ def digit_widths(rng):
             yield name, answer, (s, y)
     body = sheet.write_sheet(odd, low_digits.wide(odd, low_digits.at_half(odd)))[289:]
     for number, fault in ROWS.items():
-        yield f"{number}, 15", refused(number), sheet.line_text(odd._replace(**fault)) + body
-    yield "15, a byte more", refused(12), sheet.line_text(odd) + body + b" "
+        yield f"{number}, 15", refused(number), sheet.line_text(header_numbers(odd._replace(**fault))) + body
+    yield "15, a byte more", refused(12), sheet.line_text(header_numbers(odd)) + body + b" "
 
 
 GROUPS = (other_values_modulo_q, wrapped_top_digits, one_digit_moved, digit_widths)

@@ -7,11 +7,21 @@ from collections import namedtuple
 
 from ring import DEGREES, are_projection_entries, in_range, is_challenge, is_narrow
 
-# "Header: d n r K L w κ κ1 κ2 b b1 b2 t1 t2 ν μ β² β'²."
+# "Header: d n r K L w κ κ1 κ2 b b1 b2 t1 t2 ν μ β² β'²." And tz, the number of z digits: "z has two, or one (3.6)". "With one, b is neither taken nor
+# tested", so any b may stand there.
 Sizes = namedtuple(
     "Sizes",
-    "d n r K L w kappa kappa1 kappa2 b b1 b2 t1 t2 nu mu beta_squared target_beta_squared",
+    "d n r K L w kappa kappa1 kappa2 b b1 b2 t1 t2 nu mu beta_squared target_beta_squared tz",
+    defaults=(2,),
 )
+
+HEADER = Sizes._fields[: Sizes._fields.index("tz")]
+
+
+def header_numbers(s):
+    """The numbers of the header. "The sheet keeps two digits (10)", so that tz is none of them."""
+    return [getattr(s, name) for name in HEADER]
+
 
 # "Five is the count, since q^4 < 2^128."
 AGGREGATES = 5
@@ -46,7 +56,7 @@ def tail_rank(s):
 
 
 def z_chunk(s):
-    """ "z low and z high are cut into ν chunks each of n/ν elements", rounded up."""
+    """ "z low and z high are cut into ν chunks each of n/ν elements", rounded up. "With one z digit z is cut so, into ν chunks." """
     return rounded_up(s.n, s.nu)
 
 
@@ -61,8 +71,8 @@ def next_rank(s):
 
 
 def next_multiplicity(s):
-    """ "r' = 2ν+μ". """
-    return 2 * s.nu + s.mu
+    """ "r' = 2ν+μ, with one z digit r' = ν+μ". """
+    return s.tz * s.nu + s.mu
 
 
 def next_constraint_count(s):
@@ -106,9 +116,9 @@ LENGTHS = {
     "delta": lambda s: AGGREGATES * s.d,
     "u2": lambda s: s.kappa2 * s.d,
     "c": lambda s: s.r * s.d,
-    "opening": lambda s: (2 * s.n + tail_rank(s)) * s.d,
+    "opening": lambda s: LENGTHS["z_digits"](s) + tail_rank(s) * s.d,
     "witness": lambda s: s.r * s.n * s.d,
-    "z_digits": lambda s: 2 * s.n * s.d,
+    "z_digits": lambda s: s.tz * s.n * s.d,
     "t_digits": lambda s: s.r * s.t1 * s.kappa * s.d,
     "g_digits": lambda s: pair_count(s.r) * s.t2 * s.d,
     "h_digits": lambda s: pair_count(s.r) * s.t1 * s.d,
@@ -126,18 +136,18 @@ Block = namedtuple("Block", "base values digits width")
 
 
 def digit_blocks(s):
-    """ "z low, z high; t by part, then digit, then row; g and h by i, then j, then digit." "B is b for z low, b1 for the t and h digits, b2 for
-    the g digits." The blocks by name, in the opening's order.
+    """ "z low, z high, with one digit z; t by part, then digit, then row; g and h by i, then j, then digit." "B is b for z low, b1 for the t and h
+    digits, b2 for the g digits." The blocks by name, in the opening's order.
     """
     P = pair_count(s.r)
     return {
-        "z": Block(s.b, 1, 2, s.n * s.d), "t": Block(s.b1, s.r, s.t1, s.kappa * s.d), "g": Block(s.b2, P, s.t2, s.d), "h": Block(s.b1, P, s.t1, s.d),
+        "z": Block(s.b, 1, s.tz, s.n * s.d), "t": Block(s.b1, s.r, s.t1, s.kappa * s.d), "g": Block(s.b2, P, s.t2, s.d), "h": Block(s.b1, P, s.t1, s.d),
     }
 
 
 def digit_places(s):
     """For each block its places in the opening as two lists: those of low digits, and those of top digits, "The top digit of each value (z high; the
-    last of the t1 digits of t and of h, the last of the t2 digits of g)".
+    last of the t1 digits of t and of h, the last of the t2 digits of g)". "Where z has one digit, that is its top digit."
     """
     places, start = {}, 0
     for name, (_, values, digits, width) in digit_blocks(s).items():
@@ -175,12 +185,12 @@ CALLS = {
     ),
     "message_5": Call("d n r b".split(), "c witness".split(), ["z_digits"]),
     "verify": Call(
-        [name for name in Sizes._fields if name not in ("nu", "mu")],
+        [name for name in HEADER if name not in ("nu", "mu")],
         list(SHEET_LISTS),
         [],
     ),
     "next_instance": Call(
-        list(Sizes._fields),
+        list(HEADER),
         [name for name in SHEET_LISTS if name != "opening"],
         ["next_whole"],
     ),
@@ -206,11 +216,11 @@ def size_refusal(taken, s, part=None):
     # 3: "κ, κ1 or κ2 not 1..8"
     if outside("kappa kappa1 kappa2", 1, 8):
         return 3
-    # 4: "b, b1, b2 not 2..65536; t1, t2 not 2..8"
-    if outside("b b1 b2", 2, 65536) or outside("t1 t2", 2, 8):
+    # 4: "b, b1, b2 not 2..65536; t1, t2 not 2..8"; with one z digit "row 4 tests b1, b2, t1 and t2 alone"
+    if outside("b b1 b2" if s.tz == 2 else "b1 b2", 2, 65536) or outside("t1 t2", 2, 8):
         return 4
-    # 5: "ν or μ below 1, 2ν+μ above 16"
-    if "nu" in taken and (s.nu < 1 or s.mu < 1 or 2 * s.nu + s.mu > 16):
+    # 5: "ν or μ below 1, 2ν+μ above 16; with one z digit ν+μ above 16"
+    if "nu" in taken and (s.nu < 1 or s.mu < 1 or next_multiplicity(s) > 16):
         return 5
     # 6: "β² or β'² negative or above 999999999999999"
     if outside("beta_squared target_beta_squared", 0, LARGEST_BOUND):

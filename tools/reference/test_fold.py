@@ -38,10 +38,10 @@ def test_bench_values_of_the_whole_case():
 
 def test_bench_values_at_the_sides():
     s, x = whole_case()
-    assert sizes.size_refusal(Sizes._fields, s._replace(r=16)) == 0
-    assert sizes.size_refusal(Sizes._fields, s._replace(r=17)) == 2
-    assert sizes.size_refusal(Sizes._fields, s._replace(beta_squared=999999999999999)) == 0
-    assert sizes.size_refusal(Sizes._fields, s._replace(beta_squared=1000000000000000)) == 6
+    assert sizes.size_refusal(sizes.HEADER, s._replace(r=16)) == 0
+    assert sizes.size_refusal(sizes.HEADER, s._replace(r=17)) == 2
+    assert sizes.size_refusal(sizes.HEADER, s._replace(beta_squared=999999999999999)) == 0
+    assert sizes.size_refusal(sizes.HEADER, s._replace(beta_squared=1000000000000000)) == 6
     c71 = [2] * 17 + [1] * 3 + [0] * 12
     c72 = [2] * 18 + [0] * 14
     assert ring.squared_norm(c71) == 71 and ring.is_challenge(c71)

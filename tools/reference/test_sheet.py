@@ -125,7 +125,7 @@ def test_reader_slice():
         numbers = [number for name in sizes.SHEET_LISTS for number in y[name]]
         count = sheet.sheet_numbers(text)
         assert count == len(numbers)
-        assert sheet.read_into(text, marked(count)) == (("written", 0), list(s), numbers)
+        assert sheet.read_into(text, marked(count)) == (("written", 0), sizes.header_numbers(s), numbers)
         wide = sheet.write_sheet(s, y | {"u1": [ring.LARGEST + 1] * len(y["u1"])})
         assert sheet.read_into(wide, marked(count)) == (refused(8), [0] * 18, marked(count))
         for length in {0, count - 1, count + 1, 2 * count}:
@@ -153,7 +153,7 @@ def test_writer_round_trip():
         for room in (length, length + 5):
             answer, written, buffer = sheet.write_into(s, numbers, marked(room))
             assert answer == ("written", 0) and written == length and buffer[length:] == marked(room - length)
-            assert sheet.read_into(buffer[:length], [77] * len(numbers)) == (answer, list(s), numbers)
+            assert sheet.read_into(buffer[:length], [77] * len(numbers)) == (answer, sizes.header_numbers(s), numbers)
         assert buffer[:length] == sheet.write_sheet(s, sheet.named_lists(s, numbers))
 
 

@@ -19,18 +19,22 @@ Opening = namedtuple("Opening", "z_low z_high t_digits g_digits h_digits")
 
 
 def read_opening(s, x):
-    """ "Order: z low, z high; t by part, then digit, then row; g and h by i, then j, then digit." """
+    """ "Order: z low, z high, with one digit z; t by part, then digit, then row; g and h by i, then j, then digit." "With one z digit, z stands for z low
+    and there is no z high".
+    """
     entries = elements(s.d, x["opening"])
     sections = []
-    for length in (s.n, s.n) + tuple(sizes.LENGTHS[name](s) // s.d for name in ("t_digits", "g_digits", "h_digits")):
+    for length in (s.n, s.n if s.tz == 2 else 0) + tuple(sizes.LENGTHS[name](s) // s.d for name in ("t_digits", "g_digits", "h_digits")):
         sections.append(entries[:length])
         entries = entries[length:]
     return Opening(*sections)
 
 
 def recomposed_z(s, x):
-    """ "digits are lent and recomposed (its section 5.3)." """
+    """ "z = (z low) + b·(z high), with one digit that digit". """
     o = read_opening(s, x)
+    if s.tz == 1:
+        return o.z_low
     return [ring.recompose_element(s.b, [low, high]) for low, high in zip(o.z_low, o.z_high, strict=True)]
 
 

@@ -25,7 +25,7 @@ import low_digits
 from fixtures import OPEN, SMALL, challenges, counted, sides_of_challenges, uniform, whole_case
 from sheet_faults import SIZE_SIDES
 from sheet_numbers import ONE_MORE
-from sizes import LARGEST_BOUND, LENGTHS, SHEET_LISTS, Sizes
+from sizes import HEADER, LARGEST_BOUND, LENGTHS, SHEET_LISTS, Sizes, header_numbers
 from stored import FILL, answer_numbers, numbers_text, summed
 
 # Longer buffers are shown by their sum only.
@@ -163,12 +163,12 @@ def huge_sizes(rng):
     """Sizes of 16 digits, together: no length is formed of them."""
     huge = 9999999999999999
     whole, numbers = whole_numbers()
-    yield "all sizes huge", Sizes(*[huge] * len(Sizes._fields)), [], 300
-    yield "all sizes huge but d", Sizes(2, *[huge] * (len(Sizes._fields) - 1)), numbers, sheet.text_length(whole)
+    yield "all sizes huge", Sizes(*[huge] * len(HEADER)), [], 300
+    yield "all sizes huge but d", Sizes(2, *[huge] * (len(HEADER) - 1)), numbers, sheet.text_length(whole)
     yield "n, r, K, L, w huge", whole._replace(n=huge, r=huge, K=huge, L=huge, w=huge), numbers, sheet.text_length(whole)
     yield "ν and μ huge", whole._replace(nu=huge, mu=huge), numbers, sheet.text_length(whole)
     yield "both bounds huge", whole._replace(beta_squared=huge, target_beta_squared=huge), numbers, sheet.text_length(whole)
-    yield "all sizes 0", Sizes(*[0] * len(Sizes._fields)), [], 0
+    yield "all sizes 0", Sizes(*[0] * len(HEADER)), [], 0
 
 
 # The smallest sizes of which no list is empty.
@@ -293,7 +293,7 @@ def input_text(s, numbers, room):
     """The two lines of a case."""
     assert len(numbers) <= MOST_NUMBERS and room <= MOST_BYTES and min(s) >= 0
     assert all(-(2**31) <= number < 2**31 for number in numbers)
-    return sheet.line_text([*s, len(numbers), room]) + sheet.line_text(numbers)
+    return sheet.line_text([*header_numbers(s), len(numbers), room]) + sheet.line_text(numbers)
 
 
 def output_text(s, numbers, room):
