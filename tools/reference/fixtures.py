@@ -330,7 +330,8 @@ def check_faults(rng, **given):
         d=4, n=2, r=2, K=1, L=1, w=1, kappa=1, kappa1=1, kappa2=1, b=16, b1=65536, t1=2, b2=16, t2=2, target_beta_squared=LARGEST_BOUND
     )._replace(**given)
     x = random_lists(rng, s, True)
-    x |= {"psi": [1] * 5, "omega": [1] * 5, "alpha": ring.one(4), "delta": ring.one(4) * 5, "c": ring.one(4) * s.r}
+    one = ring.one(s.d)
+    x |= {"psi": [1] * 5, "omega": [1] * 5, "alpha": one, "delta": one * 5, "c": one * s.r}
     x |= {name: [0] * len(x[name]) for name in ("b_matrix", "c_matrix", "d_matrix")}
     y = fold.honest(s, x)
     t, g, h = block_starts(s)

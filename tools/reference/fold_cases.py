@@ -14,6 +14,7 @@ import fold
 import ring
 import stored
 import low_digits
+import one_digit
 from fixtures import (
     SMALL, challenge, check_faults, honest_case, kept_draws, margin_sides, moved, random_lists, random_sizes, replaced, short_lists,
     sides_of_challenges, uniform,
@@ -212,6 +213,16 @@ def digit_widths(rng):
             yield line, output
 
 
+def one_digit_cases(groups, rng):
+    """Cases with z in one digit, and those of nonzero padding."""
+    for group in groups:
+        for number, s, x, *more in group(rng):
+            lengths, answer = more or ({}, None)
+            line, output = case(number, s, x, lengths)
+            assert answer is None or output[:2] == stored.answer_numbers(answer), (group, answer, output)
+            yield line, output
+
+
 def files():
     """Input and output. Of the first groups the challenges of degree 64 are kept ones."""
     rng = random.Random(20)
@@ -222,6 +233,8 @@ def files():
     cases += [line for group in (honest_at_64, challenge_sides) for line in group(rng)]
     cases += margins(random.Random(22))
     cases += digit_widths(random.Random(23))
+    cases += one_digit_cases(one_digit.GROUPS, random.Random(26))
+    cases += one_digit_cases([one_digit.padded_chains], random.Random(27))
     stdin = stored.numbers_text(line for line, _ in cases)
     assert len(stdin) <= LARGEST_INPUT_BYTES, len(stdin)
     assert max(len(line) for line, _ in cases) <= LARGEST_LINE_NUMBERS

@@ -32,8 +32,8 @@ Kind 3, a fold and a fold of the next instance. Nothing is refused here.
 Kinds 4, 5 and 6: as 1, 2 and 3, with z in one digit in the fold, in kind 6 in the first one; b of it stands in its place and is not looked at. The second fold
 of kind 6 has two z digits.
 
-The longest list that is written has 24840 numbers in kind 1 and 2408 in kind 3, the longest that is read 630, 1036 and 576 in kinds 1,
-2 and 3; in kind 3 the longest opening has 1156 numbers and the longest second witness 256.
+The longest list that is written has 24840 numbers in kinds 1 and 4 and 6144 in kinds 3 and 6, the longest that is read 630 in kinds 1 and 4, 1036 in kinds 2
+and 5, 576 in kinds 3 and 6; in kinds 3 and 6 the longest opening has 1792 numbers and the longest second witness 768.
 """
 
 import random
@@ -55,7 +55,7 @@ LARGEST_INPUT_BYTES = 2097152
 LARGEST_LINE_NUMBERS = 4096
 
 # The longest list that is written, by kind.
-LONGEST = {1: 24840, 3: 2408}
+LONGEST = {1: 24840, 3: 6144}
 
 # Kinds 4 to 6 are 1 to 3 with z in one digit.
 PLAIN_KINDS = 3
@@ -141,6 +141,7 @@ def files():
         cases = run_groups(next_groups.KEPT_GROUPS, random.Random(30))
     cases += run_groups(next_groups.GROUPS, random.Random(31))
     cases += run_groups(next_groups.WIDE_GROUPS, random.Random(32))
+    cases += run_groups(next_groups.ONE_DIGIT_GROUPS, random.Random(33))
     stdin = numbers_text(line for line, _ in cases)
     assert len(stdin) <= LARGEST_INPUT_BYTES, len(stdin)
     assert max(len(line) for line, _ in cases) <= LARGEST_LINE_NUMBERS

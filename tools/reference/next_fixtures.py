@@ -71,6 +71,16 @@ def tight(s, x, following, draws):
     return s, following._replace(beta_squared=s.target_beta_squared, target_beta_squared=ring.squared_norm(z["opening"]))
 
 
+def tight_case(rng, s, **free):
+    """A case of two folds, both accepted under the bounds of `tight`."""
+    x = random_lists(rng, s, True)
+    following = second_sizes(s, **free)
+    draws = second_draws(rng, following)
+    s, following = tight(s, x, following, draws)
+    second = second_fold(s, x, following, draws)
+    return s, x, following, draws, (accepted(s, fold.honest(s, x)), WRITTEN, accepted(following, second))
+
+
 def two_folds(rng):
     """By name: first sizes, first lists, second sizes, second draws, and the three answers: verdict, next instance, verdict."""
     cases = {}
@@ -84,13 +94,7 @@ def two_folds(rng):
         ("d = 4", {"d": 4, "n": 2, "r": 2, "K": 2, "L": 1, "w": 3, "mu": 3}, {"w": 2, "b": 65536, "b2": 65536, "kappa": 2, "kappa1": 3}),
         ("d = 8", {"d": 8, "n": 2, "r": 2, "K": 1, "w": 1, "kappa1": 2, "mu": 2}, {"b": 65536, "b2": 65536, "kappa2": 2}),
     ):
-        s = FIRST._replace(**changes)
-        x = random_lists(rng, s, True)
-        following = second_sizes(s, **free)
-        draws = second_draws(rng, following)
-        s, following = tight(s, x, following, draws)
-        second = second_fold(s, x, following, draws)
-        cases[name] = (s, x, following, draws, (accepted(s, fold.honest(s, x)), WRITTEN, accepted(following, second)))
+        cases[name] = tight_case(rng, FIRST._replace(**changes), **free)
 
     s, x, following, draws, (first, *_) = cases["d = 2, rows"]
     less = following._replace(target_beta_squared=following.target_beta_squared - 1)
@@ -105,4 +109,28 @@ def two_folds(rng):
     norm = ring.squared_norm(fold.honest(s, x)["opening"])
     less = s._replace(target_beta_squared=norm - 1)
     cases["first too long"] = (less, x, following._replace(beta_squared=norm - 1), draws, ([1, 9], WRITTEN, second))
+    return cases
+
+
+def one_digit_folds(rng):
+    """The same with z in one digit in the first fold; the first case cuts z into full chunks. Bases that two digits would not take stand in some."""
+    cases = {}
+    for name, changes, free in (
+        ("d = 2, full chunks", {"n": 12, "r": 2, "b": 1, "nu": 2, "mu": 3}, {"b2": 65536, "kappa1": 2}),
+        ("d = 2, rows", {"n": 5, "r": 2, "L": 1, "w": 2, "b": 0, "t1": 3, "nu": 2, "mu": 3}, {"w": 2, "b2": 65535, "kappa": 2}),
+        ("n = 5 in 4", {"n": 5, "r": 1, "kappa": 2, "b": 65537, "nu": 4, "mu": 3}, {"w": 1, "b1": 256, "t1": 4, "b2": 65536, "kappa2": 2}),
+        ("n = 1 in 9", {"L": 2, "nu": 9, "mu": 2}, {"b2": 65536}),
+        ("d = 4", {"d": 4, "n": 3, "r": 2, "K": 2, "L": 1, "w": 1, "b": 2**63 - 1, "nu": 2, "mu": 4}, {"w": 2, "b2": 65536, "kappa": 2, "kappa1": 3}),
+        ("d = 8", {"d": 8, "n": 3, "r": 2, "K": 1, "w": 1, "kappa1": 2, "b": 0, "nu": 2, "mu": 3}, {"b2": 65536, "kappa2": 2}),
+        ("d = 64", {"d": 64, "n": 2, "K": 0, "b": 1}, {"b2": 65536}),
+    ):
+        cases[name] = tight_case(rng, FIRST._replace(tz=1, **changes), b=65536, **free)
+    assert sizes.next_rank(cases["d = 2, full chunks"][0]) == 6
+
+    s, x, following, draws, (first, *_) = cases["d = 2, rows"]
+    less = following._replace(target_beta_squared=following.target_beta_squared - 1)
+    cases["second too long"] = (s, x, less, draws, (first, WRITTEN, [1, 9]))
+    cases["witness misses a constraint"] = (s, moved(x, "whole", -1), following, draws, ([1, 8], WRITTEN, [1, 8]))
+    shorter = s._replace(beta_squared=s.beta_squared - 1)
+    cases["first projection too long, nothing written"] = (shorter, x, following, draws, ([1, 1], [1, 1], [1, 8]))
     return cases

@@ -6,7 +6,7 @@
 The input of all cases: stored.sheets_text. With the argument `names` the script prints a line for each case: its number, its answer, its
 count of bytes, its group and name; last the count of cases by answer.
 
-Honest sheets are kept ones, but for the last seven groups: their openings are by the older rule of the low digit (ring.kept_rule), their
+Honest sheets are kept ones, but for the last eight groups: their openings are by the older rule of the low digit (ring.kept_rule), their
 challenges of degree 64 by the rule of the smaller degrees (kept_draws).
 
 Groups, in sheet_checks.py, sheet_numbers.py, sheet_faults.py and sheet_widths.py; a case's name says what is changed.
@@ -38,6 +38,7 @@ Groups, in sheet_checks.py, sheet_numbers.py, sheet_faults.py and sheet_widths.p
     wrapped_top_digits     squared lengths of digits, the low ones narrow, whose sums modulo 2^64 would hold
     one_digit_moved        a low digit moved and still narrow, a top digit at the end of the range; the whole case to bases of 2
     digit_widths           low digits on both sides of half their base, top digits of any width, other rows and failing checks beside 15
+    padded_chains          a chain whose z chunks are not full: of a statement that no witness solves the last fold is accepted
 """
 
 import random
@@ -74,6 +75,7 @@ def all_cases():
     rng = random.Random(24)
     for group in sheet_widths.GROUPS:
         cases += judged(group, rng)
+    cases += judged(sheet_checks.padded_chains, random.Random(27))
     return cases
 
 

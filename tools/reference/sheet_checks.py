@@ -5,6 +5,7 @@ answer is None where the script does not state it.
 from itertools import combinations
 
 import fold
+import padding
 import ring
 import sheet
 from fixtures import (
@@ -276,6 +277,16 @@ def margins(rng):
     """Target bounds on both sides of the squared length."""
     for name, answer, s, y in margin_sides(rng):
         yield name, answer, (s, y)
+
+
+def padded_chains(rng):
+    """padding.py: a statement that no witness solves fails 6; the fold of its next instance, with nonzero padding in a chunk of z, is accepted. The sheet of
+    a fold with one z digit does not exist, that of the fold after it does.
+    """
+    for name, s, y, following, z in padding.chains(rng):
+        if s.tz == 2:
+            yield f"{name}, the first fold", failed(6), (s, y)
+        yield f"{name}, the fold of the next instance", accepted(0), (following, z)
 
 
 GROUPS = (

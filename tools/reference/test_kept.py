@@ -115,5 +115,5 @@ def test_kept_files():
         numbers = list(map(int, case.lines[0].split()))
         assert not case.verdicts or len(numbers) == 62 and all(numbers[place] in (0, 1) for place in case.verdicts[0])
         assert numbers_text([numbers]) == case.lines[0]
-    messages = [case for case in found["crates/fold_cases"] if not case.input.startswith(b"6 ")]
+    messages = [case for case in found["crates/fold_cases"] if not case.input.startswith((b"6 ", b"8 "))]
     assert messages and not any(case.verdicts for case in messages)

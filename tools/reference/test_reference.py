@@ -9,13 +9,14 @@ import time
 import test_fold
 import test_kept
 import test_next
+import test_one_digit
 import test_ring
 import test_sheet
 
 
 def main():
     started = time.time()
-    for module in (test_ring, test_fold, test_next, test_sheet, test_kept):
+    for module in (test_ring, test_fold, test_next, test_one_digit, test_sheet, test_kept):
         for name, test in vars(module).items():
             if name.startswith("test_"):
                 before = time.time()
