@@ -1,7 +1,8 @@
 //! The sizes of a fold and its lists.
 use std::ops::{Deref, Range};
 
-/// "Header: d n r K L w κ κ1 κ2 b b1 b2 t1 t2 ν μ β² β'²"; `bound` is β² and `target` is β'².
+/// "Header: d n r K L w κ κ1 κ2 b b1 b2 t1 t2 ν μ β² β'²"; `bound` is β² and `target` is β'². And whether z has one digit: "With one, b is neither taken nor
+/// tested".
 #[derive(Clone, Copy, Debug, PartialEq, Eq)]
 pub struct Sizes {
     pub d: usize,
@@ -22,6 +23,7 @@ pub struct Sizes {
     pub mu: usize,
     pub bound: u64,
     pub target: u64,
+    pub one_digit: bool,
 }
 
 /// The numbers of a header.
@@ -40,14 +42,24 @@ impl Sizes {
     pub fn from_header(header: [u64; SIZES]) -> Sizes {
         let [d, n, r, k, l, w, kappa, kappa1, kappa2, b, b1, b2, t1, t2, nu, mu, _, _] = header.map(|v| v as usize);
         let [.., bound, target] = header;
-        Sizes { d, n, r, k, l, w, kappa, kappa1, kappa2, b, b1, b2, t1, t2, nu, mu, bound, target }
+        Sizes { d, n, r, k, l, w, kappa, kappa1, kappa2, b, b1, b2, t1, t2, nu, mu, bound, target, one_digit: false }
+    }
+
+    /// The sizes as a sheet has them: "The sheet keeps two digits". With one there is no base, and 0, which is none, stands in its place.
+    pub fn on_sheet(&self) -> Sizes {
+        Sizes { b: if self.one_digit { 0 } else { self.b }, one_digit: false, ..*self }
     }
 
     pub fn header(&self) -> [u64; SIZES] {
-        let Sizes { d, n, r, k, l, w, kappa, kappa1, kappa2, b, b1, b2, t1, t2, nu, mu, bound, target } = *self;
+        let Sizes { d, n, r, k, l, w, kappa, kappa1, kappa2, b, b1, b2, t1, t2, nu, mu, bound, target, one_digit: _ } = *self;
         let mut all = [d, n, r, k, l, w, kappa, kappa1, kappa2, b, b1, b2, t1, t2, nu, mu, 0, 0].map(|v| v as u64);
         (all[16], all[17]) = (bound, target);
         all
+    }
+
+    /// The number of z digits: "z has two, or one".
+    pub fn z_digits(&self) -> usize {
+        if self.one_digit { 1 } else { 2 }
     }
 
     /// "(r²+r)/2"
@@ -68,7 +80,7 @@ impl Sizes {
     /// How many numbers the messages write.
     pub fn room(&self) -> Room {
         Room {
-            z: product([2, self.n, self.d]),
+            z: product([self.z_digits(), self.n, self.d]),
             t: product([self.r, self.t1, self.kappa, self.d]),
             g: product([self.pair_count(), self.t2, self.d]),
             h: product([self.pair_count(), self.t1, self.d]),
@@ -84,7 +96,7 @@ impl Sizes {
         let (pairs, room) = (self.pair_count(), self.room());
         let (t, g) = (room.z, room.z + room.t);
         [
-            Block { start: 0, base: self.b, values: 1, digits: 2, width: self.n * self.d },
+            Block { start: 0, base: self.b, values: 1, digits: self.z_digits(), width: self.n * self.d },
             Block { start: t, base: self.b1, values: self.r, digits: self.t1, width: self.kappa * self.d },
             Block { start: g, base: self.b2, values: pairs, digits: self.t2, width: self.d },
             Block { start: g + room.g, base: self.b1, values: pairs, digits: self.t1, width: self.d },

@@ -144,10 +144,13 @@ pub fn message4(s: &Sizes, l: &Lists<impl Numbers>, aggregate: &Function) -> [Ve
     [flat(&h), flat(&second_outer(s, l, &h))]
 }
 
-/// Message 5: "z = Σ c_i s_i in two digits to base b"; z low, then z high.
+/// Message 5: "z = Σ c_i s_i in two digits to base b, or in one"; z low, then z high, or z.
 pub fn message5(s: &Sizes, l: &Lists<impl Numbers>) -> [Vec<i32>; 1] {
     let (c, parts) = (elements(s.d, &l.c), parts(s, &l.witness));
     let z = (0..s.n).map(|k| sum_products(s.d, c.iter().zip(parts.iter().map(|part| &part[k]))));
+    if s.one_digit {
+        return [flat(&z.collect::<Vec<El>>())];
+    }
     let (low, high): (Vec<El>, Vec<El>) = z.map(|z| digits(s.b, 2, &z)).map(|mut two| (two.remove(0), two.remove(0))).unzip();
     [flat(&[low, high].concat())]
 }

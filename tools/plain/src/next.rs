@@ -15,9 +15,9 @@ pub fn rank(s: &Sizes) -> usize {
     s.n.div_ceil(s.nu).max(rest(s).div_ceil(s.mu))
 }
 
-/// The sizes of the next instance; its commitment ranks, bases and digit counts are free and left as they are.
+/// The sizes of the next instance, r' "= 2ν+μ, with one z digit r' = ν+μ"; its commitment ranks, bases and digit counts are free and left as they are.
 pub fn sizes(s: &Sizes) -> Sizes {
-    Sizes { n: rank(s), r: 2 * s.nu + s.mu, k: s.kappa + s.kappa1 + s.kappa2 + 3, l: 0, bound: s.target, ..*s }
+    Sizes { n: rank(s), r: s.z_digits() * s.nu + s.mu, k: s.kappa + s.kappa1 + s.kappa2 + 3, l: 0, bound: s.target, ..*s }
 }
 
 /// `total` places from `from` on in `count` chunks; "the last chunks may be short or empty".
@@ -26,9 +26,10 @@ fn cut(from: usize, total: usize, count: usize) -> impl Iterator<Item = Range<us
     (0..count).map(move |i| from + (i * size).min(total)..from + ((i + 1) * size).min(total))
 }
 
-/// The elements of the opening that each part of the next witness has.
+/// The elements of the opening that each part of the next witness has: z low and z high, or z, "cut into ν chunks each", then the rest.
 pub fn chunks(s: &Sizes) -> Vec<Range<usize>> {
-    cut(0, s.n, s.nu).chain(cut(s.n, s.n, s.nu)).chain(cut(2 * s.n, rest(s), s.mu)).collect()
+    let z = (0..s.z_digits()).flat_map(|digit| cut(digit * s.n, s.n, s.nu));
+    z.chain(cut(s.z_digits() * s.n, rest(s), s.mu)).collect()
 }
 
 /// "every chunk is padded with zeros at its end to n'": `width` numbers or elements stand for one element of the opening.
@@ -58,15 +59,15 @@ struct Constraint {
     b: El,
 }
 
-/// "Each is laid out as on the sheet: a, φ, b." z low has the coefficient of z, z high b times it.
+/// "Each is laid out as on the sheet: a, φ, b." z low has the coefficient of z, z high b times it; z in one digit has it.
 fn laid_out(s: &Sizes, x: Constraint) -> Vec<i32> {
     let room = s.room();
     let or_zero = |mut block: Vec<El>, numbers: usize| {
         block.resize(numbers / s.d, zero(s.d));
         block
     };
-    let z = or_zero(x.z, room.z / 2);
-    let high = z.iter().map(|e| scale(s.b as i64, e)).collect();
+    let z = or_zero(x.z, s.n * s.d);
+    let high = if s.one_digit { vec![] } else { z.iter().map(|e| scale(s.b as i64, e)).collect() };
     let places = [z, high, or_zero(x.t, room.t), or_zero(x.g, room.g), or_zero(x.h, room.h)].concat();
     let a_of = |pair| x.a.iter().find(|(at, _)| *at == pair).map_or(zero(s.d), |(_, a)| a.clone());
     let a = sizes(s).pairs().into_iter().map(a_of).collect();
@@ -95,8 +96,11 @@ fn folded_t(s: &Sizes, c: &[El], k: usize) -> Vec<El> {
     t
 }
 
-/// <z,z>, where z is low + b·high, chunk by chunk.
+/// <z,z>, where z is low + b·high, chunk by chunk; with one digit "each chunk of z with itself has a = 1 in check 6, and all other a are zero."
 fn square(s: &Sizes) -> Vec<((usize, usize), El)> {
+    if s.one_digit {
+        return (0..s.nu).map(|x| ((x, x), constant(s.d, 1))).collect();
+    }
     let (b, nu) = (s.b as i64, s.nu);
     let of = |x| [((x, x), 1), ((x, nu + x), 2 * b), ((nu + x, nu + x), b * b)];
     (0..nu).flat_map(of).map(|(pair, a)| (pair, constant(s.d, a))).collect()
@@ -140,4 +144,62 @@ pub fn meets(s: &Sizes, numbers: &[i32], witness: &[i32]) -> bool {
     let parts = parts(s, witness);
     let products = pair_products(s, &parts);
     whole(s, numbers).iter().all(|(f, b)| value(s, f, &parts, &products) == *b)
+}
+
+#[cfg(test)]
+mod tests {
+    use super::*;
+
+    /// The whole case of SPECIFICATION 12.4 with z in one digit: z = -2+X as it is; checks 5, 6, 7, 8, 3, 4, each as a (3 elements), φ (2 parts of 6), b.
+    #[test]
+    fn whole_case_in_one_digit() {
+        let s = Sizes {
+            d: 2, n: 1, r: 1, k: 1, l: 0, w: 0, kappa: 1, kappa1: 1, kappa2: 1, b: 0, b1: 8, b2: 4, t1: 2, t2: 2, nu: 1, mu: 1, bound: 5, target: 13, one_digit: true,
+        };
+        let mut l = Lists::zeros(&s);
+        l.a_matrix = vec![1, 0];
+        l.b_matrix = vec![1, 0, 0, 0];
+        l.c_matrix = vec![1, 0, 0, 0];
+        l.d_matrix = vec![1, 0, 1, 0];
+        l.whole = vec![1, 0, 0, 0, -3, 4];
+        (l.alpha, l.c, l.witness) = (vec![1, 0], vec![0, 1], vec![1, 2]);
+        let second = second(&s, &l);
+        let [t, g, u1] = message1(&s, &l);
+        let [h, u2] = message4(&s, &l, &aggregate(&s, &l, &second));
+        let [z] = message5(&s, &l);
+        assert_eq!(z, [-2, 1]);
+        (l.u1, l.u2, l.opening) = (u1, u2, [z, t, g, h].concat());
+        assert_eq!(l.opening, [-2, 1, 1, 2, 0, 0, 1, 0, -1, 1, 0, 0, 0, 0]);
+        assert_eq!(crate::verdict::verdict(&s, &l, &second), crate::verdict::Verdict::Accepted(0));
+        let (z, rest, b) = (3, 9, 15);
+        let nonzero: [&[(usize, [i32; 2])]; 6] = [
+            &[(z, [1, 0]), (rest, [0, -1]), (rest + 1, [0, -8])],
+            &[(0, [1, 0]), (rest + 2, [1, 0]), (rest + 3, [4, 0])],
+            &[(rest + 4, [1, 0]), (rest + 5, [8, 0])],
+            &[(rest + 2, [1, 0]), (rest + 3, [4, 0]), (rest + 4, [1, 0]), (rest + 5, [8, 0]), (b, [-3, 4])],
+            &[(rest, [1, 0]), (rest + 2, [1, 0]), (b, [2, 2])],
+            &[(rest + 4, [1, 0]), (rest + 5, [1, 0])],
+        ];
+        let mut should = vec![0; 6 * 16 * 2];
+        for (constraint, all) in nonzero.iter().enumerate() {
+            for (place, element) in *all {
+                should[(constraint * 16 + place) * 2..][..2].copy_from_slice(element);
+            }
+        }
+        let written = instance(&s, &l, &second).unwrap();
+        assert_eq!(written, should);
+        let after = sizes(&s);
+        assert_eq!((after.n, after.r, after.k), (6, 2, 6));
+        assert!(meets(&after, &written, &witness(&s, &l.opening)));
+    }
+
+    /// n = 4 and ν = 3: chunks of 2, 2 and 0 elements, then the rest.
+    #[test]
+    fn chunks_of_one_z_digit() {
+        let s = Sizes {
+            d: 2, n: 4, r: 1, k: 0, l: 0, w: 0, kappa: 1, kappa1: 1, kappa2: 1, b: 0, b1: 8, b2: 4, t1: 2, t2: 2, nu: 3, mu: 1, bound: 5, target: 13, one_digit: true,
+        };
+        assert_eq!(chunks(&s), [0..2, 2..4, 4..4, 4..10]);
+        assert_eq!(chunks(&Sizes { one_digit: false, ..s }), [0..2, 2..4, 4..4, 4..6, 6..8, 8..8, 8..14]);
+    }
 }

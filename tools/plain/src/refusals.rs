@@ -43,7 +43,12 @@ fn chunks(s: &Sizes) -> Refusal {
 
 /// r'
 fn parts(s: &Sizes) -> u128 {
-    2 * s.nu as u128 + s.mu as u128
+    s.z_digits() as u128 * s.nu as u128 + s.mu as u128
+}
+
+/// Row 4 of the base of z: "With one, b is neither taken nor tested."
+fn z_base(s: &Sizes) -> Refusal {
+    if s.one_digit { Ok(()) } else { digits([s.b], []) }
 }
 
 /// The rows 1 to 6 of the verifier, and with `nu_mu` those of the next instance, which are those of a sheet.
@@ -51,7 +56,8 @@ pub fn sizes(s: &Sizes, nu_mu: bool) -> Refusal {
     degree(s)?;
     row(2, shape(s) && count(s.k) && count(s.l) && rows(s.w))?;
     ranks([s.kappa, s.kappa1, s.kappa2])?;
-    digits([s.b, s.b1, s.b2], [s.t1, s.t2])?;
+    z_base(s)?;
+    digits([s.b1, s.b2], [s.t1, s.t2])?;
     if nu_mu {
         chunks(s)?;
     }
@@ -145,7 +151,7 @@ pub fn commit_garbage(s: &Sizes, l: &Lists<impl Numbers>, room: &Room) -> Refusa
 pub fn amortize(s: &Sizes, l: &Lists<impl Numbers>, room: &Room) -> Refusal {
     degree(s)?;
     row(2, shape(s))?;
-    digits([s.b], [])?;
+    z_base(s)?;
     lists(reads!(s, l, c witness), &[(room.z, s.room().z)])?;
     challenges(s.d, &l.c)
 }
@@ -195,7 +201,55 @@ mod tests {
     fn sizes_of(b: usize, b1: usize, b2: usize) -> Sizes {
         Sizes {
             d: 2, n: 2, r: 2, k: 0, l: 0, w: 1, kappa: 2, kappa1: 1, kappa2: 1, b, b1, b2, t1: 3, t2: 4, nu: 1, mu: 1, bound: 0, target: 0,
+            one_digit: false,
         }
+    }
+
+    fn one_digit(b: usize) -> Sizes {
+        Sizes { b, one_digit: true, ..sizes_of(4, 3, 5) }
+    }
+
+    /// With one z digit no b is refused and z is free; the low digits of t, g and h are tested as with two.
+    #[test]
+    fn one_z_digit() {
+        for b in [0, 1, 4, 65537, usize::MAX] {
+            let s = one_digit(b);
+            let mut l = Lists::zeros(&s);
+            assert_eq!(l.opening.len(), (2 + next::rest(&s)) * 2);
+            assert_eq!(amortize(&s, &l, &s.room()), Ok(()));
+            assert_eq!(amortize(&s, &l, &Room { z: 8, ..s.room() }), Err(7));
+            assert_eq!(amortize(&Sizes { one_digit: false, b: 4, ..s }, &l, &s.room()), Err(7));
+            assert_eq!(sizes(&Sizes { one_digit: false, ..s }, true), row(4, b == 4));
+            let [z, t, g, h] = s.blocks();
+            for (block, free) in [(z, true), (t, false), (g, false), (h, false)] {
+                l.opening[block.start] = 4;
+                assert_eq!(verify(&s, &l), row(15, free));
+                l.opening[block.start] = 0;
+            }
+            l.opening.extend([0; 4]);
+            assert_eq!(verify(&s, &l), Err(7));
+            l.opening.truncate(l.opening.len() - 4);
+            assert_eq!(verify(&Sizes { one_digit: false, b: 4, ..s }, &l), Err(7));
+            assert_eq!(verify(&Sizes { b1: 1, ..s }, &l), Err(4));
+        }
+    }
+
+    /// ν+μ against 16, and a part against ν+μ, also where row 5 refuses.
+    #[test]
+    fn cuts_of_one_z_digit() {
+        for (nu, mu, one, two) in [(9, 7, true, false), (15, 1, true, false), (7, 2, true, true), (16, 1, false, false), (9, 8, false, false), (0, 1, false, false)] {
+            let s = Sizes { nu, mu, ..one_digit(0) };
+            assert_eq!(sizes(&s, true), row(5, one), "{nu} {mu}");
+            assert_eq!(sizes(&Sizes { one_digit: false, b: 4, ..s }, true), row(5, two), "{nu} {mu}");
+        }
+        let s = Sizes { nu: 8, mu: 1, ..one_digit(0) };
+        let length = s.lengths().opening;
+        assert_eq!([0, 1, 9, 10, 17].map(|part| next_part(&s, part, length)), [Err(2), Ok(()), Ok(()), Err(2), Err(2)]);
+        assert_eq!(next_part(&s, 9, length + 4), Err(7));
+        let s = Sizes { nu: 16, mu: 1, ..s };
+        assert_eq!([1, 17, 18].map(|part| next_part(&s, part, length)), [Err(5), Err(5), Err(2)]);
+        let s = Sizes { nu: usize::MAX, mu: usize::MAX, ..s };
+        assert_eq!(next_part(&s, usize::MAX, length), Err(5));
     }
 
     /// Both sides of half, odd and even bases, each low digit of each block with both signs; every top digit is free.

@@ -51,15 +51,15 @@ pub fn write(s: &Sizes, l: &Lists<Vec<i32>>) -> Vec<u8> {
     text_of(s, &l.in_sheet_order())
 }
 
-/// How many bytes the text of a sheet of these sizes has; 0 where they are refused (1 to 6).
+/// How many bytes the text of a sheet of these sizes has; 0 where they are refused (1 to 6). Sizes of one z digit are refused: a sheet has two.
 pub fn bytes_of(s: &Sizes) -> usize {
-    refusals::sizes(s, true).map_or(0, |()| bytes(s))
+    refusals::sizes(&s.on_sheet(), true).map_or(0, |()| bytes(s))
 }
 
 /// "turns the numbers of a sheet into its one text, into a lent buffer, and answers the text's length": 1 to 6 as for a header, 7 for the count of
 /// numbers, 8 to 10 for the numbers, "13, after 11, exactly when the buffer is shorter than the text". "Bytes past the text are untouched."
 pub fn write_into(s: &Sizes, numbers: &[i32], text: &mut [u8]) -> Result<usize, u8> {
-    refusals::sizes(s, true)?;
+    refusals::sizes(&s.on_sheet(), true)?;
     row(7, numbers.len() == line_widths(s).iter().sum::<usize>())?;
     refusals::numbers(s, &Lists::from_sheet_order(s, numbers))?;
     let length = bytes(s);

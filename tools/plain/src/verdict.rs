@@ -22,16 +22,17 @@ struct Opening {
     h: Vec<El>,
 }
 
-/// "Order: z low, z high; t by part, then digit, then row; g and h by i, then j, then digit."
+/// "Order: z low, z high, with one digit z; t by part, then digit, then row; g and h by i, then j, then digit."
 fn opening(s: &Sizes, numbers: &[i32]) -> Opening {
     let room = s.room();
     let (z, rest) = numbers.split_at(room.z);
     let (t, rest) = rest.split_at(room.t);
     let (g, h) = rest.split_at(room.g);
     let [z, t, g, h] = [z, t, g, h].map(|block| elements(s.d, block));
+    let z_of = |k: usize| if s.one_digit { z[k].clone() } else { recompose(s.d, s.b, [&z[k], &z[s.n + k]].into_iter()) };
     let t_row = |part: &[El], k: usize| recompose(s.d, s.b1, part.iter().skip(k).step_by(s.kappa));
     Opening {
-        z: (0..s.n).map(|k| recompose(s.d, s.b, [&z[k], &z[s.n + k]].into_iter())).collect(),
+        z: (0..s.n).map(z_of).collect(),
         t: t.chunks(s.t1 * s.kappa).map(|part| (0..s.kappa).map(|k| t_row(part, k)).collect()).collect(),
         g: g.chunks(s.t2).map(|block| recompose(s.d, s.b2, block.iter())).collect(),
         h: h.chunks(s.t1).map(|block| recompose(s.d, s.b1, block.iter())).collect(),
