@@ -14,4 +14,4 @@ pub use element::Element;
 pub use proof::{Draws, Messages, Proof, Statement};
 pub use prover::Prover;
 pub use sheet::{judge_sheet, read_sheet, sheet_bytes, sheet_numbers, write_sheet, Sheet};
-pub use sizes::{Cut, Lengths, NextSizes, Sizes};
+pub use sizes::{Cut, Lengths, NextSizes, Sizes, ZDigits};

@@ -1,5 +1,5 @@
 use crate::sizes::room;
-use crate::{raw, Cut, Lengths, Next, Refused, Sheet, Sizes, Verdict};
+use crate::{raw, Cut, Lengths, Next, Refused, Sheet, Sizes, Verdict, ZDigits};
 
 /// A statement: its sizes, the matrices of the commitments and the constraints. Its methods are the prover's messages, written to lent lists;
 /// [`Prover`](crate::Prover) makes them with lists of its own.
@@ -52,7 +52,7 @@ pub struct Messages<'a> {
     pub second_b: &'a [i32],
     /// Message 4: the commitment to the h digits.
     pub u2: &'a [i32],
-    /// Message 5: z low, z high, the digits of t, g and h.
+    /// Message 5: z low, z high, or z in one digit; the digits of t, g and h.
     pub opening: &'a [i32],
 }
 
@@ -112,12 +112,17 @@ impl Statement<'_> {
             .written()
     }
 
-    /// Message 5: writes z low, then z high. Of the draws it takes the challenges.
+    /// Message 5: writes z low, then z high, or z in one digit. Of the draws it takes the challenges.
     ///
     /// # Errors
-    /// Refused 1, 2, 4, 7, 8, 10; then nothing is written.
+    /// Refused 1, 2, 4, 7, 8, 10, with one digit not 4; then nothing is written.
     pub fn amortize(&self, draws: &Draws, witness: &[i32], z: &mut [i32]) -> Result<(), Refused> {
-        raw::lizkarg_amortize(self.sizes.shape(), self.sizes.b, draws.c, witness, z).written()
+        let shape = self.sizes.shape();
+        match self.sizes.z {
+            ZDigits::One => raw::lizkarg_amortize_one_digit(shape, draws.c, witness, z),
+            ZDigits::Two(b) => raw::lizkarg_amortize(shape, b, draws.c, witness, z),
+        }
+        .written()
     }
 }
 
@@ -151,7 +156,7 @@ impl<'a> Proof<'a> {
     pub fn verify(&self) -> Result<Verdict, Refused> {
         let Proof { statement: s, draws: v, messages: m } = self;
         raw::lizkarg_verify(
-            s.sizes,
+            s.sizes.raw(),
             s.a_matrix,
             s.b_matrix,
             s.c_matrix,
@@ -173,7 +178,7 @@ impl<'a> Proof<'a> {
         .judged()
     }
 
-    /// The text of the sheet that holds this proof.
+    /// The text of the sheet that holds this proof, which has two z digits.
     ///
     /// ```
     /// use lizkarg::Sheet;
@@ -185,7 +190,7 @@ impl<'a> Proof<'a> {
     /// ```
     ///
     /// # Errors
-    /// Refused 1 to 10.
+    /// Refused 1 to 10; with one z digit by 4 if not by 1 to 3.
     pub fn write_sheet(&self, cut: Cut) -> Result<Vec<u8>, Refused> {
         let Proof { statement: s, draws: v, messages: m } = self;
         let l = s.sizes.lengths();
@@ -222,7 +227,7 @@ impl<'a> Proof<'a> {
     pub fn write_next_instance(&self, cut: Cut, out: &mut [i32]) -> Result<Next, Refused> {
         let Proof { statement: s, draws: v, messages: m } = self;
         let answer = raw::lizkarg_next_instance(
-            s.sizes,
+            s.sizes.raw(),
             cut.nu,
             cut.mu,
             s.a_matrix,
@@ -249,7 +254,8 @@ impl<'a> Proof<'a> {
         })
     }
 
-    /// The constraints of the next instance. The opening is not looked at.
+    /// The constraints of the next instance. The opening is not looked at. A chain must cut with ν·n' = n ([`Sizes::has_full_chunks`]): else its accepted end says
+    /// nothing of this statement.
     ///
     /// ```
     /// use lizkarg::{Next, Sheet};
@@ -273,7 +279,7 @@ impl<'a> Proof<'a> {
     /// Part `part`, from 1, of the next witness, without the zeros that pad it: that chunk of the opening.
     ///
     /// # Errors
-    /// Refused 1 to 5, 7; 2 also for a part that is not 1 to 2ν+μ.
+    /// Refused 1 to 5, 7; 2 also for a part that is not 1 to r': 2ν+μ, with one z digit ν+μ.
     pub fn next_part(&self, cut: Cut, part: usize) -> Result<&'a [i32], Refused> {
         match raw::lizkarg_next_part_refusal(self.statement.sizes.part_sizes(cut), part, self.messages.opening) {
             0 => Ok(self.next_part_or_empty(cut, part)),

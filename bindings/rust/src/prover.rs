@@ -4,9 +4,9 @@ use crate::{Draws, Messages, Proof, Refused, Statement};
 /// A prover with the lists that its messages write. Each message answers what is sent; what is drawn after it goes into the [`Draws`] of the next.
 ///
 /// ```
-/// use lizkarg::{Draws, Prover, Sizes, Statement, Verdict};
+/// use lizkarg::{Draws, Prover, Sizes, Statement, Verdict, ZDigits};
 ///
-/// let sizes = Sizes { d: 2, n: 1, r: 1, k: 1, l: 0, w: 0, kappa: 1, kappa1: 1, kappa2: 1, b: 4, b1: 8, b2: 4, t1: 2, t2: 2, bound: 5, target: 13 };
+/// let sizes = Sizes { d: 2, n: 1, r: 1, k: 1, l: 0, w: 0, kappa: 1, kappa1: 1, kappa2: 1, z: ZDigits::Two(4), b1: 8, b2: 4, t1: 2, t2: 2, bound: 5, target: 13 };
 /// let (a_matrix, b_matrix, c_matrix, d_matrix) = (&[1, 0], &[1, 0, 0, 0], &[1, 0, 0, 0], &[1, 0, 1, 0]);
 /// let statement = Statement { sizes, a_matrix, b_matrix, c_matrix, d_matrix, whole: &[1, 0, 0, 0, -3, 4], constant_terms: &[] };
 /// let mut prover = Prover::new(statement, &[1, 2]);

@@ -1,6 +1,6 @@
 //! The C interface, as bindings/c/lizkarg.h declares it, each list as a slice. All that is unsafe in this crate stands in `calls!`.
 
-use crate::{Element, Refused, Sizes, Verdict};
+use crate::{Element, Refused, Verdict};
 
 #[repr(C)]
 #[derive(Clone, Copy)]
@@ -74,6 +74,27 @@ pub struct GarbageSizes {
 }
 
 #[repr(C)]
+pub struct Sizes {
+    pub d: usize,
+    pub n: usize,
+    pub r: usize,
+    pub k: usize,
+    pub l: usize,
+    pub w: usize,
+    pub kappa: usize,
+    pub kappa1: usize,
+    pub kappa2: usize,
+    pub b: usize,
+    pub b1: usize,
+    pub b2: usize,
+    pub t1: usize,
+    pub t2: usize,
+    pub bound: u64,
+    pub target: u64,
+    pub one_digit: u8,
+}
+
+#[repr(C)]
 #[derive(Clone, Copy)]
 pub struct PartSizes {
     pub d: usize,
@@ -84,6 +105,7 @@ pub struct PartSizes {
     pub t2: usize,
     pub nu: usize,
     pub mu: usize,
+    pub one_digit: u8,
 }
 
 #[repr(C)]
@@ -155,6 +177,7 @@ calls! {
     lizkarg_commit_garbage<i32>(
         sizes: GarbageSizes; whole, constant_terms, projections, psi, omega, alpha, delta, d_matrix, witness; h: i32, u2: i32) -> Answer;
     lizkarg_amortize<i32>(shape: Shape, b: usize; c, witness; z: i32) -> Answer;
+    lizkarg_amortize_one_digit<i32>(shape: Shape; c, witness; z: i32) -> Answer;
     lizkarg_verify<i32>(
         sizes: Sizes; a_matrix, b_matrix, c_matrix, d_matrix, whole, constant_terms, u1, projections, p, psi, omega, second_b, alpha, delta,
         u2, c, opening;) -> Answer;

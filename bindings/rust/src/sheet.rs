@@ -1,4 +1,4 @@
-use crate::{raw, Cut, Proof, Refused, Sizes, Verdict};
+use crate::{raw, Cut, Proof, Refused, Sizes, Verdict, ZDigits};
 
 /// A sheet: its header and the numbers after it.
 ///
@@ -15,7 +15,7 @@ use crate::{raw, Cut, Proof, Refused, Sizes, Verdict};
 /// ```
 #[derive(Clone, Debug, PartialEq, Eq)]
 pub struct Sheet {
-    /// The statement's sizes, bases and bounds.
+    /// The statement's sizes, bases and bounds. A sheet has two z digits: with one there is no base, and the writer refuses by 4 if not by 1 to 3.
     pub sizes: Sizes,
     /// ν and μ.
     pub cut: Cut,
@@ -76,21 +76,21 @@ pub fn read_sheet(text: &[u8], numbers: &mut [i32]) -> Result<(Sizes, Cut), Refu
     let header = raw::lizkarg_read_sheet(text, numbers);
     header.answer.written()?;
     let raw::Header { d, n, r, k, l, w, kappa, kappa1, kappa2, b, b1, b2, t1, t2, nu, mu, bound, target, .. } = header;
-    Ok((Sizes { d, n, r, k, l, w, kappa, kappa1, kappa2, b, b1, b2, t1, t2, bound, target }, Cut { nu, mu }))
+    Ok((Sizes { d, n, r, k, l, w, kappa, kappa1, kappa2, z: ZDigits::Two(b), b1, b2, t1, t2, bound, target }, Cut { nu, mu }))
 }
 
-/// How many bytes the text of a sheet of these sizes has; 0 where they are refused, by 1 to 6.
+/// How many bytes the text of a sheet of these sizes has; 0 where they are refused, by 1 to 6, which sizes of one z digit are.
 #[must_use]
 pub fn sheet_bytes(sizes: Sizes, cut: Cut) -> usize {
-    raw::lizkarg_sheet_bytes(sizes, cut.nu, cut.mu)
+    raw::lizkarg_sheet_bytes(sizes.raw(), cut.nu, cut.mu)
 }
 
 /// Writes a sheet to the first [`sheet_bytes`] bytes of `text`, and answers their number; those past them stay as they are. `numbers` are all
-/// numbers after the header, in the sheet's order. [`Sheet::write`] and [`Proof::write_sheet`] make a text of their own.
+/// numbers after the header, in the sheet's order. Sizes of one z digit are refused by 4 if not by 1 to 3. [`Sheet::write`] and [`Proof::write_sheet`] make a text of their own.
 ///
 /// # Errors
 /// Refused 1 to 10; 13 where `text` is too short. Then nothing is written.
 pub fn write_sheet(sizes: Sizes, cut: Cut, numbers: &[i32], text: &mut [u8]) -> Result<usize, Refused> {
-    let written = raw::lizkarg_write_sheet(sizes, cut.nu, cut.mu, numbers, text);
+    let written = raw::lizkarg_write_sheet(sizes.raw(), cut.nu, cut.mu, numbers, text);
     written.answer.written().map(|()| written.length)
 }

@@ -3,8 +3,36 @@ use crate::raw;
 /// The number of second functions: b'' and δ have five elements, ψ and ω five rows.
 const FIVE: usize = 5;
 
+/// How an opening keeps z: in two digits, or whole in one. The next instance of one digit has no mixed products and fewer parts: r' = ν+μ. A sheet has two.
+#[derive(Clone, Copy, Debug, PartialEq, Eq, Hash)]
+pub enum ZDigits {
+    /// z itself. There is no base, and none is refused.
+    One,
+    /// z low and z high, to this base: 2 to 65536.
+    Two(usize),
+}
+
+impl ZDigits {
+    /// How many there are.
+    #[must_use]
+    pub fn count(self) -> usize {
+        match self {
+            ZDigits::One => 1,
+            ZDigits::Two(_) => 2,
+        }
+    }
+
+    /// The base, if there is one.
+    #[must_use]
+    pub fn base(self) -> Option<usize> {
+        match self {
+            ZDigits::One => None,
+            ZDigits::Two(b) => Some(b),
+        }
+    }
+}
+
 /// The sizes, bases and bounds of a statement, in the sheet's order. `Sizes::lengths` has the length of every list.
-#[repr(C)]
 #[derive(Clone, Copy, Debug, PartialEq, Eq, Hash)]
 pub struct Sizes {
     /// The degree: 2, 4, 8, 16, 32 or 64.
@@ -25,8 +53,8 @@ pub struct Sizes {
     pub kappa1: usize,
     /// κ2, the rows of D: 1 to 8.
     pub kappa2: usize,
-    /// The base of the two digits of z: 2 to 65536.
-    pub b: usize,
+    /// z in two digits, with their base, or in one.
+    pub z: ZDigits,
     /// The base of the digits of t and h: 2 to 65536.
     pub b1: usize,
     /// The base of the digits of g: 2 to 65536.
@@ -41,7 +69,10 @@ pub struct Sizes {
     pub target: u64,
 }
 
-/// How the next instance cuts an opening: z low and z high into ν chunks each, the rest into μ. Both are at least 1, 2ν+μ at most 16.
+/// How the next instance cuts an opening: z low and z high into ν chunks each, the rest into μ. Both are at least 1, 2ν+μ at most 16. With one z digit z is cut
+/// into ν chunks, and ν+μ is at most 16.
+///
+/// A chain, which folds the next instance in its turn, must cut z into full chunks: [`Sizes::has_full_chunks`].
 #[derive(Clone, Copy, Debug, PartialEq, Eq, Hash)]
 pub struct Cut {
     /// ν.
@@ -89,7 +120,7 @@ pub struct Lengths {
     pub opening: usize,
     /// The witness: r parts of n elements.
     pub witness: usize,
-    /// z low and z high: n elements each.
+    /// z low and z high, or z: n elements each.
     pub z: usize,
     /// The t digits.
     pub t: usize,
@@ -104,7 +135,7 @@ pub struct Lengths {
 pub struct NextSizes {
     /// n', the elements to a part.
     pub n: usize,
-    /// r' = 2ν+μ, the parts.
+    /// r' = 2ν+μ, with one z digit ν+μ: the parts.
     pub r: usize,
     /// K' = κ+κ1+κ2+3, the constraints, all of the whole kind.
     pub k: usize,
@@ -136,14 +167,14 @@ impl Sizes {
     /// How many numbers each list has.
     ///
     /// ```
-    /// # let sizes = lizkarg::Sizes { d: 2, n: 1, r: 1, k: 1, l: 0, w: 0, kappa: 1, kappa1: 1, kappa2: 1, b: 4, b1: 8, b2: 4, t1: 2, t2: 2, bound: 5, target: 13 };
+    /// # let sizes = lizkarg::Sizes { d: 2, n: 1, r: 1, k: 1, l: 0, w: 0, kappa: 1, kappa1: 1, kappa2: 1, z: lizkarg::ZDigits::Two(4), b1: 8, b2: 4, t1: 2, t2: 2, bound: 5, target: 13 };
     /// let lengths = sizes.lengths();
     /// assert_eq!((lengths.witness, lengths.whole, lengths.opening), (2, 6, 16));
     /// ```
     #[must_use]
     pub fn lengths(&self) -> Lengths {
         let Sizes { d, n, r, k, l, w, kappa, kappa1, kappa2, t1, t2, .. } = *self;
-        let (z, t) = (product([2, n, d]), product([r, t1, kappa, d]));
+        let (z, t) = (product([self.z.count(), n, d]), product([r, t1, kappa, d]));
         let (g, h) = (product([pairs(r), t2, d]), product([pairs(r), t1, d]));
         let function = function(d, n, r);
         Lengths {
@@ -175,7 +206,7 @@ impl Sizes {
     /// The sizes of the next instance.
     ///
     /// ```
-    /// # let sizes = lizkarg::Sizes { d: 2, n: 1, r: 1, k: 1, l: 0, w: 0, kappa: 1, kappa1: 1, kappa2: 1, b: 4, b1: 8, b2: 4, t1: 2, t2: 2, bound: 5, target: 13 };
+    /// # let sizes = lizkarg::Sizes { d: 2, n: 1, r: 1, k: 1, l: 0, w: 0, kappa: 1, kappa1: 1, kappa2: 1, z: lizkarg::ZDigits::Two(4), b1: 8, b2: 4, t1: 2, t2: 2, bound: 5, target: 13 };
     /// let next = sizes.next(lizkarg::Cut { nu: 1, mu: 1 });
     /// assert_eq!((next.n, next.r, next.k), (6, 3, 6));
     /// ```
@@ -185,9 +216,35 @@ impl Sizes {
         let rest = sum([product([r, kappa, t1]), product([pairs(r), sum([t1, t2])])]);
         // a count of 0 is refused by row 5 whatever stands here
         let n = n.div_ceil(cut.nu.max(1)).max(rest.div_ceil(cut.mu.max(1)));
-        let r = sum([cut.nu, cut.nu, cut.mu]);
+        let r = sum([product([self.z.count(), cut.nu]), cut.mu]);
         let k = sum([kappa, kappa1, kappa2, 3]);
         NextSizes { n, r, k, whole: product([k, sum([function(d, n, r), d])]) }
+    }
+
+    /// Whether the cut makes each chunk of z as long as n', so that none has padding: ν·n' = n. A chain must cut so. With other chunks the next instance can be
+    /// solved by a witness whose padding is not zero, though the statement has no solution; nobody sees that padding, and the accepted end of the chain
+    /// says nothing of the first statement.
+    ///
+    /// ```
+    /// # use lizkarg::{Cut, Sizes, ZDigits};
+    /// # let sizes = Sizes { d: 64, n: 12, r: 2, k: 1, l: 0, w: 0, kappa: 1, kappa1: 1, kappa2: 1, z: ZDigits::One, b1: 8, b2: 4, t1: 2, t2: 2, bound: 5, target: 13 };
+    /// assert!(sizes.has_full_chunks(Cut { nu: 2, mu: 3 }));
+    /// assert!(!sizes.has_full_chunks(Cut { nu: 2, mu: 2 }));
+    /// ```
+    #[must_use]
+    pub fn has_full_chunks(&self, cut: Cut) -> bool {
+        product([cut.nu, self.next(cut).n]) == self.n
+    }
+
+    pub(crate) fn raw(&self) -> raw::Sizes {
+        let Sizes { d, n, r, k, l, w, kappa, kappa1, kappa2, z, b1, b2, t1, t2, bound, target } = *self;
+        let b = z.base().unwrap_or(0);
+        raw::Sizes { d, n, r, k, l, w, kappa, kappa1, kappa2, b, b1, b2, t1, t2, bound, target, one_digit: self.one_digit() }
+    }
+
+    /// The flag of the C interface.
+    fn one_digit(&self) -> u8 {
+        u8::from(self.z == ZDigits::One)
     }
 
     pub(crate) fn shape(&self) -> raw::Shape {
@@ -207,7 +264,7 @@ impl Sizes {
 
     pub(crate) fn part_sizes(&self, cut: Cut) -> raw::PartSizes {
         let Sizes { d, n, r, kappa, t1, t2, .. } = *self;
-        raw::PartSizes { d, n, r, kappa, t1, t2, nu: cut.nu, mu: cut.mu }
+        raw::PartSizes { d, n, r, kappa, t1, t2, nu: cut.nu, mu: cut.mu, one_digit: self.one_digit() }
     }
 }
 

@@ -111,7 +111,7 @@ fn low_digits() {
             ] {
                 for x in [x, -x] {
                     let mut changed = sheet.clone();
-                    (changed.sizes.b, changed.sizes.b1, changed.sizes.b2) = (b, b1, b2);
+                    (changed.sizes.z, changed.sizes.b1, changed.sizes.b2) = (ZDigits::Two(b), b1, b2);
                     // bases that make the other digits narrow
                     changed.numbers[opening..].fill(0);
                     changed.numbers[place] = x;
@@ -342,7 +342,7 @@ fn through(d: usize, c: &[i32], taken: bool) {
     let lines = numbers.chunks(d).map(|line| line.iter().map(i32::to_string).collect::<Vec<_>>().join(" "));
     let text = text(&[header].into_iter().chain(lines).collect::<Vec<_>>().join("/"));
     let sizes =
-        Sizes { d, n: 1, r: 2, k: 0, l: 0, w: 0, kappa: 1, kappa1: 1, kappa2: 1, b: 4, b1: 4, b2: 4, t1: 2, t2: 2, bound: 0, target: 0 };
+        Sizes { d, n: 1, r: 2, k: 0, l: 0, w: 0, kappa: 1, kappa1: 1, kappa2: 1, z: ZDigits::Two(4), b1: 4, b2: 4, t1: 2, t2: 2, bound: 0, target: 0 };
     let sheet = Sheet { sizes, cut: Cut { nu: 1, mu: 1 }, numbers };
     let (proof, witness) = (sheet.proof(), vec![0; 2 * d]);
     let refused = if taken { Ok(()) } else { Err(Refused(10)) };
@@ -379,4 +379,95 @@ fn challenges() {
     for (ones, twos, taken) in [(3, 17, true), (0, 18, false), (0, 0, true), (32, 0, true)] {
         through(32, &[counted(32, ones, twos), counted(32, 0, 0)].concat(), taken);
     }
+}
+
+/// The whole case with z in one digit: z is -2+X as it is, so that the opening is that of two digits without z high.
+fn one_digit(sheet: &Sheet) -> (Sizes, Vec<i32>) {
+    (Sizes { z: ZDigits::One, ..sheet.sizes }, [&sheet.numbers[..50], &sheet.numbers[52..]].concat())
+}
+
+/// Message 5, the verdict and its margin, the lengths; two digits do not take the numbers of one, nor one those of two.
+#[test]
+fn whole_case_in_one_digit() {
+    let sheet = Sheet::read(&text(CASE)).unwrap();
+    let (sizes, numbers) = one_digit(&sheet);
+    let proof = Proof::of_numbers(sizes, &numbers);
+    assert_eq!((sizes.lengths().z, sizes.lengths().opening, sheet.sizes.lengths().z), (2, 14, 4));
+    assert_eq!(proof.messages.opening, [-2, 1, 1, 2, 0, 0, 1, 0, -1, 1, 0, 0, 0, 0]);
+    assert_eq!(Prover::new(proof.statement, &[1, 2]).prove(proof.draws), Ok(proof));
+    assert_eq!(proof.verify(), Ok(Accepted(0)));
+    for (target, answer) in [(12, Failed(9)), (20, Accepted(7)), (999999999999999, Accepted(999999999999986))] {
+        assert_eq!(Proof::of_numbers(Sizes { target, ..sizes }, &numbers).verify(), Ok(answer));
+    }
+    for (sizes, numbers) in [(sizes, &sheet.numbers), (sheet.sizes, &numbers)] {
+        assert_eq!(Proof::of_numbers(sizes, numbers).verify(), Err(Refused(7)));
+    }
+    for (z, length, number) in [(ZDigits::One, 4, 7), (ZDigits::One, 0, 7), (ZDigits::Two(4), 2, 7), (ZDigits::Two(1), 4, 4)] {
+        let statement = Statement { sizes: Sizes { z, ..sizes }, ..proof.statement };
+        let mut out = vec![77; length];
+        assert_eq!(statement.amortize(&proof.draws, &[1, 2], &mut out), Err(Refused(number)));
+        assert!(out.iter().all(|x| *x == 77));
+    }
+    assert_eq!((ZDigits::One.base(), ZDigits::Two(4).base(), ZDigits::One.count(), ZDigits::Two(0).count()), (None, Some(4), 1, 2));
+}
+
+/// z is free in its one digit; the low digits of t, g and h are not.
+#[test]
+fn low_digits_in_one_digit() {
+    let (sizes, numbers) = one_digit(&Sheet::read(&text(CASE)).unwrap());
+    for (place, x, wide) in [(48, 2147483598, false), (49, -1000, false), (50, 4, false), (50, 5, true), (54, -3, true), (58, 5, true), (56, 1000, false)] {
+        let mut changed = numbers.clone();
+        changed[place] = x;
+        assert_eq!(Proof::of_numbers(sizes, &changed).verify() == Err(Refused(15)), wide, "{place}: {x}");
+    }
+}
+
+/// r' = 2: a chunk of z with itself has a = 1 in check 6, and no mixed product stands anywhere.
+#[test]
+fn next_instance_in_one_digit() {
+    let (sizes, numbers) = one_digit(&Sheet::read(&text(CASE)).unwrap());
+    let proof = Proof::of_numbers(sizes, &numbers);
+    let (cut, z, rest, b) = (Cut { nu: 1, mu: 1 }, 3, 9, 15);
+    let nonzero: [&[(usize, [i32; 2])]; 6] = [
+        &[(z, [1, 0]), (rest, [0, -1]), (rest + 1, [0, -8])],
+        &[(0, [1, 0]), (rest + 2, [1, 0]), (rest + 3, [4, 0])],
+        &[(rest + 4, [1, 0]), (rest + 5, [8, 0])],
+        &[(rest + 2, [1, 0]), (rest + 3, [4, 0]), (rest + 4, [1, 0]), (rest + 5, [8, 0]), (b, [-3, 4])],
+        &[(rest, [1, 0]), (rest + 2, [1, 0]), (b, [2, 2])],
+        &[(rest + 4, [1, 0]), (rest + 5, [1, 0])],
+    ];
+    let mut should = vec![0; 6 * 16 * 2];
+    for (constraint, all) in nonzero.iter().enumerate() {
+        for (place, element) in *all {
+            should[(constraint * 16 + place) * 2..][..2].copy_from_slice(element);
+        }
+    }
+    let after = sizes.next(cut);
+    assert_eq!((after.n, after.r, after.k, after.whole), (6, 2, 6, should.len()));
+    assert_eq!(proof.next_instance(cut), Ok(Next::Written(should)));
+    let o = proof.messages.opening;
+    assert_eq!(proof.next_witness(cut).unwrap(), [&o[..2], &[0; 10], &o[2..]].concat());
+    for (nu, mu, refused) in [(9, 7, false), (15, 1, false), (16, 1, true), (9, 8, true), (0, 1, true), (usize::MAX, 1, true)] {
+        let answer = proof.next_instance(Cut { nu, mu });
+        assert_eq!(answer.is_err(), refused, "{nu} {mu}");
+        assert_eq!(answer == Err(Refused(5)), refused);
+    }
+    let wide = Cut { nu: 8, mu: 1 };
+    assert_eq!(proof.next_part(wide, 9), Ok(&o[2..]));
+    assert_eq!((proof.next_part(wide, 8), proof.next_part(wide, 10)), (Ok(&o[..0]), Err(Refused(2))));
+    assert_eq!((proof.next_part(Cut { nu: 16, mu: 1 }, 17), proof.next_part(Cut { nu: 16, mu: 1 }, 18)), (Err(Refused(5)), Err(Refused(2))));
+}
+
+/// A sheet has two z digits.
+#[test]
+fn no_sheet_of_one_digit() {
+    let sheet = Sheet::read(&text(CASE)).unwrap();
+    let (sizes, numbers) = one_digit(&sheet);
+    let mut buffer = [b'#'; 2000];
+    for numbers in [&numbers, &sheet.numbers] {
+        assert_eq!(write_sheet(sizes, sheet.cut, numbers, &mut buffer), Err(Refused(4)));
+    }
+    assert_eq!(buffer, [b'#'; 2000]);
+    assert_eq!(sheet_bytes(sizes, sheet.cut), 0);
+    assert_eq!(Proof::of_numbers(sizes, &numbers).write_sheet(sheet.cut), Err(Refused(4)));
 }
