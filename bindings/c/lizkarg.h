@@ -26,8 +26,8 @@ enum { LIZKARG_ACCEPTED = 0, LIZKARG_FAILED = 1, LIZKARG_REFUSED = 2, LIZKARG_WR
  * all digits of the opening; the check that failed (1..9); the refusal (1..13, 15); else 0.
  *
  * The number has 64 bits because it holds the margin, here and in the three structs below that hold an answer. Code that was built against a
- * header in which it has 8 must be compiled anew; the structs of sizes are the same in both. All structs here are the C interface's own: they
- * stay where the library's change. */
+ * header in which it has 8 must be compiled anew. So must code that was built against one in which lizkarg_sizes and lizkarg_part_sizes do not end
+ * with one_digit. All structs here are the C interface's own: they stay where the library's change. */
 typedef struct {
     uint8_t kind;
     uint64_t number;
@@ -42,14 +42,20 @@ typedef struct { size_t d, n, r, kappa, kappa1, b1, b2, t1, t2; } lizkarg_commit
 /* The sizes of message 4. */
 typedef struct { size_t d, n, r, k, l, w, kappa2, b1, t1; } lizkarg_garbage_sizes;
 
-/* The sizes of the verifier; bound is beta^2, target is beta'^2. */
+/* The sizes of the verifier; bound is beta^2, target is beta'^2. one_digit: 0, z is in two digits to base b; any other value, z is in one
+ * digit, itself, and b is not looked at. An initialiser that leaves it out leaves it 0. Sheets have two z digits: their calls do not look at
+ * one_digit, and take b. */
 typedef struct {
     size_t d, n, r, k, l, w, kappa, kappa1, kappa2, b, b1, b2, t1, t2;
     uint64_t bound, target;
+    uint8_t one_digit;
 } lizkarg_sizes;
 
-/* The sizes of an opening and of its cut into nu and mu chunks. */
-typedef struct { size_t d, n, r, kappa, t1, t2, nu, mu; } lizkarg_part_sizes;
+/* The sizes of an opening and of its cut into nu and mu chunks; one_digit as in lizkarg_sizes. */
+typedef struct {
+    size_t d, n, r, kappa, t1, t2, nu, mu;
+    uint8_t one_digit;
+} lizkarg_part_sizes;
 
 /* A part of the next witness within the opening: where it starts and how long it is, both in numbers. */
 typedef struct { size_t start, length; } lizkarg_part;
@@ -114,9 +120,13 @@ lizkarg_answer lizkarg_commit_garbage(lizkarg_garbage_sizes sizes,
 lizkarg_answer lizkarg_amortize(lizkarg_shape shape, size_t b,
     const int32_t *c, size_t c_len, const int32_t *witness, size_t witness_len, int32_t *z, size_t z_len);
 
-/* The verifier. opening: z low, z high, t, g and h digits, in this order in one list. Accepted with the margin; failed with the first
- * check that fails; or refused 1 to 4, 6 to 10, 15 (a low digit x of a base B with 2·|x| > B: B is b for z low, b1 for t and h, b2 for g;
- * the top digit of each value, z high among them, is free). */
+/* Message 5 with z in one digit: writes z (n elements). Takes no b, and else what lizkarg_amortize does. Written, or refused 1, 2, 7, 8, 10. */
+lizkarg_answer lizkarg_amortize_one_digit(lizkarg_shape shape,
+    const int32_t *c, size_t c_len, const int32_t *witness, size_t witness_len, int32_t *z, size_t z_len);
+
+/* The verifier. opening: z low, z high, t, g and h digits, in this order in one list; with one_digit z in place of z low and z high. Accepted
+ * with the margin; failed with the first check that fails; or refused 1 to 4, 6 to 10, 15 (a low digit x of a base B with 2·|x| > B: B is b for
+ * z low, b1 for t and h, b2 for g; the top digit of each value is free, z high among them, and z in one digit). */
 lizkarg_answer lizkarg_verify(lizkarg_sizes sizes,
     const int32_t *a_matrix, size_t a_matrix_len, const int32_t *b_matrix, size_t b_matrix_len,
     const int32_t *c_matrix, size_t c_matrix_len, const int32_t *d_matrix, size_t d_matrix_len,
@@ -127,8 +137,12 @@ lizkarg_answer lizkarg_verify(lizkarg_sizes sizes,
     const int32_t *opening, size_t opening_len);
 
 /* The next instance. Takes the lists of the verifier but the opening, and nu and mu; writes kappa + kappa1 + kappa2 + 3 whole constraints
- * on r' = 2·nu + mu parts of n' elements to out, (r'(r'+1)/2 + r'·n' + 1) elements each: a, phi, b; n' is the larger of n / nu and m / mu,
- * both rounded up, where m = r·kappa·t1 + P·(t1 + t2). Written; failed 1 or 2, and then out is not changed; or refused 1 to 11. */
+ * on r' = 2·nu + mu parts, with one_digit r' = nu + mu, of n' elements to out, (r'(r'+1)/2 + r'·n' + 1) elements each: a, phi, b; n' is the
+ * larger of n / nu and m / mu, both rounded up, where m = r·kappa·t1 + P·(t1 + t2). With one_digit no a_ij with i < j is other than 0.
+ * Written; failed 1 or 2, and then out is not changed; or refused 1 to 11 (5: r' above 16).
+ *
+ * A chain, which folds the next instance in its turn, must cut with nu·n' = n, so that no chunk of z is padded: else the accepted end says
+ * nothing of the first statement. Nobody sees the padding, and in a chunk of z it enters check 6: docs/CALLS.md has an example. */
 lizkarg_answer lizkarg_next_instance(lizkarg_sizes sizes, size_t nu, size_t mu,
     const int32_t *a_matrix, size_t a_matrix_len, const int32_t *b_matrix, size_t b_matrix_len,
     const int32_t *c_matrix, size_t c_matrix_len, const int32_t *d_matrix, size_t d_matrix_len,
@@ -138,7 +152,8 @@ lizkarg_answer lizkarg_next_instance(lizkarg_sizes sizes, size_t nu, size_t mu,
     const int32_t *delta, size_t delta_len, const int32_t *u2, size_t u2_len, const int32_t *c, size_t c_len,
     int32_t *out, size_t out_len);
 
-/* The number with which lizkarg_next_part refuses: 1 to 5 or 7, 2 also for a part that is not 1 to 2·nu + mu; else 0. */
+/* The number with which lizkarg_next_part refuses: 1 to 5 or 7, 2 also for a part that is not 1 to r', which is 2·nu + mu, with one_digit
+ * nu + mu; else 0. */
 uint8_t lizkarg_next_part_refusal(lizkarg_part_sizes sizes, size_t part, const int32_t *opening, size_t opening_len);
 
 /* Part number part, from 1, of the next witness, without the zeros that pad it to n' elements: the length numbers of opening from
@@ -158,11 +173,11 @@ size_t lizkarg_sheet_numbers(const uint8_t *text, size_t text_len);
  * any length. */
 lizkarg_sheet lizkarg_read_sheet(const uint8_t *text, size_t text_len, int32_t *numbers, size_t numbers_len);
 
-/* How many bytes the text of a sheet of these sizes has: the least text_len of lizkarg_write_sheet. 0 where the sizes are refused, by 1 to
+/* How many bytes the text of a sheet of these sizes, with two z digits, has: the least text_len of lizkarg_write_sheet. 0 where the sizes are refused, by 1 to
  * 6. With e the elements of all lists, 289 + (16·d + 1)·e + 17·6·(l + w). */
 size_t lizkarg_sheet_bytes(lizkarg_sizes sizes, size_t nu, size_t mu);
 
-/* Writes a sheet. Takes the header as sizes, nu and mu, and all numbers after it in the sheet's order, as lizkarg_read_sheet puts them down;
+/* Writes a sheet, which has two z digits. Takes the header as sizes, nu and mu, and all numbers after it in the sheet's order, as lizkarg_read_sheet puts them down;
  * writes their text to the first lizkarg_sheet_bytes bytes of text. Those past it are not changed, and no byte 0 is put after it. Written,
  * with the length of the text; or refused, in this order: 1 to 6, 7 (numbers_len is not what the sizes give), 8 to 10, 13 (text_len is less
  * than lizkarg_sheet_bytes). The text may be of any length; lizkarg_judge_sheet takes 65536 bytes. */

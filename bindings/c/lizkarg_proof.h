@@ -8,7 +8,8 @@
  *     lizkarg_proof proof = lizkarg_proof_of(sizes, numbers);
  *
  * Fill the statement; then make each message and fill the draws that come after it: prove.c. Or let lizkarg_read_sheet fill the block:
- * verdict.c. The block is what lizkarg_write_sheet takes: its text is the sheet of the proof.
+ * verdict.c. The block is what lizkarg_write_sheet takes: its text is the sheet of the proof. With sizes.one_digit the opening holds z in one
+ * digit; such a proof has no sheet.
  *
  * The lists may lie anywhere else, too; what lizkarg.h asks of pointers and lengths is asked of every list here. */
 #ifndef LIZKARG_PROOF_H
@@ -54,7 +55,7 @@ typedef struct {
 
 /* The parts of an opening. */
 typedef struct {
-    lizkarg_list z; /* z low, z high: n elements each */
+    lizkarg_list z; /* z low, z high: n elements each; with one_digit z: n elements */
     lizkarg_list t; /* by part, then digit, then row: r·t1·kappa elements */
     lizkarg_list g; /* by i, then j, then digit: P·t2 elements */
     lizkarg_list h; /* by i, then j, then digit: P·t1 elements */
@@ -62,9 +63,9 @@ typedef struct {
 
 /* ---- sizes */
 
-/* The sizes that a sheet's header gives to the verifier; nu and mu stay in the header. */
+/* The sizes that a sheet's header gives to the verifier, with two z digits; nu and mu stay in the header. */
 static inline lizkarg_sizes lizkarg_sizes_of(lizkarg_sheet h) {
-    lizkarg_sizes sizes = {h.d, h.n, h.r, h.k, h.l, h.w, h.kappa, h.kappa1, h.kappa2, h.b, h.b1, h.b2, h.t1, h.t2, h.bound, h.target};
+    lizkarg_sizes sizes = {h.d, h.n, h.r, h.k, h.l, h.w, h.kappa, h.kappa1, h.kappa2, h.b, h.b1, h.b2, h.t1, h.t2, h.bound, h.target, 0};
     return sizes;
 }
 
@@ -85,7 +86,7 @@ static inline lizkarg_garbage_sizes lizkarg_garbage_sizes_of(lizkarg_sizes s) {
 }
 
 static inline lizkarg_part_sizes lizkarg_part_sizes_of(lizkarg_sizes s, size_t nu, size_t mu) {
-    lizkarg_part_sizes sizes = {s.d, s.n, s.r, s.kappa, s.t1, s.t2, nu, mu};
+    lizkarg_part_sizes sizes = {s.d, s.n, s.r, s.kappa, s.t1, s.t2, nu, mu, s.one_digit};
     return sizes;
 }
 
@@ -106,13 +107,16 @@ static inline int lizkarg_within_limits(lizkarg_sizes s) {
 /* The length if the sizes are within the limits, else 0. */
 static inline size_t lizkarg_limited(lizkarg_sizes s, size_t length) { return lizkarg_within_limits(s) ? length : 0; }
 
+/* The number of z digits. */
+static inline size_t lizkarg_z_digits(lizkarg_sizes s) { return s.one_digit ? 1 : 2; }
+
 /* P: the pairs i <= j. */
 static inline size_t lizkarg_pairs(size_t r) { return r * (r + 1) / 2; }
 
 static inline size_t lizkarg_witness_length(lizkarg_sizes s) { return lizkarg_limited(s, s.r * s.n * s.d); }
 
 /* The parts of an opening. */
-static inline size_t lizkarg_z_length(lizkarg_sizes s) { return lizkarg_limited(s, 2 * s.n * s.d); }
+static inline size_t lizkarg_z_length(lizkarg_sizes s) { return lizkarg_limited(s, lizkarg_z_digits(s) * s.n * s.d); }
 static inline size_t lizkarg_t_length(lizkarg_sizes s) { return lizkarg_limited(s, s.r * s.t1 * s.kappa * s.d); }
 static inline size_t lizkarg_g_length(lizkarg_sizes s) { return lizkarg_limited(s, lizkarg_pairs(s.r) * s.t2 * s.d); }
 static inline size_t lizkarg_h_length(lizkarg_sizes s) { return lizkarg_limited(s, lizkarg_pairs(s.r) * s.t1 * s.d); }
@@ -141,7 +145,7 @@ static inline size_t lizkarg_opening_length(lizkarg_sizes s) {
     return lizkarg_z_length(s) + lizkarg_t_length(s) + lizkarg_g_length(s) + lizkarg_h_length(s);
 }
 
-/* All lists of a proof together: what lizkarg_sheet_numbers says of a sheet with these sizes. */
+/* All lists of a proof together: with two z digits what lizkarg_sheet_numbers says of a sheet with these sizes. */
 static inline size_t lizkarg_proof_length(lizkarg_sizes s) {
     return lizkarg_a_matrix_length(s) + lizkarg_b_matrix_length(s) + lizkarg_c_matrix_length(s) + lizkarg_d_matrix_length(s)
         + lizkarg_whole_length(s) + lizkarg_constant_terms_length(s) + lizkarg_u1_length(s) + lizkarg_projections_length(s)
@@ -149,25 +153,32 @@ static inline size_t lizkarg_proof_length(lizkarg_sizes s) {
         + lizkarg_delta_length(s) + lizkarg_u2_length(s) + lizkarg_c_length(s) + lizkarg_opening_length(s);
 }
 
-/* ---- the next instance's sizes: 0 where lizkarg_within_limits is 0, or where nu or mu is below 1 or 2·nu + mu above 16 */
+/* ---- the next instance's sizes: 0 where lizkarg_within_limits is 0, or where nu or mu is below 1 or r' above 16 */
 
 /* m: the elements of t, g and h together. */
 static inline size_t lizkarg_rest_size(lizkarg_sizes s) {
     return lizkarg_limited(s, s.r * s.kappa * s.t1 + lizkarg_pairs(s.r) * (s.t1 + s.t2));
 }
 
-/* r': the parts of the next witness. */
-static inline size_t lizkarg_next_parts(size_t nu, size_t mu) {
-    return 1 <= nu && nu <= 8 && 1 <= mu && mu <= 16 && 2 * nu + mu <= 16 ? 2 * nu + mu : 0;
+/* r': the parts of the next witness, 2·nu + mu, with one_digit nu + mu. */
+static inline size_t lizkarg_next_parts(lizkarg_sizes s, size_t nu, size_t mu) {
+    size_t parts = 1 <= nu && nu <= 16 && 1 <= mu && mu <= 16 ? lizkarg_z_digits(s) * nu + mu : 0;
+    return parts <= 16 ? parts : 0;
 }
 
 /* n': the elements of each part. Above 256 lizkarg_next_instance refuses by 11. */
 static inline size_t lizkarg_next_rank(lizkarg_sizes s, size_t nu, size_t mu) {
     size_t of_z, of_rest;
-    if (!lizkarg_within_limits(s) || !lizkarg_next_parts(nu, mu)) return 0;
+    if (!lizkarg_within_limits(s) || !lizkarg_next_parts(s, nu, mu)) return 0;
     of_z = (s.n + nu - 1) / nu;
     of_rest = (lizkarg_rest_size(s) + mu - 1) / mu;
     return of_z > of_rest ? of_z : of_rest;
+}
+
+/* Whether each chunk of z is full, nu·n' = n: a chain must cut so (lizkarg_next_instance). */
+static inline int lizkarg_full_chunks(lizkarg_sizes s, size_t nu, size_t mu) {
+    size_t rank = lizkarg_next_rank(s, nu, mu);
+    return rank != 0 && nu * rank == s.n;
 }
 
 /* K': the constraints, all of the whole kind. */
@@ -175,7 +186,7 @@ static inline size_t lizkarg_next_constraints(lizkarg_sizes s) { return lizkarg_
 
 /* The length of out, in numbers. */
 static inline size_t lizkarg_next_length(lizkarg_sizes s, size_t nu, size_t mu) {
-    size_t parts = lizkarg_next_parts(nu, mu), rank = lizkarg_next_rank(s, nu, mu);
+    size_t parts = lizkarg_next_parts(s, nu, mu), rank = lizkarg_next_rank(s, nu, mu);
     return rank ? lizkarg_next_constraints(s) * (lizkarg_pairs(parts) + parts * rank + 1) * s.d : 0;
 }
 
@@ -267,9 +278,11 @@ static inline lizkarg_answer lizkarg_proof_commit_garbage(lizkarg_sizes sizes, l
         LIZKARG_LIST(proof->delta), LIZKARG_LIST(proof->d_matrix), LIZKARG_LIST(witness), LIZKARG_LIST(digits.h), LIZKARG_LIST(proof->u2));
 }
 
-/* Message 5: from the challenges c; writes the digits of z. */
+/* Message 5: from the challenges c; writes the digits of z, with one_digit z. */
 static inline lizkarg_answer lizkarg_proof_amortize(lizkarg_sizes sizes, lizkarg_list witness, lizkarg_proof *proof) {
     lizkarg_digits digits = lizkarg_digits_of(sizes, proof->opening);
+    if (sizes.one_digit)
+        return lizkarg_amortize_one_digit(lizkarg_shape_of(sizes), LIZKARG_LIST(proof->c), LIZKARG_LIST(witness), LIZKARG_LIST(digits.z));
     return lizkarg_amortize(lizkarg_shape_of(sizes), sizes.b, LIZKARG_LIST(proof->c), LIZKARG_LIST(witness), LIZKARG_LIST(digits.z));
 }
 
@@ -278,7 +291,7 @@ static inline lizkarg_answer lizkarg_proof_verify(lizkarg_sizes sizes, const liz
     return lizkarg_verify(sizes, LIZKARG_STATEMENT_DRAWS_MESSAGES, LIZKARG_LIST(proof->opening));
 }
 
-/* The next instance; writes out, which is lizkarg_next_length long. The opening is not looked at. */
+/* The next instance; writes out, which is lizkarg_next_length long. The opening is not looked at. In a chain lizkarg_full_chunks must hold. */
 static inline lizkarg_answer lizkarg_proof_next_instance(lizkarg_sizes sizes, size_t nu, size_t mu, const lizkarg_proof *proof, lizkarg_list out) {
     return lizkarg_next_instance(sizes, nu, mu, LIZKARG_STATEMENT_DRAWS_MESSAGES, LIZKARG_LIST(out));
 }

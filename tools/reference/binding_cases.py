@@ -2,6 +2,8 @@
 
     NAME.sheet      an honest sheet under the least bounds: the lists that a prover takes and those that its messages write
     NAME.more       numbers parted by blanks: the witness; the start and the length of each part of the next witness; the next instance
+    NAME.one        the same fold with z in one digit, all numbers of the sheet but these: its least β'²; z; the start and the length of each part of the next
+                    witness, cut by the same ν and μ; the next instance
 
 In `alike` the lists that stand beside each other have the same lengths (L = w, κ = κ1 = κ2, t1 = t2), so that only
 their numbers tell them apart. No two sizes are equal both in `alike` and in `apart`. In `empty` K, L and w are 0.
@@ -32,6 +34,22 @@ def places(s, y):
         start += length
 
 
+def next_constraints(s, y):
+    """The next instance, a list for each constraint."""
+    kind, written = fold.answer("next_instance", s, y)
+    assert kind == "written"
+    return fold.cut(written["next_whole"], LENGTHS["next_whole"](s) // sizes.next_constraint_count(s))
+
+
+def one_digit_lines(s, x):
+    """The lines of NAME.one."""
+    y = fold.honest(s, x)
+    s = least_bounds(s, y)
+    assert fold.answer("verify", s, y) == accepted(0)
+    z = y["opening"][: LENGTHS["z_digits"](s)]
+    return [[s.target_beta_squared], z, fold.flat(places(s, y))] + next_constraints(s, y)
+
+
 def files():
     assert len(set(zip(sizes.header_numbers(CASES["alike"])[:-2], sizes.header_numbers(CASES["apart"])[:-2]))) == len(sizes.HEADER) - 2
     rng = random.Random(13)
@@ -40,9 +58,8 @@ def files():
         y = fold.honest(s, x)
         s = least_bounds(s, y)
         assert fold.answer("verify", s, y) == accepted(0)
-        kind, written = fold.answer("next_instance", s, y)
-        assert kind == "written"
-        constraints = fold.cut(written["next_whole"], LENGTHS["next_whole"](s) // sizes.next_constraint_count(s))
+        constraints = next_constraints(s, y)
+        yield f"bindings/c/tests/{name}.one", stored.numbers_text(one_digit_lines(s._replace(b=0, tz=1), x))
         yield f"bindings/c/tests/{name}.sheet", sheet.write_sheet(s, y)
         yield f"bindings/c/tests/{name}.more", stored.numbers_text([x["witness"], fold.flat(places(s, y))] + constraints)
 

@@ -13,8 +13,11 @@ SIZE(lizkarg_part, 16); AT(lizkarg_part, start, 0); AT(lizkarg_part, length, 8);
 SIZE(lizkarg_shape, 24); AT(lizkarg_shape, d, 0); AT(lizkarg_shape, n, 8); AT(lizkarg_shape, r, 16);
 SIZE(lizkarg_commit_sizes, 72); AT(lizkarg_commit_sizes, kappa, 24); AT(lizkarg_commit_sizes, b1, 40); AT(lizkarg_commit_sizes, t2, 64);
 SIZE(lizkarg_garbage_sizes, 72); AT(lizkarg_garbage_sizes, k, 24); AT(lizkarg_garbage_sizes, kappa2, 48); AT(lizkarg_garbage_sizes, t1, 64);
-SIZE(lizkarg_sizes, 128); AT(lizkarg_sizes, kappa, 48); AT(lizkarg_sizes, b, 72); AT(lizkarg_sizes, bound, 112); AT(lizkarg_sizes, target, 120);
-SIZE(lizkarg_part_sizes, 64); AT(lizkarg_part_sizes, kappa, 24); AT(lizkarg_part_sizes, nu, 48); AT(lizkarg_part_sizes, mu, 56);
+SIZE(lizkarg_sizes, 136); AT(lizkarg_sizes, kappa, 48); AT(lizkarg_sizes, b, 72); AT(lizkarg_sizes, bound, 112); AT(lizkarg_sizes, target, 120);
+AT(lizkarg_sizes, one_digit, 128);
+SIZE(lizkarg_part_sizes, 72); AT(lizkarg_part_sizes, kappa, 24); AT(lizkarg_part_sizes, nu, 48); AT(lizkarg_part_sizes, mu, 56);
+AT(lizkarg_part_sizes, one_digit, 64);
+_Static_assert(sizeof((lizkarg_sizes){0}.one_digit) == 1 && sizeof((lizkarg_part_sizes){0}.one_digit) == 1, "one_digit");
 SIZE(lizkarg_sheet, 16 + 18 * 8); AT(lizkarg_sheet, kind, 0); AT(lizkarg_sheet, number, 8); AT(lizkarg_sheet, d, 16); AT(lizkarg_sheet, nu, 128);
 AT(lizkarg_sheet, mu, 136); AT(lizkarg_sheet, bound, 144); AT(lizkarg_sheet, target, 152);
 SIZE(lizkarg_text, 24); AT(lizkarg_text, kind, 0); AT(lizkarg_text, number, 8); AT(lizkarg_text, length, 16);
@@ -250,6 +253,84 @@ static void sheets(const stored *s) {
     free(numbers.at), free(longer.at), free(text);
 }
 
+/* ---- z in one digit */
+
+/* The case with z in one digit: NAME.one. */
+static void one_digit(const char *folder, const stored *two) {
+    stored x = *two, *s = &x;
+    header h = x.h;
+    size_t size, short_z = h.n * h.d, parts = h.nu + h.mu, m = (x.t.length + x.g.length + x.hd.length) / h.d;
+    size_t z_rank = (h.n + h.nu - 1) / h.nu, rest_rank = (m + h.mu - 1) / h.mu, rank = z_rank > rest_rank ? z_rank : rest_rank;
+    char *text = read_file(folder, ".one", &size), *at = text;
+    lizkarg_sizes sizes = sizes_of(s), other;
+    lizkarg_shape shape = {.d = h.d, .n = h.n, .r = h.r};
+    sizes.target = strtoull(at, &at, 10), sizes.one_digit = 1;
+    x.z = next_list(&at, short_z);
+    x.places = next_list(&at, 2 * parts);
+    x.next = next_list(&at, (h.kappa + h.kappa1 + h.kappa2 + 3) * (parts * (parts + 1) / 2 + parts * rank + 1) * h.d);
+    x.opening = filled(two->opening.length - short_z, 0);
+    memcpy(x.opening.at, x.z.at, short_z * sizeof(int32_t));
+    memcpy(x.opening.at + short_z, two->t.at, (x.opening.length - short_z) * sizeof(int32_t));
+
+    list z = blank(short_z), wide = blank(2 * short_z), none = {NULL, 0}, out = blank(x.next.length), again = blank(x.next.length);
+    ANSWER(lizkarg_amortize_one_digit(shape, OF(c), OF(witness), LIST(z)), LIZKARG_WRITTEN, 0);
+    WRITTEN(z, s->z);
+    ANSWER(lizkarg_amortize_one_digit(shape, OF(c), OF(witness), LIST(wide)), LIZKARG_REFUSED, 7);
+    ANSWER(lizkarg_amortize_one_digit(shape, OF(c), OF(witness), LIST(none)), LIZKARG_REFUSED, 7);
+    ANSWER(lizkarg_amortize_one_digit((lizkarg_shape){.d = 3, .n = h.n, .r = h.r}, LIST(none), LIST(none), LIST(none)), LIZKARG_REFUSED, 1);
+    UNTOUCHED(wide);
+
+    /* any value but 0 is one digit; no b is looked at */
+    static const uint8_t flags[] = {1, 2, 128, 255};
+    static const size_t bases[] = {0, 1, 65537, (size_t)-1};
+    for (int i = 0; i < 4; i++) {
+        other = sizes, other.one_digit = flags[i], other.b = bases[i];
+        ANSWER(verify(s, other), LIZKARG_ACCEPTED, 0);
+        other.target += 7;
+        ANSWER(verify(s, other), LIZKARG_ACCEPTED, 7);
+        other.target = sizes.target - 1;
+        ANSWER(verify(s, other), LIZKARG_FAILED, 9);
+    }
+    ANSWER(verify(two, sizes), LIZKARG_REFUSED, 7);
+    other = sizes, other.one_digit = 0;
+    ANSWER(verify(s, other), LIZKARG_REFUSED, 7);
+    other = sizes, other.b1 = 1;
+    ANSWER(verify(s, other), LIZKARG_REFUSED, 4);
+    x.opening.at[0]++;
+    ANSWER(verify(s, sizes), LIZKARG_FAILED, 5);
+    x.opening.at[0]--;
+
+    ANSWER(next_instance(s, sizes, h.nu, h.mu, out), LIZKARG_WRITTEN, 0);
+    WRITTEN(out, s->next);
+    ANSWER(next_instance(s, sizes, 16, 1, again), LIZKARG_REFUSED, 5);
+    ANSWER(next_instance(s, sizes, 9, 7, none), LIZKARG_REFUSED, 7);
+    other = sizes, other.one_digit = 0;
+    ANSWER(next_instance(s, other, 9, 7, none), LIZKARG_REFUSED, 5);
+    ANSWER(next_instance(s, other, h.nu, h.mu, again), LIZKARG_REFUSED, 7);
+    UNTOUCHED(again);
+
+    lizkarg_part_sizes cut = {.d = h.d, .n = h.n, .r = h.r, .kappa = h.kappa, .t1 = h.t1, .t2 = h.t2, .nu = h.nu, .mu = h.mu, .one_digit = 3};
+    for (size_t i = 1; i <= parts; i++) {
+        lizkarg_part part = lizkarg_next_part(cut, i, OF(opening));
+        HOLD(part.start == (size_t)s->places.at[2 * i - 2] && part.length == (size_t)s->places.at[2 * i - 1]);
+        HOLD(lizkarg_next_part_refusal(cut, i, OF(opening)) == 0);
+    }
+    HOLD(lizkarg_next_part_refusal(cut, parts + 1, OF(opening)) == 2 && lizkarg_next_part_refusal(cut, 1, LIST(two->opening)) == 7);
+    cut.nu = 8, cut.mu = 1;
+    HOLD(lizkarg_next_part_refusal(cut, 9, OF(opening)) == 0 && lizkarg_next_part_refusal(cut, 10, OF(opening)) == 2);
+    cut.nu = 16;
+    HOLD(lizkarg_next_part_refusal(cut, 17, OF(opening)) == 5 && lizkarg_next_part_refusal(cut, 18, OF(opening)) == 2);
+
+    /* a sheet has two z digits, whatever one_digit is */
+    other = sizes_of(two);
+    size_t bytes = lizkarg_sheet_bytes(other, h.nu, h.mu);
+    other.one_digit = 1;
+    HOLD(lizkarg_sheet_bytes(other, h.nu, h.mu) == bytes);
+    other.b = 0;
+    HOLD(lizkarg_sheet_bytes(other, h.nu, h.mu) == 0);
+    free(text), free(x.z.at), free(x.places.at), free(x.next.at), free(x.opening.at);
+}
+
 /* ---- challenges */
 
 /* n = 1, r = 2, bases 4, all other sizes the least: the elements of each list of a sheet, in its order, and of the next instance. */
@@ -386,6 +467,7 @@ int main(int argc, char **argv) {
         verdicts(&s);
         next(&s);
         sheets(&s);
+        one_digit(folder, &s);
     }
     challenges();
     digits();

@@ -35,7 +35,7 @@ static header draw_header(void) {
 
 static lizkarg_sizes sizes_of(header h) {
     size_t *x = h.number;
-    lizkarg_sizes sizes = {x[D], x[N], x[R], x[K], x[L], x[W], x[KAPPA], x[KAPPA1], x[KAPPA2], x[B], x[B1], x[B2], x[T1], x[T2], 0, 0};
+    lizkarg_sizes sizes = {x[D], x[N], x[R], x[K], x[L], x[W], x[KAPPA], x[KAPPA1], x[KAPPA2], x[B], x[B1], x[B2], x[T1], x[T2], 0, 0, 0};
     return sizes;
 }
 
@@ -70,6 +70,7 @@ static lizkarg_answer commit_garbage(const lists *s) {
         OF(delta), OF(d_matrix), LIST(s->witness), LIST(s->h), OF(u2));
 }
 static lizkarg_answer amortize(const lists *s) {
+    if (s->sizes.one_digit) return lizkarg_amortize_one_digit(lizkarg_shape_of(s->sizes), OF(c), LIST(s->witness), LIST(s->z));
     return lizkarg_amortize(lizkarg_shape_of(s->sizes), s->sizes.b, OF(c), LIST(s->witness), LIST(s->z));
 }
 static lizkarg_answer verify(const lists *s) { return lizkarg_verify(s->sizes, SHARED, OF(opening)); }
@@ -99,9 +100,10 @@ static void fill_challenges(lizkarg_list c, size_t d) {
     for (size_t i = 0; d == 64 && i < c.length; i++) c.numbers[i] = i % d < 31 ? 1 : i % d < 41 ? -2 : 0;
 }
 
-static lists lists_of(header h) {
+static lists lists_of(header h, uint8_t one_digit) {
     lists s;
-    lizkarg_sizes sizes = s.sizes = sizes_of(h);
+    lizkarg_sizes sizes = sizes_of(h);
+    sizes.one_digit = one_digit, s.sizes = sizes;
     s.nu = h.number[NU], s.mu = h.number[MU];
 #define ZEROS(x) s.proof.x = zeros(lizkarg_##x##_length(sizes));
     FIELDS(ZEROS)
@@ -136,8 +138,10 @@ static void exact(const lists *s, lizkarg_answer (*call)(const lists *), lizkarg
 
 #define EXACT(call, ...) do { lizkarg_list *taken[] = {__VA_ARGS__, NULL}; exact(&s, call, taken); } while (0)
 
-static void against_calls(header h) {
-    lists s = lists_of(h);
+/* With one z digit the cut goes up to nu + mu = 16, and there is no sheet. */
+static void against_calls(header h, uint8_t one_digit) {
+    if (one_digit) h.number[NU] = draw(1, 15), h.number[MU] = draw(1, 16 - h.number[NU]);
+    lists s = lists_of(h, one_digit);
     lizkarg_proof *p = &s.proof;
     EXACT(commit, &p->a_matrix, &p->b_matrix, &p->c_matrix, &s.witness, &s.t, &s.g, &p->u1);
     EXACT(project, &p->projections, &s.witness, &p->p);
@@ -148,8 +152,10 @@ static void against_calls(header h) {
 #define TAKEN(x) &p->x,
     EXACT(verify, FIELDS(TAKEN) NULL);
     EXACT(next_part, &p->opening);
-    EXACT(write_sheet, &s.numbers);
-    ANSWER(write_sheet(&s), LIZKARG_REFUSED, 13);
+    if (!one_digit) {
+        EXACT(write_sheet, &s.numbers);
+        ANSWER(write_sheet(&s), LIZKARG_REFUSED, 13);
+    }
     EXACT(next_instance, &p->a_matrix, &p->b_matrix, &p->c_matrix, &p->d_matrix, &p->whole, &p->constant_terms, &p->u1, &p->projections, &p->p,
         &p->psi, &p->omega, &p->second_b, &p->alpha, &p->delta, &p->u2, &p->c, &s.out);
     lizkarg_answer answer = next_instance(&s);
@@ -157,14 +163,17 @@ static void against_calls(header h) {
     HOLD(above == (lizkarg_next_rank(s.sizes, s.nu, s.mu) > 256));
     /* parts 1 to r' are there, and no more; the chunks of the rest come last and have m elements */
     lizkarg_part_sizes cut = lizkarg_part_sizes_of(s.sizes, s.nu, s.mu);
-    size_t parts = lizkarg_next_parts(s.nu, s.mu), rest = 0, longest = 0;
+    size_t parts = lizkarg_next_parts(s.sizes, s.nu, s.mu), rest = 0, longest = 0, shortest = s.sizes.n * s.sizes.d;
     HOLD(lizkarg_next_part_refusal(cut, parts, p->opening.numbers, p->opening.length) == 0);
     HOLD(lizkarg_next_part_refusal(cut, parts + 1, p->opening.numbers, p->opening.length) == 2);
     for (size_t i = 1; i <= parts; i++) {
         size_t length = lizkarg_next_part(cut, i, p->opening.numbers, p->opening.length).length;
-        if (i > 2 * s.nu) rest += length;
+        if (i > lizkarg_z_digits(s.sizes) * s.nu) rest += length;
+        else if (length < shortest) shortest = length;
         if (length > longest) longest = length;
     }
+    /* full chunks: none of z is padded */
+    HOLD(lizkarg_full_chunks(s.sizes, s.nu, s.mu) == (shortest == lizkarg_next_rank(s.sizes, s.nu, s.mu) * s.sizes.d));
     HOLD(rest == lizkarg_rest_size(s.sizes) * s.sizes.d && longest == lizkarg_next_rank(s.sizes, s.nu, s.mu) * s.sizes.d);
     free_lists(&s);
 }
@@ -207,8 +216,14 @@ static void against_header(header h) {
     size_t cuts[][2] = {{0, 1}, {1, 0}, {8, 1}, {1, 15}, {7, 3}, {(size_t)1 << 63, 2}, {1, (size_t)-1}, {(size_t)-1, 4}};
     for (int i = 0; i < 8; i++) {
         lizkarg_sizes s = sizes_of(h);
-        HOLD(!lizkarg_next_parts(cuts[i][0], cuts[i][1]) && !lizkarg_next_rank(s, cuts[i][0], cuts[i][1]) && !lizkarg_next_length(s, cuts[i][0], cuts[i][1]));
+        HOLD(!lizkarg_next_parts(s, cuts[i][0], cuts[i][1]) && !lizkarg_next_rank(s, cuts[i][0], cuts[i][1]) && !lizkarg_next_length(s, cuts[i][0], cuts[i][1]));
         HOLD(lizkarg_sheet_bytes(s, cuts[i][0], cuts[i][1]) == 0);
+    }
+    size_t ones[][3] = {{8, 1, 9}, {9, 7, 16}, {15, 1, 16}, {1, 15, 16}, {16, 1, 0}, {9, 8, 0}, {1, 16, 0}, {0, 16, 0}, {16, 0, 0}, {(size_t)-1, 2, 0}, {(size_t)1 << 63, (size_t)1 << 63, 0}};
+    for (int i = 0; i < 11; i++) {
+        lizkarg_sizes s = sizes_of(h);
+        s.one_digit = 1;
+        HOLD(lizkarg_next_parts(s, ones[i][0], ones[i][1]) == ones[i][2] && !lizkarg_next_length(s, ones[i][0], ones[i][1]) == !ones[i][2]);
     }
 }
 
@@ -231,7 +246,8 @@ int main(int argc, char **argv) {
         header h = draw_header();
         against_header(h);
         if (lizkarg_proof_length(sizes_of(h)) > largest) continue;
-        against_calls(h);
+        against_calls(h, 0);
+        against_calls(h, (uint8_t)draw(1, 255));
         calls--;
     }
     return report();

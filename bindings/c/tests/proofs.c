@@ -47,7 +47,7 @@ static stored read_case(const char *folder) {
     s.sizes = lizkarg_sizes_of(sheet), s.nu = sheet.nu, s.mu = sheet.mu;
     s.proof = lizkarg_proof_of(s.sizes, s.numbers);
     s.witness = next_list(&at, lizkarg_witness_length(s.sizes));
-    s.places = next_list(&at, 2 * lizkarg_next_parts(s.nu, s.mu));
+    s.places = next_list(&at, 2 * lizkarg_next_parts(s.sizes, s.nu, s.mu));
     s.next = next_list(&at, lizkarg_next_length(s.sizes, s.nu, s.mu));
     free(text), free(more);
     return s;
@@ -128,7 +128,7 @@ static void verdicts(const stored *s) {
 
 static void next(const stored *s) {
     lizkarg_list out = filled(s->next.length, 77), none = {NULL, 0};
-    size_t parts = lizkarg_next_parts(s->nu, s->mu);
+    size_t parts = lizkarg_next_parts(s->sizes, s->nu, s->mu);
     ANSWER(lizkarg_proof_next_instance(s->sizes, s->nu, s->mu, &s->proof, none), LIZKARG_REFUSED, 7);
     ANSWER(lizkarg_proof_next_instance(s->sizes, 8, 1, &s->proof, out), LIZKARG_REFUSED, 5);
     ANSWER(lizkarg_proof_next_instance(s->sizes, s->nu, s->mu, &s->proof, out), LIZKARG_WRITTEN, 0);
