@@ -21,10 +21,9 @@ Refused, with the number of the row. The library is target/staticlib/liblizkarg.
 
 import ctypes
 import os
-from collections import namedtuple
 from dataclasses import dataclass
 from pathlib import Path
-from typing import List, NamedTuple
+from typing import List, NamedTuple, Optional
 
 FIVE = 5  # second functions
 _LEAST = -2147483648  # out of range for every list: what stands for a number that no list can hold
@@ -40,7 +39,7 @@ class Refused(Exception):
         2: "n, r, K, L, w or a part number is outside its limits",
         3: "a commitment rank is not 1 to 8",
         4: "a base is not 2 to 65536 or a digit count is not 2 to 8",
-        5: "nu or mu is below 1, or 2 nu + mu is above 16",
+        5: "nu or mu is below 1, or they cut into more than 16 parts",
         6: "a bound is negative or above 999999999999999",
         7: "a list's length is not what the sizes give",
         8: "a number is out of range",
@@ -109,7 +108,7 @@ class Sizes(NamedTuple):
     kappa: int  # rows of A: 1 to 8
     kappa1: int  # rows of B and C: 1 to 8
     kappa2: int  # rows of D: 1 to 8
-    b: int  # base of the two digits of z: 2 to 65536
+    b: Optional[int]  # base of the two digits of z: 2 to 65536; None where z is whole in one digit
     b1: int  # base of the digits of t and h: 2 to 65536
     b2: int  # base of the digits of g: 2 to 65536
     t1: int  # digits of t and h: 2 to 8
@@ -138,7 +137,7 @@ class Proof(NamedTuple):
     u2: List[int]  # message 4
     # challenges, an element to each part: at degree 64, 23 coefficients 0, 31 of ±1 and 10 of ±2; at smaller degrees -2 to 2, squared length at most 71
     c: List[int]
-    opening: List[int]  # message 5: z low, z high, the digits of t, g and h
+    opening: List[int]  # message 5: z low, z high, or z in one digit; the digits of t, g and h
 
 
 class Sheet(NamedTuple):
@@ -154,44 +153,59 @@ class NextSizes(NamedTuple):
     """The sizes of the next instance; its degree is the same, it has no constant-term constraints, and its bound is β'²."""
 
     n: int  # n', the elements to a part
-    r: int  # r' = 2ν+μ, the parts
+    r: int  # r' = 2ν+μ, with one z digit ν+μ: the parts
     k: int  # K' = κ+κ1+κ2+3, the constraints, all of the whole kind
     whole: int  # how many numbers the constraints have
+
+
+def z_digits(sizes):
+    """How many digits z has: two to base b, or one where b is None."""
+    return 1 if sizes.b is None else 2
 
 
 def lengths(sizes):
     """How many numbers each list of these sizes has, by name: the lists of Proof, the witness, and the digits z, t, g and h."""
     s = sizes
     pairs = s.r * (s.r + 1) // 2
-    t, g, h = s.r * s.t1 * s.kappa, pairs * s.t2, pairs * s.t1
+    z, t, g, h = z_digits(s) * s.n, s.r * s.t1 * s.kappa, pairs * s.t2, pairs * s.t1
     function = (pairs + s.r * s.n) * s.d
     return {
         "a_matrix": s.kappa * s.n * s.d, "b_matrix": s.kappa1 * t * s.d, "c_matrix": s.kappa1 * g * s.d, "d_matrix": s.kappa2 * h * s.d,
         "whole": s.k * (function + s.d), "constant_terms": s.l * (function + 1), "u1": s.kappa1 * s.d, "projections": s.w * s.r * s.n * s.d,
         "p": s.w, "psi": FIVE * s.l, "omega": FIVE * s.w, "second_b": FIVE * s.d, "alpha": s.k * s.d, "delta": FIVE * s.d, "u2": s.kappa2 * s.d,
-        "c": s.r * s.d, "opening": (2 * s.n + t + g + h) * s.d, "witness": s.r * s.n * s.d, "z": 2 * s.n * s.d, "t": t * s.d, "g": g * s.d, "h": h * s.d,
+        "c": s.r * s.d, "opening": (z + t + g + h) * s.d, "witness": s.r * s.n * s.d, "z": z * s.d, "t": t * s.d, "g": g * s.d, "h": h * s.d,
     }
 
 
 def next_sizes(sizes, nu, mu):
-    """The sizes of the next instance, whose opening is cut into ν, ν and μ chunks."""
+    """The sizes of the next instance, whose opening is cut into ν, ν and μ chunks, with one z digit into ν and μ."""
     s = sizes
     rest = s.r * s.kappa * s.t1 + s.r * (s.r + 1) // 2 * (s.t1 + s.t2)
-    n, r, k = max(-(-s.n // nu), -(-rest // mu)), 2 * nu + mu, s.kappa + s.kappa1 + s.kappa2 + 3
+    n, r, k = max(-(-s.n // nu), -(-rest // mu)), z_digits(s) * nu + mu, s.kappa + s.kappa1 + s.kappa2 + 3
     return NextSizes(n, r, k, k * (r * (r + 1) // 2 + r * n + 1) * s.d)
+
+
+def has_full_chunks(sizes, nu, mu):
+    """Whether each chunk of z is as long as n', so that none has padding: ν·n' = n. A chain, which folds the next instance in its turn, must cut so: with other
+    chunks the next instance can be solved by a witness whose padding is not zero, though the statement has no solution, and nobody sees that padding.
+    """
+    return nu > 0 and mu > 0 and nu * next_sizes(sizes, nu, mu).n == sizes.n
 
 
 # ---- the library
 
-def _struct(name, fields, wide=()):
-    return type(name, (ctypes.Structure,), {"_fields_": [(f, ctypes.c_uint64 if f in wide else ctypes.c_size_t) for f in fields.split()]})
+_TYPES = {"bound": ctypes.c_uint64, "target": ctypes.c_uint64, "one_digit": ctypes.c_uint8}
+
+
+def _struct(name, fields):
+    return type(name, (ctypes.Structure,), {"_fields_": [(f, _TYPES.get(f, ctypes.c_size_t)) for f in fields.split()]})
 
 
 _Shape = _struct("_Shape", "d n r")
 _CommitSizes = _struct("_CommitSizes", "d n r kappa kappa1 b1 b2 t1 t2")
 _GarbageSizes = _struct("_GarbageSizes", "d n r k l w kappa2 b1 t1")
-_Sizes = _struct("_Sizes", " ".join(Sizes._fields), ("bound", "target"))
-_PartSizes = _struct("_PartSizes", "d n r kappa t1 t2 nu mu")
+_Sizes = _struct("_Sizes", " ".join(Sizes._fields) + " one_digit")
+_PartSizes = _struct("_PartSizes", "d n r kappa t1 t2 nu mu one_digit")
 _Part = _struct("_Part", "start length")
 _HEADER = "d n r k l w kappa kappa1 kappa2 b b1 b2 t1 t2 nu mu bound target".split()
 
@@ -201,7 +215,7 @@ class _Answer(ctypes.Structure):
 
 
 class _Sheet(ctypes.Structure):
-    _fields_ = _Answer._fields_ + [(f, ctypes.c_uint64 if f in ("bound", "target") else ctypes.c_size_t) for f in _HEADER]
+    _fields_ = _Answer._fields_ + [(f, _TYPES.get(f, ctypes.c_size_t)) for f in _HEADER]
 
 
 class _Text(ctypes.Structure):
@@ -225,7 +239,7 @@ def _library():
         "multiply": _Product, "next_part_refusal": ctypes.c_uint8, "next_part": _Part, "sheet_numbers": ctypes.c_size_t, "read_sheet": _Sheet,
         "sheet_bytes": ctypes.c_size_t, "write_sheet": _Text,
     }
-    for name in [*"commit project aggregate commit_garbage amortize verify next_instance judge_sheet".split(), *results]:
+    for name in [*"commit project aggregate commit_garbage amortize amortize_one_digit verify next_instance judge_sheet".split(), *results]:
         getattr(library, "lizkarg_" + name).restype = results.get(name, _Answer)
     return library
 
@@ -258,9 +272,10 @@ def _bytes(text):
     return (ctypes.c_uint8 * len(text)).from_buffer_copy(text) if text else (ctypes.c_uint8 * 0)()
 
 
-def _sized(kind, sizes):
-    """The sizes that a call takes; a negative one stands as one that is past every limit."""
-    return kind(*(getattr(sizes, field) if 0 <= getattr(sizes, field) < 2**64 else 2**64 - 1 for field, _ in kind._fields_))
+def _sized(kind, sizes, **more):
+    """The sizes that a call takes; a negative one stands as one that is past every limit. Without a base z has one digit, and b, which is not looked at, is 0."""
+    values = {**sizes._asdict(), **more, "one_digit": z_digits(sizes) == 1, "b": 0 if sizes.b is None else sizes.b}
+    return kind(*(values[field] if 0 <= values[field] < 2**64 else 2**64 - 1 for field, _ in kind._fields_))
 
 
 def _room(sizes, *names):
@@ -329,8 +344,10 @@ def commit_garbage(sizes, whole, constant_terms, projections, psi, omega, alpha,
 
 
 def amortize(sizes, c, witness):
-    """Message 5: z low, then z high. Refused 1, 2, 4, 7, 8, 10."""
+    """Message 5: z low, then z high, or z in one digit. Refused 1, 2, 4, 7, 8, 10, with one digit not 4."""
     outs = _room(sizes, "z")
+    if sizes.b is None:
+        return _written(_call("amortize_one_digit", _sized(_Shape, sizes), _numbers(c), _numbers(witness), *outs), *outs)
     return _written(_call("amortize", _sized(_Shape, sizes), sizes.b, _numbers(c), _numbers(witness), *outs), *outs)
 
 
@@ -350,16 +367,18 @@ def verify(sizes, proof):
 
 
 def next_instance(sizes, nu, mu, proof):
-    """The constraints of the next instance, one list; Failed(1) or Failed(2) where that check fails. The opening is not looked at. Refused 1 to 11."""
+    """The constraints of the next instance, one list; Failed(1) or Failed(2) where that check fails. The opening is not looked at. Refused 1 to 11.
+
+    A chain must cut with ν·n' = n (`has_full_chunks`): else its accepted end says nothing of the first statement.
+    """
     out = _zeros(next_sizes(sizes, nu, mu).whole if nu > 0 and mu > 0 else 0)
     answer = _call("next_instance", _sized(_Sizes, sizes), nu, mu, *map(_numbers, proof[:-1]), out)
     return Failed(answer.number) if answer.kind == 1 else _written(answer, out)
 
 
 def next_part(sizes, nu, mu, part, opening):
-    """Part `part`, from 1, of the next witness, without the zeros that pad it. Refused 1 to 5, 7; 2 also for a part that is not 1 to 2ν+μ."""
-    values = {**sizes._asdict(), "nu": nu, "mu": mu}
-    taken = _sized(_PartSizes, namedtuple("Values", values)(**values))
+    """Part `part`, from 1, of the next witness, without the zeros that pad it. Refused 1 to 5, 7; 2 also for a part that is not 1 to r'."""
+    taken = _sized(_PartSizes, sizes, nu=nu, mu=mu)
     opening_numbers = _numbers(opening)
     refusal = _call("next_part_refusal", taken, part, opening_numbers)
     if refusal:
@@ -397,12 +416,15 @@ def read_sheet(text):
 
 
 def sheet_bytes(sizes, nu, mu):
-    """How many bytes the text of a sheet of these sizes has; 0 where they are refused, by 1 to 6."""
+    """How many bytes the text of a sheet of these sizes has; 0 where they are refused, by 1 to 6. A sheet has two z digits: without a base it is refused."""
     return _call("sheet_bytes", _sized(_Sizes, sizes), nu, mu)
 
 
 def write_sheet(sizes, nu, mu, proof):
-    """The text of a sheet, as bytes: the sizes, ν and μ are its header, the lists of the Proof its other numbers. Refused 1 to 10."""
+    """The text of a sheet, as bytes: the sizes, ν and μ are its header, the lists of the Proof its other numbers. Refused 1 to 10.
+
+    A sheet has two z digits: where b is None it is refused by 4 if not by 1 to 3.
+    """
     known = lengths(sizes)
     # the library counts all numbers together: where one list is too long and another too short it is given none, and refuses by 7 at the latest
     fit = all(len(numbers) == known[name] for name, numbers in zip(Proof._fields, proof))

@@ -107,6 +107,39 @@ def test_random(count=40):
             assert lizkarg.lengths(z)[name] == reference.LENGTHS[name](s), name
 
 
+def test_one_digit(count=40):
+    """z in one digit: random folds, every call that knows it; b is None."""
+    rng = random.Random(16)
+    for _ in range(count):
+        s = random_sizes(rng)._replace(beta_squared=rng.randint(0, 400), target_beta_squared=rng.randint(0, 10**15 - 1), tz=1)
+        s = s._replace(nu=rng.randint(1, 15))
+        s = s._replace(mu=rng.randint(1, 16 - s.nu))
+        x = {name: uniform(rng, ring.LARGEST, length(s)) for name, length in reference.LENGTHS.items()}
+        x |= {"projections": uniform(rng, 1, len(x["projections"])), "c": challenges(rng, s), "witness": uniform(rng, 3, len(x["witness"]))}
+        z, y = taken(s)._replace(b=None), fold.honest(s, x)
+        proof = lizkarg.prove(z, **{name: x[name] for name in GIVEN})
+        assert proof == Proof(**y)
+        assert lizkarg.verify(z, proof) == library_verdict(fold.verdict(s, y))
+        assert lizkarg.next_sizes(z, s.nu, s.mu) == (reference.next_rank(s), reference.next_multiplicity(s), reference.next_constraint_count(s), reference.LENGTHS["next_whole"](s))
+        assert next_answer(z, s, proof) == fold.answer("next_instance", s, y | {"next_whole": [0] * reference.LENGTHS["next_whole"](s)})
+        assert lizkarg.next_witness(z, s.nu, s.mu, proof.opening) == fold.flat(fold.flat(fold.next_witness(s, y)))
+        for name in Proof._fields + ("witness",):
+            assert lizkarg.lengths(z)[name] == reference.LENGTHS[name](s), name
+        assert lizkarg.has_full_chunks(z, s.nu, s.mu) == (s.nu * reference.next_rank(s) == s.n)
+        assert refusal(lizkarg.write_sheet, z, s.nu, s.mu, proof) == 4 and lizkarg.sheet_bytes(z, s.nu, s.mu) == 0
+        assert refusal(lizkarg.verify, z._replace(b=4), proof) == 7 and refusal(lizkarg.verify, z, proof._replace(opening=proof.opening + [0] * (s.n * s.d))) == 7
+    free = low_digits.FREE._replace(**low_digits.ODD, tz=1)
+    for group in (low_digits.sides(free), low_digits.far_low_digits(free), low_digits.wide_tops(free), low_digits.with_rows(free), low_digits.failing_checks(free)):
+        for name, answer, sized, y in group:
+            assert library_answer(lizkarg.verify, taken(sized)._replace(b=None), Proof(**y)) == answer, name
+    for nu, mu, row in ((9, 7, 0), (15, 1, 0), (16, 1, 5), (9, 8, 5), (0, 1, 5), (2**64, 1, 5)):
+        found = refusal(lizkarg.next_instance, z, nu, mu, proof)
+        assert found == row, (nu, mu)
+    assert [refusal(lizkarg.next_part, z, 8, 1, part, proof.opening) for part in (0, 1, 9, 10)] == [2, 0, 0, 2]
+    assert [refusal(lizkarg.next_part, z, 16, 1, part, proof.opening) for part in (17, 18)] == [5, 2]
+    assert lizkarg.has_full_chunks(z._replace(n=12, r=2, kappa=1, t1=2, t2=2), 2, 3) and not lizkarg.has_full_chunks(z, 0, 1)
+
+
 def test_refusals():
     s, x, y = case.honest()
     z, proof = taken(s), Proof(**y)
@@ -290,7 +323,7 @@ def test_written_corpus():
         read = lizkarg.read_sheet(text)
         assert lizkarg.write_sheet(read.sizes, read.nu, read.mu, read.proof) == text, number
         written += 1
-    assert at == len(cases) and written == 350
+    assert at == len(cases) and written == 353
 
 
 if __name__ == "__main__":

@@ -25,7 +25,7 @@ impl Refused {
             2 => "n, r, K, L, w or a part number is outside its limits",
             3 => "a commitment rank is not 1 to 8",
             4 => "a base is not 2 to 65536 or a digit count is not 2 to 8",
-            5 => "nu or mu is below 1, or 2 nu + mu is above 16",
+            5 => "nu or mu is below 1, or they cut into more than 16 parts",
             6 => "a bound is negative or above 999999999999999",
             7 => "a list's length is not what the sizes give",
             8 => "a number is out of range",
