@@ -2,7 +2,7 @@
 use crate::answer::Answer::{self, Judged, Refused, Written};
 use crate::case::Lists;
 use lizkarg::Verdict::{Accepted, Failed};
-use lizkarg::{Cut, Draws, Messages, Proof, Prover, Statement};
+use lizkarg::{Cut, Draws, Messages, Proof, Prover, Statement, ZDigits};
 use plain::lists::{self, Room, Sizes};
 use plain::messages::{self, Function};
 use plain::refusals::{self, Refusal};
@@ -60,9 +60,13 @@ pub fn cut(s: &Sizes) -> Cut {
     Cut { nu: s.nu, mu: s.mu }
 }
 
+fn z_digits(s: &Sizes) -> ZDigits {
+    if s.one_digit { ZDigits::One } else { ZDigits::Two(s.b) }
+}
+
 pub fn sizes(s: &Sizes) -> lizkarg::Sizes {
     lizkarg::Sizes {
-        d: s.d, n: s.n, r: s.r, k: s.k, l: s.l, w: s.w, kappa: s.kappa, kappa1: s.kappa1, kappa2: s.kappa2, b: s.b, b1: s.b1, b2: s.b2,
+        d: s.d, n: s.n, r: s.r, k: s.k, l: s.l, w: s.w, kappa: s.kappa, kappa1: s.kappa1, kappa2: s.kappa2, z: z_digits(s), b1: s.b1, b2: s.b2,
         t1: s.t1, t2: s.t2, bound: s.bound, target: s.target,
     }
 }

@@ -80,10 +80,11 @@ fn solve(s: &Sizes, l: &mut Lists) {
     }
 }
 
-/// ν and μ within their limits.
-pub fn chunks(rng: &mut Random) -> (usize, usize) {
-    let nu = rng.between(1, 7);
-    (nu, rng.between(1, 16 - 2 * nu))
+/// ν and μ within their limits: 2ν+μ at most 16, with one z digit ν+μ.
+pub fn chunks(rng: &mut Random, one_digit: bool) -> (usize, usize) {
+    let (most, digits) = if one_digit { (15, 1) } else { (7, 2) };
+    let nu = rng.between(1, most);
+    (nu, rng.between(1, 16 - digits * nu))
 }
 
 fn bound(rng: &mut Random) -> u64 {
@@ -99,7 +100,8 @@ pub fn small(rng: &mut Random) -> Sizes {
     let tiny = !rng.once_in(40);
     let most = if tiny { 2 } else { 3 };
     let base = |rng: &mut Random| rng.pick(&[2, 3, 4, 5, 7, 8, 16, 255, 256, 4095, 32768, 65535, 65536]);
-    let (nu, mu) = chunks(rng);
+    let one_digit = rng.once_in(2);
+    let (nu, mu) = chunks(rng, one_digit);
     Sizes {
         d: if tiny { rng.pick(&[2, 2, 2, 4]) } else { rng.pick(&[2, 4, 8, 16, 32]) },
         n: rng.between(1, most),
@@ -119,6 +121,7 @@ pub fn small(rng: &mut Random) -> Sizes {
         mu,
         bound: bound(rng),
         target: bound(rng),
+        one_digit,
     }
 }
 
@@ -129,7 +132,8 @@ pub fn medium(rng: &mut Random) -> Sizes {
             let most = if rng.once_in(2) { high } else { low.max(high / 8) };
             rng.between(low, most)
         };
-        let (nu, mu) = chunks(rng);
+        let one_digit = rng.once_in(2);
+        let (nu, mu) = chunks(rng, one_digit);
         let s = Sizes {
             d: 2 << rng.below(6),
             n: up(rng, 1, 256),
@@ -149,6 +153,7 @@ pub fn medium(rng: &mut Random) -> Sizes {
             mu,
             bound: bound(rng),
             target: bound(rng),
+            one_digit,
         };
         let numbers = s.n * s.r * s.d * (s.k + s.l + s.w + 1) + s.pair_count() * s.t1.max(s.t2) * s.kappa1.max(s.kappa2) * s.d;
         if numbers < 100_000 {

@@ -14,7 +14,7 @@ use std::time::Instant;
 /// What, and its sizes; bounds are set to what the honest fold needs. Between them every limit is reached.
 fn sizes() -> Vec<(&'static str, Sizes)> {
     let s = |d, n, r, k, l, w, kappa, b, b1, b2, t1, t2, nu, mu| Sizes {
-        d, n, r, k, l, w, kappa, kappa1: kappa, kappa2: kappa, b, b1, b2, t1, t2, nu, mu, bound: 0, target: 0,
+        d, n, r, k, l, w, kappa, kappa1: kappa, kappa2: kappa, b, b1, b2, t1, t2, nu, mu, bound: 0, target: 0, one_digit: false,
     };
     vec![
         ("product", s(64, 256, 16, 4, 4, 256, 8, 16, 256, 256, 4, 4, 2, 12)),
@@ -24,6 +24,7 @@ fn sizes() -> Vec<(&'static str, Sizes)> {
         ("degree 2", s(2, 256, 16, 32, 32, 256, 8, 8, 16, 16, 8, 8, 4, 8)),
         ("degree 32, odd bases", s(32, 77, 7, 5, 3, 33, 3, 5, 6563, 641, 3, 4, 5, 6)),
         ("no projections", s(16, 40, 9, 7, 0, 0, 2, 3, 65535, 1627, 2, 3, 2, 11)),
+        ("one z digit", Sizes { one_digit: true, ..s(64, 255, 5, 4, 3, 128, 4, 0, 256, 256, 4, 4, 3, 13) }),
     ]
 }
 
@@ -103,6 +104,9 @@ fn widen(tally: &mut Tally, rng: &mut Random, s: &Sizes, l: &Lists) {
         let half = (block.base / 2) as i32;
         for value in [0, block.values - 1] {
             let (low, top) = block.places().nth(value).unwrap();
+            if low.is_empty() {
+                continue;
+            }
             let low = low.start + rng.below(low.len());
             let top = top.start + rng.below(top.len());
             for (at, x, refused) in [(low, half + 1, true), (low, -half - 1, true), (low, half, false), (low, -half, false), (top, MOST, false), (top, -MOST, false)] {

@@ -52,7 +52,7 @@ fn part(tally: &mut Tally, s: &Sizes, number: usize, opening: &[i32]) {
 
 /// All parts from 0 to r' + 1, and part numbers far out; where r' is large, those at its ends.
 pub fn parts(tally: &mut Tally, s: &Sizes, opening: &[i32]) {
-    let last = usize::try_from(2 * s.nu as u128 + s.mu as u128).unwrap_or(usize::MAX);
+    let last = usize::try_from(s.z_digits() as u128 * s.nu as u128 + s.mu as u128).unwrap_or(usize::MAX);
     let ends = [s.nu, last, last.saturating_add(1), last.wrapping_add(2), usize::MAX];
     for number in (0..=last.saturating_add(1).min(20)).chain(ends) {
         part(tally, s, number, opening);
@@ -65,7 +65,7 @@ pub fn odd_parts(tally: &mut Tally, s: &Sizes, opening: &[i32]) {
     let half = 1 << 63;
     for (nu, mu) in [
         (0, 0), (0, 1), (1, 0), (7, 2), (7, 3), (8, 1), (1, 14), (1, 15), (0, 17), (huge, 1), (1, huge), (huge, huge), (half, 1), (half, half),
-        (huge, 0), (0, huge), (half - 1, 2),
+        (huge, 0), (0, huge), (half - 1, 2), (9, 7), (15, 1), (16, 1), (9, 8), (1, 16),
     ] {
         parts(tally, &Sizes { nu, mu, ..*s }, opening);
     }

@@ -13,7 +13,7 @@ use plain::{next, refusals, sheet};
 fn base() -> Sizes {
     Sizes {
         d: 64, n: 2, r: 2, k: 1, l: 1, w: 2, kappa: 1, kappa1: 1, kappa2: 1, b: 16, b1: 256, b2: 256, t1: 4, t2: 4, nu: 1, mu: 1,
-        bound: LARGEST_BOUND, target: LARGEST_BOUND,
+        bound: LARGEST_BOUND, target: LARGEST_BOUND, one_digit: false,
     }
 }
 
@@ -123,7 +123,7 @@ fn ranks(tally: &mut Tally) {
 fn whole_case(tally: &mut Tally) {
     let s = Sizes {
         d: 2, n: 1, r: 1, k: 1, l: 0, w: 0, kappa: 1, kappa1: 1, kappa2: 1, b: 4, b1: 8, b2: 4, t1: 2, t2: 2, nu: 1, mu: 1, bound: 5,
-        target: 13,
+        target: 13, one_digit: false,
     };
     let less = Sizes { target: 12, ..s };
     let mut l = Lists {
@@ -149,6 +149,45 @@ fn whole_case(tally: &mut Tally) {
     let more = Sizes { target: 20, ..s };
     assert_eq!(verdict(tally, &more, &l), Judged(Accepted(7)));
     assert_eq!(judge(tally, &sheet::write(&more, &l)), Judged(Accepted(7)));
+}
+
+/// z in one digit: the whole case, of which b is not looked at; ν+μ 16 and 17; n' 256 and 257; z at the end of the range.
+fn one_digit(tally: &mut Tally) {
+    let s = Sizes {
+        d: 2, n: 1, r: 1, k: 1, l: 0, w: 0, kappa: 1, kappa1: 1, kappa2: 1, b: 0, b1: 8, b2: 4, t1: 2, t2: 2, nu: 1, mu: 1, bound: 5, target: 13, one_digit: true,
+    };
+    let mut l = Lists {
+        a_matrix: vec![1, 0], b_matrix: vec![1, 0, 0, 0], c_matrix: vec![1, 0, 0, 0], d_matrix: vec![1, 0, 1, 0], whole: vec![1, 0, 0, 0, -3, 4], alpha: vec![1, 0],
+        c: vec![0, 1], witness: vec![1, 2], ..Lists::zeros(&s)
+    };
+    accepted(tally, &s, &mut l);
+    assert_eq!(l.opening, vec![-2, 1, 1, 2, 0, 0, 1, 0, -1, 1, 0, 0, 0, 0]);
+    assert_eq!(verdict(tally, &Sizes { target: 12, ..s }, &l), Judged(Failed(9)));
+    assert_eq!(verdict(tally, &Sizes { target: 20, ..s }, &l), Judged(Accepted(7)));
+    assert_eq!(verdict(tally, &Sizes { one_digit: false, b: 4, ..s }, &l), Refused(7));
+    let after = next::sizes(&s);
+    assert_eq!((after.n, after.r, after.k), (6, 2, 6));
+    for (nu, mu, taken) in [(1, 1, true), (9, 7, true), (15, 1, true), (1, 15, true), (16, 1, false), (9, 8, false), (1, 16, false), (0, 1, false)] {
+        let s = Sizes { nu, mu, ..s };
+        let room = if nu > 0 { instance_room(&s) } else { 0 };
+        assert_eq!(next_instance(tally, &Case::new(&s, &l), room).is_some(), taken, "{nu} {mu}");
+        parts(tally, &s, &l.opening);
+    }
+    odd_parts(tally, &s, &l.opening);
+    writes(tally, &mut Random::new(12), &s, &l);
+    for x in [MOST, -MOST, 1 << 30] {
+        let mut far = l.clone();
+        far.opening[1] = x;
+        assert!(matches!(verdict(tally, &s, &far), Judged(Failed(5))));
+    }
+    for wanted in [256, 257] {
+        let all = (1..=16).flat_map(|r| (1..=8).flat_map(move |kappa| (2..=8).flat_map(move |t1| (1..=14).map(move |mu| (r, kappa, t1, mu)))));
+        let mut all = all.map(|(r, kappa, t1, mu)| Sizes { d: 2, n: 3, r, kappa, t1, mu, one_digit: true, ..base() });
+        let s = all.find(|s| next::rank(s) == wanted).expect("sizes with this rank");
+        let mut l = case::random(&mut Random::new(5), &s, true);
+        accepted(tally, &s, &mut l);
+        assert_eq!(next_instance(tally, &Case::new(&s, &l), instance_room(&s)).is_some(), wanted == 256);
+    }
 }
 
 /// β'² one below the squared length of all digits, at it, one above it and at its largest; each block of the opening counts.
@@ -264,6 +303,7 @@ fn long_sheets(tally: &mut Tally) {
 
 pub fn run(tally: &mut Tally) {
     whole_case(tally);
+    one_digit(tally);
     margins(tally);
     low_digits(tally);
     challenges(tally);

@@ -28,10 +28,13 @@ fn odd_number(rng: &mut Random) -> i32 {
     }
 }
 
+/// Another size; or z in one digit in place of two, and the other way round.
 fn damage_size(rng: &mut Random, s: &mut Sizes) {
-    let mut header = s.header();
-    header[rng.below(SIZES)] = odd_size(rng);
-    *s = Sizes::from_header(header);
+    let (mut header, one_digit, at) = (s.header(), s.one_digit, rng.below(SIZES + 1));
+    if at < SIZES {
+        header[at] = odd_size(rng);
+    }
+    *s = Sizes { one_digit: one_digit != (at == SIZES), ..Sizes::from_header(header) };
 }
 
 fn damage_list(rng: &mut Random, l: &mut Lists) {
@@ -53,6 +56,11 @@ fn damage_digit(rng: &mut Random, s: &Sizes, l: &mut Lists) {
     let block = rng.pick(&s.blocks());
     let value = rng.below(block.values);
     let (low, top) = block.places().nth(value).unwrap();
+    if low.is_empty() {
+        // z in one digit
+        l.opening[top.start + rng.below(top.len())] = odd_number(rng);
+        return;
+    }
     let low_at = low.start + rng.below(low.len());
     let (half, base) = ((block.base / 2) as i32, block.base as i32);
     if rng.once_in(3) {
@@ -202,8 +210,12 @@ fn damage_text(rng: &mut Random, text: &mut Vec<u8>) {
     }
 }
 
-/// The sheet of a case, whole or damaged, judged, and read into slices of one number less, as many as its header gives, and one more.
+/// The sheet of a case, whole or damaged, judged, and read into slices of one number less, as many as its header gives, and one more. With one z digit there is
+/// none.
 fn sheets(tally: &mut Tally, rng: &mut Random, s: &Sizes, l: &Lists) {
+    if s.one_digit {
+        return;
+    }
     let mut text = sheet::write(s, l);
     if let Ok(read) = lizkarg::Sheet::read(&text) {
         assert!(read.proof() == proof(s, l), "Sheet::proof");
@@ -256,7 +268,7 @@ fn next_of(tally: &mut Tally, rng: &mut Random, case: &Case, answer: Answer) {
 
 /// The next instance, cut anew, now and then with ν or μ out of their limits. The slice is as long as the sizes say that were not damaged.
 fn refused_next(tally: &mut Tally, rng: &mut Random, undamaged: &Sizes, s: &Sizes, l: &Lists) {
-    let (mut nu, mut mu) = case::chunks(rng);
+    let (mut nu, mut mu) = case::chunks(rng, s.one_digit);
     let room = instance_room(&Sizes { nu, mu, ..*undamaged }).min(10_000_000);
     match rng.below(8) {
         0 => nu = odd_size(rng) as usize,
