@@ -5,6 +5,11 @@
 #include "../lizkarg_proof.h"
 #include "held.h"
 
+/* Whether two sizes are equal; bytes after one_digit are no member. */
+static int same_sizes(lizkarg_sizes x, lizkarg_sizes y) {
+    return !memcmp(&x, &y, offsetof(lizkarg_sizes, one_digit)) && !x.one_digit == !y.one_digit;
+}
+
 enum { MARK = '#', PAST = 5, MOST = 65536, LARGEST = 2147483598 };
 static const uint64_t LARGEST_BOUND = 999999999999999;
 
@@ -90,7 +95,7 @@ static void same(const taken *x, const uint8_t *text, size_t size) {
     HOLD(lizkarg_sheet_numbers(text, size) == numbers.length);
     lizkarg_sheet sheet = lizkarg_read_sheet(text, size, numbers.numbers, numbers.length);
     lizkarg_sizes sizes = lizkarg_sizes_of(sheet);
-    HOLD(sheet.kind == LIZKARG_WRITTEN && sheet.nu == x->nu && sheet.mu == x->mu && !memcmp(&sizes, &x->sizes, sizeof sizes));
+    HOLD(sheet.kind == LIZKARG_WRITTEN && sheet.nu == x->nu && sheet.mu == x->mu && same_sizes(sizes, x->sizes));
     HOLD(!memcmp(numbers.numbers, x->numbers.numbers, numbers.length * sizeof(int32_t)));
     lizkarg_answer judged = lizkarg_judge_sheet(text, size);
     HOLD(size > MOST ? judged.kind == LIZKARG_REFUSED && judged.number == 12 : judged.kind != LIZKARG_REFUSED || judged.number == 15);

@@ -59,6 +59,32 @@ fn run(name: &str) {
     assert_eq!((sheet.write().as_ref(), proof.write_sheet(cut).as_ref()), (Ok(&text), Ok(&text)));
     assert_eq!(sheet_bytes(sizes, cut), text.len());
     writes([next], |[out]| proof.write_next_instance(cut, out).map(|answer| assert_eq!(answer, Next::Written(()))));
+    one_digit(name, &proof, witness, cut);
+}
+
+/// The same fold with z in one digit: NAME.one.
+fn one_digit(name: &str, two: &Proof, witness: &[i32], cut: Cut) {
+    let words = String::from_utf8(file(&format!("{name}.one"))).unwrap();
+    let (target, rest) = words.split_once('\n').unwrap();
+    let sizes = Sizes { z: ZDigits::One, target: target.parse().unwrap(), ..two.statement.sizes };
+    let rest: Vec<i32> = rest.split_whitespace().map(|word| word.parse().unwrap()).collect();
+    let (z, rest) = rest.split_at(sizes.lengths().z);
+    let (places, next) = rest.split_at(2 * sizes.next(cut).r);
+    let opening = [z, &two.messages.opening[2 * z.len()..]].concat();
+    let statement = Statement { sizes, ..two.statement };
+    let proof = Proof { statement, messages: Messages { opening: &opening, ..two.messages }, ..*two };
+    writes([z], |[z]| statement.amortize(&two.draws, witness, z));
+    assert_eq!(Prover::new(statement, witness).prove(two.draws), Ok(proof));
+    assert_eq!(proof.verify(), Ok(Accepted(0)));
+    assert_eq!(with_sizes(&proof, Sizes { target: sizes.target - 1, ..sizes }).verify(), Ok(Failed(9)));
+    assert_eq!(with_sizes(&proof, Sizes { target: sizes.target + 1, ..sizes }).verify(), Ok(Accepted(1)));
+    assert_eq!(with_sizes(&proof, two.statement.sizes).verify(), Err(Refused(7)));
+    for (part, place) in places.chunks(2).enumerate() {
+        let (start, length) = (place[0] as usize, place[1] as usize);
+        assert_eq!(proof.next_part(cut, part + 1).unwrap().as_ptr_range(), opening[start..start + length].as_ptr_range());
+    }
+    assert_eq!(proof.next_part(cut, places.len() / 2 + 1), Err(Refused(2)));
+    assert_eq!(proof.next_instance(cut), Ok(Next::Written(next.to_vec())));
 }
 
 #[test]
