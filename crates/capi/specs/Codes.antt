@@ -1,7 +1,8 @@
 -- The library's answers for C, as the program prints them: kind and number; and its sizes from those that C gives.
 use mathlib.Core.Path.{_≡_}
 use mathlib.Core.List.{List}
-use Prim.Native.Nat.{ℕ}
+use mathlib.Core.Bool.{Bool, true, false}
+use Prim.Native.Nat.{ℕ, zero, suc}
 use lib.ListN.{length}
 use lib.IntN.{ℤ}
 use Rattle.integers.specs.Over.{over}
@@ -10,7 +11,9 @@ use Rattle.fold.specs.Answers.{kindOf, numberOf, written}
 use Rattle.fold.specs.declared.Shape.{Shape}
 use Rattle.fold.specs.declared.CommitSizes.{CommitSizes}
 use Rattle.fold.specs.declared.GarbageSizes.{GarbageSizes}
-use Rattle.fold.specs.declared.Sizes.{Sizes}
+use Rattle.fold.specs.declared.ZDigits.{ZDigits}
+use Rattle.fold.specs.declared.ZDigits.the-variants.{One, Two}
+use Rattle.fold.specs.declared.StatementSizes.{StatementSizes}
 use Rattle.fold.specs.declared.PartSizes.{PartSizes}
 use Rattle.next_instance.specs.declared.part.Place.{Place}
 use Rattle.sheet.specs.declared.header.SheetSizes.{SheetSizes}
@@ -119,7 +122,12 @@ garbageSizesFrom c =
       t1 = c .t1;
     }
 
-abbrev pub sizesFrom : CSizes → Sizes
+-- the digits of z: 0 says two, to base b, and every other number one
+abbrev pub zFrom : (oneDigit b : ℕ) → ZDigits
+zFrom zero b = Two b
+zFrom (suc k) b = One
+
+abbrev pub sizesFrom : CSizes → StatementSizes
 sizesFrom c =
     record {
       shape = shapeFrom (c .shape);
@@ -129,7 +137,7 @@ sizesFrom c =
       kappa = c .kappa;
       kappa1 = c .kappa1;
       kappa2 = c .kappa2;
-      b = c .b;
+      z = zFrom (c .«one_digit») (c .b);
       b1 = c .b1;
       b2 = c .b2;
       t1 = c .t1;
@@ -137,6 +145,10 @@ sizesFrom c =
       bound = c .bound;
       target = c .target;
     }
+
+abbrev pub oneFrom : ℕ → Bool
+oneFrom zero = false
+oneFrom (suc k) = true
 
 abbrev pub partSizesFrom : CPartSizes → PartSizes
 partSizesFrom c =
@@ -147,6 +159,7 @@ partSizesFrom c =
       t2 = c .t2;
       nu = c .nu;
       mu = c .mu;
+      «one_digit» = oneFrom (c .«one_digit»);
     }
 
 -- the place of a part that C is told, as the library's

@@ -1,12 +1,14 @@
 // The library for C: each call of the library under a name that begins with `lizkarg_`. A call's contract is the library's, with its
 // answer as two numbers. C's rules hold of what is lent: bindings/c/lizkarg.h.
 ghost use mathlib.Core.Path.{_≡_};
+ghost use Rattle.fold.specs.declared.ZDigits.the-variants.{One, Two};
 ghost use Rattle.fold.specs.Arguments.{statementOf, drawsOf, transcriptOf};
 ghost use Rattle.fold.specs.Verification.{verification};
 ghost use Rattle.lizkarg.specs.Calls.{Committed, Projected, Aggregated, GarbageCommitted, Amortized};
 ghost use Rattle.sheet.specs.Reading.{numberCount};
 ghost use Rattle.judge.specs.Judging.{judgedText};
 ghost use Rattle.capi.specs.Codes.{shapeFrom, commitSizesFrom, garbageSizesFrom, sizesFrom, Coded, codeOf, SheetCoded};
+use fold::ZDigits;
 use sizes::CCommitSizes;
 use sizes::CGarbageSizes;
 use sizes::CShape;
@@ -130,7 +132,7 @@ pub extern "C" fn lizkarg_commit_garbage(
     types::code(answer)
 }
 
-// Message 5: `lizkarg::amortize`.
+// Message 5: `lizkarg::amortize`, two digits to base b.
 #[no_mangle]
 pub extern "C" fn lizkarg_amortize(
     shape: CShape,
@@ -140,11 +142,28 @@ pub extern "C" fn lizkarg_amortize(
     z: &mut [i32],
 ) -> CAnswer
     ensures { λ x.
-        ⌜ Coded (λ answer. Amortized (shapeFrom shape) b (now (c .entry)) (now (witness .entry)) (now (z .entry)) answer
+        ⌜ Coded (λ answer. Amortized (shapeFrom shape) (Two b) (now (c .entry)) (now (witness .entry)) (now (z .entry)) answer
         (now (z .exit))) x ⌝ }
 {
     let given = sizes::shape(shape);
-    let answer = lizkarg::amortize(given, b, c, witness, z);
+    let answer = lizkarg::amortize(given, ZDigits::Two(b), c, witness, z);
+    types::code(answer)
+}
+
+// Message 5: `lizkarg::amortize`, one digit.
+#[no_mangle]
+pub extern "C" fn lizkarg_amortize_one_digit(
+    shape: CShape,
+    c: &[i32],
+    witness: &[i32],
+    z: &mut [i32],
+) -> CAnswer
+    ensures { λ x.
+        ⌜ Coded (λ answer. Amortized (shapeFrom shape) One (now (c .entry)) (now (witness .entry)) (now (z .entry)) answer
+        (now (z .exit))) x ⌝ }
+{
+    let given = sizes::shape(shape);
+    let answer = lizkarg::amortize(given, ZDigits::One, c, witness, z);
     types::code(answer)
 }
 

@@ -1,12 +1,13 @@
 // The structs of sizes for C, laid out as bindings/c/lizkarg.h declares them, and the library's sizes from them. They are C's own: where a struct of
 // the library changes, these stay.
 ghost use mathlib.Core.Path.{_≡_};
-ghost use Rattle.capi.specs.Codes.{shapeFrom, commitSizesFrom, garbageSizesFrom, sizesFrom, partSizesFrom};
+ghost use Rattle.capi.specs.Codes.{shapeFrom, commitSizesFrom, garbageSizesFrom, zFrom, sizesFrom, oneFrom, partSizesFrom};
 use fold::CommitSizes;
 use fold::GarbageSizes;
 use fold::PartSizes;
 use fold::Shape;
-use fold::Sizes;
+use fold::StatementSizes;
+use fold::ZDigits;
 
 // Degree, rank and number of parts.
 #[repr(C)]
@@ -40,7 +41,8 @@ pub struct CGarbageSizes {
     pub t1: usize,
 }
 
-// The sizes of the verifier; `bound` is β² and `target` is β'².
+// The sizes of the verifier; `bound` is β² and `target` is β'². Where `one_digit` is 0, z has two digits to base b; else it has one, and b is not
+// looked at.
 #[repr(C)]
 pub struct CSizes {
     pub shape: CShape,
@@ -57,6 +59,7 @@ pub struct CSizes {
     pub t2: usize,
     pub bound: u64,
     pub target: u64,
+    pub one_digit: u8,
 }
 
 // The sizes of an opening and of its cut into ν and μ chunks.
@@ -68,6 +71,7 @@ pub struct CPartSizes {
     pub t2: usize,
     pub nu: usize,
     pub mu: usize,
+    pub one_digit: u8,
 }
 
 pub fn shape(c: CShape) -> Shape
@@ -116,10 +120,19 @@ pub fn garbage_sizes(c: CGarbageSizes) -> GarbageSizes
     }
 }
 
-pub fn sizes(c: CSizes) -> Sizes
+fn z_digits(one_digit: u8, b: usize) -> ZDigits
+    ensures { λ r. ⌜ r ≡ zFrom «one_digit» b ⌝ }
+{
+    if one_digit == 0 {
+        return ZDigits::Two(b);
+    }
+    ZDigits::One
+}
+
+pub fn sizes(c: CSizes) -> StatementSizes
     ensures { λ r. ⌜ r ≡ sizesFrom c ⌝ }
 {
-    Sizes {
+    StatementSizes {
         shape: Shape {
             d: c.shape.d,
             n: c.shape.n,
@@ -131,7 +144,7 @@ pub fn sizes(c: CSizes) -> Sizes
         kappa: c.kappa,
         kappa1: c.kappa1,
         kappa2: c.kappa2,
-        b: c.b,
+        z: z_digits(c.one_digit, c.b),
         b1: c.b1,
         b2: c.b2,
         t1: c.t1,
@@ -139,6 +152,12 @@ pub fn sizes(c: CSizes) -> Sizes
         bound: c.bound,
         target: c.target,
     }
+}
+
+fn is_one(one_digit: u8) -> bool
+    ensures { λ r. ⌜ r ≡ oneFrom «one_digit» ⌝ }
+{
+    one_digit != 0
 }
 
 pub fn part_sizes(c: CPartSizes) -> PartSizes
@@ -155,5 +174,6 @@ pub fn part_sizes(c: CPartSizes) -> PartSizes
         t2: c.t2,
         nu: c.nu,
         mu: c.mu,
+        one_digit: is_one(c.one_digit),
     }
 }

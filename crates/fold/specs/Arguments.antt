@@ -1,5 +1,5 @@
 -- The arguments of the calls as the definitions take them: sizes stand in a struct, each slice is the list of its numbers. What depends on the
--- number tz of z digits is defined `With` it, and again for the zCount digits of the calls. Below, the number with which each call refuses, 0 where it does not.
+-- number tz of z digits is defined `With` it, and again for the digits that a call is given. Below, the number with which each call refuses, 0 where it does not.
 use mathlib.Core.List.{List}
 use Prim.Native.Nat.{ℕ}
 use lib.IntN.{ℤ}
@@ -7,13 +7,67 @@ use Rattle.fold.specs.declared.Shape.{Shape}
 use Rattle.fold.specs.declared.CommitSizes.{CommitSizes}
 use Rattle.fold.specs.declared.GarbageSizes.{GarbageSizes}
 use Rattle.fold.specs.declared.Sizes.{Sizes}
+use Rattle.fold.specs.declared.StatementSizes.{StatementSizes}
+use Rattle.fold.specs.declared.ZDigits.{ZDigits}
+use Rattle.fold.specs.declared.ZDigits.the-variants.{One, Two}
 use Rattle.fold.specs.declared.PartSizes.{PartSizes}
+use Rattle.residues.specs.Digits.{leastBase}
 use Rattle.fold.specs.Answers.{firstFailing}
-use Rattle.fold.specs.Sizes.{zCount}
+use Rattle.fold.specs.Sizes.{countIf}
 use Rattle.fold.specs.Statement.{Statement, Draws, Transcript}
 use Rattle.fold.specs.NextCall.{partRefusal, nextPart}
-pub use Rattle.fold.specs.Known.CallLimits.{CommitSized, GarbageSized, VerifySized, PartSizedWith, PartSized}
+pub use Rattle.fold.specs.Known.CallLimits.{CommitSized, GarbageSized, VerifySized, PartSizedWith}
 use Rattle.fold.specs.Refusals.{commitTests, projectTests, aggregateTests, garbageTests, amortizeTests, verifyTests, productTests}
+
+-- SPECIFICATION 3.6: "A statement keeps z in two digits to base b, or in one". How many there are, and their base. "With one, b is neither taken nor
+-- tested": the least base stands where a definition has b, and no answer depends on it (Theorems/OneDigit.antt)
+abbrev pub countOf : ZDigits → ℕ
+countOf One = 1
+countOf (Two b) = 2
+
+abbrev pub baseOf : ZDigits → ℕ
+baseOf One = leastBase
+baseOf (Two b) = b
+
+-- the sizes of a statement with that base
+abbrev pub basedSizes : StatementSizes → Sizes
+basedSizes m =
+    record {
+      shape = m .shape;
+      k = m .k;
+      l = m .l;
+      w = m .w;
+      kappa = m .kappa;
+      kappa1 = m .kappa1;
+      kappa2 = m .kappa2;
+      b = baseOf (m .z);
+      b1 = m .b1;
+      b2 = m .b2;
+      t1 = m .t1;
+      t2 = m .t2;
+      bound = m .bound;
+      target = m .target;
+    }
+
+-- sizes with a base b as those of a statement: z has two digits to base b
+abbrev pub inTwoDigits : Sizes → StatementSizes
+inTwoDigits m =
+    record {
+      shape = m .shape;
+      k = m .k;
+      l = m .l;
+      w = m .w;
+      kappa = m .kappa;
+      kappa1 = m .kappa1;
+      kappa2 = m .kappa2;
+      z = Two (m .b);
+      b1 = m .b1;
+      b2 = m .b2;
+      t1 = m .t1;
+      t2 = m .t2;
+      bound = m .bound;
+      target = m .target;
+    }
 
 abbrev pub statementWith : (tz : ℕ) → Sizes → (A B C D whole constantTerms : List ℤ) → Statement
 statementWith tz sizes A B C D whole constantTerms =
@@ -36,15 +90,15 @@ statementWith tz sizes A B C D whole constantTerms =
       D = D;
     }
 
-abbrev pub statementOf : Sizes → (A B C D whole constantTerms : List ℤ) → Statement
-statementOf sizes A B C D whole constantTerms = statementWith zCount sizes A B C D whole constantTerms
+abbrev pub statementOf : StatementSizes → (A B C D whole constantTerms : List ℤ) → Statement
+statementOf sizes A B C D whole constantTerms = statementWith (countOf (sizes .z)) (basedSizes sizes) A B C D whole constantTerms
 
 -- the structs that the messages take, from the sizes of a statement
-abbrev pub commitSizesOf : Sizes → CommitSizes
+abbrev pub commitSizesOf : StatementSizes → CommitSizes
 commitSizesOf m =
     record { shape = m .shape; kappa = m .kappa; kappa1 = m .kappa1; b1 = m .b1; b2 = m .b2; t1 = m .t1; t2 = m .t2 }
 
-abbrev pub garbageSizesOf : Sizes → GarbageSizes
+abbrev pub garbageSizesOf : StatementSizes → GarbageSizes
 garbageSizesOf m =
     record { shape = m .shape; k = m .k; l = m .l; w = m .w; kappa2 = m .kappa2; b1 = m .b1; t1 = m .t1 }
 
@@ -75,8 +129,8 @@ garbageRefusal m whole constantTerms projections ψ ω α δ D s hs u₂ =
 abbrev pub amortizeRefusalWith : (tz : ℕ) → Shape → (b : ℕ) (c s zs : List ℤ) → ℕ
 amortizeRefusalWith tz m b c s zs = firstFailing (amortizeTests (m .d) (m .n) (m .r) tz b c s zs)
 
-abbrev pub amortizeRefusal : Shape → (b : ℕ) (c s zs : List ℤ) → ℕ
-amortizeRefusal m b c s zs = amortizeRefusalWith zCount m b c s zs
+abbrev pub amortizeRefusal : Shape → ZDigits → (c s zs : List ℤ) → ℕ
+amortizeRefusal m z c s zs = amortizeRefusalWith (countOf z) m (baseOf z) c s zs
 
 abbrev pub verifyRefusal : Statement → Draws → Transcript → (o : List ℤ) → ℕ
 verifyRefusal 𝓢 𝓓 𝓣 o = firstFailing (verifyTests 𝓢 𝓓 𝓣 o)
@@ -90,10 +144,10 @@ abbrev pub partRefusalWith : (tz : ℕ) → PartSizes → (i : ℕ) → List ℤ
 partRefusalWith tz m i o = partRefusal (m .shape .d) (m .shape .n) (m .shape .r) (m .kappa) (m .t1) (m .t2) tz (m .nu) (m .mu) i o
 
 abbrev pub partRefusalOf : PartSizes → (i : ℕ) → List ℤ → ℕ
-partRefusalOf m i o = partRefusalWith zCount m i o
+partRefusalOf m i o = partRefusalWith (countIf (m .«one_digit»)) m i o
 
 abbrev pub nextPartWith : (tz : ℕ) → PartSizes → (i : ℕ) → List ℤ → List ℤ
 nextPartWith tz m i o = nextPart (m .shape .d) (m .shape .n) (m .shape .r) (m .kappa) (m .t1) (m .t2) tz (m .nu) (m .mu) i o
 
 abbrev pub nextPartOf : PartSizes → (i : ℕ) → List ℤ → List ℤ
-nextPartOf m i o = nextPartWith zCount m i o
+nextPartOf m i o = nextPartWith (countIf (m .«one_digit»)) m i o

@@ -24,6 +24,7 @@ pub mod RecomposedLength
 pub mod RefusalLaws
 pub mod SelfProduct
 pub mod SizeBounds
+pub mod DigitCounts
 pub mod PlaceBounds
 pub mod TestLaws
 pub mod TableLaws

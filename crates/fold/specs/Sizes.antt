@@ -1,4 +1,5 @@
 -- The numbers that shape a fold, and the lengths they give. SPECIFICATION 3, 4 and 8.
+use mathlib.Core.Bool.{Bool, true, false}
 use Prim.Native.Nat.{ℕ, _+_, _*_, _-_, _/_, max}
 use Rattle.algebra.specs.Triangle.{pairs-count}
 
@@ -6,7 +7,12 @@ use Rattle.algebra.specs.Triangle.{pairs-count}
 abbrev pub five : ℕ
 five = 5
 
--- message 5: "z = Σ c_i s_i in two digits to base b". Definitions take the number of digits of z as tz; this is tz at the calls.
+-- "A statement keeps z in two digits to base b, or in one". Definitions take the number of digits of z as tz. By whether there is one:
+abbrev pub countIf : Bool → ℕ
+countIf true = 1
+countIf false = 2
+
+-- "The sheet keeps two digits"
 abbrev pub zCount : ℕ
 zCount = 2
 
@@ -41,7 +47,7 @@ ceiling a b = (a + (b - 1)) / b
 unfoldable pub nextRank : (n ν m μ : ℕ) → ℕ
 nextRank n ν m μ = max (ceiling n ν) (ceiling m μ)
 
--- "r' = 2ν+μ": ν parts of each of the tz digits of z, and μ of the rest
+-- "r' = 2ν+μ, with one z digit r' = ν+μ": ν parts of each of the tz digits of z, and μ of the rest
 unfoldable pub nextParts : (tz ν μ : ℕ) → ℕ
 nextParts tz ν μ = tz * ν + μ
 

@@ -1,11 +1,18 @@
 // How many elements the sizes give. Within the limits of rows 1 to 4, and for at most two digits of z, no product wraps.
 ghost use mathlib.Core.Path.{_≡_};
 ghost use Prim.Native.Nat.{_≤_};
-ghost use Rattle.fold.specs.Sizes.{pairs, functionSize, tSize, garbageSize, openingSize};
+ghost use Rattle.fold.specs.Sizes.{countIf, pairs, functionSize, tSize, garbageSize, openingSize};
 ghost use Rattle.fold.specs.Limits.{mostCommitmentRank, mostDigits, mostParts, mostRank};
 
-// The number of digits of z at the calls: "z = Σ c_i s_i in two digits to base b". Functions take it as tz.
+// The number of z digits of a sheet: "The sheet keeps two digits". Functions take it as tz.
 pub const Z_DIGITS: usize = 2;
+
+// The number of z digits by whether there is one.
+pub fn z_digits(one_digit: bool) -> usize
+    ensures { λ x. ⌜ x ≡ countIf «one_digit» ⌝ }
+{
+    if one_digit { 1 } else { 2 }
+}
 
 // The number of pairs i ≤ j of r parts.
 pub fn pair_count(r: usize) -> usize

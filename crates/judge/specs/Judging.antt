@@ -12,7 +12,8 @@ use lib.IntN.{ℤ, pos}
 use Rattle.fold.specs.declared.Answer.{Answer}
 use Rattle.fold.specs.declared.Answer.the-variants as answer
 use Rattle.fold.specs.Statement.{Statement, Draws, Transcript}
-use Rattle.fold.specs.Arguments.{statementOf, drawsOf, transcriptOf}
+use Rattle.fold.specs.Arguments.{statementWith, drawsOf, transcriptOf}
+use Rattle.fold.specs.Sizes.{zCount}
 use Rattle.fold.specs.Answers.{kindOf, numberOf}
 use Rattle.fold.specs.Verification.{verification}
 use Rattle.fold.specs.Refusals.{narrow}
@@ -27,8 +28,9 @@ module _ (s : Sizes) (xs : List ℤ) where
   abbrev pub list : ℕ → List ℤ
   list k = listAt (listLengths s) xs k
 
+  -- "The sheet keeps two digits"
   abbrev pub sheetStatement : Statement
-  sheetStatement = statementOf s (list 0) (list 1) (list 2) (list 3) (list 4) (list 5)
+  sheetStatement = statementWith zCount s (list 0) (list 1) (list 2) (list 3) (list 4) (list 5)
 
   abbrev pub sheetDraws : Draws
   sheetDraws = drawsOf (list 7) (list 9) (list 10) (list 12) (list 13) (list 15)

@@ -11,7 +11,7 @@ use lib.IntN.{ℤ}
 use Rattle.fold.specs.declared.Answer.{Answer}
 use Rattle.fold.specs.Sizes.{five, zCount, openingSize}
 use Rattle.fold.specs.Refusals.{wholeLength, constantTermsLength, projectionLength}
-use Rattle.fold.specs.Arguments.{statementOf, drawsOf, transcriptOf}
+use Rattle.fold.specs.Arguments.{statementWith, drawsOf, transcriptOf}
 use Rattle.fold.specs.Verification.{verification}
 use Rattle.fold.specs.declared.Shape.{Shape}
 use Rattle.fold.specs.declared.Sizes.{Sizes}
@@ -27,7 +27,7 @@ module _ (s : Sizes) where
       let u₂ = kappa2 * d in
       let c = r * d in
       let o = openingSize zCount n r kappa t1 t2 * d in
-      verification (statementOf s A B C D whole constantTerms)
+      verification (statementWith zCount s A B C D whole constantTerms)
       (drawsOf projections ψ ω (take α xs) (take δ (drop α xs)) (take c (drop u₂ (drop δ (drop α xs)))))
       (transcriptOf u₁ p b″ (take u₂ (drop δ (drop α xs)))) (take o (drop c (drop u₂ (drop δ (drop α xs)))))
 

@@ -43,8 +43,9 @@ fn judge_last(
     let after_delta = rest(after_alpha, delta_length);
     let after_u2 = rest(after_delta, u2_length);
     let after_c = rest(after_u2, c_length);
+    let sizes = s.in_two_digits();
     verifier::verify(
-        s,
+        sizes,
         a_matrix,
         b_matrix,
         c_matrix,

@@ -11,10 +11,11 @@ use Rattle.fold.specs.declared.Answer.the-variants.{Written}
 use Rattle.fold.specs.declared.CommitSizes.{CommitSizes}
 use Rattle.fold.specs.declared.GarbageSizes.{GarbageSizes}
 use Rattle.fold.specs.declared.Shape.{Shape}
+use Rattle.fold.specs.declared.ZDigits.{ZDigits}
 use Rattle.ring.specs.Element.{R, lift, array}
 use Rattle.fold.specs.Answers.{answered, written}
 use Rattle.fold.specs.Arguments.{productRefusal, commitRefusal, projectRefusal, aggregateRefusal, garbageRefusal, amortizeRefusal}
-use Rattle.fold.specs.Sizes.{zCount}
+use Rattle.fold.specs.Arguments.{countOf, baseOf}
 use Rattle.fold.specs.Messages.{p, b″, aggregate, hDigits, u₂, zDigits}
 use Rattle.prover.specs.Outputs.{tOf, gOf, u₁Of}
 use Rattle.lizkarg.specs.declared.Product.{Product}
@@ -57,6 +58,6 @@ pub record GarbageCommitted (sizes : GarbageSizes) (whole constantTerms projecti
       (u₂ (sizes .shape .d) (sizes .shape .r) (sizes .kappa2) (sizes .t1) D (hOf sizes whole constantTerms projections ψ ω α δ s)) u
 
 -- Message 5
-pub record Amortized (shape : Shape) (b : ℕ) (c s v : List ℤ) (answer : Answer) (v′ : List ℤ) : Type 0 where
-  pub answer-is : answer ≡ answered (amortizeRefusal shape b c s v) Written
-  pub z-is : v′ ≡ written (amortizeRefusal shape b c s v) (zDigits (shape .d) (shape .n) (shape .r) zCount b c s) v
+pub record Amortized (shape : Shape) (digits : ZDigits) (c s v : List ℤ) (answer : Answer) (v′ : List ℤ) : Type 0 where
+  pub answer-is : answer ≡ answered (amortizeRefusal shape digits c s v) Written
+  pub z-is : v′ ≡ written (amortizeRefusal shape digits c s v) (zDigits (shape .d) (shape .n) (shape .r) (countOf digits) (baseOf digits) c s) v

@@ -6,7 +6,7 @@ use fold::Answer;
 use fold::CommitSizes;
 use fold::GarbageSizes;
 use fold::Shape;
-use fold::counts::Z_DIGITS;
+use fold::ZDigits;
 pub use judge::judge_sheet;
 pub use next_instance::next_instance;
 pub use next_instance::part::next_part;
@@ -181,14 +181,22 @@ pub fn commit_garbage(
     Answer::Written
 }
 
-// Message 5: z, in two digits to base b.
-pub fn amortize(shape: Shape, b: usize, c: &[i32], witness: &[i32], z: &mut [i32]) -> Answer
-    ensures { λ x. ⌜ Amortized shape b (now (c .entry)) (now (witness .entry)) (now (z .entry)) x (now (z .exit)) ⌝ }
+// Message 5: z, in two digits to a base, or in one.
+pub fn amortize(
+    shape: Shape,
+    digits: ZDigits,
+    c: &[i32],
+    witness: &[i32],
+    z: &mut [i32],
+) -> Answer
+    ensures { λ x. ⌜ Amortized shape digits (now (c .entry)) (now (witness .entry)) (now (z .entry)) x (now (z .exit)) ⌝ }
 {
-    let refusal = refusals::amortize_refusal(shape, b, c, witness, z);
+    let tz = digits.count();
+    let b = digits.base();
+    let refusal = refusals::amortize_refusal(tz, shape, b, c, witness, z);
     if refusal != 0 {
         return Answer::Refused(refusal);
     }
-    prover::amortize::write_z(Z_DIGITS, shape, b, c, witness, z);
+    prover::amortize::write_z(tz, shape, b, c, witness, z);
     Answer::Written
 }

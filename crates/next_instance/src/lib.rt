@@ -2,7 +2,7 @@
 ghost use Rattle.fold.specs.Arguments.{statementOf, drawsOf, transcriptOf};
 ghost use Rattle.next_instance.specs.Calls.{NextCalled};
 use fold::Answer;
-use fold::Sizes;
+use fold::StatementSizes;
 use fold::Verdict;
 use refusals::next::next_refusal;
 use verifier::judgement::message_checks;
@@ -13,7 +13,7 @@ pub mod writer;
 
 // Writes the constraints of the next instance to `out`, unless the call is refused or check 1 or 2 fails.
 pub fn next_instance(
-    sizes: Sizes,
+    sizes: StatementSizes,
     nu: usize,
     mu: usize,
     a_matrix: &[i32],
@@ -41,8 +41,12 @@ pub fn next_instance(
         (transcriptOf (now (u1 .entry)) (now (p .entry)) (now («second_b» .entry)) (now (u2 .entry))) nu mu (now (out .entry))
         x (now (out .exit)) ⌝ }
 {
+    let z = sizes.z;
+    let tz = z.count();
+    let given = sizes.based();
     let refusal = next_refusal(
-        sizes,
+        tz,
+        given,
         nu,
         mu,
         a_matrix,
@@ -66,12 +70,13 @@ pub fn next_instance(
     if refusal != 0 {
         return Answer::Refused(refusal);
     }
-    let failed = message_checks(sizes, constant_terms, p, psi, omega, second_b);
+    let failed = message_checks(given, constant_terms, p, psi, omega, second_b);
     if failed != 0 {
         return Answer::Judged(Verdict::Failed(failed));
     }
     write_instance(
-        sizes,
+        tz,
+        given,
         nu,
         mu,
         a_matrix,

@@ -1,12 +1,12 @@
 // The constraints of the next instance, check by check: "checks 5 (κ), 6, 7, 8, 3 (κ1), 4 (κ2)". Each group is written from element `at` on.
 ghost use mathlib.Core.Path.{_≡_};
 ghost use mathlib.Core.List.{_++_};
-ghost use Prim.Native.Nat.{_+_, _*_, _≤_};
+ghost use Prim.Native.Nat.{_+_, _*_, _<_, _≤_};
 ghost use lib.ListN.{length};
 ghost use Rattle.integers.specs.Over.{over};
 ghost use Rattle.integers.specs.Flat.{flat};
 ghost use Rattle.ring.specs.Element.{lift, array};
-ghost use Rattle.fold.specs.Arguments.{VerifySized, statementOf, drawsOf, transcriptOf};
+ghost use Rattle.fold.specs.Arguments.{VerifySized, statementWith, drawsOf, transcriptOf};
 ghost use Rattle.fold.specs.Sizes.{tSize, garbageSize};
 ghost use Rattle.fold.specs.NextInstance.{nextWhole};
 ghost use Rattle.fold.specs.Known.NextFacts.{NextFacts};
@@ -15,7 +15,6 @@ ghost use Rattle.next_constraints.specs.Tables.{TableRoom};
 ghost use Rattle.next_checks.specs.Checks.{laid, check5, check6, check7, check8, check3, check4};
 use constraints::aggregated;
 use fold::Sizes;
-use fold::counts::Z_DIGITS;
 use fold::limits::PAIR_ROOM;
 use fold::limits::PART_ROOM;
 use next_checks::cut::Cut;
@@ -126,8 +125,9 @@ fn write_rows4(sizes: Sizes, cut: Cut, d_matrix: &[i32], u2: &[i32], out: &mut [
     }
 }
 
-// The whole constraints of the next instance.
+// The whole constraints of the next instance, where z has tz digits.
 pub fn write_instance(
+    tz: usize,
     sizes: Sizes,
     nu: usize,
     mu: usize,
@@ -149,14 +149,15 @@ pub fn write_instance(
     c: &[i32],
     out: &mut [i32],
 )
-    requires { ⌜ NextFacts sizes (now «a_matrix») (now «b_matrix») (now «c_matrix») (now «d_matrix») (now whole) (now «constant_terms») (now projections)
+    requires { ⌜ NextFacts tz sizes (now «a_matrix») (now «b_matrix») (now «c_matrix») (now «d_matrix») (now whole) (now «constant_terms») (now projections)
         (now psi) (now omega) (now alpha) (now delta) (now c) (now u1) (now p) (now «second_b») (now u2) nu mu (now out) ⌝ }
+    requires { ⌜ (0 < tz) × (tz ≤ 2) ⌝ }
     ensures { λ _. ⌜ now (out .exit) ≡ nextWhole
-        (statementOf sizes (now («a_matrix» .entry)) (now («b_matrix» .entry)) (now («c_matrix» .entry)) (now («d_matrix» .entry)) (now (whole .entry)) (now («constant_terms» .entry)))
+        (statementWith tz sizes (now («a_matrix» .entry)) (now («b_matrix» .entry)) (now («c_matrix» .entry)) (now («d_matrix» .entry)) (now (whole .entry)) (now («constant_terms» .entry)))
         (drawsOf (now (projections .entry)) (now (psi .entry)) (now (omega .entry)) (now (alpha .entry)) (now (delta .entry)) (now (c .entry)))
         (transcriptOf (now (u1 .entry)) (now (p .entry)) (now («second_b» .entry)) (now (u2 .entry))) nu mu ⌝ }
 {
-    let cut = cut_of(sizes, Z_DIGITS, nu, mu);
+    let cut = cut_of(sizes, tz, nu, mu);
     let size = cut.size + 1;
     let mut minus = [0i32; 1024];
     let mut folded = [0i32; PART_ROOM];

@@ -8,15 +8,15 @@ pub mod part;
 pub mod ranges;
 
 ghost use mathlib.Core.Path.{_≡_};
-ghost use Rattle.fold.specs.Arguments.{commitRefusal, projectRefusal, aggregateRefusal, garbageRefusal, amortizeRefusal, verifyRefusal, productRefusal};
-ghost use Rattle.fold.specs.Arguments.{statementOf, drawsOf, transcriptOf};
+ghost use Prim.Native.Nat.{_<_, _≤_};
+ghost use Rattle.fold.specs.Arguments.{commitRefusal, projectRefusal, aggregateRefusal, garbageRefusal, amortizeRefusalWith, verifyRefusal, productRefusal};
+ghost use Rattle.fold.specs.Arguments.{statementWith, drawsOf, transcriptOf};
 use draws::draw_lengths;
 use fold::CommitSizes;
 use fold::ConstraintSizes;
 use fold::GarbageSizes;
 use fold::Shape;
 use fold::Sizes;
-use fold::counts::Z_DIGITS;
 use lengths::aggregate_lengths;
 use lengths::amortize_lengths;
 use lengths::commit_lengths;
@@ -200,15 +200,23 @@ pub fn garbage_refusal(
     first(ranges, 8, first(entries, 9, 0))
 }
 
-// Message 5: challenges and the witness; the digits of z for their length.
-pub fn amortize_refusal(shape: Shape, b: usize, c: &[i32], witness: &[i32], z: &[i32]) -> u8
-    ensures { λ x. ⌜ x ≡ amortizeRefusal shape b (now (c .entry)) (now (witness .entry)) (now (z .entry)) ⌝ }
+// Message 5: challenges and the witness; the tz digits of z for their length.
+pub fn amortize_refusal(
+    tz: usize,
+    shape: Shape,
+    b: usize,
+    c: &[i32],
+    witness: &[i32],
+    z: &[i32],
+) -> u8
+    requires { ⌜ tz ≤ 2 ⌝ }
+    ensures { λ x. ⌜ x ≡ amortizeRefusalWith tz shape b (now (c .entry)) (now (witness .entry)) (now (z .entry)) ⌝ }
 {
     let size = amortize_bounds(shape, b);
     if size != 0 {
         return size;
     }
-    let fits = amortize_lengths(Z_DIGITS, shape, b, c, witness, z);
+    let fits = amortize_lengths(tz, shape, b, c, witness, z);
     if !fits {
         return 7;
     }
@@ -217,8 +225,9 @@ pub fn amortize_refusal(shape: Shape, b: usize, c: &[i32], witness: &[i32], z: &
     first(ranges, 8, first(rule, 10, 0))
 }
 
-// The verifier: the statement, the draws, the messages and the opening.
+// The verifier: the statement, the draws, the messages and the opening, whose z has tz digits.
 pub fn verify_refusal(
+    tz: usize,
     sizes: Sizes,
     a_matrix: &[i32],
     b_matrix: &[i32],
@@ -238,8 +247,9 @@ pub fn verify_refusal(
     c: &[i32],
     opening: &[i32],
 ) -> u8
+    requires { ⌜ (0 < tz) × (tz ≤ 2) ⌝ }
     ensures { λ x.
-        ⌜ x ≡ verifyRefusal (statementOf sizes (now («a_matrix» .entry)) (now («b_matrix» .entry)) (now («c_matrix» .entry))
+        ⌜ x ≡ verifyRefusal (statementWith tz sizes (now («a_matrix» .entry)) (now («b_matrix» .entry)) (now («c_matrix» .entry))
         (now («d_matrix» .entry)) (now (whole .entry)) (now («constant_terms» .entry))) (drawsOf (now (projections .entry))
         (now (psi .entry)) (now (omega .entry)) (now (alpha .entry)) (now (delta .entry)) (now (c .entry)))
         (transcriptOf (now (u1 .entry)) (now (p .entry)) (now («second_b» .entry)) (now (u2 .entry))) (now (opening .entry)) ⌝ }
@@ -249,7 +259,7 @@ pub fn verify_refusal(
         return size;
     }
     let opened = opening_fits(
-        Z_DIGITS,
+        tz,
         sizes.shape.d,
         sizes.shape.n,
         sizes.shape.r,
@@ -290,7 +300,7 @@ pub fn verify_refusal(
         )
         & are_coefficients(c);
     let rule = challenges(sizes.shape.d, sizes.shape.r, c);
-    let narrow = narrow_digits(Z_DIGITS, sizes, opening);
+    let narrow = narrow_digits(tz, sizes, opening);
     first(
         ranges,
         8,

@@ -4,7 +4,7 @@ ghost use Prim.Native.Nat.{_+_, _*_, _<_, _≤_};
 ghost use Rattle.fold.specs.Answers.{firstFailing};
 ghost use Rattle.fold.specs.Refusals.{nextTests};
 ghost use Rattle.fold.specs.Refusals as table;
-ghost use Rattle.fold.specs.Arguments.{VerifySized, statementOf, drawsOf, transcriptOf};
+ghost use Rattle.fold.specs.Arguments.{VerifySized, statementWith, drawsOf, transcriptOf};
 ghost use Rattle.fold.specs.Known.CallLimits.{ChunkLimits};
 ghost use Rattle.fold.specs.Limits.{mostChunks, mostCommitmentRank};
 ghost use Rattle.limits.specs.Bounds.{rankOf};
@@ -16,7 +16,6 @@ use crate::ranges::challenges;
 use crate::ranges::constraint_ranges;
 use crate::ranges::message_ranges;
 use fold::Sizes;
-use fold::counts::Z_DIGITS;
 use limits::next::next_bounds;
 use limits::next::rank_fits;
 use limits::next::rank_of;
@@ -48,8 +47,9 @@ pub fn out_fits(tz: usize, sizes: Sizes, nu: usize, mu: usize, rank: usize, out:
     next_fits(out, sizes.shape.d, rank, parts, count)
 }
 
-// The next instance: the statement, the draws, the messages; the list written for its length.
+// The next instance: the statement, whose z has tz digits, the draws, the messages; the list written for its length.
 pub fn next_refusal(
+    tz: usize,
     sizes: Sizes,
     nu: usize,
     mu: usize,
@@ -71,18 +71,19 @@ pub fn next_refusal(
     c: &[i32],
     out: &[i32],
 ) -> u8
+    requires { ⌜ (0 < tz) × (tz ≤ 2) ⌝ }
     ensures { λ x.
-        ⌜ x ≡ firstFailing (nextTests (statementOf sizes (now («a_matrix» .entry)) (now («b_matrix» .entry)) (now («c_matrix» .entry))
+        ⌜ x ≡ firstFailing (nextTests (statementWith tz sizes (now («a_matrix» .entry)) (now («b_matrix» .entry)) (now («c_matrix» .entry))
         (now («d_matrix» .entry)) (now (whole .entry)) (now («constant_terms» .entry))) (drawsOf (now (projections .entry))
         (now (psi .entry)) (now (omega .entry)) (now (alpha .entry)) (now (delta .entry)) (now (c .entry)))
         (transcriptOf (now (u1 .entry)) (now (p .entry)) (now («second_b» .entry)) (now (u2 .entry))) nu mu (now (out .entry))) ⌝ }
 {
-    let size = next_bounds(Z_DIGITS, sizes, nu, mu);
+    let size = next_bounds(tz, sizes, nu, mu);
     if size != 0 {
         return size;
     }
     let rank = rank_of(sizes, nu, mu);
-    let fits = out_fits(Z_DIGITS, sizes, nu, mu, rank, out)
+    let fits = out_fits(tz, sizes, nu, mu, rank, out)
         & message_lengths(sizes, u1, p, second_b, u2)
         & matrix_lengths(sizes, a_matrix, b_matrix, c_matrix, d_matrix)
         & draw_lengths(

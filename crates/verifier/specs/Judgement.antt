@@ -1,4 +1,4 @@
--- The verdict's checks in parts, for the sizes of a struct; lists that no check of a part takes are empty.
+-- The verdict's checks in parts, for the sizes of a struct; lists that no check of a part takes are empty, and checks 1 and 2 take no z digit.
 use mathlib.Core.Path.{_≡_}
 use mathlib.Core.Bool.{Bool}
 use mathlib.Core.List.{List, []}
@@ -12,12 +12,12 @@ use Rattle.fold.specs.declared.Sizes.{Sizes}
 use Rattle.fold.specs.declared.Verdict.{Verdict}
 use Rattle.fold.specs.declared.Verdict.the-variants.{Accepted, Failed}
 use Rattle.fold.specs.Verdict.{messageChecks, outerChecks, amortizedChecks, lastChecks, openingChecks, margin₉}
-use Rattle.fold.specs.Arguments.{statementOf, statementWith, drawsOf, transcriptOf}
+use Rattle.fold.specs.Arguments.{statementWith, drawsOf, transcriptOf}
 use Rattle.checks.specs.Known.Facts.{zValue}
 
 abbrev pub messageChecksOf : Sizes → (constantTerms p ψ ω b″ : List ℤ) → List (ℕ × Bool)
 messageChecksOf s constantTerms p ψ ω b″ =
-    messageChecks (statementOf s [] [] [] [] [] constantTerms) (drawsOf [] ψ ω [] [] []) (transcriptOf [] p b″ [])
+    messageChecks (statementWith 0 s [] [] [] [] [] constantTerms) (drawsOf [] ψ ω [] [] []) (transcriptOf [] p b″ [])
 
 -- the others depend on the number tz of z digits
 abbrev pub outerChecksOf : (tz : ℕ) → Sizes → (B C D u₁ u₂ o : List ℤ) → List (ℕ × Bool)

@@ -3,16 +3,15 @@ ghost use mathlib.Core.Path.{_≡_};
 ghost use Rattle.fold.specs.Arguments.{statementOf, drawsOf, transcriptOf};
 ghost use Rattle.fold.specs.Verification.{verification};
 use fold::Answer;
-use fold::Sizes;
+use fold::StatementSizes;
 use fold::Verdict;
-use fold::counts::Z_DIGITS;
 use refusals::verify_refusal;
 
 pub mod judgement;
 
 // The answer to a statement, the draws, the messages and an opening.
 pub fn verify(
-    sizes: Sizes,
+    sizes: StatementSizes,
     a_matrix: &[i32],
     b_matrix: &[i32],
     c_matrix: &[i32],
@@ -38,8 +37,12 @@ pub fn verify(
         (now (c .entry))) (transcriptOf (now (u1 .entry)) (now (p .entry)) (now («second_b» .entry)) (now (u2 .entry)))
         (now (opening .entry)) ⌝ }
 {
+    let z = sizes.z;
+    let tz = z.count();
+    let given = sizes.based();
     let refusal = verify_refusal(
-        sizes,
+        tz,
+        given,
         a_matrix,
         b_matrix,
         c_matrix,
@@ -61,13 +64,13 @@ pub fn verify(
     if 0 < refusal {
         return Answer::Refused(refusal);
     }
-    let message = judgement::message_checks(sizes, constant_terms, p, psi, omega, second_b);
+    let message = judgement::message_checks(given, constant_terms, p, psi, omega, second_b);
     if message != 0 {
         return Answer::Judged(Verdict::Failed(message));
     }
     let outer = judgement::outer_checks(
-        Z_DIGITS,
-        sizes,
+        tz,
+        given,
         b_matrix,
         c_matrix,
         d_matrix,
@@ -79,8 +82,8 @@ pub fn verify(
         return Answer::Judged(Verdict::Failed(outer));
     }
     let verdict = judgement::opening_verdict(
-        Z_DIGITS,
-        sizes,
+        tz,
+        given,
         a_matrix,
         whole,
         constant_terms,

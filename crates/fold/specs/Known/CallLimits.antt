@@ -6,7 +6,7 @@ use mathlib.Core.Bool.{true}
 use Prim.Native.Nat.{ℕ, _+_, _*_, _≤_, _<_}
 use lib.IntN.{pos}
 use Rattle.residues.specs.Digits.{Base}
-use Rattle.fold.specs.Sizes.{zCount, nextParts}
+use Rattle.fold.specs.Sizes.{nextParts}
 use Rattle.fold.specs.Known.Facts.{Shaped}
 use Rattle.fold.specs.Answers.{testOf}
 use Rattle.fold.specs.Refusals.{commitBounds, projectBounds, aggregateBounds, garbageBounds, amortizeBounds}
@@ -137,9 +137,6 @@ VerifySized m =
     VerifyLimits (m .shape .d) (m .shape .n) (m .shape .r) (m .k) (m .l) (m .w) (m .kappa) (m .kappa1) (m .kappa2) (m .b) (m .b1) (m .b2) (m .t1) (m .t2)
     (m .bound) (m .target)
 
--- for tz digits of z, and for those of today's calls
+-- for tz digits of z
 abbrev pub PartSizedWith : (tz : ℕ) → PartSizes → (i : ℕ) → Type 0
 PartSizedWith tz m i = PartLimits (m .shape .d) (m .shape .n) (m .shape .r) (m .kappa) (m .t1) (m .t2) tz (m .nu) (m .mu) i
-
-abbrev pub PartSized : PartSizes → (i : ℕ) → Type 0
-PartSized m i = PartSizedWith zCount m i

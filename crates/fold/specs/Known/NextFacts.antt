@@ -8,23 +8,23 @@ use borrow.Author.Tests.{leb-true}
 use lib.IntN.{ℤ}
 use Rattle.fold.specs.declared.Shape.{Shape}
 use Rattle.fold.specs.declared.Sizes.{Sizes}
-use Rattle.fold.specs.Sizes.{restSize, nextRank, nextParts, nextCount, zCount}
+use Rattle.fold.specs.Sizes.{restSize, nextRank, nextParts, nextCount}
 use Rattle.fold.specs.Statement.{Statement, Draws, Transcript}
 use Rattle.fold.specs.Answers.{firstFailing}
 use Rattle.fold.specs.Refusals.{wholeLength, sizeTests, nextTests}
-use Rattle.fold.specs.Arguments.{statementOf, drawsOf, transcriptOf}
+use Rattle.fold.specs.Arguments.{statementWith, drawsOf, transcriptOf}
 use Rattle.fold.specs.Laws.RefusalLaws.{allOf-all, tested}
 use Rattle.fold.specs.Laws.TestLaws.{holds, early-holds}
 use Rattle.fold.specs.Known.CallLimits.{VerifySized, ChunkLimits, verify-limits, chunk-limits}
 use Rattle.fold.specs.Known.WorkFacts.{AggregateFacts, MessageFacts, EntryFacts, ConstantFacts}
 use Rattle.fold.specs.Limits.{mostRank}
 
-module _ (sizes : Sizes) (A B C D whole constantTerms projections ψ ω α δ c u₁ p b″ u₂ : List ℤ) (ν μ : ℕ) (out : List ℤ) where
+module _ (tz : ℕ) (sizes : Sizes) (A B C D whole constantTerms projections ψ ω α δ c u₁ p b″ u₂ : List ℤ) (ν μ : ℕ) (out : List ℤ) where
   open Sizes sizes using (shape, k, l, w, kappa, kappa1, kappa2, b, b1, b2, t1, t2, bound, target)
   open Shape shape using (d, n, r)
 
   abbrev 𝓢 : Statement
-  𝓢 = statementOf sizes A B C D whole constantTerms
+  𝓢 = statementWith tz sizes A B C D whole constantTerms
 
   abbrev 𝓓 : Draws
   𝓓 = drawsOf projections ψ ω α δ c
@@ -37,9 +37,9 @@ module _ (sizes : Sizes) (A B C D whole constantTerms projections ψ ω α δ c 
     pub aggregated : AggregateFacts d n r k l w whole constantTerms projections ψ ω α δ
     pub entries : EntryFacts sizes A B C D c
     pub constants : ConstantFacts sizes whole α δ b″ u₁ u₂
-    pub cut : ChunkLimits zCount ν μ
+    pub cut : ChunkLimits tz ν μ
     pub rank-small : nextRank n ν (restSize r kappa t1 t2) μ ≤ mostRank
-    pub out-length : length out ≡ wholeLength d (nextRank n ν (restSize r kappa t1 t2) μ) (nextParts zCount ν μ) (nextCount kappa kappa1 kappa2)
+    pub out-length : length out ≡ wholeLength d (nextRank n ν (restSize r kappa t1 t2) μ) (nextParts tz ν μ) (nextCount kappa kappa1 kappa2)
 
   pub next-facts : firstFailing (nextTests 𝓢 𝓓 𝓣 ν μ out) ≡ 0 → NextFacts
   unfolding nextTests

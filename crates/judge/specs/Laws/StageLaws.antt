@@ -9,7 +9,7 @@ use Rattle.fold.specs.declared.Sizes.{Sizes}
 use Rattle.fold.specs.declared.Answer.{Answer}
 use Rattle.fold.specs.Sizes.{zCount, tSize, garbageSize, openingSize}
 use Rattle.fold.specs.Refusals.{wholeLength, constantTermsLength, projectionLength}
-use Rattle.fold.specs.Arguments.{statementOf, drawsOf, transcriptOf}
+use Rattle.fold.specs.Arguments.{statementWith, drawsOf, transcriptOf}
 use Rattle.fold.specs.Verification.{verification}
 use Rattle.sheet.specs.Lists.{listLengths, listAt}
 use Rattle.judge.specs.Judging.{judgedNumbers}
@@ -52,7 +52,7 @@ module _ (s : Sizes) where
       pub last-stage : (p ψ ω b″ : List ℤ) {xs α δ u₂ c o y₁ y₂ y₃ y₄ : List ℤ}
           → Cut (k * d) xs α y₁ → Cut (5 * d) y₁ δ y₂ → Cut (kappa2 * d) y₂ u₂ y₃ → Cut (r * d) y₃ c y₄
           → o ≡ take (openingSize zCount n r kappa t1 t2 * d) y₄
-          → answer ≡ verification (statementOf s A B C D whole constantTerms) (drawsOf projections ψ ω α δ c) (transcriptOf u₁ p b″ u₂) o
+          → answer ≡ verification (statementWith zCount s A B C D whole constantTerms) (drawsOf projections ψ ω α δ c) (transcriptOf u₁ p b″ u₂) o
           → answer ≡ lastStage s A B C D whole constantTerms u₁ projections p ψ ω b″ xs
       unfolding lastStage
       last-stage p ψ ω b″ c₁ c₂ c₃ c₄ c₅ e =

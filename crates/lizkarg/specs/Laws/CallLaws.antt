@@ -12,10 +12,11 @@ use Rattle.fold.specs.declared.Answer.the-variants.{Written}
 use Rattle.fold.specs.declared.CommitSizes.{CommitSizes}
 use Rattle.fold.specs.declared.GarbageSizes.{GarbageSizes}
 use Rattle.fold.specs.declared.Shape.{Shape}
+use Rattle.fold.specs.declared.ZDigits.{ZDigits}
 use Rattle.fold.specs.Answers.{answered, written}
 use Rattle.fold.specs.Arguments.{productRefusal, commitRefusal, projectRefusal, aggregateRefusal, garbageRefusal, amortizeRefusal}
+use Rattle.fold.specs.Arguments.{countOf, baseOf}
 use Rattle.fold.specs.Known.CallFacts as CallFacts
-use Rattle.fold.specs.Sizes.{zCount}
 use Rattle.fold.specs.Messages.{p, b″, u₂, zDigits}
 use Rattle.fold.specs.Known.CallFacts.{CommitFacts, ProjectFacts, AggregateCallFacts, GarbageFacts, AmortizeFacts, written-digits, written-h}
 use Rattle.fold.specs.Known.WorkFacts.{TFacts, GFacts, U₁Facts, HFacts, U₂Facts}
@@ -167,13 +168,13 @@ module _ (sizes : GarbageSizes) (whole constantTerms projections ψ ω α δ D s
 
 -- ---- message 5
 
-module _ {shape : Shape} {b : ℕ} {c s v : List ℤ} {x : ℕ} (number : x ≡ amortizeRefusal shape b c s v) where
-  pub amortize-refused : (x ≡ 0 → ⊥) → Amortized shape b c s v (Refused x) v
+module _ (shape : Shape) (digits : ZDigits) {c s v : List ℤ} {x : ℕ} (number : x ≡ amortizeRefusal shape digits c s v) where
+  pub amortize-refused : (x ≡ 0 → ⊥) → Amortized shape digits c s v (Refused x) v
   amortize-refused some =
-      record { answer-is = refused Written number some; z-is = kept (zDigits (shape .d) (shape .n) (shape .r) zCount b c s) v number some }
+      record { answer-is = refused Written number some; z-is = kept (zDigits (shape .d) (shape .n) (shape .r) (countOf digits) (baseOf digits) c s) v number some }
 
-  pub amortize-facts : x ≡ 0 → AmortizeFacts shape zCount b c s v
+  pub amortize-facts : x ≡ 0 → AmortizeFacts shape (countOf digits) (baseOf digits) c s v
   amortize-facts none = CallFacts.amortize-facts shape (sym number ∙ none)
 
-  pub amortize-written : {v′ : List ℤ} → x ≡ 0 → v′ ≡ zDigits (shape .d) (shape .n) (shape .r) zCount b c s → Amortized shape b c s v Written v′
+  pub amortize-written : {v′ : List ℤ} → x ≡ 0 → v′ ≡ zDigits (shape .d) (shape .n) (shape .r) (countOf digits) (baseOf digits) c s → Amortized shape digits c s v Written v′
   amortize-written none new = record { answer-is = answers Written (sym number ∙ none); z-is = writes v (sym number ∙ none) new }

@@ -8,7 +8,7 @@ use Rattle.fold.specs.declared.Verdict.the-variants.{Failed}
 use Rattle.fold.specs.declared.Sizes.{Sizes}
 use Rattle.fold.specs.Answers.{firstFailing, answered, checked, written}
 use Rattle.fold.specs.Statement.{Statement, Draws, Transcript}
-use Rattle.fold.specs.Arguments.{statementOf, drawsOf, transcriptOf}
+use Rattle.fold.specs.Arguments.{statementWith, drawsOf, transcriptOf}
 use Rattle.fold.specs.Refusals.{nextTests}
 use Rattle.fold.specs.NextInstance.{nextWhole}
 use Rattle.fold.specs.NextCall.{firstChecks, nextAnswer, nextOut}
@@ -34,9 +34,9 @@ module _ (𝓢 : Statement) (𝓓 : Draws) (𝓣 : Transcript) (ν μ : ℕ) (ou
   written-at e f new = record { answer-is = rw (e, f) refl; out-is = rw (e, f) new }
 
 -- x is the number of the refusal, y that of the first of checks 1 and 2 that fails
-module _ (sizes : Sizes) (A B C D whole constantTerms projections ψ ω α δ c u₁ p b″ u₂ : List ℤ) (ν μ : ℕ) (out : List ℤ) where
+module _ (tz : ℕ) (sizes : Sizes) (A B C D whole constantTerms projections ψ ω α δ c u₁ p b″ u₂ : List ℤ) (ν μ : ℕ) (out : List ℤ) where
   abbrev 𝓢 : Statement
-  𝓢 = statementOf sizes A B C D whole constantTerms
+  𝓢 = statementWith tz sizes A B C D whole constantTerms
 
   abbrev 𝓓 : Draws
   𝓓 = drawsOf projections ψ ω α δ c
@@ -49,8 +49,8 @@ module _ (sizes : Sizes) (A B C D whole constantTerms projections ψ ω α δ c 
     next-refused some = refused-at 𝓢 𝓓 𝓣 ν μ out x (sym number) some
 
     module _ (none : x ≡ 0) where
-      pub call-facts : NextFacts sizes A B C D whole constantTerms projections ψ ω α δ c u₁ p b″ u₂ ν μ out
-      call-facts = next-facts sizes A B C D whole constantTerms projections ψ ω α δ c u₁ p b″ u₂ ν μ out (sym number ∙ none)
+      pub call-facts : NextFacts tz sizes A B C D whole constantTerms projections ψ ω α δ c u₁ p b″ u₂ ν μ out
+      call-facts = next-facts tz sizes A B C D whole constantTerms projections ψ ω α δ c u₁ p b″ u₂ ν μ out (sym number ∙ none)
 
       module _ {y : ℕ} (asked : y ≡ firstFailing (messageChecksOf sizes constantTerms p ψ ω b″)) where
         first-is : firstChecks 𝓢 𝓓 𝓣 ≡ y

@@ -18,8 +18,8 @@ use Rattle.ring.specs.Element.{R, el, lift, array}
 use Rattle.ring.specs.Laws.Loops.{held}
 use Rattle.fold.specs.declared.Sizes.{Sizes}
 use Rattle.fold.specs.Statement.{Statement, Draws, Transcript}
-use Rattle.fold.specs.Arguments.{statementWith, statementOf, drawsOf, transcriptOf, VerifySized}
-use Rattle.fold.specs.Sizes.{zCount, nextCount}
+use Rattle.fold.specs.Arguments.{statementWith, drawsOf, transcriptOf, VerifySized}
+use Rattle.fold.specs.Sizes.{nextCount}
 use Rattle.fold.specs.Chunks.{width}
 use Rattle.fold.specs.Refusals.{wholeLength}
 use Rattle.fold.specs.Messages.{aggregateConstant}
@@ -209,14 +209,14 @@ module _ (s : Sizes) (cut : Cut) (facts : CutFacts s cut) (A B C D whole constan
           ) in
           last ∙ over-all out (((fives ++ middle) ++ threes) ++ fours) whole-length ∙ all ∙ is-whole
 
-pub same-instance : (s : Sizes) (cut : Cut) (A B C D whole constantTerms projections ψ ω α δ c u₁ p b″ u₂ : List ℤ) {ν μ : ℕ} → cut .tz ≡ zCount → cut .nu ≡ ν → cut .mu ≡ μ
+pub same-instance : (s : Sizes) (cut : Cut) (A B C D whole constantTerms projections ψ ω α δ c u₁ p b″ u₂ : List ℤ) {tz ν μ : ℕ} → cut .tz ≡ tz → cut .nu ≡ ν → cut .mu ≡ μ
     → nextWhole (statementWith (cut .tz) s A B C D whole constantTerms) (drawsOf projections ψ ω α δ c) (transcriptOf u₁ p b″ u₂) (cut .nu) (cut .mu)
-    ≡ nextWhole (statementOf s A B C D whole constantTerms) (drawsOf projections ψ ω α δ c) (transcriptOf u₁ p b″ u₂) ν μ
+    ≡ nextWhole (statementWith tz s A B C D whole constantTerms) (drawsOf projections ψ ω α δ c) (transcriptOf u₁ p b″ u₂) ν μ
 same-instance s cut A B C D whole constantTerms projections ψ ω α δ c u₁ p b″ u₂ e f g = rw (e, f, g) refl
 
 -- the room of `out`, where the call is not refused
-pub out-room : (s : Sizes) (A B C D whole constantTerms projections ψ ω α δ c u₁ p b″ u₂ : List ℤ) (ν μ : ℕ) (out : List ℤ)
-    → NextFacts s A B C D whole constantTerms projections ψ ω α δ c u₁ p b″ u₂ ν μ out → (cut : Cut) → CutFacts s cut → cut .tz ≡ zCount → cut .nu ≡ ν → cut .mu ≡ μ
+pub out-room : (tz : ℕ) (s : Sizes) (A B C D whole constantTerms projections ψ ω α δ c u₁ p b″ u₂ : List ℤ) (ν μ : ℕ) (out : List ℤ)
+    → NextFacts tz s A B C D whole constantTerms projections ψ ω α δ c u₁ p b″ u₂ ν μ out → (cut : Cut) → CutFacts s cut → cut .tz ≡ tz → cut .nu ≡ ν → cut .mu ≡ μ
     → length out ≡ wholeLength (s .shape .d) (cut .rank) (cut .parts) (nextCount (s .kappa) (s .kappa1) (s .kappa2))
-out-room s A B C D whole constantTerms projections ψ ω α δ c u₁ p b″ u₂ ν μ out facts cut known etz eν eμ =
+out-room tz s A B C D whole constantTerms projections ψ ω α δ c u₁ p b″ u₂ ν μ out facts cut known etz eν eμ =
     rw (known .rank-is, known .parts-is, known .rest-is, etz, eν, eμ) (facts .out-length)

@@ -22,7 +22,7 @@ amortize-lengths-requires : tie.Need-amortize-lengths-requires
 amortize-lengths-requires c κs =
     let a = c .before .before .args in
     let m = a .shape in
-    (omega arith, amortize-sized (m .d) (m .n) (m .r) (a .b) (c .before .amortize-bounds .ensures) (c .if1 .left))
+    (c .before .before .pre, amortize-sized (m .d) (m .n) (m .r) (a .b) (c .before .amortize-bounds .ensures) (c .if1 .left))
 
 returns-2 : tie.Need-returns-2
 unfolding amortizeTests

@@ -24,7 +24,7 @@ opening-fits-requires c κs =
     let m = c .before .before .args .sizes in
     let l = verify-sized m (c .before .verify-bounds .ensures) (c .if1 .left) in
     let x = l .shaped in
-    (omega arith, x .degree .small, x .rank-small, x .parts-small, l .κ-small, l .t₁-most, l .t₂-most)
+    (omega (arith, c .before .before .pre), x .degree .small, x .rank-small, x .parts-small, l .κ-small, l .t₁-most, l .t₂-most)
 
 message-lengths-requires : tie.Need-message-lengths-requires
 message-lengths-requires c κs =
@@ -78,7 +78,7 @@ narrow-digits-requires c κs =
     let sized = opened .before in
     let bounds = sized .before in
     let fits = four-fit _ _ _ (opened .opening-fits .ensures) (messages .message-lengths .ensures) (matrices .matrix-lengths .ensures) (drawn .draw-lengths .ensures) in (
-      (omega arith, omega arith),
+      bounds .before .pre,
       (verify-sized (bounds .before .args .sizes) (bounds .verify-bounds .ensures) (sized .if1 .left), sized-length _ _ (fitting _ fits (left .if2 .left) .0)),
     )
 

@@ -23,21 +23,23 @@ returns c =
     let c13 = c12 .before in
     let c14 = c13 .before in
     let c15 = c14 .before in
-    let x = c15 .args in
+    let c16 = c15 .before in
+    let x = c16 .args in
     let s = x .s in
     last-stage s (x .a-matrix .now) (x .b-matrix .now) (x .c-matrix .now) (x .d-matrix .now) (x .whole .now) (x .constant-terms .now) (x .u1 .now) (x .projections .now)
     (x .p .now) (x .psi .now) (x .omega .now) (x .second-b .now)
-    (cut (c14 .list-length .ensures) (c5 .front .ensures) (c9 .rest .ensures))
-    (cut (c13 .list-length2 .ensures) (c4 .front2 .ensures) (c8 .rest2 .ensures))
-    (cut (c12 .list-length3 .ensures) (c3 .front3 .ensures) (c7 .rest3 .ensures))
-    (cut (c11 .list-length4 .ensures) (c2 .front4 .ensures) (c6 .rest4 .ensures))
-    (cut-last {m = openingSize zCount (s .shape .n) (s .shape .r) (s .kappa) (s .t1) (s .t2) * s .shape .d} _ (c10 .opening-length .ensures) (c1 .front5 .ensures))
-    (c .verify .ensures)
+    (cut (c15 .list-length .ensures) (c5 .front .ensures) (c10 .rest .ensures))
+    (cut (c14 .list-length2 .ensures) (c4 .front2 .ensures) (c9 .rest2 .ensures))
+    (cut (c13 .list-length3 .ensures) (c3 .front3 .ensures) (c8 .rest3 .ensures))
+    (cut (c12 .list-length4 .ensures) (c2 .front4 .ensures) (c7 .rest4 .ensures))
+    (cut-last {m = openingSize zCount (s .shape .n) (s .shape .r) (s .kappa) (s .t1) (s .t2) * s .shape .d} _ (c11 .opening-length .ensures) (c1 .front5 .ensures))
+    (rw (c6 .in-two-digits .ensures) at (c .verify .ensures))
 
 pub judge-last-spec : {M : Type 1} → statement M
 judge-last-spec =
     tie.close
     (tie.spec
+    (λ c κs. search needs)
     (λ c κs. search needs)
     (λ c κs. search needs)
     (λ c κs. search needs)

@@ -16,18 +16,18 @@ write-row-requires : tie.Need-write-row-requires
 write-row-requires c κs =
     let s = c .before .before .before in
     let g = s .args .sizes in
-    let read : (0 + g .shape .r) * g .shape .d ≤ length (s .args .c .now) = omega (arith, s .pre .entries .c-length) in
-    let written : (0 + g .shape .r) * g .shape .d ≤ 1024 = omega (arith, minus-room g (s .pre .entries .limits)) in
-    (s .pre .entries .limits .shaped .degree, (read, written))
+    let read : (0 + g .shape .r) * g .shape .d ≤ length (s .args .c .now) = omega (arith, s .pre .0 .entries .c-length) in
+    let written : (0 + g .shape .r) * g .shape .d ≤ 1024 = omega (arith, minus-room g (s .pre .0 .entries .limits)) in
+    (s .pre .0 .entries .limits .shaped .degree, (read, written))
 
 write-tables-requires : tie.Need-write-tables-requires
 write-tables-requires c κs =
     let s = c .before .before .before .before .before .before .before .before .before in
-    let challenges : s .args .sizes .shape .r * s .args .sizes .shape .d ≤ length (s .args .c .now) = omega (arith, s .pre .entries .c-length) in (
-      s .pre .aggregated,
+    let challenges : s .args .sizes .shape .r * s .args .sizes .shape .d ≤ length (s .args .c .now) = omega (arith, s .pre .0 .entries .c-length) in (
+      s .pre .0 .aggregated,
       (
         challenges,
-        table-room (s .args .sizes) (s .pre .entries .limits) (le-refl 16384) (le-refl 8704) (le-refl 8704) (le-refl 8704),
+        table-room (s .args .sizes) (s .pre .0 .entries .limits) (le-refl 16384) (le-refl 8704) (le-refl 8704) (le-refl 8704),
       ),
     )
 
@@ -38,8 +38,8 @@ write-rows5-requires c κs =
     let s = k .before in
     let g = s .args .sizes in
     let cut = k .cut-of .ensures in
-    let room = all-room g (k .cut-of .result) (cut .0) (out-room _ _ _ _ _ _ _ _ _ _ _ _ _ _ _ _ _ _ _ _ (s .pre) (k .cut-of .result) (cut .0) (cut .1) (cut .2) (cut .3)) in
-    (s .pre .entries .limits, (cut .0, ((s .pre .entries .A-length, omega (arith, minus-room g (s .pre .entries .limits), w .write-row .kept .1 .1 .1 .1 .1 .0)), omega (arith, room))))
+    let room = all-room g (k .cut-of .result) (cut .0) (out-room _ _ _ _ _ _ _ _ _ _ _ _ _ _ _ _ _ _ _ _ _ (s .pre .0) (k .cut-of .result) (cut .0) (cut .1) (cut .2) (cut .3)) in
+    (s .pre .0 .entries .limits, (cut .0, ((s .pre .0 .entries .A-length, omega (arith, minus-room g (s .pre .0 .entries .limits), w .write-row .kept .1 .1 .1 .1 .1 .0)), omega (arith, room))))
 
 write-middle-requires : tie.Need-write-middle-requires
 write-middle-requires c κs =
@@ -50,14 +50,14 @@ write-middle-requires c κs =
     let s = k .before in
     let g = s .args .sizes in
     let cut = k .cut-of .ensures in
-    let room = all-room g (k .cut-of .result) (cut .0) (out-room _ _ _ _ _ _ _ _ _ _ _ _ _ _ _ _ _ _ _ _ (s .pre) (k .cut-of .result) (cut .0) (cut .1) (cut .2) (cut .3)) in
+    let room = all-room g (k .cut-of .result) (cut .0) (out-room _ _ _ _ _ _ _ _ _ _ _ _ _ _ _ _ _ _ _ _ _ (s .pre .0) (k .cut-of .result) (cut .0) (cut .1) (cut .2) (cut .3)) in
     let kept = t .write-tables .kept .1 .1 .1 .1 .1 .1 .1 .1 .1 in (
-      s .pre .entries .limits,
+      s .pre .0 .entries .limits,
       (
         cut .0,
         (
-          table-room g (s .pre .entries .limits) (omega (arith, kept .0)) (omega (arith, kept .1 .0)) (omega (arith, kept .1 .1 .0)) (omega (arith, kept .1 .1 .1 .0)),
-          (canonical _ (s .pre .entries .limits .shaped .degree .small) (b .aggregate-constant .ensures), omega (arith, room, r5 .write-rows5 .kept .1 .1 .1 .1 .0)),
+          table-room g (s .pre .0 .entries .limits) (omega (arith, kept .0)) (omega (arith, kept .1 .0)) (omega (arith, kept .1 .1 .0)) (omega (arith, kept .1 .1 .1 .0)),
+          (canonical _ (s .pre .0 .entries .limits .shaped .degree .small) (b .aggregate-constant .ensures), omega (arith, room, r5 .write-rows5 .kept .1 .1 .1 .1 .0)),
         ),
       ),
     )
@@ -70,9 +70,9 @@ write-rows3-requires c κs =
     let s = k .before in
     let g = s .args .sizes in
     let cut = k .cut-of .ensures in
-    let room = all-room g (k .cut-of .result) (cut .0) (out-room _ _ _ _ _ _ _ _ _ _ _ _ _ _ _ _ _ _ _ _ (s .pre) (k .cut-of .result) (cut .0) (cut .1) (cut .2) (cut .3)) in
+    let room = all-room g (k .cut-of .result) (cut .0) (out-room _ _ _ _ _ _ _ _ _ _ _ _ _ _ _ _ _ _ _ _ _ (s .pre .0) (k .cut-of .result) (cut .0) (cut .1) (cut .2) (cut .3)) in
     let kept = m .write-middle .kept .1 .1 .1 .1 .1 .1 .1 .0 ∙ r5 .write-rows5 .kept .1 .1 .1 .1 .0 in
-    (s .pre .entries .limits, (cut .0, (s .pre .entries .B-length, (s .pre .entries .C-length, (s .pre .constants .u₁-length, omega (arith, room, kept))))))
+    (s .pre .0 .entries .limits, (cut .0, (s .pre .0 .entries .B-length, (s .pre .0 .entries .C-length, (s .pre .0 .constants .u₁-length, omega (arith, room, kept))))))
 
 write-rows4-requires : tie.Need-write-rows4-requires
 write-rows4-requires c κs =
@@ -83,9 +83,9 @@ write-rows4-requires c κs =
     let s = k .before in
     let g = s .args .sizes in
     let cut = k .cut-of .ensures in
-    let room = all-room g (k .cut-of .result) (cut .0) (out-room _ _ _ _ _ _ _ _ _ _ _ _ _ _ _ _ _ _ _ _ (s .pre) (k .cut-of .result) (cut .0) (cut .1) (cut .2) (cut .3)) in
+    let room = all-room g (k .cut-of .result) (cut .0) (out-room _ _ _ _ _ _ _ _ _ _ _ _ _ _ _ _ _ _ _ _ _ (s .pre .0) (k .cut-of .result) (cut .0) (cut .1) (cut .2) (cut .3)) in
     let kept = r3 .write-rows3 .kept .1 .1 .1 .1 .1 .0 ∙ m .write-middle .kept .1 .1 .1 .1 .1 .1 .1 .0 ∙ r5 .write-rows5 .kept .1 .1 .1 .1 .0 in
-    (s .pre .entries .limits, (cut .0, (s .pre .entries .D-length, (s .pre .constants .u₂-length, omega (arith, room, kept)))))
+    (s .pre .0 .entries .limits, (cut .0, (s .pre .0 .entries .D-length, (s .pre .0 .constants .u₂-length, omega (arith, room, kept)))))
 
 returns : tie.Need-returns
 returns c =
@@ -100,10 +100,10 @@ returns c =
     let s = k .before in
     let a = s .args in
     let cut = k .cut-of .ensures in
-    let size = out-room _ _ _ _ _ _ _ _ _ _ _ _ _ _ _ _ _ _ _ _ (s .pre) (k .cut-of .result) (cut .0) (cut .1) (cut .2) (cut .3) in
+    let size = out-room _ _ _ _ _ _ _ _ _ _ _ _ _ _ _ _ _ _ _ _ _ (s .pre .0) (k .cut-of .result) (cut .0) (cut .1) (cut .2) (cut .3) in
     groups-written (a .sizes) (k .cut-of .result) (cut .0) _ _ _ _ _ _ _ _ _ _ _ (a .c .now) _ (a .p .now) _ _ _ _ _ _ _ _
     (minus-held (a .sizes .shape .d) (a .sizes .shape .r) (a .c .now) _ (w .write-row .ensures)) (t .write-tables .ensures)
-    (held (s .pre .entries .limits .shaped .degree .small) (b .aggregate-constant .ensures)) (a .out .now) size refl refl refl (r5 .write-rows5 .ensures)
+    (held (s .pre .0 .entries .limits .shaped .degree .small) (b .aggregate-constant .ensures)) (a .out .now) size refl refl refl (r5 .write-rows5 .ensures)
     (m .write-middle .ensures) (r3 .write-rows3 .ensures) (r4 .write-rows4 .ensures)
     ∙ same-instance (a .sizes) (k .cut-of .result) _ _ _ _ _ _ _ _ _ _ _ _ _ _ _ _ (cut .1) (cut .2) (cut .3)
 
@@ -112,12 +112,12 @@ write-instance-spec =
     tie.close
     (tie.spec (λ c κs. search needs) (λ c. let k = c .before in omega (arith, size-small (k .before .args .sizes) (k .cut-of .result) (k .cut-of .ensures .0)))
     (λ c. search needs) write-row-requires (λ c. search needs) (λ c. search needs) (λ c. search needs) (λ c. search needs) write-tables-requires
-    (λ c κs. search needs)
-    (λ c. let k = c .before .before .before .before .before .before .before .before .before .before .before .before .before .before .before in let g = groups-small (k .before .args .sizes) (k .cut-of .result) (k .before .pre .entries .limits) (k .cut-of .ensures .0) in omega (arith, g .0, g .1, g .2))
-    (λ c. let k = c .before .before .before .before .before .before .before .before .before .before .before .before .before .before .before in let g = groups-small (k .before .args .sizes) (k .cut-of .result) (k .before .pre .entries .limits) (k .cut-of .ensures .0) in omega (arith, g .0, g .1, g .2))
-    (λ c. let k = c .before .before .before .before .before .before .before .before .before .before .before .before .before .before .before in let g = groups-small (k .before .args .sizes) (k .cut-of .result) (k .before .pre .entries .limits) (k .cut-of .ensures .0) in omega (arith, g .0, g .1, g .2))
-    (λ c. let k = c .before .before .before .before .before .before .before .before .before .before .before .before .before .before .before .before in let g = groups-small (k .before .args .sizes) (k .cut-of .result) (k .before .pre .entries .limits) (k .cut-of .ensures .0) in omega (arith, g .0, g .1, g .2))
-    (λ c. let k = c .before .before .before .before .before .before .before .before .before .before .before .before .before .before .before .before in let g = groups-small (k .before .args .sizes) (k .cut-of .result) (k .before .pre .entries .limits) (k .cut-of .ensures .0) in omega (arith, g .0, g .1, g .2))
+    (λ c κs. let f = c .before .before .before .before .before .before .before .before .before .before .before .before .before .before .pre .0 .constants in (f .wholes, (f .δ-length, f .b″-length)))
+    (λ c. let k = c .before .before .before .before .before .before .before .before .before .before .before .before .before .before .before in let g = groups-small (k .before .args .sizes) (k .cut-of .result) (k .before .pre .0 .entries .limits) (k .cut-of .ensures .0) in omega (arith, g .0, g .1, g .2))
+    (λ c. let k = c .before .before .before .before .before .before .before .before .before .before .before .before .before .before .before in let g = groups-small (k .before .args .sizes) (k .cut-of .result) (k .before .pre .0 .entries .limits) (k .cut-of .ensures .0) in omega (arith, g .0, g .1, g .2))
+    (λ c. let k = c .before .before .before .before .before .before .before .before .before .before .before .before .before .before .before in let g = groups-small (k .before .args .sizes) (k .cut-of .result) (k .before .pre .0 .entries .limits) (k .cut-of .ensures .0) in omega (arith, g .0, g .1, g .2))
+    (λ c. let k = c .before .before .before .before .before .before .before .before .before .before .before .before .before .before .before .before in let g = groups-small (k .before .args .sizes) (k .cut-of .result) (k .before .pre .0 .entries .limits) (k .cut-of .ensures .0) in omega (arith, g .0, g .1, g .2))
+    (λ c. let k = c .before .before .before .before .before .before .before .before .before .before .before .before .before .before .before .before in let g = groups-small (k .before .args .sizes) (k .cut-of .result) (k .before .pre .0 .entries .limits) (k .cut-of .ensures .0) in omega (arith, g .0, g .1, g .2))
     (λ c. search needs) write-rows5-requires (λ c. search needs)
     (λ c. search needs) (λ c. search needs) (λ c. search needs) write-middle-requires write-rows3-requires write-rows4-requires
     (λ c. search needs) returns)

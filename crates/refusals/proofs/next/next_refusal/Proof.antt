@@ -3,7 +3,6 @@ use mathlib.Core.Path.{refl, ap, _∙_}
 use lib.Dec.{leb}
 use native.Mathlib.Omega.{arith}
 use Rattle.fold.specs.Limits.{mostRank}
-use Rattle.fold.specs.Sizes.{zCount}
 use Rattle.fold.specs.Refusals.{nextTests}
 use Rattle.fold.specs.Laws.RefusalLaws.{sized-length}
 use Rattle.fold.specs.Laws.TestLaws.{stops}
@@ -19,13 +18,13 @@ returns : tie.Need-returns
 unfolding nextTests
 returns c =
     let a = c .before .before .args in
-    stops (nextBoundsOf zCount (a .sizes) (a .nu) (a .mu)) _ (c .before .next-bounds .ensures) (c .if1 .taken)
+    stops (nextBoundsOf (a .tz) (a .sizes) (a .nu) (a .mu)) _ (c .before .next-bounds .ensures) (c .if1 .taken)
 
 rank-of-requires : tie.Need-rank-of-requires
 rank-of-requires c κs =
     let a = c .before .before .args in
     let e = c .before .next-bounds .ensures in
-    (next-sized zCount (a .sizes) (a .nu) (a .mu) e (c .if1 .left), next-cut-sizes zCount (a .sizes) (a .nu) (a .mu) e (c .if1 .left) (omega arith))
+    (next-sized (a .tz) (a .sizes) (a .nu) (a .mu) e (c .if1 .left), next-cut-sizes (a .tz) (a .sizes) (a .nu) (a .mu) e (c .if1 .left) (c .before .before .pre .0))
 
 out-fits-requires : tie.Need-out-fits-requires
 out-fits-requires c κs =
@@ -33,25 +32,25 @@ out-fits-requires c κs =
     let a = c1 .before .before .args in
     let e = c1 .before .next-bounds .ensures in
     let z = c1 .if1 .left in
-    (omega arith, (next-sized zCount (a .sizes) (a .nu) (a .mu) e z, (next-cut zCount (a .sizes) (a .nu) (a .mu) e z, c .rank-of .ensures)))
+    (c1 .before .before .pre .0, (next-sized (a .tz) (a .sizes) (a .nu) (a .mu) e z, (next-cut (a .tz) (a .sizes) (a .nu) (a .mu) e z, c .rank-of .ensures)))
 
 message-lengths-requires : tie.Need-message-lengths-requires
 message-lengths-requires c κs =
     let c2 = c .before .before in
     let a = c2 .before .before .args in
-    next-sized zCount (a .sizes) (a .nu) (a .mu) (c2 .before .next-bounds .ensures) (c2 .if1 .left)
+    next-sized (a .tz) (a .sizes) (a .nu) (a .mu) (c2 .before .next-bounds .ensures) (c2 .if1 .left)
 
 matrix-lengths-requires : tie.Need-matrix-lengths-requires
 matrix-lengths-requires c κs =
     let c3 = c .before .before .before in
     let a = c3 .before .before .args in
-    next-sized zCount (a .sizes) (a .nu) (a .mu) (c3 .before .next-bounds .ensures) (c3 .if1 .left)
+    next-sized (a .tz) (a .sizes) (a .nu) (a .mu) (c3 .before .next-bounds .ensures) (c3 .if1 .left)
 
 draw-lengths-requires : tie.Need-draw-lengths-requires
 draw-lengths-requires c κs =
     let c4 = c .before .before .before .before in
     let a = c4 .before .before .args in
-    next-sized zCount (a .sizes) (a .nu) (a .mu) (c4 .before .next-bounds .ensures) (c4 .if1 .left)
+    next-sized (a .tz) (a .sizes) (a .nu) (a .mu) (c4 .before .next-bounds .ensures) (c4 .if1 .left)
 
 returns-2 : tie.Need-returns-2
 unfolding nextTests
@@ -67,7 +66,7 @@ returns-2 c =
     let opened = append-rows _ _ (joined-row (c4 .out-fits .ensures & end)) (c3 .message-lengths .ensures) in
     let lists = append-rows _ _ opened (c2 .matrix-lengths .ensures) in
     let fits = append-rows _ _ lists (c1 .draw-lengths .ensures) in
-    unfit (nextBoundsOf zCount (a .sizes) (a .nu) (a .mu)) 7 _ _ refl (c7 .next-bounds .ensures) (c6 .if1 .left) fits (c .if2 .taken)
+    unfit (nextBoundsOf (a .tz) (a .sizes) (a .nu) (a .mu)) 7 _ _ refl (c7 .next-bounds .ensures) (c6 .if1 .left) fits (c .if2 .taken)
 
 constraint-ranges-requires : tie.Need-constraint-ranges-requires
 constraint-ranges-requires c κs = c .before .are-projection-entries .ensures
@@ -111,7 +110,7 @@ returns-3 c =
     let read = append-rows _ _ (c8 .message-ranges .ensures) (c7 .constraint-ranges .ensures) in
     let ranges = append-rows _ _ read (joined-row (c6 .are-coefficients .ensures & end)) in
     let small = c4 .rank-fits .ensures ∙ ap (λ x. leb x mostRank) (c15 .rank-of .ensures) in
-    fit (nextBoundsOf zCount (a .sizes) (a .nu) (a .mu)) 7 _ _ refl (c17 .next-bounds .ensures) (c16 .if1 .left) fits (c10 .if2 .left)
+    fit (nextBoundsOf (a .tz) (a .sizes) (a .nu) (a .mu)) 7 _ _ refl (c17 .next-bounds .ensures) (c16 .if1 .left) fits (c10 .if2 .left)
     (single 8 _ ranges (c .first4 .ensures)
     (single 9 _ (c9 .are-projection-entries .ensures) (c1 .first3 .ensures)
     (single 10 _ (c5 .challenges .ensures) (c2 .first2 .ensures)
@@ -121,7 +120,7 @@ pub next-refusal-spec : {M : Type 1} → statement M
 next-refusal-spec =
     tie.close
     (tie.spec
-    (λ c κs. (omega arith, omega arith))
+    (λ c κs. c .pre)
     returns
     rank-of-requires
     out-fits-requires

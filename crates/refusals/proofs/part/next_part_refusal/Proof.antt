@@ -1,43 +1,15 @@
--- `refusals::part::next_part_refusal` meets its contract: the sizes, then the length of the opening. Assumes nothing.
-use mathlib.Core.Path.{refl}
-use native.Mathlib.Omega.{arith}
-use Rattle.fold.specs.Sizes.{zCount}
-use Rattle.fold.specs.Refusals.{partTests}
-use Rattle.fold.specs.NextCall.{partRefusal}
-use Rattle.fold.specs.Laws.TestLaws.{stops, goes-on}
-use Rattle.limits.specs.Bounds.{partBoundsOf}
-use Rattle.limits.specs.Laws.StageLaws.{single, none}
-use Rattle.limits.specs.Known.StageLimits.{part-sized}
+-- `refusals::part::next_part_refusal` meets its contract: the tests for as many z digits as there are. Assumes nothing.
+use mathlib.Core.Path.{_∙_, ap}
+use Rattle.fold.specs.Arguments.{partRefusalWith}
+use Rattle.fold.specs.Laws.DigitCounts.{count-few}
 use Rattle.refusals.proofs.part.next_part_refusal.Statement.{statement}
 use Rattle.refusals.proofs.part.next_part_refusal.Tie as tie
 
+part-refusal-requires : tie.Need-part-refusal-requires
+part-refusal-requires c κs = rw (c .z-digits .ensures) (count-few (c .before .args .sizes .«one_digit»))
+
 returns : tie.Need-returns
-unfolding partRefusal partTests
-returns c = stops (partBoundsOf zCount _ _) _ (c .before .part-bounds .ensures) (c .if1 .taken)
-
-opening-fits-requires : tie.Need-opening-fits-requires
-opening-fits-requires c κs =
-    let a = c .before .before .args in
-    let l = part-sized zCount (a .sizes) (a .part) (c .before .part-bounds .ensures) (c .if1 .left) in
-    let x = l .shaped in
-    (omega arith, x .degree .small, x .rank-small, x .parts-small, l .κ-small, l .t₁-most, l .t₂-most)
-
-returns-2 : tie.Need-returns-2
-unfolding partRefusal partTests
-returns-2 c =
-    let c1 = c .before in
-    let c2 = c1 .before in
-    let c3 = c2 .before in
-    let a = c3 .before .args in
-    goes-on (partBoundsOf zCount (a .sizes) (a .part)) _ refl (c3 .part-bounds .ensures) (c2 .if1 .left)
-    (single 7 _ (c1 .opening-fits .ensures) (c .first .ensures) none)
+returns c = rw (c .before .z-digits .ensures) at (c .part-refusal .ensures)
 
 pub next-part-refusal-spec : {M : Type 1} → statement M
-next-part-refusal-spec =
-    tie.close
-    (tie.spec
-    (λ c κs. (omega arith, omega arith))
-    returns
-    opening-fits-requires
-    (λ c κs. tt)
-    returns-2)
+next-part-refusal-spec = tie.close (tie.spec (λ c κs. tt) part-refusal-requires returns)
