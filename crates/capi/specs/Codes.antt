@@ -14,6 +14,7 @@ use Rattle.fold.specs.declared.GarbageSizes.{GarbageSizes}
 use Rattle.fold.specs.declared.ZDigits.{ZDigits}
 use Rattle.fold.specs.declared.ZDigits.the-variants.{One, Two}
 use Rattle.fold.specs.declared.StatementSizes.{StatementSizes}
+use Rattle.fold.specs.declared.Sizes.{Sizes}
 use Rattle.fold.specs.declared.PartSizes.{PartSizes}
 use Rattle.next_instance.specs.declared.part.Place.{Place}
 use Rattle.sheet.specs.declared.header.SheetSizes.{SheetSizes}
@@ -138,6 +139,26 @@ sizesFrom c =
       kappa1 = c .kappa1;
       kappa2 = c .kappa2;
       z = zFrom (c .«one_digit») (c .b);
+      b1 = c .b1;
+      b2 = c .b2;
+      t1 = c .t1;
+      t2 = c .t2;
+      bound = c .bound;
+      target = c .target;
+    }
+
+-- of a sheet, which keeps two digits
+abbrev pub sheetSizesFrom : CSizes → Sizes
+sheetSizesFrom c =
+    record {
+      shape = shapeFrom (c .shape);
+      k = c .k;
+      l = c .l;
+      w = c .w;
+      kappa = c .kappa;
+      kappa1 = c .kappa1;
+      kappa2 = c .kappa2;
+      b = c .b;
       b1 = c .b1;
       b2 = c .b2;
       t1 = c .t1;

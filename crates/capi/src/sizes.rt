@@ -1,11 +1,12 @@
 // The structs of sizes for C, laid out as bindings/c/lizkarg.h declares them, and the library's sizes from them. They are C's own: where a struct of
 // the library changes, these stay.
 ghost use mathlib.Core.Path.{_≡_};
-ghost use Rattle.capi.specs.Codes.{shapeFrom, commitSizesFrom, garbageSizesFrom, zFrom, sizesFrom, oneFrom, partSizesFrom};
+ghost use Rattle.capi.specs.Codes.{shapeFrom, commitSizesFrom, garbageSizesFrom, zFrom, sizesFrom, sheetSizesFrom, oneFrom, partSizesFrom};
 use fold::CommitSizes;
 use fold::GarbageSizes;
 use fold::PartSizes;
 use fold::Shape;
+use fold::Sizes;
 use fold::StatementSizes;
 use fold::ZDigits;
 
@@ -145,6 +146,32 @@ pub fn sizes(c: CSizes) -> StatementSizes
         kappa1: c.kappa1,
         kappa2: c.kappa2,
         z: z_digits(c.one_digit, c.b),
+        b1: c.b1,
+        b2: c.b2,
+        t1: c.t1,
+        t2: c.t2,
+        bound: c.bound,
+        target: c.target,
+    }
+}
+
+// Those of a sheet, which keeps two digits: `one_digit` is not looked at.
+pub fn sheet_sizes(c: CSizes) -> Sizes
+    ensures { λ r. ⌜ r ≡ sheetSizesFrom c ⌝ }
+{
+    Sizes {
+        shape: Shape {
+            d: c.shape.d,
+            n: c.shape.n,
+            r: c.shape.r,
+        },
+        k: c.k,
+        l: c.l,
+        w: c.w,
+        kappa: c.kappa,
+        kappa1: c.kappa1,
+        kappa2: c.kappa2,
+        b: c.b,
         b1: c.b1,
         b2: c.b2,
         t1: c.t1,

@@ -1,7 +1,7 @@
 // The writer of a sheet for C.
 ghost use mathlib.Core.Path.{_≡_};
 ghost use Rattle.writer.specs.Writing.{sheetBytes};
-ghost use Rattle.capi.specs.Codes.{sizesFrom, textCode, TextCoded};
+ghost use Rattle.capi.specs.Codes.{sheetSizesFrom, textCode, TextCoded};
 use crate::sizes;
 use crate::sizes::CSizes;
 use sheet::header::SheetSizes;
@@ -35,9 +35,9 @@ fn text_code(answer: WriteAnswer) -> CText
 // How many bytes a sheet has: `lizkarg::sheet_bytes`.
 #[no_mangle]
 pub extern "C" fn lizkarg_sheet_bytes(sizes: CSizes, nu: usize, mu: usize) -> usize
-    ensures { λ m. ⌜ m ≡ sheetBytes (record { sizes = sizesFrom sizes; nu = nu; mu = mu }) ⌝ }
+    ensures { λ m. ⌜ m ≡ sheetBytes (record { sizes = sheetSizesFrom sizes; nu = nu; mu = mu }) ⌝ }
 {
-    let given = sizes::sizes(sizes);
+    let given = sizes::sheet_sizes(sizes);
     lizkarg::sheet_bytes(SheetSizes {
         sizes: given,
         nu,
@@ -55,9 +55,9 @@ pub extern "C" fn lizkarg_write_sheet(
     text: &mut [u8],
 ) -> CText
     ensures { λ r.
-        ⌜ TextCoded (record { sizes = sizesFrom sizes; nu = nu; mu = mu }) (now (numbers .entry)) (now (text .entry)) r (now (text .exit)) ⌝ }
+        ⌜ TextCoded (record { sizes = sheetSizesFrom sizes; nu = nu; mu = mu }) (now (numbers .entry)) (now (text .entry)) r (now (text .exit)) ⌝ }
 {
-    let given = sizes::sizes(sizes);
+    let given = sizes::sheet_sizes(sizes);
     let answer = lizkarg::write_sheet(
         SheetSizes {
             sizes: given,

@@ -8,3 +8,4 @@ pub mod Challenges
 pub mod TwoOpenings
 pub mod Margin
 pub mod NextInstanceTheorem
+pub mod OneDigit

@@ -12,11 +12,11 @@ use Rattle.fold.specs.Answers.{answered}
 use Rattle.fold.specs.Arguments.{statementOf, drawsOf, transcriptOf, commitSizesOf, garbageSizesOf}
 use Rattle.fold.specs.Arguments.{commitRefusal, projectRefusal, aggregateRefusal, garbageRefusal, amortizeRefusal}
 use Rattle.fold.specs.Verification.{verification}
-use Rattle.capi.specs.Codes.{shapeFrom, sizesFrom}
+use Rattle.capi.specs.Codes.{shapeFrom, zFrom, sizesFrom}
 use Rattle.cases.specs.Numbers.{padded, word, sizeAt}
 use Rattle.cases.specs.Text.{lineNumbers}
 use Rattle.cases.specs.Lists.{nthList}
-use Rattle.fold_cases.specs.Input.{sizesOf, room}
+use Rattle.fold_cases.specs.Input.{callOf, oneDigit, sizesOf, room}
 
 module _ (sizes : CSizes) (xs : List ℤ) where
   unfoldable pub commitAnswer : Answer
@@ -43,7 +43,7 @@ module _ (sizes : CSizes) (xs : List ℤ) where
       Written
 
   unfoldable pub amortizeAnswer : Answer
-  amortizeAnswer = answered (amortizeRefusal (shapeFrom (sizes .shape)) (sizes .b) (nthList 0 xs) (nthList 1 xs) (room 2 0 xs)) Written
+  amortizeAnswer = answered (amortizeRefusal (shapeFrom (sizes .shape)) (zFrom (sizes .«one_digit») (sizes .b)) (nthList 0 xs) (nthList 1 xs) (room 2 0 xs)) Written
 
   unfoldable pub verifyAnswer : Answer
   verifyAnswer =
@@ -62,7 +62,7 @@ callAnswer call sizes xs =
 
 -- a case by its numbers, with all their bits and as numbers of 32 bits
 unfoldable pub caseAnswer : (wides words : List ℤ) → Answer
-caseAnswer wides words = callAnswer (sizeAt 6 words 0) (sizesOf wides) (drop 17 words)
+caseAnswer wides words = callAnswer (callOf (sizeAt 8 words 0)) (sizesOf wides (oneDigit (sizeAt 8 words 0))) (drop 17 words)
 
 -- the case of a line, of at most 16384 numbers
 unfoldable pub lineAnswer : List ℕ → Answer

@@ -1,6 +1,8 @@
--- The numbers of a case: the number of its call, sixteen sizes d n r K L w κ κ1 κ2 b b1 b2 t1 t2 β² β'², then its lists.
+-- The numbers of a case: the number of its call, 1 to 8, of which 7 and 8 are 5 and 6 with z in one digit, sixteen sizes d n r K L w κ κ1 κ2 b b1 b2 t1 t2 β² β'², then its lists.
+use mathlib.Core.Bool.{cond}
 use mathlib.Core.List.{List}
-use Prim.Native.Nat.{ℕ}
+use Prim.Native.Nat.{ℕ, _-_}
+use lib.Dec.{ltb}
 use lib.IntN.{ℤ, pos}
 use lib.ListN.{getD, take, replicate}
 use Rattle.integers.specs.Laws.Bridge.{P}
@@ -12,8 +14,14 @@ use Rattle.cases.specs.Lists.{pastLists}
 abbrev pub naturalAt : List ℤ → ℕ → ℕ
 naturalAt xs k = P (getD xs k (pos 0))
 
-unfoldable pub sizesOf : List ℤ → CSizes
-sizesOf xs =
+unfoldable pub callOf : ℕ → ℕ
+callOf number = cond (ltb 6 number) (number - 2) number
+
+unfoldable pub oneDigit : ℕ → ℕ
+oneDigit number = cond (ltb 6 number) 1 0
+
+unfoldable pub sizesOf : List ℤ → (one : ℕ) → CSizes
+sizesOf xs one =
     record {
       shape = record { d = naturalAt xs 1; n = naturalAt xs 2; r = naturalAt xs 3 };
       k = naturalAt xs 4;
@@ -29,6 +37,7 @@ sizesOf xs =
       t2 = naturalAt xs 14;
       bound = naturalAt xs 15;
       target = naturalAt xs 16;
+      «one_digit» = one;
     }
 
 -- list i to be written, of those whose lengths follow k lists: filled with 77, and empty where it is longer than 8192

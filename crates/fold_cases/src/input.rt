@@ -5,7 +5,7 @@ ghost use lib.ListN.{length, replicate, take};
 ghost use Rattle.cases.specs.Numbers.{sizeAt};
 ghost use Rattle.fold.specs.Arguments.{commitSizesOf, garbageSizesOf};
 ghost use Rattle.capi.specs.Codes.{commitSizesFrom, garbageSizesFrom, sizesFrom};
-ghost use Rattle.fold_cases.specs.Input.{naturalAt, sizesOf};
+ghost use Rattle.fold_cases.specs.Input.{naturalAt, callOf, oneDigit, sizesOf};
 use capi::sizes::CCommitSizes;
 use capi::sizes::CGarbageSizes;
 use capi::sizes::CShape;
@@ -35,9 +35,28 @@ fn size_at(wides: &[i64], place: usize) -> usize
     bound_at(wides, place) as usize
 }
 
+// Calls 7 and 8 are 5 and 6 with z in one digit.
+pub fn call_of(number: usize) -> usize
+    ensures { λ r. ⌜ r ≡ callOf number ⌝ }
+{
+    if number > 6 {
+        return number - 2;
+    }
+    number
+}
+
+pub fn one_digit(number: usize) -> u8
+    ensures { λ r. ⌜ r ≡ oneDigit number ⌝ }
+{
+    if number > 6 {
+        return 1;
+    }
+    0
+}
+
 // The sizes of a case: they may be any that an i64 holds, so that the calls refuse them.
-pub fn read_sizes(wides: &[i64]) -> CSizes
-    ensures { λ r. ⌜ r ≡ sizesOf (now (wides .entry)) ⌝ }
+pub fn read_sizes(wides: &[i64], one_digit: u8) -> CSizes
+    ensures { λ r. ⌜ r ≡ sizesOf (now (wides .entry)) «one_digit» ⌝ }
 {
     CSizes {
         shape: CShape {
@@ -58,6 +77,7 @@ pub fn read_sizes(wides: &[i64]) -> CSizes
         t2: size_at(wides, 14),
         bound: bound_at(wides, 15),
         target: bound_at(wides, 16),
+        one_digit,
     }
 }
 

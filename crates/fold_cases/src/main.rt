@@ -8,6 +8,6 @@ mod runs;
 mod verification;
 
 fn main() {
-    let mut text = [0u8; 1048576];
+    let mut text = [0u8; 2097152];
     runs::run_text(&mut text);
 }

@@ -2,7 +2,7 @@
 // wrote, and one makes room for these.
 ghost use mathlib.Core.Path.{_≡_};
 ghost use Rattle.lizkarg.specs.Calls.{Committed, Projected, Aggregated, GarbageCommitted, Amortized};
-ghost use Rattle.capi.specs.Codes.{Coded, codeOf, shapeFrom, sizesFrom};
+ghost use Rattle.capi.specs.Codes.{Coded, codeOf, shapeFrom, zFrom, sizesFrom};
 ghost use Rattle.cases.specs.Lists.{nthList};
 ghost use Rattle.fold.specs.Arguments.{commitSizesOf, garbageSizesOf};
 ghost use Rattle.fold_cases.specs.Answers.{commitAnswer, projectAnswer, aggregateAnswer, garbageAnswer, amortizeAnswer};
@@ -166,15 +166,27 @@ pub fn run_commit_garbage(sizes: CSizes, lists: &[i32]) -> CAnswer
     commit_garbage(sizes, lists, &mut h[..h_count], &mut u2[..u2_count])
 }
 
+// z in two digits, or in one.
+fn call_amortize(sizes: CSizes, c: &[i32], witness: &[i32], z: &mut [i32]) -> CAnswer
+    ensures { λ x.
+        ⌜ Coded (λ answer. Amortized (shapeFrom (sizes .shape)) (zFrom (sizes .«one_digit») (sizes .b)) (now (c .entry)) (now (witness .entry))
+        (now (z .entry)) answer (now (z .exit))) x ⌝ }
+{
+    if sizes.one_digit == 0 {
+        return capi::lizkarg_amortize(sizes.shape, sizes.b, c, witness, z);
+    }
+    capi::lizkarg_amortize_one_digit(sizes.shape, c, witness, z)
+}
+
 // Call 5: the challenges, the witness; z's digits.
 fn amortize(sizes: CSizes, lists: &[i32], z: &mut [i32]) -> CAnswer
     ensures { λ x.
-        ⌜ Coded (λ answer. Amortized (shapeFrom (sizes .shape)) (sizes .b) (nthList 0 (now (lists .entry))) (nthList 1 (now (lists .entry)))
+        ⌜ Coded (λ answer. Amortized (shapeFrom (sizes .shape)) (zFrom (sizes .«one_digit») (sizes .b)) (nthList 0 (now (lists .entry))) (nthList 1 (now (lists .entry)))
         (now (z .entry)) answer (now (z .exit))) x ⌝ }
 {
     let c = nth_list(lists, 0);
     let witness = nth_list(lists, 1);
-    let answer = capi::lizkarg_amortize(sizes.shape, sizes.b, c, witness, z);
+    let answer = call_amortize(sizes, c, witness, z);
     output::print_answer(answer);
     output::print_list(z);
     answer

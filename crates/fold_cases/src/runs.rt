@@ -32,8 +32,9 @@ fn run_call(call: usize, sizes: CSizes, lists: &[i32]) -> CAnswer
 fn run_case(wides: &[i64], words: &[i32]) -> CAnswer
     ensures { λ x. ⌜ x ≡ codeOf (caseAnswer (now (wides .entry)) (now (words .entry))) ⌝ }
 {
-    let call = numbers::size(words, 0, 6);
-    let sizes = input::read_sizes(wides);
+    let number = numbers::size(words, 0, 8);
+    let call = input::call_of(number);
+    let sizes = input::read_sizes(wides, input::one_digit(number));
     run_call(call, sizes, past_numbers(words, input::LISTS))
 }
 

@@ -1,6 +1,8 @@
 -- CSizes among the numbers of a case, and those of a part of the next witness.
+use mathlib.Core.Bool.{cond}
 use mathlib.Core.List.{List}
-use Prim.Native.Nat.{ℕ}
+use Prim.Native.Nat.{ℕ, _-_}
+use lib.Dec.{ltb}
 use lib.ListN.{getD}
 use lib.IntN.{ℤ, pos}
 use mir.Syntax.{w64}
@@ -12,9 +14,16 @@ use Rattle.capi.specs.declared.sizes.CPartSizes.{CPartSizes}
 abbrev pub wideSize : List ℤ → ℕ → ℕ
 wideSize xs place = ofZ w64 (getD xs place (pos 0))
 
+-- kinds 4, 5 and 6 are 1, 2 and 3 with z in one digit
+unfoldable pub kindOf : ℕ → ℕ
+kindOf number = cond (ltb 3 number) (number - 3) number
+
+unfoldable pub oneDigit : ℕ → ℕ
+oneDigit number = cond (ltb 3 number) 1 0
+
 -- eighteen sizes, of which ν and μ, numbers 14 and 15, stand in no struct of a fold
-unfoldable pub sizesOf : List ℤ → CSizes
-sizesOf xs =
+unfoldable pub sizesOf : List ℤ → (one : ℕ) → CSizes
+sizesOf xs one =
     record {
       shape = record { d = wideSize xs 0; n = wideSize xs 1; r = wideSize xs 2 };
       k = wideSize xs 3;
@@ -30,9 +39,10 @@ sizesOf xs =
       t2 = wideSize xs 13;
       bound = wideSize xs 16;
       target = wideSize xs 17;
+      «one_digit» = one;
     }
 
 -- the sizes of an opening and of its cut
 abbrev pub partSizesOf : CSizes → (ν μ : ℕ) → CPartSizes
 partSizesOf m ν μ =
-    record { shape = m .shape; kappa = m .kappa; t1 = m .t1; t2 = m .t2; nu = ν; mu = μ }
+    record { shape = m .shape; kappa = m .kappa; t1 = m .t1; t2 = m .t2; nu = ν; mu = μ; «one_digit» = m .«one_digit» }

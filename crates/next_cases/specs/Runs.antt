@@ -13,11 +13,11 @@ use Rattle.lizkarg.specs.Calls.{Committed, Projected, Aggregated, GarbageCommit
 use Rattle.fold.specs.Arguments.{partRefusalOf}
 use Rattle.next_instance.specs.Calls.{NextCalled}
 use Rattle.capi.specs.declared.types.CAnswer.{CAnswer}
-use Rattle.capi.specs.Codes.{Coded, codeOf, shapeFrom, sizesFrom, partSizesFrom}
+use Rattle.capi.specs.Codes.{Coded, codeOf, shapeFrom, zFrom, sizesFrom, partSizesFrom}
 use Rattle.cases.specs.Numbers.{padded, word, sizeAt}
 use Rattle.cases.specs.Lists.{pastLists, nthList}
 use Rattle.cases.specs.Text.{lineNumbers}
-use Rattle.next_cases.specs.Input.{wideSize, sizesOf, partSizesOf}
+use Rattle.next_cases.specs.Input.{wideSize, kindOf, oneDigit, sizesOf, partSizesOf}
 use Rattle.next_cases.specs.Messages.{filled, blank, messageOf, openingOf, kept}
 use Rattle.next_cases.specs.Witness.{witnessOf}
 
@@ -73,7 +73,7 @@ pub record GarbageCommitting (sizes : CSizes) (lists whole s lengths m : List �
 
 pub record Amortizing (sizes : CSizes) (lists s lengths m : List ℤ) (code : CAnswer) (m′ : List ℤ) : Type 0 where
   pub z′ : List ℤ
-  pub called : Coded (λ answer. Amortized (shapeFrom (sizes .shape)) (sizes .b) (nthList 11 lists) s (blank lengths 0) answer z′) code
+  pub called : Coded (λ answer. Amortized (shapeFrom (sizes .shape)) (zFrom (sizes .«one_digit») (sizes .b)) (nthList 11 lists) s (blank lengths 0) answer z′) code
   pub keeps : m′ ≡ kept m lengths 0 z′
 
 -- what the verifier and the next instance are given
@@ -138,7 +138,7 @@ secondIn xs = drop 9 (lengthsIn xs)
 
 -- read where the numbers have all their bits
 abbrev pub secondSizes : (wides xs : List ℤ) → CSizes
-secondSizes wides xs = sizesOf (drop (length xs - length (secondIn xs)) wides)
+secondSizes wides xs = sizesOf (drop (length xs - length (secondIn xs)) wides) 0
 
 pub record TwiceRun (sizes : CSizes) (ν μ : ℕ) (wides xs : List ℤ) (verdict : CAnswer) : Type 0 where
   pub m′ : List ℤ
@@ -159,18 +159,19 @@ pub record TwiceNumber (sizes : CSizes) (ν μ : ℕ) (wides xs : List ℤ) (r :
   pub ran : TwiceRun sizes ν μ wides xs code
   pub number-is : r ≡ code .number
 
-abbrev pub caseSizes : List ℤ → CSizes
-caseSizes wides = sizesOf (drop 1 wides)
+-- z has one digit where `one` is not 0
+abbrev pub caseSizes : List ℤ → (one : ℕ) → CSizes
+caseSizes wides one = sizesOf (drop 1 wides) one
 
-pub record CaseRun (wides xs : List ℤ) (kind r : ℕ) : Type 0 where
-  pub instance : kind ≡ 1 → InstanceNumber (caseSizes wides) (wideSize wides 15) (wideSize wides 16) xs r
+pub record CaseRun (wides xs : List ℤ) (kind one r : ℕ) : Type 0 where
+  pub instance : kind ≡ 1 → InstanceNumber (caseSizes wides one) (wideSize wides 15) (wideSize wides 16) xs r
   pub part : kind ≡ 2
-      → r ≡ partRefusalOf (partSizesFrom (partSizesOf (caseSizes wides) (wideSize wides 15) (wideSize wides 16))) (wideSize wides 19) (nthList 0 (drop 20 xs))
-  pub twice : kind ≡ 3 → TwiceNumber (caseSizes wides) (wideSize wides 15) (wideSize wides 16) wides xs r
+      → r ≡ partRefusalOf (partSizesFrom (partSizesOf (caseSizes wides one) (wideSize wides 15) (wideSize wides 16))) (wideSize wides 19) (nthList 0 (drop 20 xs))
+  pub twice : kind ≡ 3 → TwiceNumber (caseSizes wides one) (wideSize wides 15) (wideSize wides 16) wides xs r
 
 -- the numbers of a line, 4096 of them, and the same as numbers of 32 bits
 abbrev pub LineRun : (line : List ℕ) (r : ℕ) → Type 0
 LineRun line r =
     let wides = padded 4096 (lineNumbers line) in
     let xs = map word wides in
-    CaseRun wides xs (sizeAt 3 xs 0) r
+    CaseRun wides xs (kindOf (sizeAt 6 xs 0)) (oneDigit (sizeAt 6 xs 0)) r

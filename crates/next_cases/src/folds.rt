@@ -3,6 +3,8 @@
 // those of a second fold come from the first.
 // `lengths` and `messages` are those of module messages.
 ghost use mathlib.Core.Path.{_≡_};
+ghost use Rattle.lizkarg.specs.Calls.{Amortized};
+ghost use Rattle.capi.specs.Codes.{Coded, shapeFrom, zFrom};
 ghost use Rattle.next_cases.specs.Runs.{Committing, Projecting, Aggregating, GarbageCommitting, Amortizing, verdictOf, Folded};
 use crate::input::FILL;
 use crate::input::ROOM;
@@ -171,6 +173,18 @@ fn commit_garbage(
     answer
 }
 
+// z in two digits, or in one.
+fn call_amortize(sizes: CSizes, c: &[i32], witness: &[i32], z: &mut [i32]) -> CAnswer
+    ensures { λ x.
+        ⌜ Coded (λ answer. Amortized (shapeFrom (sizes .shape)) (zFrom (sizes .«one_digit») (sizes .b)) (now (c .entry)) (now (witness .entry))
+        (now (z .entry)) answer (now (z .exit))) x ⌝ }
+{
+    if sizes.one_digit == 0 {
+        return capi::lizkarg_amortize(sizes.shape, sizes.b, c, witness, z);
+    }
+    capi::lizkarg_amortize_one_digit(sizes.shape, c, witness, z)
+}
+
 fn amortize(
     sizes: CSizes,
     lists: &[i32],
@@ -186,7 +200,7 @@ fn amortize(
     let mut room = [FILL; ROOM];
     let z = &mut room[..count];
     let c = nth_list(lists, 11);
-    let answer = capi::lizkarg_amortize(sizes.shape, sizes.b, c, witness, z);
+    let answer = call_amortize(sizes, c, witness, z);
     print_answer(1, answer);
     keep(messages, lengths, Z, z);
     answer

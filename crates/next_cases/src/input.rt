@@ -4,7 +4,7 @@ ghost use lib.IntN.{pos};
 ghost use mir.Syntax.{w64};
 ghost use mir.Val.{ofZ};
 ghost use Rattle.cases.specs.Numbers.{sizeOf};
-ghost use Rattle.next_cases.specs.Input.{wideSize, sizesOf};
+ghost use Rattle.next_cases.specs.Input.{wideSize, kindOf, oneDigit, sizesOf};
 use capi::sizes::CShape;
 use capi::sizes::CSizes;
 use cases::numbers::wide_at;
@@ -50,9 +50,28 @@ pub fn size_at(wides: &[i64], place: usize) -> usize
     bound_at(wides, place) as usize
 }
 
+// Kinds 4, 5 and 6 are 1, 2 and 3 with z in one digit.
+pub fn kind_of(number: usize) -> usize
+    ensures { λ r. ⌜ r ≡ kindOf number ⌝ }
+{
+    if number > 3 {
+        return number - 3;
+    }
+    number
+}
+
+pub fn one_digit(number: usize) -> u8
+    ensures { λ r. ⌜ r ≡ oneDigit number ⌝ }
+{
+    if number > 3 {
+        return 1;
+    }
+    0
+}
+
 // The sizes of a fold, from the first number on; ν and μ are left out.
-pub fn read_sizes(wides: &[i64]) -> CSizes
-    ensures { λ x. ⌜ x ≡ sizesOf (now (wides .entry)) ⌝ }
+pub fn read_sizes(wides: &[i64], one_digit: u8) -> CSizes
+    ensures { λ x. ⌜ x ≡ sizesOf (now (wides .entry)) «one_digit» ⌝ }
 {
     CSizes {
         shape: CShape {
@@ -73,6 +92,7 @@ pub fn read_sizes(wides: &[i64]) -> CSizes
         t2: size_at(wides, 13),
         bound: bound_at(wides, 16),
         target: bound_at(wides, 17),
+        one_digit,
     }
 }
 

@@ -12,6 +12,6 @@ mod twice;
 mod witness;
 
 fn main() {
-    let mut text = [0u8; 1048576];
+    let mut text = [0u8; 2097152];
     runs::run_text(&mut text);
 }

@@ -30,6 +30,7 @@ pub fn part_sizes(sizes: CSizes, nu: usize, mu: usize) -> CPartSizes
         t2: sizes.t2,
         nu,
         mu,
+        one_digit: sizes.one_digit,
     }
 }
 

@@ -16,10 +16,10 @@ use cases::text;
 const NUMBERS: usize = 4096;
 
 // A case of this kind: all its numbers, with all their bits and with 32. It answers the number of the last answer; 0 where the kind is none.
-fn run_case(kind: usize, wides: &[i64], xs: &[i32]) -> u64
-    ensures { λ r. ⌜ CaseRun (now (wides .entry)) (now (xs .entry)) kind r ⌝ }
+fn run_case(kind: usize, one_digit: u8, wides: &[i64], xs: &[i32]) -> u64
+    ensures { λ r. ⌜ CaseRun (now (wides .entry)) (now (xs .entry)) kind «one_digit» r ⌝ }
 {
-    let sizes = input::read_sizes(lists::past_wides(wides, input::SIZES));
+    let sizes = input::read_sizes(lists::past_wides(wides, input::SIZES), one_digit);
     let nu = input::size_at(wides, input::NU);
     let mu = input::size_at(wides, input::MU);
     if kind == 1 {
@@ -45,8 +45,10 @@ fn run_line(line: &[u8]) -> u64
     let mut words = [0i32; NUMBERS];
     text::scan(line, &mut wides);
     numbers::narrow(&wides, &mut words);
-    let kind = numbers::size(&words, 0, 3);
-    run_case(kind, &wides, &words)
+    let number = numbers::size(&words, 0, 6);
+    let kind = input::kind_of(number);
+    let one_digit = input::one_digit(number);
+    run_case(kind, one_digit, &wides, &words)
 }
 
 // Every line of a text; the answer is how many there are.

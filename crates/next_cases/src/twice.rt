@@ -138,7 +138,7 @@ pub fn run_twice(sizes: CSizes, nu: usize, mu: usize, wides: &[i64], xs: &[i32])
     let lengths = past_lists(lists, 13);
     let count = size(lengths, 8, ROOM);
     let second = past_numbers(lengths, 9);
-    let second_sizes = read_sizes(past_wides(wides, xs.len() - second.len()));
+    let second_sizes = read_sizes(past_wides(wides, xs.len() - second.len()), 0);
     let mut messages = [FILL; ROOM];
     let mut room = [FILL; ROOM];
     let whole = &mut room[..count];

@@ -4,12 +4,12 @@
 -- as margin."
 -- For what the five calls wrote and `verify` answers on it, by their promises alone; the cases: HonestVerdict, crates/fold/specs/Theorems/HonestRuns.antt.
 -- `honest-judged`: whatever the witness, `verify` refuses none of it.
-use mathlib.Core.Path.{_≡_, refl}
+use mathlib.Core.Path.{_≡_}
 use mathlib.Core.List.{List}
 use lib.IntN.{ℤ}
 use Rattle.fold.specs.declared.Answer.{Answer}
 use Rattle.fold.specs.declared.Answer.the-variants.{Judged, Written}
-use Rattle.fold.specs.declared.Sizes.{Sizes}
+use Rattle.fold.specs.declared.StatementSizes.{StatementSizes}
 use Rattle.fold.specs.Answers.{firstFailing}
 use Rattle.fold.specs.Arguments.{statementOf, drawsOf, transcriptOf, commitSizesOf, garbageSizesOf}
 use Rattle.fold.specs.Statement.{Meets, Statement, Draws}
@@ -18,10 +18,11 @@ use Rattle.fold.specs.Verdict.{verdict}
 use Rattle.fold.specs.Verification.{verification}
 use Rattle.fold.specs.Refusals.{boundTests}
 use Rattle.fold.specs.Theorems.HonestRuns.{HonestVerdict}
+use Rattle.fold.specs.Laws.DigitCounts.{counts-few}
 use Rattle.fold.specs.Laws.HonestWritten.{honest-written, judged-written, tested, left}
 use Rattle.lizkarg.specs.Calls.{Committed, Projected, Aggregated, GarbageCommitted, Amortized}
 
-module _ (sizes : Sizes) (A B C D whole constantTerms projections ψ ω α δ c s : List ℤ) where
+module _ (sizes : StatementSizes) (A B C D whole constantTerms projections ψ ω α δ c s : List ℤ) where
   abbrev pub 𝓢 : Statement
   𝓢 = statementOf sizes A B C D whole constantTerms
 
@@ -36,7 +37,7 @@ module _ (sizes : Sizes) (A B C D whole constantTerms projections ψ ω α δ c 
     pub message-2 : Projected (sizes .shape) (sizes .w) projections s (before .p) Written p
     pub message-3 : Aggregated (sizes .shape) (sizes .l) (sizes .w) constantTerms projections ψ ω s (before .b″) Written b″
     pub message-4 : GarbageCommitted (garbageSizesOf sizes) whole constantTerms projections ψ ω α δ D s (before .h) (before .u₂) Written h u₂
-    pub message-5 : Amortized (sizes .shape) (sizes .b) c s (before .z) Written z
+    pub message-5 : Amortized (sizes .shape) (sizes .z) c s (before .z) Written z
 
   -- what `verify` answered on these numbers, where β² and β'² keep row 6: no message takes them, and all else the calls have tested
   pub honest-calls : {u₁ p b″ u₂ z t g h : List ℤ} → HonestRun u₁ p b″ u₂ z t g h → firstFailing (boundTests 𝓢 𝓓) ≡ 0 → Meets (𝓢 .relation) s
@@ -45,7 +46,7 @@ module _ (sizes : Sizes) (A B C D whole constantTerms projections ψ ω α δ c 
   honest-calls run bounds meets answer is =
       let one = run .message-1 in
       let four = run .message-4 in
-      honest-written 𝓢 𝓓 s refl (tested 𝓢 𝓓 s _ _ _ _ _ _ (one .answer-is) (four .answer-is) (run .message-5 .answer-is) bounds) meets
+      honest-written 𝓢 𝓓 s (counts-few (sizes .z) .0) (tested 𝓢 𝓓 s _ _ _ _ _ _ (one .answer-is) (four .answer-is) (run .message-5 .answer-is) bounds) meets
       (left _ _ _ (one .answer-is) (one .u-is)) (left _ _ _ (run .message-2 .answer-is) (run .message-2 .p-is))
       (left _ _ _ (run .message-3 .answer-is) (run .message-3 .b-is)) (left _ _ _ (four .answer-is) (four .u-is))
       (left _ _ _ (run .message-5 .answer-is) (run .message-5 .z-is)) (left _ _ _ (one .answer-is) (one .t-is))

@@ -6,6 +6,8 @@ pub mod NextInstance
 -- Demand 3
 pub mod HonestRuns
 pub mod TwoOpenings
+-- z in one digit
+pub mod OneDigit
 -- What accepted carries
 pub mod Margin
 -- The sheet and its verdict

@@ -13,12 +13,13 @@ use Rattle.fold.specs.declared.Answer.{Answer}
 use Rattle.fold.specs.declared.CommitSizes.{CommitSizes}
 use Rattle.fold.specs.declared.GarbageSizes.{GarbageSizes}
 use Rattle.fold.specs.declared.Shape.{Shape}
+use Rattle.fold.specs.declared.ZDigits.{ZDigits}
 use Rattle.fold.specs.Statement.{Statement, Draws, Transcript}
 use Rattle.fold.specs.Refusals.{productTests, commitTests, projectTests, aggregateTests, garbageTests, amortizeTests, verifyTests, nextTests, partTests}
 use Rattle.fold.specs.Verification.{verification}
 use Rattle.fold.specs.NextCall.{nextAnswer, nextOut, partRefusal, nextPart}
 use Rattle.fold.specs.declared.PartSizes.{PartSizes}
-use Rattle.fold.specs.Arguments.{partRefusalOf, nextPartOf}
+use Rattle.fold.specs.Arguments.{countOf, baseOf, partRefusalOf, nextPartOf}
 use Rattle.sheet.specs.declared.reader.SheetAnswer.{SheetAnswer}
 use Rattle.sheet.specs.Reading.{headerTests, numberTests, bodyTests, readingTests, answerOf, SheetRead}
 use Rattle.sheet.specs.declared.header.SheetSizes.{SheetSizes}
@@ -28,7 +29,7 @@ use Rattle.writer.specs.Writing as writing
 use Rattle.lizkarg.specs.Calls.{productOf, Committed, Projected, Aggregated, GarbageCommitted, Amortized}
 use Rattle.next_instance.specs.Calls.{NextCalled}
 use Rattle.fold.specs.Theorems.FirstRefusal.{FirstFails, Refuses, message-refuses, judgement-refuses, next-call-refuses, number-refuses}
-use Rattle.fold.specs.Sizes.{zCount}
+use Rattle.fold.specs.Sizes.{countIf}
 
 -- the ring product, which is lent nothing to write to
 pub multiply-refuses : (d : ℕ) (x y : List ℤ) → Refuses (productTests d x y) (productOf d x y .answer) Unit
@@ -60,8 +61,8 @@ pub garbage-refuses : {m : GarbageSizes} {whole constantTerms projections ψ ω 
 unfolding garbageTests
 garbage-refuses call = message-refuses _ refl (call .answer-is) (λ kept. (call .h-is ∙ kept _ _, call .u-is ∙ kept _ _))
 
-pub amortize-refuses : {m : Shape} {b : ℕ} {c s z z′ : List ℤ} {answer : Answer} → Amortized m b c s z answer z′
-    → Refuses (amortizeTests (m .d) (m .n) (m .r) zCount b c s z) answer (z′ ≡ z)
+pub amortize-refuses : {m : Shape} {digits : ZDigits} {c s z z′ : List ℤ} {answer : Answer} → Amortized m digits c s z answer z′
+    → Refuses (amortizeTests (m .d) (m .n) (m .r) (countOf digits) (baseOf digits) c s z) answer (z′ ≡ z)
 unfolding amortizeTests
 amortize-refuses call = message-refuses _ refl (call .answer-is) (λ kept. call .z-is ∙ kept _ _)
 
@@ -78,7 +79,7 @@ next-refuses call = next-call-refuses _ refl _ (call .answer-is) (λ kept. call 
 
 -- a part of the next witness: "the chunk is empty, and a question beside it answers that number, else 0"; a number k + 1 is that of a row
 pub part-refuses : (m : PartSizes) (i : ℕ) (o : List ℤ) (number : ℕ) (part : List ℤ) → number ≡ partRefusalOf m i o → part ≡ nextPartOf m i o → (k : ℕ)
-    → ((number ≡ suc k) ↔ FirstFails (suc k) (partTests (m .shape .d) (m .shape .n) (m .shape .r) (m .kappa) (m .t1) (m .t2) zCount (m .nu) (m .mu) i o))
+    → ((number ≡ suc k) ↔ FirstFails (suc k) (partTests (m .shape .d) (m .shape .n) (m .shape .r) (m .kappa) (m .t1) (m .t2) (countIf (m .«one_digit»)) (m .nu) (m .mu) i o))
     × (number ≡ suc k → part ≡ [])
 unfolding partRefusal nextPart
 part-refuses m i o number part is handed = number-refuses _ _ is handed

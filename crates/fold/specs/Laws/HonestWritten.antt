@@ -1,7 +1,7 @@
 -- What the five calls of an honest run wrote is the honest transcript and opening, and they have tested all but the bounds.
 use mathlib.Core.Path.{_≡_, refl, _∙_}
 use mathlib.Core.List.{List}
-use Prim.Native.Nat.{ℕ, zero, suc}
+use Prim.Native.Nat.{ℕ, zero, suc, _<_}
 use native.Mathlib.Omega.{arith}
 use lib.IntN.{ℤ}
 use Rattle.fold.specs.declared.Answer.{Answer}
@@ -40,13 +40,13 @@ module _ (𝓢 : Statement) (𝓓 : Draws) (s : List ℤ) where
   tested t g u₁ h u₂ z one four five bounds =
       messages-test-all 𝓢 𝓓 s t g u₁ h u₂ z (written-zero _ one) (written-zero _ four) (written-zero _ five) bounds
 
-  pub honest-written : tz ≡ 2 → firstFailing (proverTests 𝓢 𝓓 s) ≡ 0 → Meets relation s → {u₁ p b″ u₂ z t g h : List ℤ} {answer : Answer}
+  pub honest-written : 0 < tz → firstFailing (proverTests 𝓢 𝓓 s) ≡ 0 → Meets relation s → {u₁ p b″ u₂ z t g h : List ℤ} {answer : Answer}
       → u₁ ≡ honestTranscript 𝓢 𝓓 s .u₁ → p ≡ honestTranscript 𝓢 𝓓 s .p → b″ ≡ honestTranscript 𝓢 𝓓 s .b″ → u₂ ≡ honestTranscript 𝓢 𝓓 s .u₂
       → z ≡ zDigits d n r tz b c s → t ≡ honestT 𝓢 𝓓 s → g ≡ honestG 𝓢 𝓓 s → h ≡ honestH 𝓢 𝓓 s
       → answer ≡ verification 𝓢 𝓓 (transcriptOf u₁ p b″ u₂) (opening z t g h)
       → HonestVerdict 𝓢 p (opening z t g h) (λ v. answer ≡ Judged v)
-  honest-written two unrefused meets u-is p-is b-is v-is z-is t-is g-is h-is is =
-      rw (is, u-is, p-is, b-is, v-is, z-is, t-is, g-is, h-is) (honest-answers 𝓢 𝓓 s two unrefused meets)
+  honest-written some unrefused meets u-is p-is b-is v-is z-is t-is g-is h-is is =
+      rw (is, u-is, p-is, b-is, v-is, z-is, t-is, g-is, h-is) (honest-answers 𝓢 𝓓 s some unrefused meets)
 
   -- whatever the witness
   pub judged-written : firstFailing (proverTests 𝓢 𝓓 s) ≡ 0 → {u₁ p b″ u₂ z t g h : List ℤ} {answer : Answer}

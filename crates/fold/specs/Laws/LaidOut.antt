@@ -135,13 +135,17 @@ module _ (d n r : ℕ) (w : ℕ → ℕ) (count : ℕ) (F : ℕ → Constraint d
         ∙ drop-at (flat x (λ y. laidOut d n r w (F y))) (laidOut d n r w (F x) ++ rest) (x * ((functionSize n r + 1) * d))
         (length-flat x ((functionSize n r + 1) * d) _ (λ y _. length-laidOut d n r w (F y)))
 
+    pub a-written : (i j : ℕ) → i ≤ j → j < r → el d (wholeAt d n r (flat count (λ y. laidOut d n r w (F y))) x) (pair r i j) ≡ F x .a i j
+    unfolding all
+    a-written i j l b = ap (λ xs. el d xs (pair r i j)) from-there ∙ laidOut-a d n r w (F x) rest i j l b
+
     pub value-written : (s : ℕ → ℕ → R d .Carrier)
         → value (R d) r n (function d n r (wholeAt d n r (flat count (λ y. laidOut d n r w (F y))) x)) s
         ≡ value (R d) r n (record { a = F x .a; φ = φ′ d w (F x .table) }) s
     unfolding all
     value-written s =
         value-cong (R d) r n _ _ s s
-        (λ i j l b. ap (λ xs. el d xs (pair r i j)) from-there ∙ laidOut-a d n r w (F x) rest i j l b)
+        a-written
         (λ i k l b. ap (λ xs. el d xs (pairs r + (i * n + k))) from-there ∙ laidOut-φ d n r w (F x) rest i k l b)
         (λ i k _ _. refl)
 

@@ -29,6 +29,10 @@ power-square b (suc e) =
     let step : 2 * suc e ≡ suc (suc (2 * e)) = omega arith in
     rw (step, pow-suc b (suc (2 * e)), pow-suc b (2 * e), pow-suc b e, ← power-square b e) (omega arith)
 
+pub one-weight : (b : ℕ) → total 1 (λ e. b ^ (2 * e)) ≡ 1
+unfolding total
+one-weight b = let none : b ^ (2 * 0) ≡ 1 = pow-zero b in omega arith
+
 pub two-weights : (b : ℕ) → total 2 (λ e. b ^ (2 * e)) ≡ 1 + b * b
 unfolding total
 two-weights b =

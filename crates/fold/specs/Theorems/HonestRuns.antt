@@ -55,18 +55,18 @@ module _ (𝓢 : Statement) (𝓓 : Draws) (s : List ℤ) where
         accepted = rw (honest-verdict 𝓢 𝓓 s sizes meets) (outcome-accepted projected (w * bound) (normSq o) target _);
       }
 
-  pub honest-runs : tz ≡ 2 → firstFailing (proverTests 𝓢 𝓓 s) ≡ 0 → Meets relation s → HonestVerdict 𝓢 (𝓣 .p) o (λ v. verdict 𝓢 𝓓 𝓣 o ≡ v)
-  honest-runs two unrefused meets = honest-runs-shaped (shaped 𝓢 𝓓 s unrefused (omega arith)) meets
+  pub honest-runs : 0 < tz → firstFailing (proverTests 𝓢 𝓓 s) ≡ 0 → Meets relation s → HonestVerdict 𝓢 (𝓣 .p) o (λ v. verdict 𝓢 𝓓 𝓣 o ≡ v)
+  honest-runs some unrefused meets = honest-runs-shaped (shaped 𝓢 𝓓 s unrefused some) meets
 
   -- the verifier's answer: it refuses none of this, whatever the witness
   pub honest-judged : firstFailing (proverTests 𝓢 𝓓 s) ≡ 0 → verification 𝓢 𝓓 𝓣 o ≡ Judged (verdict 𝓢 𝓓 𝓣 o)
   unfolding answered
   honest-judged unrefused = rw (honest-formed 𝓢 𝓓 s unrefused)
 
-  pub honest-answers : tz ≡ 2 → firstFailing (proverTests 𝓢 𝓓 s) ≡ 0 → Meets relation s
+  pub honest-answers : 0 < tz → firstFailing (proverTests 𝓢 𝓓 s) ≡ 0 → Meets relation s
       → HonestVerdict 𝓢 (𝓣 .p) o (λ v. verification 𝓢 𝓓 𝓣 o ≡ Judged v)
   unfolding answered
-  honest-answers two unrefused meets =
-      let run = honest-runs two unrefused meets in
+  honest-answers some unrefused meets =
+      let run = honest-runs some unrefused meets in
       rw (honest-formed 𝓢 𝓓 s unrefused)
       (record { failed-1 = judged-iff (run .failed-1); failed-9 = judged-iff (run .failed-9); accepted = judged-iff (run .accepted) })

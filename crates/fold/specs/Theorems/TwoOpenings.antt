@@ -1,7 +1,9 @@
 -- Demand 3, two openings (SPECIFICATION 9.6): "For every two openings accepted for the same statement and the same u1, whatever else came with them,
 -- and every part i such that their challenges c are equal at all other parts: if their t or g digits differ anywhere, the difference is a
 -- nonzero vector that B and C together send to zero, of squared length at most 4 times the target bound; if these digits are all equal,
--- A(z - z') = (c_i - c'_i) t_i, and the squared length of z - z' is at most 4(1 + b²) times that bound."
+-- A(z - z') = (c_i - c'_i) t_i, and the squared length of z - z' is at most 4(1 + b²) times that bound, with one z digit at most 4 times it."
+--     two-openings          for two z digits
+--     one-digit-openings    for one
 use mathlib.Core.Path.{_≡_, sym, ap, ap₂, _∙_}
 use mathlib.Core.Logic.{_≢_}
 use mathlib.Core.List.{List}
@@ -26,7 +28,7 @@ use Rattle.fold.specs.Verification.{verification}
 use Rattle.fold.specs.Differences.{difference, tgDigits}
 use Rattle.fold.specs.Laws.DifferenceLaws.{length-difference, difference-short, differ, difference-nonzero}
 use Rattle.fold.specs.Laws.VerificationLaws.{AcceptedOpening, accepted-opening}
-use Rattle.fold.specs.Laws.RecomposedLength.{two-weights}
+use Rattle.fold.specs.Laws.RecomposedLength.{one-weight, two-weights}
 use Rattle.fold.specs.Laws.OpeningDifferences.{length-tg, tg-small, outer-difference, times-sub, t-same, z-difference-short}
 
 -- Parts are counted from 0. "B and C together send a difference to zero when B·(its t part) + C·(its g part) is zero."
@@ -111,10 +113,18 @@ module _ (𝓢 : Statement) (𝓓 𝓓′ : Draws) (𝓣 𝓣′ : Transcript) (
         both : 2 * zLength d n tz o + 2 * zLength d n tz o′ ≤ 4 * target
         both = omega (arith, one .facts .short, two .facts .short)
 
-    -- the whole of it, for the two z digits of SPECIFICATION 4.5: 1 + b² is the sum of the squares of their weights 1 and b
+    -- the whole of it, for two z digits: 1 + b² is the sum of the squares of their weights 1 and b
     pub two-openings : tz ≡ 2 → (i : ℕ) → i < r → ((j : ℕ) → j < r → j ≢ i → el d (𝓓 .c) j ≡ el d (𝓓′ .c) j)
         → (𝓣 .u₁ ≡ 𝓣′ .u₁ → tgDigits 𝓢 o ≢ tgDigits 𝓢 o′ → ShortKernel 𝓢 (difference (tgDigits 𝓢 o) (tgDigits 𝓢 o′)))
         × (tgDigits 𝓢 o ≡ tgDigits 𝓢 o′ → ShortPreimage i (1 + b * b))
     two-openings digits i h others =
         let weights : total tz (λ e. b ^ (2 * e)) ≡ 1 + b * b = rw digits (two-weights b) in
         (digits-differ, λ e. rw weights at (digits-equal e i h others))
+
+    -- and for one, whose weight is 1
+    pub one-digit-openings : tz ≡ 1 → (i : ℕ) → i < r → ((j : ℕ) → j < r → j ≢ i → el d (𝓓 .c) j ≡ el d (𝓓′ .c) j)
+        → (𝓣 .u₁ ≡ 𝓣′ .u₁ → tgDigits 𝓢 o ≢ tgDigits 𝓢 o′ → ShortKernel 𝓢 (difference (tgDigits 𝓢 o) (tgDigits 𝓢 o′)))
+        × (tgDigits 𝓢 o ≡ tgDigits 𝓢 o′ → ShortPreimage i 1)
+    one-digit-openings digits i h others =
+        let weight : total tz (λ e. b ^ (2 * e)) ≡ 1 = rw digits (one-weight b) in
+        (digits-differ, λ e. rw weight at (digits-equal e i h others))

@@ -15,11 +15,11 @@ use Rattle.capi.specs.declared.sizes.CPartSizes.{CPartSizes}
 use Rattle.fold.specs.Arguments.{partRefusalOf}
 use Rattle.next_instance.specs.Calls.{NextCalled}
 use Rattle.capi.specs.declared.types.CAnswer.{CAnswer}
-use Rattle.capi.specs.Codes.{Coded, codeOf, shapeFrom, sizesFrom, partSizesFrom}
+use Rattle.capi.specs.Codes.{Coded, codeOf, shapeFrom, zFrom, sizesFrom, partSizesFrom}
 use Rattle.cases.specs.Numbers.{padded, word, sizeAt, sizeOf}
 use Rattle.cases.specs.Lists.{firstWidth, pastList, pastLists, nthList}
 use Rattle.cases.specs.Text.{lineNumbers}
-use Rattle.next_cases.specs.Input.{wideSize, sizesOf, partSizesOf}
+use Rattle.next_cases.specs.Input.{wideSize, kindOf, oneDigit, sizesOf, partSizesOf}
 use Rattle.next_cases.specs.Messages.{filled, messageOf, openingOf, kept}
 use Rattle.next_cases.specs.Laws.MessageLaws.{front-filled, length-filled, blank-is}
 use Rattle.next_cases.specs.Witness.{nextWitness, productOf, widthFor, countFor, witnessOf}
@@ -128,13 +128,13 @@ module _ {sizes : CSizes} {s lengths m : List ℤ} {code : CAnswer} {m′ : List
       }
 
   pub amortizing : {lists c z′ : List ℤ} {n : ℕ} → c ≡ nthList 11 lists
-      → n ≡ sizeAt 32768 lengths 0 → Coded (λ answer. Amortized (shapeFrom (sizes .shape)) (sizes .b) c s (front n) answer z′) code
+      → n ≡ sizeAt 32768 lengths 0 → Coded (λ answer. Amortized (shapeFrom (sizes .shape)) (zFrom (sizes .«one_digit») (sizes .b)) c s (front n) answer z′) code
       → m′ ≡ kept m lengths 0 z′ → Amortizing sizes lists s lengths m code m′
   amortizing {z′ = z′} c n called keeps =
       let z = blank-is 32768 lengths 0 n in
       record {
         z′ = z′;
-        called = coe 0 1 (i. Coded (λ answer. Amortized (shapeFrom (sizes .shape)) (sizes .b) (c i) s (z i) answer z′) code) called;
+        called = coe 0 1 (i. Coded (λ answer. Amortized (shapeFrom (sizes .shape)) (zFrom (sizes .«one_digit») (sizes .b)) (c i) s (z i) answer z′) code) called;
         keeps = keeps;
       }
 
@@ -230,7 +230,7 @@ module _ (xs : List ℤ) {lists lengths second : List ℤ} (lists-is : lists ≡
       )
 
   pub twice-run : {sizes its : CSizes} {parts : CPartSizes} {ν μ n : ℕ} {wides ws m′ whole opening rest : List ℤ} {verdict : CAnswer}
-      → n ≡ sizeAt 32768 lengths 8 → ws ≡ drop (length xs - length second) wides → its ≡ sizesOf ws → parts ≡ partSizesOf sizes ν μ
+      → n ≡ sizeAt 32768 lengths 8 → ws ≡ drop (length xs - length second) wides → its ≡ sizesOf ws 0 → parts ≡ partSizesOf sizes ν μ
       → opening ≡ openingOf m′ lengths → rest ≡ drop 18 second
       → FirstRun sizes ν μ lists lengths (replicate 32768 (pos 77)) m′ (front n) whole
       → SecondRun its whole (witnessOf parts its opening) rest verdict → TwiceRun sizes ν μ wides xs verdict
@@ -238,7 +238,7 @@ module _ (xs : List ℤ) {lists lengths second : List ℤ} (lists-is : lists ≡
       {verdict = verdict} n-is ws-is its-is parts opening-is rest-is first second′ =
       let wide : ws ≡ drop (length xs - length (secondIn xs)) wides =
       ws-is ∙ ap (λ (l : List ℤ). drop (length xs - length l) wides) second-in in
-      let sized : its ≡ secondSizes wides xs = its-is ∙ ap (λ (l : List ℤ). sizesOf l) wide in
+      let sized : its ≡ secondSizes wides xs = its-is ∙ ap (λ (l : List ℤ). sizesOf l 0) wide in
       let out : front n ≡ filled (sizeAt 32768 (lengthsIn xs) 8) =
       blank-is 32768 lengths 8 n-is ∙ ap (λ (l : List ℤ). filled (sizeAt 32768 l 8)) lengths-in in
       let found : opening ≡ openingOf m′ (lengthsIn xs) = opening-is ∙ ap (λ (l : List ℤ). openingOf m′ l) lengths-in in
@@ -259,17 +259,17 @@ part-number sizes ν μ n xs {opening = opening} parts rest opening-is e =
     let found : opening ≡ nthList 0 (drop 20 xs) = opening-is ∙ ap (λ (l : List ℤ). nthList 0 l) rest in
     e ∙ (λ i. partRefusalOf (partSizesFrom (parts i)) n (found i))
 
-sized : (wides : List ℤ) {ws : List ℤ} {its : CSizes} → ws ≡ drop 1 wides → its ≡ sizesOf ws → its ≡ caseSizes wides
-sized wides ws-is its-is = its-is ∙ ap (λ (l : List ℤ). sizesOf l) ws-is
+sized : (wides : List ℤ) (one : ℕ) {ws : List ℤ} {its : CSizes} → ws ≡ drop 1 wides → its ≡ sizesOf ws one → its ≡ caseSizes wides one
+sized wides one ws-is its-is = its-is ∙ ap (λ (l : List ℤ). sizesOf l one) ws-is
 
-module _ (wides : List ℤ) {xs ws : List ℤ} {its : CSizes} {ν μ kind : ℕ} (ws-is : ws ≡ drop 1 wides) (its-is : its ≡ sizesOf ws)
+module _ (wides : List ℤ) (one : ℕ) {xs ws : List ℤ} {its : CSizes} {ν μ kind : ℕ} (ws-is : ws ≡ drop 1 wides) (its-is : its ≡ sizesOf ws one)
     (ν-is : ν ≡ wideSize wides 15) (μ-is : μ ≡ wideSize wides 16) where
-  pub case-instance : {code : CAnswer} → kind ≡ 1 → InstanceRun its ν μ xs code → CaseRun wides xs kind (code .number)
+  pub case-instance : {code : CAnswer} → kind ≡ 1 → InstanceRun its ν μ xs code → CaseRun wides xs kind one (code .number)
   case-instance {code} e ran =
       record {
         instance = λ _. record {
           code = code;
-          ran = coe 0 1 (i. InstanceRun (sized wides ws-is its-is i) (ν-is i) (μ-is i) xs code) ran;
+          ran = coe 0 1 (i. InstanceRun (sized wides one ws-is its-is i) (ν-is i) (μ-is i) xs code) ran;
           number-is = refl;
         };
         part = λ f. let no : ⊥ = omega arith in absurd no;
@@ -277,38 +277,39 @@ module _ (wides : List ℤ) {xs ws : List ℤ} {its : CSizes} {ν μ kind : ℕ}
       }
 
   pub case-part : {n r : ℕ} → kind ≡ 2 → n ≡ wideSize wides 19 → r ≡ partRefusalOf (partSizesFrom (partSizesOf its ν μ)) n (nthList 0 (drop 20 xs))
-      → CaseRun wides xs kind r
+      → CaseRun wides xs kind one r
   case-part e n-is r-is =
       record {
         instance = λ f. let no : ⊥ = omega arith in absurd no;
-        part = λ _. r-is ∙ (λ i. partRefusalOf (partSizesFrom (partSizesOf (sized wides ws-is its-is i) (ν-is i) (μ-is i))) (n-is i) (nthList 0 (drop 20 xs)));
+        part = λ _. r-is ∙ (λ i. partRefusalOf (partSizesFrom (partSizesOf (sized wides one ws-is its-is i) (ν-is i) (μ-is i))) (n-is i) (nthList 0 (drop 20 xs)));
         twice = λ f. let no : ⊥ = omega arith in absurd no;
       }
 
-  pub case-twice : {code : CAnswer} → kind ≡ 3 → TwiceRun its ν μ wides xs code → CaseRun wides xs kind (code .number)
+  pub case-twice : {code : CAnswer} → kind ≡ 3 → TwiceRun its ν μ wides xs code → CaseRun wides xs kind one (code .number)
   case-twice {code} e ran =
       record {
         instance = λ f. let no : ⊥ = omega arith in absurd no;
         part = λ f. let no : ⊥ = omega arith in absurd no;
         twice = λ _. record {
           code = code;
-          ran = coe 0 1 (i. TwiceRun (sized wides ws-is its-is i) (ν-is i) (μ-is i) wides xs code) ran;
+          ran = coe 0 1 (i. TwiceRun (sized wides one ws-is its-is i) (ν-is i) (μ-is i) wides xs code) ran;
           number-is = refl;
         };
       }
 
-pub case-none : {wides xs : List ℤ} {kind : ℕ} → (kind ≡ 1 → ⊥) → (kind ≡ 2 → ⊥) → (kind ≡ 3 → ⊥) → CaseRun wides xs kind 0
-case-none one two three = record { instance = λ f. absurd (one f); part = λ f. absurd (two f); twice = λ f. absurd (three f) }
+pub case-none : {wides xs : List ℤ} {kind one : ℕ} → (kind ≡ 1 → ⊥) → (kind ≡ 2 → ⊥) → (kind ≡ 3 → ⊥) → CaseRun wides xs kind one 0
+case-none first two three = record { instance = λ f. absurd (first f); part = λ f. absurd (two f); twice = λ f. absurd (three f) }
 
 -- ---- a line
 
 pub zeros-are : (n : ℕ) → replicate n (pos 0) ≡ replicate (length (replicate n (pos 0))) (pos 0)
 zeros-are n = ap (λ (k : ℕ). replicate k (pos 0)) (sym (length-replicate n (pos 0)))
 
-pub line-run : (line : List ℕ) {wides xs : List ℤ} {kind r : ℕ} → wides ≡ padded 4096 (lineNumbers line) → xs ≡ map word wides
-    → kind ≡ sizeAt 3 xs 0 → CaseRun wides xs kind r → LineRun line r
-line-run line {wides} {xs} {kind} {r} wides-is xs-is kind-is ran =
+pub line-run : (line : List ℕ) {wides xs : List ℤ} {number kind one r : ℕ} → wides ≡ padded 4096 (lineNumbers line) → xs ≡ map word wides
+    → number ≡ sizeAt 6 xs 0 → kind ≡ kindOf number → one ≡ oneDigit number → CaseRun wides xs kind one r → LineRun line r
+line-run line {wides} {xs} {number} {kind} {one} {r} wides-is xs-is number-is kind-is one-is ran =
     let words : xs ≡ map word (padded 4096 (lineNumbers line)) = xs-is ∙ ap (λ (l : List ℤ). map word l) wides-is in
-    let number : kind ≡ sizeAt 3 (map word (padded 4096 (lineNumbers line))) 0 =
-    kind-is ∙ ap (λ (l : List ℤ). sizeAt 3 l 0) words in
-    coe 0 1 (i. CaseRun (wides-is i) (words i) (number i) r) ran
+    let found : number ≡ sizeAt 6 (map word (padded 4096 (lineNumbers line))) 0 = number-is ∙ ap (λ (l : List ℤ). sizeAt 6 l 0) words in
+    let its-kind = kind-is ∙ ap kindOf found in
+    let its-one = one-is ∙ ap oneDigit found in
+    coe 0 1 (i. CaseRun (wides-is i) (words i) (its-kind i) (its-one i) r) ran

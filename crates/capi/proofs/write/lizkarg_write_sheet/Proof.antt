@@ -13,7 +13,7 @@ returns c =
     let taken = write .before .before in
     let a = taken .before .before .args in
     let h : SheetSizes = record { sizes = sizesFrom (a .sizes); nu = a .nu; mu = a .mu } in
-    let written = rw (taken .sizes .ensures) at (write .write-sheet .ensures) in
+    let written = rw (taken .sheet-sizes .ensures) at (write .write-sheet .ensures) in
     record {
       code-is = c .text-code .ensures ∙ ap textCode (write-is h (a .numbers .now) (a .text .now) written);
       bytes-are = written .bytes-are;

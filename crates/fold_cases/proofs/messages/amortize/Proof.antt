@@ -8,7 +8,7 @@ returns c =
     let call = c .before .before .before .before in
     let list1 = call .before .before in
     let list0 = list1 .before in
-    rw (← list0 .nth-list .ensures, ← list1 .nth-list2 .ensures) (call .lizkarg-amortize .ensures)
+    rw (← list0 .nth-list .ensures, ← list1 .nth-list2 .ensures) (call .call-amortize .ensures)
 
 pub amortize-spec : {M : Type 1} → statement M
 amortize-spec =

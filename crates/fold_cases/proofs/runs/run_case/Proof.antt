@@ -6,6 +6,12 @@ use Rattle.fold_cases.proofs.runs.run_case.Tie as tie
 size-requires : tie.Need-size-requires
 size-requires c κs = tt
 
+call-of-requires : tie.Need-call-of-requires
+call-of-requires c κs = tt
+
+one-digit-requires : tie.Need-one-digit-requires
+one-digit-requires c κs = tt
+
 read-sizes-requires : tie.Need-read-sizes-requires
 read-sizes-requires c κs = tt
 
@@ -20,9 +26,12 @@ unfolding caseAnswer
 returns c =
     let past = c .before in
     let sizes = past .before in
-    rw (← sizes .before .size .ensures, ← sizes .read-sizes .ensures, ← past .past-numbers .ensures) (c .run-call .ensures)
+    let one = sizes .before in
+    let call = one .before in
+    rw (← call .before .size .ensures, ← call .call-of .ensures, ← one .one-digit .ensures, ← sizes .read-sizes .ensures, ← past .past-numbers .ensures)
+    (c .run-call .ensures)
 
 pub run-case-spec : {M : Type 1} → statement M
 run-case-spec =
     tie.close
-    (tie.spec size-requires read-sizes-requires past-numbers-requires run-call-requires returns)
+    (tie.spec size-requires call-of-requires one-digit-requires read-sizes-requires past-numbers-requires run-call-requires returns)

@@ -14,10 +14,10 @@ slice-aggregate-z c = blank-fits 32768 _ 0 (c .before .size .ensures)
 returns : tie.Need-returns
 returns c =
     let keep = c .before .before in
-    let lizkarg-amortize = keep .before .before .before .before .before in
-    let nth-list = lizkarg-amortize .before .before in
+    let call-amortize = keep .before .before .before .before .before in
+    let nth-list = call-amortize .before .before in
     let size = nth-list .before .before in
-    amortizing (nth-list .nth-list .ensures) (size .size .ensures) (lizkarg-amortize .lizkarg-amortize .ensures)
+    amortizing (nth-list .nth-list .ensures) (size .size .ensures) (call-amortize .call-amortize .ensures)
     (keep .keep .ensures)
 
 pub amortize-spec : {M : Type 1} → statement M

@@ -36,6 +36,7 @@ returns c =
       t2 = size-at14 .size-at14 .ensures i;
       bound = bound-at .bound-at .ensures i;
       target = c .bound-at2 .ensures i;
+      «one_digit» = size-at .before .args .one-digit;
     }
 
 pub read-sizes-spec : {M : Type 1} → statement M

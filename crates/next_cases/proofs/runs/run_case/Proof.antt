@@ -11,7 +11,7 @@ returns c =
     let size-at = size-at2 .before in
     let read-sizes = size-at .before in
     let past-wides = read-sizes .before in
-    case-instance (past-wides .before .args .wides .now) (past-wides .past-wides .ensures) (read-sizes .read-sizes .ensures) (size-at .size-at .ensures)
+    case-instance (past-wides .before .args .wides .now) (past-wides .before .args .one-digit) (past-wides .past-wides .ensures) (read-sizes .read-sizes .ensures) (size-at .size-at .ensures)
     (size-at2 .size-at2 .ensures) (then1 .if1 .taken) (c .run-instance .ensures)
 
 returns-2 : tie.Need-returns-2
@@ -22,7 +22,7 @@ returns-2 c =
     let size-at = size-at2 .before in
     let read-sizes = size-at .before in
     let past-wides = read-sizes .before in
-    case-part (past-wides .before .args .wides .now) (past-wides .past-wides .ensures) (read-sizes .read-sizes .ensures) (size-at .size-at .ensures)
+    case-part (past-wides .before .args .wides .now) (past-wides .before .args .one-digit) (past-wides .past-wides .ensures) (read-sizes .read-sizes .ensures) (size-at .size-at .ensures)
     (size-at2 .size-at2 .ensures) (then2 .if2 .taken) (size-at3 .size-at3 .ensures) (c .run-part .ensures)
 
 returns-3 : tie.Need-returns-3
@@ -32,7 +32,7 @@ returns-3 c =
     let size-at = size-at2 .before in
     let read-sizes = size-at .before in
     let past-wides = read-sizes .before in
-    case-twice (past-wides .before .args .wides .now) (past-wides .past-wides .ensures) (read-sizes .read-sizes .ensures) (size-at .size-at .ensures)
+    case-twice (past-wides .before .args .wides .now) (past-wides .before .args .one-digit) (past-wides .past-wides .ensures) (read-sizes .read-sizes .ensures) (size-at .size-at .ensures)
     (size-at2 .size-at2 .ensures) (then3 .if3 .taken) (c .run-twice .ensures)
 
 pub run-case-spec : {M : Type 1} → statement M

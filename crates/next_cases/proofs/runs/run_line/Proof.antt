@@ -18,19 +18,22 @@ slice-aggregate-size c = sym (c .before .before .narrow .kept .1 .0)
 
 slice-aggregate-run-case : tie.Need-slice-aggregate-run-case
 slice-aggregate-run-case c =
-    let scan = c .before .before .before .before .before .before .before .before in
+    let scan = c .before .before .before .before .before .before .before .before .before .before in
     sym (scan .scan .kept .1 .0)
 
 slice-aggregate-run-case-2 : tie.Need-slice-aggregate-run-case-2
-slice-aggregate-run-case-2 c = sym (c .before .before .before .before .before .narrow .kept .1 .0)
+slice-aggregate-run-case-2 c = sym (c .before .before .before .before .before .before .before .narrow .kept .1 .0)
 
 returns : tie.Need-returns
 returns c =
-    let size = c .before .before .before in
+    let one = c .before .before .before in
+    let kind = one .before in
+    let size = kind .before in
     let narrow = size .before .before .before in
     let scan = narrow .before .before .before .before in
     let start = scan .before .before .before in
-    line-run (start .args .line .now) (scan .scan .ensures) (narrow .narrow .ensures) (size .size .ensures) (c .run-case .ensures)
+    line-run (start .args .line .now) (scan .scan .ensures) (narrow .narrow .ensures) (size .size .ensures) (kind .kind-of .ensures)
+    (one .one-digit .ensures) (c .run-case .ensures)
 
 pub run-line-spec : {M : Type 1} → statement M
 run-line-spec =
@@ -42,6 +45,8 @@ run-line-spec =
     (λ c. refl)
     narrow-requires
     slice-aggregate-size
+    (λ c κs. tt)
+    (λ c κs. tt)
     (λ c κs. tt)
     slice-aggregate-run-case
     slice-aggregate-run-case-2
