@@ -4,6 +4,7 @@ pub mod ChunkLaws
 pub mod ChunkSums
 pub mod CutLaws
 pub mod DifferenceLaws
+pub mod FullChunks
 pub mod HonestChecks
 pub mod HonestVerdict
 pub mod HonestWritten

@@ -11,7 +11,7 @@ use Rattle.integers.specs.Flat.{flat}
 use Rattle.algebra.specs.CommRing.{CommRing}
 use Rattle.algebra.specs.Sum.{sum}
 use Rattle.ring.specs.Element.{R, el, number}
-use Rattle.fold.specs.Chunks.{width, padded}
+use Rattle.fold.specs.Chunks.{width, padded, unpadded}
 use Rattle.fold.specs.Sizes.{tSize, garbageSize, restSize, nextRank, nextParts, nextCount}
 use Rattle.fold.specs.Messages.{aggregated, aggregateConstant}
 use Rattle.fold.specs.Statement.{Relation, Statement, Draws, Transcript}
@@ -151,6 +151,10 @@ module _ (𝓢 : Statement) (𝓓 : Draws) (𝓣 : Transcript) (ν μ : ℕ) whe
   -- the next witness is the padded opening
   abbrev pub nextWitness : (o : List ℤ) → List ℤ
   nextWitness o = padded d tz n ν m μ o
+
+  -- and a next witness "with the padding cut off" is an opening
+  abbrev pub cutOff : (s : List ℤ) → List ℤ
+  cutOff s = unpadded d tz n ν m μ s
 
   unfoldable pub nextWhole : List ℤ
   nextWhole = flat (nextCount κ κ₁ κ₂) (λ x. laidOut d n′ r′ (width tz n ν m μ) (constraint x))

@@ -9,3 +9,4 @@ pub mod TwoOpenings
 pub mod Margin
 pub mod NextInstanceTheorem
 pub mod OneDigit
+pub mod FullChunks

@@ -3,10 +3,11 @@
 -- Where the call `next_instance` answered `Written`, so that nothing was refused, n' is at most 256 and checks 1 and 2 passed. Its promise is
 -- `NextCalled`; that of `verify` is `answer ≡ verification ..`, accepted where its kind is 0. The next instance is the relation whose constraints are the numbers that the call
 -- wrote: `relationOf out′`, with K' = κ+κ1+κ2+3, L' = 0 and the bound β'². `nextWitness o` is the padded opening.
---     accepted-exactly    an opening that gets past row 15: its answer is not refused 15
---     narrow-accepted     an opening with narrow low digits: row 15 by index is `NarrowOpening`, crates/fold/specs/Theorems/NarrowDigits.antt
---     solving-refused     an opening that, padded, solves the next instance and has a wide low digit is refused by 15
---     solution-accepts    a solution with zero padding, "if its digits are narrow too"
+--     accepted-exactly        an opening that gets past row 15: its answer is not refused 15
+--     narrow-accepted         an opening with narrow low digits: row 15 by index is `NarrowOpening`, crates/fold/specs/Theorems/NarrowDigits.antt
+--     solving-refused         an opening that, padded, solves the next instance and has a wide low digit is refused by 15
+--     solution-accepts        a solution with zero padding, "if its digits are narrow too"
+--     full-solution-accepts   the same of every solution, where the z chunks are full
 -- That an accepted opening has narrow low digits is `accepted-narrow`, NarrowDigits.antt.
 use mathlib.Core.Path.{_≡_, sym, ap, _∙_}
 use mathlib.Core.Logic.{_↔_}
@@ -20,9 +21,9 @@ use Rattle.fold.specs.Answers.{kindOf}
 use Rattle.fold.specs.Sizes.{openingSize}
 use Rattle.fold.specs.Statement.{Relation, Solves, Statement, Draws, Transcript}
 use Rattle.fold.specs.Verification.{verification}
-use Rattle.fold.specs.Chunks.{unpadded, ZeroPadding}
-use Rattle.fold.specs.NextInstance.{m, n′, r′, nextWitness, relationOf}
-use Rattle.fold.specs.Laws.NextCallLaws.{next-instance-written, past-written, wide-written, solution-written}
+use Rattle.fold.specs.Chunks.{ZeroPadding}
+use Rattle.fold.specs.NextInstance.{m, n′, r′, nextWitness, cutOff, relationOf}
+use Rattle.fold.specs.Laws.NextCallLaws.{next-instance-written, past-written, wide-written, solution-written, full-written}
 use Rattle.fold.specs.Theorems.NarrowDigits.{NarrowOpening, narrow-exactly, WideOpening, wide-exactly}
 use Rattle.next_instance.specs.Calls.{NextCalled}
 
@@ -47,8 +48,16 @@ module _ (𝓢 : Statement) (𝓓 : Draws) (𝓣 : Transcript) (ν μ : ℕ) (ou
   -- "A solution of the next instance whose padding is zero is, with the padding cut off, an accepted opening if its digits are narrow too": r' parts of
   -- n' elements
   pub solution-accepts : (s : List ℤ) → length s ≡ r′ 𝓢 𝓓 𝓣 ν μ * n′ 𝓢 𝓓 𝓣 ν μ * d → ZeroPadding d tz n ν (m 𝓢 𝓓 𝓣 ν μ) μ s
-      → NarrowOpening 𝓢 (unpadded d tz n ν (m 𝓢 𝓓 𝓣 ν μ) μ s) → Solves (relationOf 𝓢 𝓓 𝓣 ν μ out′) s
-      → (answer : Answer) → answer ≡ verification 𝓢 𝓓 𝓣 (unpadded d tz n ν (m 𝓢 𝓓 𝓣 ν μ) μ s) → kindOf answer ≡ 0
+      → NarrowOpening 𝓢 (cutOff 𝓢 𝓓 𝓣 ν μ s) → Solves (relationOf 𝓢 𝓓 𝓣 ν μ out′) s
+      → (answer : Answer) → answer ≡ verification 𝓢 𝓓 𝓣 (cutOff 𝓢 𝓓 𝓣 ν μ s) → kindOf answer ≡ 0
   solution-accepts s sized zeros digits solves answer is =
       ap kindOf is
       ∙ solution-written 𝓢 𝓓 𝓣 ν μ out (sym (called .answer-is)) (called .out-is) s sized zeros (narrow-exactly 𝓢 _ .1 digits) solves
+
+  -- "Where the z chunks are full, ν·n' = n, the same holds of every solution, whatever its padding"
+  pub full-solution-accepts : (s : List ℤ) → length s ≡ r′ 𝓢 𝓓 𝓣 ν μ * n′ 𝓢 𝓓 𝓣 ν μ * d → ν * n′ 𝓢 𝓓 𝓣 ν μ ≡ n
+      → NarrowOpening 𝓢 (cutOff 𝓢 𝓓 𝓣 ν μ s) → Solves (relationOf 𝓢 𝓓 𝓣 ν μ out′) s
+      → (answer : Answer) → answer ≡ verification 𝓢 𝓓 𝓣 (cutOff 𝓢 𝓓 𝓣 ν μ s) → kindOf answer ≡ 0
+  full-solution-accepts s sized full digits solves answer is =
+      ap kindOf is
+      ∙ full-written 𝓢 𝓓 𝓣 ν μ out (sym (called .answer-is)) (called .out-is) s sized full (narrow-exactly 𝓢 _ .1 digits) solves

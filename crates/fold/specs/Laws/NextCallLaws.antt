@@ -18,11 +18,12 @@ use Rattle.fold.specs.Refusals.{narrow, nextTests, partTests, wholeLengt
 use Rattle.fold.specs.Laws.RefusalLaws.{passes-refusal, allOf-all, between-iff, sized-iff}
 use Rattle.fold.specs.Known.CallLimits.{chunk-limits}
 use Rattle.fold.specs.Laws.TestLaws.{holds}
-use Rattle.fold.specs.Chunks.{width, padded, unpadded, ZeroPadding}
+use Rattle.fold.specs.Chunks.{width, padded, ZeroPadding}
 use Rattle.fold.specs.Laws.PaddingLaws.{chunk-padded}
-use Rattle.fold.specs.NextInstance.{nextWhole, nextWitness, relationOf, m, n′, r′, constraint}
+use Rattle.fold.specs.NextInstance.{nextWhole, nextWitness, cutOff, relationOf, m, n′, r′, constraint}
 use Rattle.fold.specs.Laws.NextSolves.{FirstChecks}
 use Rattle.fold.specs.Theorems.NextInstanceTheorem.{next-instance-judged, next-instance-past, solving-refused, solution-accepted}
+use Rattle.fold.specs.Theorems.FullChunks.{any-solution-accepted}
 use Rattle.fold.specs.NextCall.{firstChecks, nextAnswer, nextOut, partRefusal, nextPart}
 use Rattle.fold.specs.Laws.LaidOut.{length-written}
 
@@ -84,10 +85,18 @@ module _ (𝓢 : Statement) (𝓓 : Draws) (𝓣 : Transcript) (ν μ : ℕ) (ou
     pub solution-written : (s : List ℤ)
         → length s ≡ r′ 𝓢 𝓓 𝓣 ν μ * n′ 𝓢 𝓓 𝓣 ν μ * 𝓢 .relation .d
         → ZeroPadding (𝓢 .relation .d) (𝓢 .tz) (𝓢 .relation .n) ν (m 𝓢 𝓓 𝓣 ν μ) μ s
-        → narrow 𝓢 (unpadded (𝓢 .relation .d) (𝓢 .tz) (𝓢 .relation .n) ν (m 𝓢 𝓓 𝓣 ν μ) μ s) ≡ true
+        → narrow 𝓢 (cutOff 𝓢 𝓓 𝓣 ν μ s) ≡ true
         → Solves (relationOf 𝓢 𝓓 𝓣 ν μ out′) s
-        → kindOf (verification 𝓢 𝓓 𝓣 (unpadded (𝓢 .relation .d) (𝓢 .tz) (𝓢 .relation .n) ν (m 𝓢 𝓓 𝓣 ν μ) μ s)) ≡ 0
+        → kindOf (verification 𝓢 𝓓 𝓣 (cutOff 𝓢 𝓓 𝓣 ν μ s)) ≡ 0
     solution-written = let (none, pass) = written-iff .0 e in rw numbers (solution-accepted 𝓢 𝓓 𝓣 ν μ out none pass)
+
+    pub full-written : (s : List ℤ)
+        → length s ≡ r′ 𝓢 𝓓 𝓣 ν μ * n′ 𝓢 𝓓 𝓣 ν μ * 𝓢 .relation .d
+        → ν * n′ 𝓢 𝓓 𝓣 ν μ ≡ 𝓢 .relation .n
+        → narrow 𝓢 (cutOff 𝓢 𝓓 𝓣 ν μ s) ≡ true
+        → Solves (relationOf 𝓢 𝓓 𝓣 ν μ out′) s
+        → kindOf (verification 𝓢 𝓓 𝓣 (cutOff 𝓢 𝓓 𝓣 ν μ s)) ≡ 0
+    full-written = let (none, pass) = written-iff .0 e in rw numbers (any-solution-accepted 𝓢 𝓓 𝓣 ν μ out none pass)
 
 -- a part that is not refused, with zeros after it, is that part of the padded opening
 pub part-of-padded : (d n r κ t₁ t₂ tz ν μ i : ℕ) (o : List ℤ) → partRefusal d n r κ t₁ t₂ tz ν μ i o ≡ 0

@@ -4,8 +4,8 @@
 --     chunk-padded                the same as a list
 --     normSq-padded                 its squared length is the opening's
 --     unpadded-padded, padded-unpadded     padding is undone, and done again where it is zero
+--     part-unpadded, normSq-unpadded       whatever is cut off: padding again keeps the chunks, and the squared length is at most the list's
 use mathlib.Core.Path.{_≡_, sym, ap, _∙_}
-use mathlib.Core.Bool.{true}
 use mathlib.Core.List.{List, _++_}
 use Prim.Native.Nat.{ℕ, _+_, _-_, _*_, _≤_, _<_}
 use lib.ListN.{length, take, drop, replicate}
@@ -13,17 +13,12 @@ use lib.IntN.{ℤ, pos}
 use Rattle.integers.specs.Sums.{normSq}
 use Rattle.algebra.specs.Triangle.{start}
 use Rattle.ring.specs.Element.{R, el}
-use Rattle.residues.specs.Range.{coefficients}
 use Rattle.fold.specs.Sizes.{nextRank, nextParts}
 use Rattle.fold.specs.Statement.{part}
 use Rattle.fold.specs.Chunks.{width, cut, cutPadded, padded, unpadded, ZeroPadding}
 use Rattle.fold.specs.Laws.ChunkLaws.{width-bound, widths-cover}
 use Rattle.fold.specs.Laws.CutLaws.{part-within, part-past, number-past, normSq-padded-cuts, block-cuts, length-padded-cuts, trimmed-cuts}
-use Rattle.fold.specs.Laws.TrimLaws.{coefficients-trimmed, length-all-trimmed, trimmed-padded}
-
-pub coefficients-unpadded : (d tz n ν m μ : ℕ) (s : List ℤ) → coefficients s ≡ true → coefficients (unpadded d tz n ν m μ s) ≡ true
-unfolding unpadded
-coefficients-unpadded d tz n ν m μ = coefficients-trimmed d (nextParts tz ν μ) (nextRank n ν m μ) (width tz n ν m μ)
+use Rattle.fold.specs.Laws.TrimLaws.{length-all-trimmed, el-trimmed, normSq-trimmed, trimmed-padded}
 
 module _ (d tz n ν m μ : ℕ) (some-ν : 0 < ν) (some-μ : 0 < μ) where
   fitting : (s : ℕ) → width tz n ν m μ s ≤ nextRank n ν m μ
@@ -70,13 +65,23 @@ module _ (d tz n ν m μ : ℕ) (some-ν : 0 < ν) (some-μ : 0 < μ) where
     unfolding padded unpadded
     unpadded-padded = trimmed-cuts d (nextParts tz ν μ) (nextRank n ν m μ) (width tz n ν m μ) fitting o covered
 
-  module _ (s : List ℤ) (sized : length s ≡ nextParts tz ν μ * (nextRank n ν m μ * d)) (zeros : ZeroPadding d tz n ν m μ s) where
+  module _ (s : List ℤ) (sized : length s ≡ nextParts tz ν μ * (nextRank n ν m μ * d)) where
     pub length-unpadded : length (unpadded d tz n ν m μ s) ≡ (tz * n + m) * d
     unfolding unpadded
     length-unpadded =
-        length-all-trimmed d (nextParts tz ν μ) (nextRank n ν m μ) (width tz n ν m μ) fitting s sized (zeros .zero-past)
-        ∙ ap (λ x. x * d) all
+        length-all-trimmed d (nextParts tz ν μ) (nextRank n ν m μ) (width tz n ν m μ) fitting s sized ∙ ap (λ x. x * d) all
 
-    pub padded-unpadded : padded d tz n ν m μ (unpadded d tz n ν m μ s) ≡ s
+    pub part-unpadded : (i k : ℕ) → i < nextParts tz ν μ → k < width tz n ν m μ i
+        → part d (nextRank n ν m μ) (padded d tz n ν m μ (unpadded d tz n ν m μ s)) i k ≡ part d (nextRank n ν m μ) s i k
+    unfolding part unpadded
+    part-unpadded i k h l =
+        part-padded (unpadded d tz n ν m μ s) length-unpadded i k h l
+        ∙ el-trimmed d (nextParts tz ν μ) (nextRank n ν m μ) (width tz n ν m μ) fitting s sized i k h l
+
+    pub normSq-unpadded : normSq (unpadded d tz n ν m μ s) ≤ normSq s
+    unfolding unpadded
+    normSq-unpadded = normSq-trimmed d (nextParts tz ν μ) (nextRank n ν m μ) (width tz n ν m μ) fitting s sized
+
+    pub padded-unpadded : ZeroPadding d tz n ν m μ s → padded d tz n ν m μ (unpadded d tz n ν m μ s) ≡ s
     unfolding padded unpadded
-    padded-unpadded = trimmed-padded d (nextParts tz ν μ) (nextRank n ν m μ) (width tz n ν m μ) fitting s sized (zeros .zero-past)
+    padded-unpadded zeros = trimmed-padded d (nextParts tz ν μ) (nextRank n ν m μ) (width tz n ν m μ) fitting s sized (zeros .zero-past)

@@ -34,9 +34,9 @@ use Rattle.fold.specs.Known.CallLimits.{chunk-limits}
 use Rattle.fold.specs.Laws.TestLaws.{holds, failed, after-passes}
 use Rattle.fold.specs.Verification.{verification}
 use Rattle.fold.specs.Laws.VerificationLaws.{judged-accepted}
-use Rattle.fold.specs.Chunks.{unpadded, ZeroPadding}
-use Rattle.fold.specs.Laws.PaddingLaws.{zero-padding, normSq-padded, length-unpadded, padded-unpadded, coefficients-unpadded}
-use Rattle.fold.specs.NextInstance.{m, n′, r′, nextWitness, nextRelation}
+use Rattle.fold.specs.Chunks.{ZeroPadding}
+use Rattle.fold.specs.Laws.PaddingLaws.{zero-padding, normSq-padded, length-unpadded, padded-unpadded}
+use Rattle.fold.specs.NextInstance.{m, n′, r′, nextWitness, cutOff, nextRelation}
 use Rattle.fold.specs.Laws.NextSolves.{FirstChecks, solved, accepts-of}
 use Rattle.fold.specs.Limits.{mostBound}
 
@@ -64,11 +64,11 @@ module _ (𝓢 : Statement) (𝓓 : Draws) (𝓣 : Transcript) (ν μ : ℕ) (ou
   unfolding nextTests
   row = holds (nextTests 𝓢 𝓓 𝓣 ν μ out) refl unrefused
 
-  some-ν : 0 < ν
+  pub some-ν : 0 < ν
   unfolding nextTests
   some-ν = chunk-limits tz ν μ (row 5) .ν-positive
 
-  some-μ : 0 < μ
+  pub some-μ : 0 < μ
   unfolding nextTests
   some-μ = chunk-limits tz ν μ (row 5) .μ-positive
 
@@ -130,28 +130,26 @@ module _ (𝓢 : Statement) (𝓓 : Draws) (𝓣 : Transcript) (ν μ : ℕ) (ou
     unfolding openingSize
     next-padding = zero-padding d tz n ν (m 𝓢 𝓓 𝓣 ν μ) μ some-ν some-μ o size
 
-  -- a list of r' parts of n' elements, with zeros past the end of each chunk
-  module _ (s : List ℤ) (sized : length s ≡ r′ 𝓢 𝓓 𝓣 ν μ * n′ 𝓢 𝓓 𝓣 ν μ * d) (zeros : ZeroPadding d tz n ν (m 𝓢 𝓓 𝓣 ν μ) μ s) where
-    abbrev pub cutOff : List ℤ
-    cutOff = unpadded d tz n ν (m 𝓢 𝓓 𝓣 ν μ) μ s
-
-    length-s : length s ≡ r′ 𝓢 𝓓 𝓣 ν μ * (n′ 𝓢 𝓓 𝓣 ν μ * d)
+  -- a list of r' parts of n' elements
+  module _ (s : List ℤ) (sized : length s ≡ r′ 𝓢 𝓓 𝓣 ν μ * n′ 𝓢 𝓓 𝓣 ν μ * d) where
+    pub length-s : length s ≡ r′ 𝓢 𝓓 𝓣 ν μ * (n′ 𝓢 𝓓 𝓣 ν μ * d)
     length-s = sized ∙ mul-assoc (r′ 𝓢 𝓓 𝓣 ν μ) (n′ 𝓢 𝓓 𝓣 ν μ) d
 
-    length-cutOff : length cutOff ≡ openingSize tz n r κ t₁ t₂ * d
+    pub length-cutOff : length (cutOff 𝓢 𝓓 𝓣 ν μ s) ≡ openingSize tz n r κ t₁ t₂ * d
     unfolding openingSize
-    length-cutOff = length-unpadded d tz n ν (m 𝓢 𝓓 𝓣 ν μ) μ some-ν some-μ s length-s zeros
+    length-cutOff = length-unpadded d tz n ν (m 𝓢 𝓓 𝓣 ν μ) μ some-ν some-μ s length-s
 
-    -- "A solution of the next instance whose padding is zero is, with the padding cut off, an accepted opening": its verdict
-    pub next-solution : Solves (nextRelation 𝓢 𝓓 𝓣 ν μ) s → kindOf (Judged (verdict 𝓢 𝓓 𝓣 cutOff)) ≡ 0
-    next-solution h =
-        let back = padded-unpadded d tz n ν (m 𝓢 𝓓 𝓣 ν μ) μ some-ν some-μ s length-s zeros in
-        accepted-iff 𝓢 𝓓 𝓣 cutOff .1
-        (accepts-of 𝓢 𝓓 𝓣 ν μ cutOff some-ν some-μ length-cutOff pass (subst (Solves (nextRelation 𝓢 𝓓 𝓣 ν μ)) (sym back) h))
+    -- with zeros past the end of each chunk it is the cut-off list, padded again
+    module _ (zeros : ZeroPadding d tz n ν (m 𝓢 𝓓 𝓣 ν μ) μ s) where
+      padded-again : Solves (nextRelation 𝓢 𝓓 𝓣 ν μ) s → Solves (nextRelation 𝓢 𝓓 𝓣 ν μ) (nextWitness 𝓢 𝓓 𝓣 ν μ (cutOff 𝓢 𝓓 𝓣 ν μ s))
+      padded-again =
+          subst (Solves (nextRelation 𝓢 𝓓 𝓣 ν μ)) (sym (padded-unpadded d tz n ν (m 𝓢 𝓓 𝓣 ν μ) μ some-ν some-μ s length-s zeros))
 
-    -- and the verifier accepts it "if its digits are narrow too"
-    pub solution-accepted : narrow 𝓢 cutOff ≡ true → Solves (nextRelation 𝓢 𝓓 𝓣 ν μ) s → kindOf (verification 𝓢 𝓓 𝓣 cutOff) ≡ 0
-    unfolding answered
-    solution-accepted thin h =
-        let range = coefficients-unpadded d tz n ν (m 𝓢 𝓓 𝓣 ν μ) μ s (short-coefficients s (omega (arith, h .short, small-target))) in
-        rw (unrefused-opening cutOff length-cutOff range thin) (next-solution h)
+      -- "A solution of the next instance whose padding is zero is, with the padding cut off, an accepted opening": its verdict
+      pub next-solution : Solves (nextRelation 𝓢 𝓓 𝓣 ν μ) s → kindOf (Judged (verdict 𝓢 𝓓 𝓣 (cutOff 𝓢 𝓓 𝓣 ν μ s))) ≡ 0
+      next-solution h = next-instance (cutOff 𝓢 𝓓 𝓣 ν μ s) length-cutOff .1 (padded-again h)
+
+      -- and the verifier accepts it "if its digits are narrow too"
+      pub solution-accepted : narrow 𝓢 (cutOff 𝓢 𝓓 𝓣 ν μ s) ≡ true → Solves (nextRelation 𝓢 𝓓 𝓣 ν μ) s
+          → kindOf (verification 𝓢 𝓓 𝓣 (cutOff 𝓢 𝓓 𝓣 ν μ s)) ≡ 0
+      solution-accepted thin h = next-instance-judged (cutOff 𝓢 𝓓 𝓣 ν μ s) length-cutOff thin .1 (padded-again h)
