@@ -156,28 +156,28 @@ pub fn sizes(c: CSizes) -> StatementSizes
 }
 
 // Those of a sheet, which keeps two digits: `one_digit` is not looked at.
-pub fn sheet_sizes(c: CSizes) -> Sizes
-    ensures { λ r. ⌜ r ≡ sheetSizesFrom c ⌝ }
+pub fn sheet_sizes(sheet: CSizes) -> Sizes
+    ensures { λ r. ⌜ r ≡ sheetSizesFrom sheet ⌝ }
 {
     Sizes {
         shape: Shape {
-            d: c.shape.d,
-            n: c.shape.n,
-            r: c.shape.r,
+            d: sheet.shape.d,
+            n: sheet.shape.n,
+            r: sheet.shape.r,
         },
-        k: c.k,
-        l: c.l,
-        w: c.w,
-        kappa: c.kappa,
-        kappa1: c.kappa1,
-        kappa2: c.kappa2,
-        b: c.b,
-        b1: c.b1,
-        b2: c.b2,
-        t1: c.t1,
-        t2: c.t2,
-        bound: c.bound,
-        target: c.target,
+        k: sheet.k,
+        l: sheet.l,
+        w: sheet.w,
+        kappa: sheet.kappa,
+        kappa1: sheet.kappa1,
+        kappa2: sheet.kappa2,
+        b: sheet.b,
+        b1: sheet.b1,
+        b2: sheet.b2,
+        t1: sheet.t1,
+        t2: sheet.t2,
+        bound: sheet.bound,
+        target: sheet.target,
     }
 }
 

@@ -1,4 +1,4 @@
--- SPECIFICATION 4.5: "The opening is the digits of z, t, g, h. Order: z low, z high; t by part, then digit, then row; g and h by i,
+-- SPECIFICATION 4.5: "The opening is the digits of z, t, g, h. Order: z low, z high, with one digit z; t by part, then digit, then row; g and h by i,
 -- then j, then digit." The opening is one list; `block d o a` stands for its elements from place a on.
 use mathlib.Core.List.{List}
 use Prim.Native.Nat.{ℕ, _+_, _*_}

@@ -1,5 +1,6 @@
 pub mod Computing
 pub mod WholeCase
+pub mod OneDigitCase
 pub mod WorkedValues
 pub mod RefusalCases
 pub mod LimitCases

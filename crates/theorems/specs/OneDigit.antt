@@ -17,6 +17,7 @@ use Rattle.fold.specs.Refusals.{base}
 use Rattle.fold.specs.Arguments.{statementOf}
 use Rattle.fold.specs.Verification.{verification}
 use Rattle.fold.specs.NextInstance.{relationOf}
+use Rattle.fold.specs.Laws.DigitCounts.{one-base-taken}
 use Rattle.fold.specs.Laws.OneDigit.{withBase}
 use Rattle.fold.specs.Laws.NextCallLaws.{written-out}
 use Rattle.fold.specs.Theorems.OneDigit.{Unmixed, base-free, base-free-next}
@@ -32,8 +33,7 @@ module _ (sizes : StatementSizes) (one : sizes .z ≡ One) (A B C D whole consta
   single = rw one refl
 
   taken : (b : ℕ) → base (pos b) ≡ true → base (pos b) ≡ base (pos (𝓢 .b))
-  unfolding base
-  taken b row = rw one row
+  taken b row = rw one (row ∙ sym one-base-taken)
 
   pub verify-any-base : (o : List ℤ) (answer : Answer) → answer ≡ verification 𝓢 𝓓 𝓣 o → (b : ℕ) → base (pos b) ≡ true
       → answer ≡ verification (withBase 𝓢 b) 𝓓 𝓣 o
