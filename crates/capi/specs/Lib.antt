@@ -2,3 +2,4 @@
 pub mod Codes
 -- Closed cases
 pub mod Cases
+pub mod Laws

@@ -184,7 +184,10 @@ pub fn sheet_sizes(sheet: CSizes) -> Sizes
 fn is_one(one_digit: u8) -> bool
     ensures { λ r. ⌜ r ≡ oneFrom «one_digit» ⌝ }
 {
-    one_digit != 0
+    if one_digit == 0 {
+        return false;
+    }
+    true
 }
 
 pub fn part_sizes(c: CPartSizes) -> PartSizes
