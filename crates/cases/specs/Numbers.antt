@@ -2,10 +2,11 @@
 --     padded n xs           the first n numbers of xs, zeros after its end
 --     word x                the nearest number of 32 bits
 --     sizeAt most xs k      number k as a size of at most `most`; 0 where it is none
+--     twoDigits, oneDigit   the number of a case past `last` is that of a case `back` numbers before it, with z in one digit: which one, and 1 for it
 use mathlib.Core.Bool.{cond}
 use mathlib.Core.List.{List}
-use Prim.Native.Nat.{ℕ}
-use lib.Dec.{leb}
+use Prim.Native.Nat.{ℕ, _-_}
+use lib.Dec.{leb, ltb}
 use lib.IntN.{ℤ, pos, negsuc}
 use lib.ListN.{getD}
 use lib.Signed.{ltZ}
@@ -23,3 +24,9 @@ sizeOf most (negsuc n) = 0
 
 unfoldable pub sizeAt : ℕ → List ℤ → ℕ → ℕ
 sizeAt most xs k = sizeOf most (getD xs k (pos 0))
+
+unfoldable pub twoDigits : (last back number : ℕ) → ℕ
+twoDigits last back number = cond (ltb last number) (number - back) number
+
+unfoldable pub oneDigit : (last number : ℕ) → ℕ
+oneDigit last number = cond (ltb last number) 1 0

@@ -4,7 +4,8 @@ ghost use mathlib.Core.List.{map};
 ghost use lib.IntN.{pos};
 ghost use lib.ListN.{length, getD};
 ghost use Rattle.integers.specs.Laws.Bridge.{P};
-ghost use Rattle.cases.specs.Numbers.{word, sizeAt};
+ghost use Prim.Native.Nat.{_≤_};
+ghost use Rattle.cases.specs.Numbers.{word, sizeAt, twoDigits, oneDigit};
 use residues::range;
 
 // The nearest number of 32 bits.
@@ -76,4 +77,24 @@ pub fn natural(x: i64) -> u64
         return 0;
     }
     x as u64
+}
+
+// A case past the last number is that of a case `back` numbers before it, with z in one digit.
+pub fn two_digits(last: usize, back: usize, number: usize) -> usize
+    requires { ⌜ back ≤ last ⌝ }
+    ensures { λ r. ⌜ r ≡ twoDigits last back number ⌝ }
+{
+    if last < number {
+        return number - back;
+    }
+    number
+}
+
+pub fn one_digit(last: usize, number: usize) -> u8
+    ensures { λ r. ⌜ r ≡ oneDigit last number ⌝ }
+{
+    if last < number {
+        return 1;
+    }
+    0
 }

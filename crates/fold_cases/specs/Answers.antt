@@ -13,10 +13,10 @@ use Rattle.fold.specs.Arguments.{statementOf, drawsOf, transcriptOf, commitSize
 use Rattle.fold.specs.Arguments.{commitRefusal, projectRefusal, aggregateRefusal, garbageRefusal, amortizeRefusal}
 use Rattle.fold.specs.Verification.{verification}
 use Rattle.capi.specs.Codes.{shapeFrom, zFrom, sizesFrom}
-use Rattle.cases.specs.Numbers.{padded, word, sizeAt}
+use Rattle.cases.specs.Numbers.{padded, word, sizeAt, twoDigits, oneDigit}
 use Rattle.cases.specs.Text.{lineNumbers}
 use Rattle.cases.specs.Lists.{nthList}
-use Rattle.fold_cases.specs.Input.{callOf, oneDigit, sizesOf, room}
+use Rattle.fold_cases.specs.Input.{sizesOf, room}
 
 module _ (sizes : CSizes) (xs : List ℤ) where
   unfoldable pub commitAnswer : Answer
@@ -62,7 +62,7 @@ callAnswer call sizes xs =
 
 -- a case by its numbers, with all their bits and as numbers of 32 bits
 unfoldable pub caseAnswer : (wides words : List ℤ) → Answer
-caseAnswer wides words = callAnswer (callOf (sizeAt 8 words 0)) (sizesOf wides (oneDigit (sizeAt 8 words 0))) (drop 17 words)
+caseAnswer wides words = callAnswer (twoDigits 6 2 (sizeAt 8 words 0)) (sizesOf wides (oneDigit 6 (sizeAt 8 words 0))) (drop 17 words)
 
 -- the case of a line, of at most 16384 numbers
 unfoldable pub lineAnswer : List ℕ → Answer

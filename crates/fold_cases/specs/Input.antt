@@ -1,8 +1,6 @@
 -- The numbers of a case: the number of its call, 1 to 8, of which 7 and 8 are 5 and 6 with z in one digit, sixteen sizes d n r K L w κ κ1 κ2 b b1 b2 t1 t2 β² β'², then its lists.
-use mathlib.Core.Bool.{cond}
 use mathlib.Core.List.{List}
-use Prim.Native.Nat.{ℕ, _-_}
-use lib.Dec.{ltb}
+use Prim.Native.Nat.{ℕ}
 use lib.IntN.{ℤ, pos}
 use lib.ListN.{getD, take, replicate}
 use Rattle.integers.specs.Laws.Bridge.{P}
@@ -13,12 +11,6 @@ use Rattle.cases.specs.Lists.{pastLists}
 -- the number at a place, 0 where it is negative
 abbrev pub naturalAt : List ℤ → ℕ → ℕ
 naturalAt xs k = P (getD xs k (pos 0))
-
-unfoldable pub callOf : ℕ → ℕ
-callOf number = cond (ltb 6 number) (number - 2) number
-
-unfoldable pub oneDigit : ℕ → ℕ
-oneDigit number = cond (ltb 6 number) 1 0
 
 unfoldable pub sizesOf : List ℤ → (one : ℕ) → CSizes
 sizesOf xs one =

@@ -5,7 +5,7 @@ ghost use lib.ListN.{length, replicate, take};
 ghost use Rattle.cases.specs.Numbers.{sizeAt};
 ghost use Rattle.fold.specs.Arguments.{commitSizesOf, garbageSizesOf};
 ghost use Rattle.capi.specs.Codes.{commitSizesFrom, garbageSizesFrom, sizesFrom};
-ghost use Rattle.fold_cases.specs.Input.{naturalAt, callOf, oneDigit, sizesOf};
+ghost use Rattle.fold_cases.specs.Input.{naturalAt, sizesOf};
 use capi::sizes::CCommitSizes;
 use capi::sizes::CGarbageSizes;
 use capi::sizes::CShape;
@@ -13,6 +13,11 @@ use capi::sizes::CSizes;
 use cases::numbers::natural;
 use cases::numbers::size;
 use cases::numbers::wide_at;
+
+// The last number of a call with z in two digits, and how many have one: 7 and 8 are 5 and 6 with one.
+pub const LAST: usize = 6;
+
+pub const ONE_DIGIT: usize = 2;
 
 // Where the lists of a case begin: after its call and sixteen sizes.
 pub const LISTS: usize = 17;
@@ -33,25 +38,6 @@ fn size_at(wides: &[i64], place: usize) -> usize
     ensures { λ r. ⌜ r ≡ naturalAt (now (wides .entry)) place ⌝ }
 {
     bound_at(wides, place) as usize
-}
-
-// Calls 7 and 8 are 5 and 6 with z in one digit.
-pub fn call_of(number: usize) -> usize
-    ensures { λ r. ⌜ r ≡ callOf number ⌝ }
-{
-    if number > 6 {
-        return number - 2;
-    }
-    number
-}
-
-pub fn one_digit(number: usize) -> u8
-    ensures { λ r. ⌜ r ≡ oneDigit number ⌝ }
-{
-    if number > 6 {
-        return 1;
-    }
-    0
 }
 
 // The sizes of a case: they may be any that an i64 holds, so that the calls refuse them.

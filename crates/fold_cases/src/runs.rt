@@ -33,8 +33,9 @@ fn run_case(wides: &[i64], words: &[i32]) -> CAnswer
     ensures { λ x. ⌜ x ≡ codeOf (caseAnswer (now (wides .entry)) (now (words .entry))) ⌝ }
 {
     let number = numbers::size(words, 0, 8);
-    let call = input::call_of(number);
-    let sizes = input::read_sizes(wides, input::one_digit(number));
+    let call = numbers::two_digits(input::LAST, input::ONE_DIGIT, number);
+    let one_digit = numbers::one_digit(input::LAST, number);
+    let sizes = input::read_sizes(wides, one_digit);
     run_call(call, sizes, past_numbers(words, input::LISTS))
 }
 

@@ -1,8 +1,6 @@
 -- CSizes among the numbers of a case, and those of a part of the next witness.
-use mathlib.Core.Bool.{cond}
 use mathlib.Core.List.{List}
-use Prim.Native.Nat.{ℕ, _-_}
-use lib.Dec.{ltb}
+use Prim.Native.Nat.{ℕ}
 use lib.ListN.{getD}
 use lib.IntN.{ℤ, pos}
 use mir.Syntax.{w64}
@@ -13,13 +11,6 @@ use Rattle.capi.specs.declared.sizes.CPartSizes.{CPartSizes}
 -- The number at a place, 0 where there is none, modulo 2^64: -k stands for 2^64 - k.
 abbrev pub wideSize : List ℤ → ℕ → ℕ
 wideSize xs place = ofZ w64 (getD xs place (pos 0))
-
--- kinds 4, 5 and 6 are 1, 2 and 3 with z in one digit
-unfoldable pub kindOf : ℕ → ℕ
-kindOf number = cond (ltb 3 number) (number - 3) number
-
-unfoldable pub oneDigit : ℕ → ℕ
-oneDigit number = cond (ltb 3 number) 1 0
 
 -- eighteen sizes, of which ν and μ, numbers 14 and 15, stand in no struct of a fold
 unfoldable pub sizesOf : List ℤ → (one : ℕ) → CSizes

@@ -14,10 +14,10 @@ use Rattle.fold.specs.Arguments.{partRefusalOf}
 use Rattle.next_instance.specs.Calls.{NextCalled}
 use Rattle.capi.specs.declared.types.CAnswer.{CAnswer}
 use Rattle.capi.specs.Codes.{Coded, codeOf, shapeFrom, zFrom, sizesFrom, partSizesFrom}
-use Rattle.cases.specs.Numbers.{padded, word, sizeAt}
+use Rattle.cases.specs.Numbers.{padded, word, sizeAt, twoDigits, oneDigit}
 use Rattle.cases.specs.Lists.{pastLists, nthList}
 use Rattle.cases.specs.Text.{lineNumbers}
-use Rattle.next_cases.specs.Input.{wideSize, kindOf, oneDigit, sizesOf, partSizesOf}
+use Rattle.next_cases.specs.Input.{wideSize, sizesOf, partSizesOf}
 use Rattle.next_cases.specs.Messages.{filled, blank, messageOf, openingOf, kept}
 use Rattle.next_cases.specs.Witness.{witnessOf}
 
@@ -169,9 +169,9 @@ pub record CaseRun (wides xs : List ℤ) (kind one r : ℕ) : Type 0 where
       → r ≡ partRefusalOf (partSizesFrom (partSizesOf (caseSizes wides one) (wideSize wides 15) (wideSize wides 16))) (wideSize wides 19) (nthList 0 (drop 20 xs))
   pub twice : kind ≡ 3 → TwiceNumber (caseSizes wides one) (wideSize wides 15) (wideSize wides 16) wides xs r
 
--- the numbers of a line, 4096 of them, and the same as numbers of 32 bits
+-- kinds 4, 5 and 6 are 1, 2 and 3 with z in one digit; the numbers of a line, 4096 of them, and the same as numbers of 32 bits
 abbrev pub LineRun : (line : List ℕ) (r : ℕ) → Type 0
 LineRun line r =
     let wides = padded 4096 (lineNumbers line) in
     let xs = map word wides in
-    CaseRun wides xs (kindOf (sizeAt 6 xs 0)) (oneDigit (sizeAt 6 xs 0)) r
+    CaseRun wides xs (twoDigits 3 3 (sizeAt 6 xs 0)) (oneDigit 3 (sizeAt 6 xs 0)) r

@@ -4,10 +4,15 @@ ghost use lib.IntN.{pos};
 ghost use mir.Syntax.{w64};
 ghost use mir.Val.{ofZ};
 ghost use Rattle.cases.specs.Numbers.{sizeOf};
-ghost use Rattle.next_cases.specs.Input.{wideSize, kindOf, oneDigit, sizesOf};
+ghost use Rattle.next_cases.specs.Input.{wideSize, sizesOf};
 use capi::sizes::CShape;
 use capi::sizes::CSizes;
 use cases::numbers::wide_at;
+
+// The last kind with z in two digits, and how many have one: 4, 5 and 6 are 1, 2 and 3 with one.
+pub const LAST: usize = 3;
+
+pub const ONE_DIGIT: usize = 3;
 
 // Where the sizes of a case begin, how many they are, which numbers are ν and μ, and what follows the sizes.
 pub const SIZES: usize = 1;
@@ -48,25 +53,6 @@ pub fn size_at(wides: &[i64], place: usize) -> usize
     ensures { λ x. ⌜ x ≡ wideSize (now (wides .entry)) place ⌝ }
 {
     bound_at(wides, place) as usize
-}
-
-// Kinds 4, 5 and 6 are 1, 2 and 3 with z in one digit.
-pub fn kind_of(number: usize) -> usize
-    ensures { λ r. ⌜ r ≡ kindOf number ⌝ }
-{
-    if number > 3 {
-        return number - 3;
-    }
-    number
-}
-
-pub fn one_digit(number: usize) -> u8
-    ensures { λ r. ⌜ r ≡ oneDigit number ⌝ }
-{
-    if number > 3 {
-        return 1;
-    }
-    0
 }
 
 // The sizes of a fold, from the first number on; ν and μ are left out.

@@ -46,8 +46,8 @@ fn run_line(line: &[u8]) -> u64
     text::scan(line, &mut wides);
     numbers::narrow(&wides, &mut words);
     let number = numbers::size(&words, 0, 6);
-    let kind = input::kind_of(number);
-    let one_digit = input::one_digit(number);
+    let kind = numbers::two_digits(input::LAST, input::ONE_DIGIT, number);
+    let one_digit = numbers::one_digit(input::LAST, number);
     run_case(kind, one_digit, &wides, &words)
 }
 

@@ -5,7 +5,7 @@ use Rattle.fold_cases.proofs.main.Statement.{statement}
 use Rattle.fold_cases.proofs.main.Tie as tie
 
 slice-aggregate-run-text : tie.Need-slice-aggregate-run-text
-slice-aggregate-run-text c = filled ℕ 1048576 0
+slice-aggregate-run-text c = filled ℕ 2097152 0
 
 run-text-requires : tie.Need-run-text-requires
 run-text-requires c κs = tt

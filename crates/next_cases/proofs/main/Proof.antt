@@ -10,7 +10,7 @@ long : (n : ℕ) (x : ℕ) → n ≡ length (replicate n x)
 long n x = sym (length-replicate n x)
 
 slice-aggregate-run-text : tie.Need-slice-aggregate-run-text
-slice-aggregate-run-text c = long 1048576 0
+slice-aggregate-run-text c = long 2097152 0
 
 returns : tie.Need-returns
 returns c = tt

@@ -16,10 +16,10 @@ use Rattle.fold.specs.Arguments.{partRefusalOf}
 use Rattle.next_instance.specs.Calls.{NextCalled}
 use Rattle.capi.specs.declared.types.CAnswer.{CAnswer}
 use Rattle.capi.specs.Codes.{Coded, codeOf, shapeFrom, zFrom, sizesFrom, partSizesFrom}
-use Rattle.cases.specs.Numbers.{padded, word, sizeAt, sizeOf}
+use Rattle.cases.specs.Numbers.{padded, word, sizeAt, sizeOf, twoDigits, oneDigit}
 use Rattle.cases.specs.Lists.{firstWidth, pastList, pastLists, nthList}
 use Rattle.cases.specs.Text.{lineNumbers}
-use Rattle.next_cases.specs.Input.{wideSize, kindOf, oneDigit, sizesOf, partSizesOf}
+use Rattle.next_cases.specs.Input.{wideSize, sizesOf, partSizesOf}
 use Rattle.next_cases.specs.Messages.{filled, messageOf, openingOf, kept}
 use Rattle.next_cases.specs.Laws.MessageLaws.{front-filled, length-filled, blank-is}
 use Rattle.next_cases.specs.Witness.{nextWitness, productOf, widthFor, countFor, witnessOf}
@@ -306,10 +306,10 @@ pub zeros-are : (n : ℕ) → replicate n (pos 0) ≡ replicate (length (replica
 zeros-are n = ap (λ (k : ℕ). replicate k (pos 0)) (sym (length-replicate n (pos 0)))
 
 pub line-run : (line : List ℕ) {wides xs : List ℤ} {number kind one r : ℕ} → wides ≡ padded 4096 (lineNumbers line) → xs ≡ map word wides
-    → number ≡ sizeAt 6 xs 0 → kind ≡ kindOf number → one ≡ oneDigit number → CaseRun wides xs kind one r → LineRun line r
+    → number ≡ sizeAt 6 xs 0 → kind ≡ twoDigits 3 3 number → one ≡ oneDigit 3 number → CaseRun wides xs kind one r → LineRun line r
 line-run line {wides} {xs} {number} {kind} {one} {r} wides-is xs-is number-is kind-is one-is ran =
     let words : xs ≡ map word (padded 4096 (lineNumbers line)) = xs-is ∙ ap (λ (l : List ℤ). map word l) wides-is in
     let found : number ≡ sizeAt 6 (map word (padded 4096 (lineNumbers line))) 0 = number-is ∙ ap (λ (l : List ℤ). sizeAt 6 l 0) words in
-    let its-kind = kind-is ∙ ap kindOf found in
-    let its-one = one-is ∙ ap oneDigit found in
+    let its-kind = kind-is ∙ ap (twoDigits 3 3) found in
+    let its-one = one-is ∙ ap (oneDigit 3) found in
     coe 0 1 (i. CaseRun (wides-is i) (words i) (its-kind i) (its-one i) r) ran

@@ -1,5 +1,6 @@
 -- `next_cases::runs::run_line` meets its contract. Assumes nothing.
 use mathlib.Core.Path.{refl, sym}
+use native.Mathlib.Omega.{arith}
 use Rattle.next_cases.specs.Laws.RunLaws.{zeros-are, line-run}
 use Rattle.next_cases.proofs.runs.run_line.Statement.{statement}
 use Rattle.next_cases.proofs.runs.run_line.Tie as tie
@@ -32,7 +33,7 @@ returns c =
     let narrow = size .before .before .before in
     let scan = narrow .before .before .before .before in
     let start = scan .before .before .before in
-    line-run (start .args .line .now) (scan .scan .ensures) (narrow .narrow .ensures) (size .size .ensures) (kind .kind-of .ensures)
+    line-run (start .args .line .now) (scan .scan .ensures) (narrow .narrow .ensures) (size .size .ensures) (kind .two-digits .ensures)
     (one .one-digit .ensures) (c .run-case .ensures)
 
 pub run-line-spec : {M : Type 1} → statement M
@@ -46,7 +47,7 @@ run-line-spec =
     narrow-requires
     slice-aggregate-size
     (λ c κs. tt)
-    (λ c κs. tt)
+    (λ c κs. omega arith)
     (λ c κs. tt)
     slice-aggregate-run-case
     slice-aggregate-run-case-2
