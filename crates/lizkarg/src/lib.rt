@@ -182,13 +182,7 @@ pub fn commit_garbage(
 }
 
 // Message 5: z, in two digits to a base, or in one.
-pub fn amortize(
-    shape: Shape,
-    digits: ZDigits,
-    c: &[i32],
-    witness: &[i32],
-    z: &mut [i32],
-) -> Answer
+pub fn amortize(shape: Shape, digits: ZDigits, c: &[i32], witness: &[i32], z: &mut [i32]) -> Answer
     ensures { λ x. ⌜ Amortized shape digits (now (c .entry)) (now (witness .entry)) (now (z .entry)) x (now (z .exit)) ⌝ }
 {
     let tz = digits.count();

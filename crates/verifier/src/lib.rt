@@ -68,16 +68,7 @@ pub fn verify(
     if message != 0 {
         return Answer::Judged(Verdict::Failed(message));
     }
-    let outer = judgement::outer_checks(
-        tz,
-        given,
-        b_matrix,
-        c_matrix,
-        d_matrix,
-        u1,
-        u2,
-        opening,
-    );
+    let outer = judgement::outer_checks(tz, given, b_matrix, c_matrix, d_matrix, u1, u2, opening);
     if outer != 0 {
         return Answer::Judged(Verdict::Failed(outer));
     }

@@ -34,7 +34,7 @@ front n = take n (replicate 32768 (pos 77))
 
 -- ---- kind 1
 
-module _ {sizes : CSizes} {ν μ : ℕ} {code : CAnswer} {out′ : List ℤ} where
+module _ (sizes : CSizes) {ν μ : ℕ} {code : CAnswer} {out′ : List ℤ} where
   pub next-of-lists : (lists : List ℤ) {out A B C D whole constantTerms u₁ projections p ψ ω b″ α δ u₂ c : List ℤ}
       → A ≡ nthList 0 lists → B ≡ nthList 1 lists → C ≡ nthList 2 lists → D ≡ nthList 3 lists
       → whole ≡ nthList 4 lists → constantTerms ≡ nthList 5 lists → u₁ ≡ nthList 6 lists → projections ≡ nthList 7 lists

@@ -25,7 +25,7 @@ returns c =
     let nth-list = nth-list2 .before in
     let a = nth-list .before .args in
     let call = lizkarg-next-instance .lizkarg-next-instance in
-    next-of-lists {sizes = a .sizes} {ν = a .nu} {μ = a .mu} {code = call .result} (a .lists .now) {out = a .out .now}
+    next-of-lists (a .sizes) {ν = a .nu} {μ = a .mu} {code = call .result} (a .lists .now) {out = a .out .now}
     (nth-list .nth-list .ensures)
     (nth-list2 .nth-list2 .ensures)
     (nth-list3 .nth-list3 .ensures)

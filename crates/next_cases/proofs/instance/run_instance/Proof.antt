@@ -16,7 +16,7 @@ returns c =
     let size = print-instance .before .before in
     let past-lists = size .before in
     let past-numbers = past-lists .before in
-    instance-run (past-numbers .past-numbers .ensures) (past-lists .past-lists .ensures) (size .size .ensures)
+    instance-run (past-numbers .before .args .sizes) (past-numbers .past-numbers .ensures) (past-lists .past-lists .ensures) (size .size .ensures)
     (print-instance .print-instance .ensures)
 
 pub run-instance-spec : {M : Type 1} → statement M

@@ -12,7 +12,7 @@ use Rattle.refusals.proofs.part.part_refusal.Tie as tie
 
 returns : tie.Need-returns
 unfolding partRefusal partTests
-returns c = 
+returns c =
     let a = c .before .before .args in
     stops (partBoundsOf (a .tz) (a .sizes) (a .part)) _ (c .before .part-bounds .ensures) (c .if1 .taken)
 
