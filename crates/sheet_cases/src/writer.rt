@@ -50,6 +50,7 @@ fn sizes_on(line: &[u8]) -> CSizes {
         t2: size_at(line, 208),
         bound: number_size(line, 256),
         target: number_size(line, 272),
+        one_digit: 0,
     }
 }
 
