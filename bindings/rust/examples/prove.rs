@@ -3,8 +3,24 @@
 //! The case of SPECIFICATION 12.4: some s with s·s = -3 + 4X, where X·X = -1, and squared length at most 5. The witness is 1 + 2X.
 use lizkarg::{Cut, Draws, Prover, Refused, Sizes, Statement, Verdict, ZDigits};
 
-const SIZES: Sizes =
-    Sizes { d: 2, n: 1, r: 1, k: 1, l: 0, w: 0, kappa: 1, kappa1: 1, kappa2: 1, z: ZDigits::Two(4), b1: 8, b2: 4, t1: 2, t2: 2, bound: 5, target: 13 };
+const SIZES: Sizes = Sizes {
+    d: 2,
+    n: 1,
+    r: 1,
+    k: 1,
+    l: 0,
+    w: 0,
+    kappa: 1,
+    kappa1: 1,
+    kappa2: 1,
+    z: ZDigits::Two(4),
+    b1: 8,
+    b2: 4,
+    t1: 2,
+    t2: 2,
+    bound: 5,
+    target: 13,
+};
 
 /// How the next instance would cut the opening.
 const CUT: Cut = Cut { nu: 1, mu: 1 };

@@ -341,8 +341,24 @@ fn through(d: usize, c: &[i32], taken: bool) {
     numbers[at..at + 2 * d].copy_from_slice(c);
     let lines = numbers.chunks(d).map(|line| line.iter().map(i32::to_string).collect::<Vec<_>>().join(" "));
     let text = text(&[header].into_iter().chain(lines).collect::<Vec<_>>().join("/"));
-    let sizes =
-        Sizes { d, n: 1, r: 2, k: 0, l: 0, w: 0, kappa: 1, kappa1: 1, kappa2: 1, z: ZDigits::Two(4), b1: 4, b2: 4, t1: 2, t2: 2, bound: 0, target: 0 };
+    let sizes = Sizes {
+        d,
+        n: 1,
+        r: 2,
+        k: 0,
+        l: 0,
+        w: 0,
+        kappa: 1,
+        kappa1: 1,
+        kappa2: 1,
+        z: ZDigits::Two(4),
+        b1: 4,
+        b2: 4,
+        t1: 2,
+        t2: 2,
+        bound: 0,
+        target: 0,
+    };
     let sheet = Sheet { sizes, cut: Cut { nu: 1, mu: 1 }, numbers };
     let (proof, witness) = (sheet.proof(), vec![0; 2 * d]);
     let refused = if taken { Ok(()) } else { Err(Refused(10)) };
@@ -415,7 +431,9 @@ fn whole_case_in_one_digit() {
 #[test]
 fn low_digits_in_one_digit() {
     let (sizes, numbers) = one_digit(&Sheet::read(&text(CASE)).unwrap());
-    for (place, x, wide) in [(48, 2147483598, false), (49, -1000, false), (50, 4, false), (50, 5, true), (54, -3, true), (58, 5, true), (56, 1000, false)] {
+    for (place, x, wide) in
+        [(48, 2147483598, false), (49, -1000, false), (50, 4, false), (50, 5, true), (54, -3, true), (58, 5, true), (56, 1000, false)]
+    {
         let mut changed = numbers.clone();
         changed[place] = x;
         assert_eq!(Proof::of_numbers(sizes, &changed).verify() == Err(Refused(15)), wide, "{place}: {x}");
@@ -455,7 +473,10 @@ fn next_instance_in_one_digit() {
     let wide = Cut { nu: 8, mu: 1 };
     assert_eq!(proof.next_part(wide, 9), Ok(&o[2..]));
     assert_eq!((proof.next_part(wide, 8), proof.next_part(wide, 10)), (Ok(&o[..0]), Err(Refused(2))));
-    assert_eq!((proof.next_part(Cut { nu: 16, mu: 1 }, 17), proof.next_part(Cut { nu: 16, mu: 1 }, 18)), (Err(Refused(5)), Err(Refused(2))));
+    assert_eq!(
+        (proof.next_part(Cut { nu: 16, mu: 1 }, 17), proof.next_part(Cut { nu: 16, mu: 1 }, 18)),
+        (Err(Refused(5)), Err(Refused(2)))
+    );
 }
 
 /// A sheet has two z digits.
