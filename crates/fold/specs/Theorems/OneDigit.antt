@@ -2,25 +2,18 @@
 -- products: no a_ij with i < j is other than zero."
 --     base-free, base-free-next    no answer, and nothing that is written, depends on the base that stands in the statement, as long as row 4 takes both
 --     Unmixed, next-unmixed        no constraint of the next instance has mixed products
-use mathlib.Core.Path.{_≡_, refl, sym, ap, ap₂, _∙_}
-use mathlib.Core.Logic.{_≢_}
-use mathlib.Core.Bool.{Bool}
+use mathlib.Core.Path.{_≡_, refl, sym, ap, _∙_}
 use mathlib.Core.List.{List}
-use Prim.Native.Nat.{ℕ, _+_, _*_, _-_, _<_, _≤_}
-use native.Mathlib.Nat.{zero-mul}
+use Prim.Native.Nat.{ℕ, _-_, _<_}
 use native.Mathlib.Omega.{arith}
-use lib.ListN.{take, drop}
 use lib.IntN.{ℤ, pos}
-use Rattle.algebra.specs.Triangle.{pair}
-use Rattle.residues.specs.Range.{allNarrow}
-use Rattle.ring.specs.Element.{R, el, every}
+use Rattle.ring.specs.Element.{R}
 use Rattle.fold.specs.Sizes.{nextCount}
 use Rattle.fold.specs.Statement.{Relation, function, wholeAt, termAt}
 use Rattle.fold.specs.Statement.{Statement, Draws, Transcript}
-use Rattle.fold.specs.Answers.{firstFailing, answered}
+use Rattle.fold.specs.Answers.{firstFailing}
 use Rattle.fold.specs.Refusals.{base, narrow, lowNarrow, narrowDigits, verifyTests, nextTests}
 use Rattle.fold.specs.Verification.{verification}
-use Rattle.fold.specs.Constraint.{Constraint}
 use Rattle.fold.specs.NextInstance.{squares, constraint, nextWhole, relationOf}
 use Rattle.fold.specs.NextCall.{nextAnswer, nextOut, firstChecks}
 use Rattle.fold.specs.Laws.LaidOut.{a-written}

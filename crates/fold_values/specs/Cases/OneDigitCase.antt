@@ -1,14 +1,13 @@
 -- The whole case of SPECIFICATION 12.4 with z in one digit, computed, and the sides of row 5: z = -2+X is its own digit, and the opening has one element
 -- less. The base that stands in the statement is looked at by row 4 alone.
 use mathlib.Core.Path.{_≡_, refl}
-use mathlib.Core.Bool.{Bool, true, false}
+use mathlib.Core.Bool.{true, false}
 use mathlib.Core.List.{List, [], _∷_}
-use Prim.Native.Nat.{ℕ}
 use lib.ListN.{length}
 use lib.IntN.{ℤ}
 use Rattle.integers.specs.Literals.{+_, -_}
 use Rattle.fold.specs.declared.Verdict.the-variants.{Accepted, Failed}
-use Rattle.fold.specs.declared.ZDigits.the-variants.{One, Two}
+use Rattle.fold.specs.declared.ZDigits.the-variants.{One}
 use Rattle.fold.specs.declared.StatementSizes.{StatementSizes}
 use Rattle.fold.specs.Answers.{firstFailing}
 use Rattle.fold.specs.Arguments.{statementOf}

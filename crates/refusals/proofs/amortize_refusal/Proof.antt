@@ -1,6 +1,5 @@
 -- `refusals::amortize_refusal` meets its contract: the sizes, then row 7, then the rows after it. Assumes nothing.
 use mathlib.Core.Path.{refl}
-use native.Mathlib.Omega.{arith}
 use Rattle.fold.specs.Refusals.{amortizeBounds, amortizeTests}
 use Rattle.fold.specs.Laws.RefusalLaws.{sized-iff}
 use Rattle.fold.specs.Laws.TestLaws.{stops}

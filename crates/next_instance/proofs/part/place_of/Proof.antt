@@ -1,6 +1,5 @@
 -- `next_instance::part::place_of` meets its contract: 0 and 0 where the part is refused, and else where that chunk stands. Assumes nothing.
 use native.Mathlib.Omega.{arith}
-use borrow.Author.Needs.{needs}
 use Rattle.next_instance.specs.Laws.PartLaws.{part-known, part-cut, part-before, chunk-room, placed-refused, placed-found}
 use Rattle.next_instance.proofs.part.place_of.Statement.{statement}
 use Rattle.next_instance.proofs.part.place_of.Tie as tie

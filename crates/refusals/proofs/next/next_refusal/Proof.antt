@@ -1,7 +1,6 @@
 -- `refusals::next::next_refusal` meets its contract: the sizes, then row 7, then the rows after it. Assumes nothing.
 use mathlib.Core.Path.{refl, ap, _∙_}
 use lib.Dec.{leb}
-use native.Mathlib.Omega.{arith}
 use Rattle.fold.specs.Limits.{mostRank}
 use Rattle.fold.specs.Refusals.{nextTests}
 use Rattle.fold.specs.Laws.RefusalLaws.{sized-length}

@@ -1,6 +1,4 @@
 -- `refusals::part::next_part_refusal` meets its contract: the tests for as many z digits as there are. Assumes nothing.
-use mathlib.Core.Path.{_∙_, ap}
-use Rattle.fold.specs.Arguments.{partRefusalWith}
 use Rattle.fold.specs.Laws.DigitCounts.{count-few}
 use Rattle.refusals.proofs.part.next_part_refusal.Statement.{statement}
 use Rattle.refusals.proofs.part.next_part_refusal.Tie as tie
