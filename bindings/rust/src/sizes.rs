@@ -223,17 +223,19 @@ impl Sizes {
 
     /// Whether the cut makes each chunk of z as long as n', so that none has padding: ν·n' = n. A chain must cut so. With other chunks the next instance can be
     /// solved by a witness whose padding is not zero, though the statement has no solution; nobody sees that padding, and the accepted end of the chain
-    /// says nothing of the first statement.
+    /// says nothing of the first statement. No cut that row 5 refuses is full.
     ///
     /// ```
     /// # use lizkarg::{Cut, Sizes, ZDigits};
     /// # let sizes = Sizes { d: 64, n: 12, r: 2, k: 1, l: 0, w: 0, kappa: 1, kappa1: 1, kappa2: 1, z: ZDigits::One, b1: 8, b2: 4, t1: 2, t2: 2, bound: 5, target: 13 };
     /// assert!(sizes.has_full_chunks(Cut { nu: 2, mu: 3 }));
     /// assert!(!sizes.has_full_chunks(Cut { nu: 2, mu: 2 }));
+    /// assert!(!sizes.has_full_chunks(Cut { nu: 1, mu: 16 }));
     /// ```
     #[must_use]
     pub fn has_full_chunks(&self, cut: Cut) -> bool {
-        product([cut.nu, self.next(cut).n]) == self.n
+        let next = self.next(cut);
+        cut.nu > 0 && cut.mu > 0 && next.r <= 16 && product([cut.nu, next.n]) == self.n
     }
 
     pub(crate) fn raw(&self) -> raw::Sizes {

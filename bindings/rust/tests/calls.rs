@@ -479,6 +479,28 @@ fn next_instance_in_one_digit() {
     );
 }
 
+/// ν·n' = n, up to r' = 16; past row 5 no cut is full. Here m = 6.
+#[test]
+fn full_chunks() {
+    let (half, most) = (1 << (usize::BITS - 1), usize::MAX);
+    let small = [(3, 1), (5, 6), (12, 6), (0, 0), (0, 1), (0, 6), (1, 0), (2, 0), (12, 0)];
+    let huge = [(1, most), (1, most - 1), (12, most), (0, most), (half, 1), (half, 2), (half, half), (half + 1, most)];
+    let huge = huge.into_iter().chain([(most, 0), (most, 1), (most, 2), (most, 3), (most, most)]);
+    for (z, full, other) in [
+        (ZDigits::One, [(1, 15), (6, 10)], [(12, 4), (1, 16), (2, 15), (6, 11)]),
+        (ZDigits::Two(4), [(1, 14), (6, 4)], [(7, 2), (1, 15), (2, 13), (6, 5)]),
+    ] {
+        let (d, n, r, k, l, w, kappa, kappa1, kappa2, b1, b2, t1, t2, bound, target) = (2, 12, 1, 1, 0, 0, 1, 1, 1, 8, 4, 2, 2, 5, 13);
+        let sizes = Sizes { d, n, r, k, l, w, kappa, kappa1, kappa2, z, b1, b2, t1, t2, bound, target };
+        for (nu, mu) in [(1, 1), (2, 1), (3, 2), (4, 2), (6, 3)].into_iter().chain(full) {
+            assert!(sizes.has_full_chunks(Cut { nu, mu }), "{z:?} {nu} {mu}");
+        }
+        for (nu, mu) in small.into_iter().chain(huge.clone()).chain(other) {
+            assert!(!sizes.has_full_chunks(Cut { nu, mu }), "{z:?} {nu} {mu}");
+        }
+    }
+}
+
 /// A sheet has two z digits.
 #[test]
 fn no_sheet_of_one_digit() {
