@@ -188,8 +188,12 @@ def next_sizes(sizes, nu, mu):
 def has_full_chunks(sizes, nu, mu):
     """Whether each chunk of z is as long as n', so that none has padding: ν·n' = n. A chain, which folds the next instance in its turn, must cut so: with other
     chunks the next instance can be solved by a witness whose padding is not zero, though the statement has no solution, and nobody sees that padding.
+    No cut that row 5 refuses is full.
     """
-    return nu > 0 and mu > 0 and nu * next_sizes(sizes, nu, mu).n == sizes.n
+    if nu < 1 or mu < 1:
+        return False
+    after = next_sizes(sizes, nu, mu)
+    return after.r <= 16 and nu * after.n == sizes.n
 
 
 # ---- the library

@@ -137,7 +137,19 @@ def test_one_digit(count=40):
         assert found == row, (nu, mu)
     assert [refusal(lizkarg.next_part, z, 8, 1, part, proof.opening) for part in (0, 1, 9, 10)] == [2, 0, 0, 2]
     assert [refusal(lizkarg.next_part, z, 16, 1, part, proof.opening) for part in (17, 18)] == [5, 2]
-    assert lizkarg.has_full_chunks(z._replace(n=12, r=2, kappa=1, t1=2, t2=2), 2, 3) and not lizkarg.has_full_chunks(z, 0, 1)
+
+
+def test_full_chunks():
+    """ν·n' = n, up to r' = 16; past row 5 no cut is full. Here m = 6."""
+    one = taken(SMALL)._replace(n=12, r=1, kappa=1, t1=2, t2=2, b=None)
+    shared, half, most = [(1, 1), (2, 1), (3, 2), (4, 2), (6, 3)], 2**63, 2**64 - 1
+    neither = [(0, 0), (0, 1), (0, 6), (1, 0), (2, 0), (12, 0), (1, most), (1, most - 1), (12, most), (half, 1), (half, 2), (half, half), (most, 1), (most, 2), (most, 3)]
+    neither += [(most, most), (half + 1, most), (0, most), (most, 0), (2**70, 1), (1, 2**70), (-1, 1), (1, -1), (-12, -6), (18, -6), (-6, 18)]
+    for sizes, full, other in (
+        (one, [(1, 15), (6, 10)], [(3, 1), (5, 6), (12, 4), (1, 16), (2, 15), (6, 11), (12, 6)]),
+        (one._replace(b=4), [(1, 14), (6, 4)], [(3, 1), (5, 6), (7, 2), (1, 15), (2, 13), (6, 5), (12, 6)]),
+    ):
+        assert [cut for cut in shared + full + neither + other if lizkarg.has_full_chunks(sizes, *cut)] == shared + full
 
 
 def test_refusals():
