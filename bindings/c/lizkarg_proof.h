@@ -175,7 +175,7 @@ static inline size_t lizkarg_next_rank(lizkarg_sizes s, size_t nu, size_t mu) {
     return of_z > of_rest ? of_z : of_rest;
 }
 
-/* Whether each chunk of z is full, nu·n' = n: a chain must cut so (lizkarg_next_instance). */
+/* Whether each chunk of z is full, nu·n' = n: a chain must cut so (lizkarg_next_instance). No cut that row 5 refuses is full. */
 static inline int lizkarg_full_chunks(lizkarg_sizes s, size_t nu, size_t mu) {
     size_t rank = lizkarg_next_rank(s, nu, mu);
     return rank != 0 && nu * rank == s.n;

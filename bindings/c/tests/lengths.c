@@ -227,6 +227,27 @@ static void against_header(header h) {
     }
 }
 
+/* ---- full chunks: nu·n' = n, up to r' = 16; past row 5 no cut is full. Here m = 6. */
+
+typedef struct { size_t nu, mu, full; } cut_case;
+
+static void full_cuts(lizkarg_sizes s, const cut_case *cuts, size_t count) {
+    for (size_t i = 0; i < count; i++) HOLD((size_t)lizkarg_full_chunks(s, cuts[i].nu, cuts[i].mu) == cuts[i].full);
+}
+
+static void full_chunks(void) {
+    const size_t half = (size_t)1 << 63, most = (size_t)-1;
+    const cut_case both[] = {{1, 1, 1}, {2, 1, 1}, {3, 2, 1}, {4, 2, 1}, {6, 3, 1}, {3, 1, 0}, {5, 6, 0}, {12, 6, 0},
+        {0, 0, 0}, {0, 1, 0}, {0, 6, 0}, {1, 0, 0}, {2, 0, 0}, {12, 0, 0}, {1, most, 0}, {1, most - 1, 0}, {12, most, 0}, {half, 1, 0},
+        {half, 2, 0}, {half, half, 0}, {most, 1, 0}, {most, 2, 0}, {most, 3, 0}, {most, most, 0}, {half + 1, most, 0}, {0, most, 0}, {most, 0, 0}};
+    const cut_case two[] = {{1, 14, 1}, {6, 4, 1}, {7, 2, 0}, {1, 15, 0}, {2, 13, 0}, {6, 5, 0}};
+    const cut_case one[] = {{1, 15, 1}, {6, 10, 1}, {12, 4, 0}, {1, 16, 0}, {2, 15, 0}, {6, 11, 0}};
+    lizkarg_sizes s = {2, 12, 1, 1, 0, 0, 1, 1, 1, 4, 8, 4, 2, 2, 0, 0, 0};
+    full_cuts(s, both, sizeof both / sizeof *both), full_cuts(s, two, sizeof two / sizeof *two);
+    s.one_digit = 1;
+    full_cuts(s, both, sizeof both / sizeof *both), full_cuts(s, one, sizeof one / sizeof *one);
+}
+
 /* Every degree that is listed, and the others. */
 static void against_degrees(void) {
     header h = draw_header();
@@ -242,6 +263,7 @@ int main(int argc, char **argv) {
     size_t largest = argc > 2 ? (size_t)atoi(argv[2]) : 50000;
     name = "lengths";
     against_degrees();
+    full_chunks();
     while (calls > 0) {
         header h = draw_header();
         against_header(h);
