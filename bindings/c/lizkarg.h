@@ -26,8 +26,8 @@ enum { LIZKARG_ACCEPTED = 0, LIZKARG_FAILED = 1, LIZKARG_REFUSED = 2, LIZKARG_WR
  * all digits of the opening; the check that failed (1..9); the refusal (1..13, 15); else 0.
  *
  * The number has 64 bits because it holds the margin, here and in the three structs below that hold an answer. Code that was built against a
- * header in which it has 8 must be compiled anew. So must code that was built against one in which lizkarg_sizes and lizkarg_part_sizes do not end
- * with one_digit. All structs here are the C interface's own: they stay where the library's change. */
+ * header in which it has 8 must be compiled anew. So must code that was built against one in which lizkarg_sizes and lizkarg_part_sizes do
+ * not end with one_digit. All structs here are the C interface's own: they stay where the library's change. */
 typedef struct {
     uint8_t kind;
     uint64_t number;
@@ -142,7 +142,9 @@ lizkarg_answer lizkarg_verify(lizkarg_sizes sizes,
  * Written; failed 1 or 2, and then out is not changed; or refused 1 to 11 (5: r' above 16).
  *
  * A chain, which folds the next instance in its turn, must cut with nu·n' = n, so that no chunk of z is padded: else the accepted end says
- * nothing of the first statement. Nobody sees the padding, and in a chunk of z it enters check 6: docs/CALLS.md has an example. */
+ * nothing of the first statement. Nobody sees the padding, and in a chunk of z it enters check 6: docs/CALLS.md has an example. With full
+ * chunks each solution, its padding cut off, is an accepted opening if its low digits are narrow, which no one tests inside a chain, and an
+ * accepted last opening gives by itself no opening one fold up. */
 lizkarg_answer lizkarg_next_instance(lizkarg_sizes sizes, size_t nu, size_t mu,
     const int32_t *a_matrix, size_t a_matrix_len, const int32_t *b_matrix, size_t b_matrix_len,
     const int32_t *c_matrix, size_t c_matrix_len, const int32_t *d_matrix, size_t d_matrix_len,
@@ -173,14 +175,14 @@ size_t lizkarg_sheet_numbers(const uint8_t *text, size_t text_len);
  * any length. */
 lizkarg_sheet lizkarg_read_sheet(const uint8_t *text, size_t text_len, int32_t *numbers, size_t numbers_len);
 
-/* How many bytes the text of a sheet of these sizes, with two z digits, has: the least text_len of lizkarg_write_sheet. 0 where the sizes are refused, by 1 to
- * 6. With e the elements of all lists, 289 + (16·d + 1)·e + 17·6·(l + w). */
+/* How many bytes the text of a sheet of these sizes, with two z digits, has: the least text_len of lizkarg_write_sheet. 0 where the sizes
+ * are refused, by 1 to 6. With e the elements of all lists, 289 + (16·d + 1)·e + 17·6·(l + w). */
 size_t lizkarg_sheet_bytes(lizkarg_sizes sizes, size_t nu, size_t mu);
 
-/* Writes a sheet, which has two z digits. Takes the header as sizes, nu and mu, and all numbers after it in the sheet's order, as lizkarg_read_sheet puts them down;
- * writes their text to the first lizkarg_sheet_bytes bytes of text. Those past it are not changed, and no byte 0 is put after it. Written,
- * with the length of the text; or refused, in this order: 1 to 6, 7 (numbers_len is not what the sizes give), 8 to 10, 13 (text_len is less
- * than lizkarg_sheet_bytes). The text may be of any length; lizkarg_judge_sheet takes 65536 bytes. */
+/* Writes a sheet, which has two z digits. Takes the header as sizes, nu and mu, and all numbers after it in the sheet's order, as
+ * lizkarg_read_sheet puts them down; writes their text to the first lizkarg_sheet_bytes bytes of text. Those past it are not changed, and no
+ * byte 0 is put after it. Written, with the length of the text; or refused, in this order: 1 to 6, 7 (numbers_len is not what the sizes
+ * give), 8 to 10, 13 (text_len is less than lizkarg_sheet_bytes). The text may be of any length; lizkarg_judge_sheet takes 65536 bytes. */
 lizkarg_text lizkarg_write_sheet(lizkarg_sizes sizes, size_t nu, size_t mu, const int32_t *numbers, size_t numbers_len,
     uint8_t *text, size_t text_len);
 
