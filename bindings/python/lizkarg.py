@@ -374,6 +374,7 @@ def next_instance(sizes, nu, mu, proof):
     """The constraints of the next instance, one list; Failed(1) or Failed(2) where that check fails. The opening is not looked at. Refused 1 to 11.
 
     A chain must cut with ν·n' = n (`has_full_chunks`): else its accepted end says nothing of the first statement.
+    docs/CALLS.md says what a chain with full chunks shows, and what it does not.
     """
     out = _zeros(next_sizes(sizes, nu, mu).whole if nu > 0 and mu > 0 else 0)
     answer = _call("next_instance", _sized(_Sizes, sizes), nu, mu, *map(_numbers, proof[:-1]), out)

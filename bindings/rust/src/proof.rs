@@ -255,7 +255,7 @@ impl<'a> Proof<'a> {
     }
 
     /// The constraints of the next instance. The opening is not looked at. A chain must cut with ν·n' = n ([`Sizes::has_full_chunks`]): else its accepted end says
-    /// nothing of this statement.
+    /// nothing of this statement. docs/CALLS.md says what a chain with full chunks shows, and what it does not.
     ///
     /// ```
     /// use lizkarg::{Next, Sheet};
