@@ -121,7 +121,7 @@ pub fn garbage_sizes(c: CGarbageSizes) -> GarbageSizes
     }
 }
 
-fn z_digits(one_digit: u8, b: usize) -> ZDigits
+fn z_from(one_digit: u8, b: usize) -> ZDigits
     ensures { λ r. ⌜ r ≡ zFrom «one_digit» b ⌝ }
 {
     if one_digit == 0 {
@@ -145,7 +145,7 @@ pub fn sizes(c: CSizes) -> StatementSizes
         kappa: c.kappa,
         kappa1: c.kappa1,
         kappa2: c.kappa2,
-        z: z_digits(c.one_digit, c.b),
+        z: z_from(c.one_digit, c.b),
         b1: c.b1,
         b2: c.b2,
         t1: c.t1,
@@ -181,7 +181,7 @@ pub fn sheet_sizes(sheet: CSizes) -> Sizes
     }
 }
 
-fn is_one(one_digit: u8) -> bool
+fn one_from(one_digit: u8) -> bool
     ensures { λ r. ⌜ r ≡ oneFrom «one_digit» ⌝ }
 {
     if one_digit == 0 {
@@ -204,6 +204,6 @@ pub fn part_sizes(c: CPartSizes) -> PartSizes
         t2: c.t2,
         nu: c.nu,
         mu: c.mu,
-        one_digit: is_one(c.one_digit),
+        one_digit: one_from(c.one_digit),
     }
 }

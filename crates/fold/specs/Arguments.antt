@@ -1,5 +1,6 @@
 -- The arguments of the calls as the definitions take them: sizes stand in a struct, each slice is the list of its numbers. What depends on the
 -- number tz of z digits is defined `With` it, and again for the digits that a call is given. Below, the number with which each call refuses, 0 where it does not.
+use mathlib.Core.Bool.{Bool, true, false}
 use mathlib.Core.List.{List}
 use Prim.Native.Nat.{ℕ}
 use lib.IntN.{ℤ}
@@ -24,6 +25,11 @@ use Rattle.fold.specs.Refusals.{commitTests, projectTests, aggregateTest
 abbrev pub countOf : ZDigits → ℕ
 countOf One = 1
 countOf (Two b) = 2
+
+-- whether there is one
+abbrev pub isOne : ZDigits → Bool
+isOne One = true
+isOne (Two b) = false
 
 abbrev pub baseOf : ZDigits → ℕ
 baseOf One = leastBase
@@ -101,6 +107,11 @@ commitSizesOf m =
 abbrev pub garbageSizesOf : StatementSizes → GarbageSizes
 garbageSizesOf m =
     record { shape = m .shape; k = m .k; l = m .l; w = m .w; kappa2 = m .kappa2; b1 = m .b1; t1 = m .t1 }
+
+-- and the struct of a part of the next witness, cut by ν and μ
+abbrev pub partSizesOf : StatementSizes → (ν μ : ℕ) → PartSizes
+partSizesOf m ν μ =
+    record { shape = m .shape; kappa = m .kappa; t1 = m .t1; t2 = m .t2; nu = ν; mu = μ; «one_digit» = isOne (m .z) }
 
 abbrev pub drawsOf : (projections ψ ω α δ c : List ℤ) → Draws
 drawsOf projections ψ ω α δ c = record { projections = projections; ψ = ψ; ω = ω; α = α; δ = δ; c = c }

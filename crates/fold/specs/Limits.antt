@@ -23,7 +23,7 @@ mostCommitmentRank = 8
 abbrev pub mostDigits : ℕ
 mostDigits = 8
 
--- "2ν+μ above 16"
+-- "2ν+μ above 16; with one z digit ν+μ above 16"
 abbrev pub mostChunks : ℕ
 mostChunks = 16
 

@@ -59,7 +59,7 @@ base b = between leastBase mostBase b
 unfoldable pub digitCount : ℤ → Bool
 digitCount t = between 2 mostDigits t
 
--- row 5: "ν or μ below 1, 2ν+μ above 16"; tz digits of z are cut into ν chunks each
+-- row 5: "ν or μ below 1, 2ν+μ above 16; with one z digit ν+μ above 16"; tz digits of z are cut into ν chunks each
 unfoldable pub chunks : ℕ → ℤ → ℤ → Bool
 chunks tz (pos ν) (pos μ) = allOf (leb 1 ν ∷ leb 1 μ ∷ leb (tz * ν + μ) mostChunks ∷ [])
 chunks tz (pos ν) (negsuc μ) = false

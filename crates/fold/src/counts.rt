@@ -8,7 +8,7 @@ ghost use Rattle.fold.specs.Limits.{mostCommitmentRank, mostDigits, most
 pub const Z_DIGITS: usize = 2;
 
 // The number of z digits by whether there is one.
-pub fn z_digits(one_digit: bool) -> usize
+pub fn count_if(one_digit: bool) -> usize
     ensures { λ x. ⌜ x ≡ countIf «one_digit» ⌝ }
 {
     if one_digit { 1 } else { 2 }

@@ -7,7 +7,7 @@ use fold::PartSizes;
 use fold::chunks::chunk_start;
 use fold::chunks::chunk_width;
 use fold::chunks::rest_size;
-use fold::counts::z_digits;
+use fold::counts::count_if;
 use refusals::part::part_refusal;
 
 // The first number of a part in the opening, and how many there are; 0 and 0 where it is refused.
@@ -44,7 +44,7 @@ fn place_of(tz: usize, sizes: PartSizes, part: usize, opening: &[i32]) -> Place
 pub fn next_place(sizes: PartSizes, part: usize, opening: &[i32]) -> Place
     ensures { λ x. ⌜ Placed sizes part (now (opening .entry)) x ⌝ }
 {
-    let tz = z_digits(sizes.one_digit);
+    let tz = count_if(sizes.one_digit);
     place_of(tz, sizes, part, opening)
 }
 

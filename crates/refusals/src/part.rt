@@ -4,7 +4,7 @@ ghost use Prim.Native.Nat.{_<_, _≤_};
 ghost use Rattle.fold.specs.Arguments.{partRefusalWith, partRefusalOf};
 use crate::lengths::opening_fits;
 use fold::PartSizes;
-use fold::counts::z_digits;
+use fold::counts::count_if;
 use limits::part::part_bounds;
 use limits::rows::first;
 
@@ -34,6 +34,6 @@ pub fn part_refusal(tz: usize, sizes: PartSizes, part: usize, opening: &[i32]) -
 pub fn next_part_refusal(sizes: PartSizes, part: usize, opening: &[i32]) -> u8
     ensures { λ x. ⌜ x ≡ partRefusalOf sizes part (now (opening .entry)) ⌝ }
 {
-    let tz = z_digits(sizes.one_digit);
+    let tz = count_if(sizes.one_digit);
     part_refusal(tz, sizes, part, opening)
 }

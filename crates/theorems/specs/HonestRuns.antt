@@ -18,7 +18,7 @@ use Rattle.fold.specs.Verdict.{verdict}
 use Rattle.fold.specs.Verification.{verification}
 use Rattle.fold.specs.Refusals.{boundTests}
 use Rattle.fold.specs.Theorems.HonestRuns.{HonestVerdict}
-use Rattle.fold.specs.Laws.DigitCounts.{counts-few}
+use Rattle.fold.specs.Laws.DigitCounts.{digits-few}
 use Rattle.fold.specs.Laws.HonestWritten.{honest-written, judged-written, tested, left}
 use Rattle.lizkarg.specs.Calls.{Committed, Projected, Aggregated, GarbageCommitted, Amortized}
 
@@ -46,7 +46,7 @@ module _ (sizes : StatementSizes) (A B C D whole constantTerms projections ψ ω
   honest-calls run bounds meets answer is =
       let one = run .message-1 in
       let four = run .message-4 in
-      honest-written 𝓢 𝓓 s (counts-few (sizes .z) .0) (tested 𝓢 𝓓 s _ _ _ _ _ _ (one .answer-is) (four .answer-is) (run .message-5 .answer-is) bounds) meets
+      honest-written 𝓢 𝓓 s (digits-few (sizes .z) .0) (tested 𝓢 𝓓 s _ _ _ _ _ _ (one .answer-is) (four .answer-is) (run .message-5 .answer-is) bounds) meets
       (left _ _ _ (one .answer-is) (one .u-is)) (left _ _ _ (run .message-2 .answer-is) (run .message-2 .p-is))
       (left _ _ _ (run .message-3 .answer-is) (run .message-3 .b-is)) (left _ _ _ (four .answer-is) (four .u-is))
       (left _ _ _ (run .message-5 .answer-is) (run .message-5 .z-is)) (left _ _ _ (one .answer-is) (one .t-is))

@@ -15,7 +15,7 @@ use Rattle.fold.specs.Refusals.{wholeLength, sizeTests, nextTests}
 use Rattle.fold.specs.Arguments.{statementWith, drawsOf, transcriptOf}
 use Rattle.fold.specs.Laws.RefusalLaws.{allOf-all, tested}
 use Rattle.fold.specs.Laws.TestLaws.{holds, early-holds}
-use Rattle.fold.specs.Known.CallLimits.{VerifySized, ChunkLimits, verify-limits, chunk-limits}
+use Rattle.fold.specs.Known.CallLimits.{ChunkLimits, verify-limits, chunk-limits}
 use Rattle.fold.specs.Known.WorkFacts.{AggregateFacts, MessageFacts, EntryFacts, ConstantFacts}
 use Rattle.fold.specs.Limits.{mostRank}
 

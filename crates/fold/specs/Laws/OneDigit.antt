@@ -1,14 +1,16 @@
 -- Where z has one digit, that digit is z, and verdict, digits and next constraints do not depend on the base b.
---     one-digit-z, one-digit-digits     z is neither recomposed nor split
+--     one-digit-is, one-digit-recomposed     z is neither split nor recomposed
+--     one-digit-z                       what is recomposed does not depend on b
 --     one-digit-verdict                 the verdict does not depend on b
 --     one-digit-next                    nor do the constraints of the next instance
 --     one-digit-diagonal                whose a_ij is zero for i ≠ j
-use mathlib.Core.Path.{_≡_, refl, sym, ap, _∙_}
+use mathlib.Core.Path.{_≡_, refl, sym, ap, ap₂, _∙_}
 use mathlib.Core.Logic.{_≢_}
 use mathlib.Core.Bool.{Bool, true, false, cond}
-use mathlib.Core.List.{List, _∷_, _++_}
+use mathlib.Core.List.{List, [], _∷_, _++_, map}
 use Prim.Native.Nat.{ℕ, _+_, _*_, _/_, _%_, _^_}
 use native.Mathlib.Nat.{pow-zero, one-mul, div-eq-of-lt, mod-eq-of-lt}
+use native.Mathlib.Omega.{arith}
 use lib.Dec.{ltb, eqb}
 use lib.ListN.{getD}
 use lib.IntN.{ℤ, pos}
@@ -20,6 +22,7 @@ use Rattle.algebra.specs.CommRing.{CommRing}
 use Rattle.algebra.specs.Sum.{sum}
 use Rattle.ring.specs.Element.{R, el, number}
 use Rattle.ring.specs.Joined.{joined}
+use Rattle.ring.specs.Laws.Recomposition.{joined-one}
 use Rattle.fold.specs.Statement.{Relation, Statement, Draws, Transcript}
 use Rattle.fold.specs.Opening.{zOf}
 use Rattle.fold.specs.Messages.{elements, z, zDigits}
@@ -62,13 +65,18 @@ one-digit-z d n tz b b′ one x = rw one (λ i k. at k i)
     at : (k : ℕ) → R d .add (R d .zero) (R d .mul (number d (pos (b ^ 0))) (x (0 * n + k))) ≡ R d .add (R d .zero) (R d .mul (number d (pos (b′ ^ 0))) (x (0 * n + k)))
     at k = ap (λ (p : ℕ). R d .add (R d .zero) (R d .mul (number d (pos p)) (x (0 * n + k)))) (unit-weight b b′)
 
-one-split : (b b′ : ℕ) (xs : List ℤ) → split b 1 xs ≡ split b′ 1 xs
-unfolding split digit rests flat
-one-split b b′ xs = refl
+-- "z itself, centred, is its only digit"
+same-list : (xs : List ℤ) (f : ℤ → ℤ) → ((x : ℤ) → f x ≡ x) → map f xs ≡ xs
+same-list [] f e = refl
+same-list (x ∷ xs) f e = ap₂ _∷_ (e x) (same-list xs f e)
 
-pub one-digit-digits : (d n r tz b b′ : ℕ) → tz ≡ 1 → (c s : List ℤ) → zDigits d n r tz b c s ≡ zDigits d n r tz b′ c s
-unfolding zDigits
-one-digit-digits d n r tz b b′ one c s = rw one (one-split b b′ (elements d n (z d n r c s)))
+pub one-digit-is : (d n r b : ℕ) (c s : List ℤ) → zDigits d n r 1 b c s ≡ elements d n (z d n r c s)
+unfolding zDigits split digit rests flat
+one-digit-is d n r b c s = same-list (elements d n (z d n r c s)) _ (λ x. refl)
+
+pub one-digit-recomposed : (d n b : ℕ) (x : ℕ → R d .Carrier) (k : ℕ) → zOf d n 1 b x k ≡ x k
+unfolding zOf
+one-digit-recomposed d n b x k = joined-one d b (λ e. x (e * n + k)) ∙ ap x (omega arith)
 
 -- ---- the tables of the next instance
 

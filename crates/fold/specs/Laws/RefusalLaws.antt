@@ -24,7 +24,7 @@ use Rattle.ring.specs.Laws.ElementEquality.{every-true, true-every}
 use Rattle.residues.specs.Range.{challenge}
 use Rattle.fold.specs.Limits.{mostBound, mostCommitmentRank, mostConstraints, mostParts, mostProjections, mostRank, mostDigits, mostChunks}
 
-false-true : {A : Type 0} → false ≡ true → A
+pub false-true : {A : Type 0} → false ≡ true → A
 false-true e = absurd (subst T (sym e) tt)
 
 pub never-true : (t : Bool) → (t ≡ true → ⊥) → t ≡ false

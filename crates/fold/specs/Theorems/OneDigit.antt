@@ -1,6 +1,7 @@
 -- z in one digit. SPECIFICATION 3.6: "With one, b is neither taken nor tested." 8.6: "So the next instance of a fold with one z digit has no mixed
 -- products: no a_ij with i < j is other than zero."
---     base-free, base-free-next    no answer, and nothing that is written, depends on the base that stands in the statement, as long as row 4 takes both
+--     base-free, base-free-next    no answer of the verifier and of the next instance, and nothing that the latter writes, depends on the base that stands
+--                                  in the statement, as long as row 4 takes both
 --     Unmixed, next-unmixed        no constraint of the next instance has mixed products
 use mathlib.Core.Path.{_≡_, refl, sym, ap, _∙_}
 use mathlib.Core.List.{List}

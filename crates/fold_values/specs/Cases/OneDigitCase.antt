@@ -1,20 +1,24 @@
--- The whole case of SPECIFICATION 12.4 with z in one digit, computed, and the sides of row 5: z = -2+X is its own digit, and the opening has one element
+-- The whole case of SPECIFICATION 12.4 with z in one digit, computed, the sides of rows 2 and 5, and the sizes as a statement has them: z = -2+X is its own digit, and the opening has one element
 -- less. The base that stands in the statement is looked at by row 4 alone.
 use mathlib.Core.Path.{_≡_, refl}
-use mathlib.Core.Bool.{true, false}
-use mathlib.Core.List.{List, [], _∷_}
+use mathlib.Core.Bool.{Bool, true, false}
+use mathlib.Core.List.{List, [], _∷_, _++_, map}
+use Prim.Native.Nat.{ℕ}
 use lib.ListN.{length}
 use lib.IntN.{ℤ}
 use Rattle.integers.specs.Literals.{+_, -_}
 use Rattle.fold.specs.declared.Verdict.the-variants.{Accepted, Failed}
-use Rattle.fold.specs.declared.ZDigits.the-variants.{One}
+use Rattle.fold.specs.declared.PartSizes.{PartSizes}
+use Rattle.fold.specs.declared.ZDigits.{ZDigits}
+use Rattle.fold.specs.declared.ZDigits.the-variants.{One, Two}
 use Rattle.fold.specs.declared.StatementSizes.{StatementSizes}
 use Rattle.fold.specs.Answers.{firstFailing}
-use Rattle.fold.specs.Arguments.{statementOf}
+use Rattle.fold.specs.Arguments.{statementOf, partRefusalOf}
+use Rattle.fold.specs.NextCall.{partRefusal}
 use Rattle.fold.specs.Statement.{Statement}
 use Rattle.fold.specs.Verdict.{verdict}
 use Rattle.fold.specs.Honest.{honestOpening}
-use Rattle.fold.specs.Refusals.{chunks, partTests, proverTests, verifyTests}
+use Rattle.fold.specs.Refusals.{chunks, proverTests, verifyTests}
 use Rattle.fold.specs.NextInstance.{n′, r′, nextWhole}
 use Rattle.fold_values.specs.Cases.Computing.{fold-computes}
 use Rattle.fold_values.specs.Cases.WholeCase.{whole, witness, draws, transcript, case, digits}
@@ -53,6 +57,49 @@ oneDigits z =
     ∷ + 0 ∷ + 0
     ∷ []
 
+abbrev cut : Bool → PartSizes
+cut one = record { shape = record { d = 2; n = 1; r = 1 }; kappa = 1; t1 = 2; t2 = 2; nu = 8; mu = 1; «one_digit» = one }
+
+abbrev apart : ZDigits → StatementSizes
+apart z =
+    record {
+      shape = record { d = 3; n = 4; r = 5 };
+      k = 6;
+      l = 7;
+      w = 8;
+      kappa = 9;
+      kappa1 = 10;
+      kappa2 = 11;
+      z = z;
+      b1 = 12;
+      b2 = 13;
+      t1 = 14;
+      t2 = 15;
+      bound = 16;
+      target = 18;
+    }
+
+abbrev stated : (tz b : ℕ) → Statement
+stated tz b =
+    record {
+      relation = record { d = 3; n = 4; r = 5; K = 6; L = 7; bound = 16; whole = []; constantTerms = [] };
+      w = 8;
+      tz = tz;
+      κ = 9;
+      κ₁ = 10;
+      κ₂ = 11;
+      b = b;
+      b₁ = 12;
+      b₂ = 13;
+      t₁ = 14;
+      t₂ = 15;
+      target = 18;
+      A = [];
+      B = [];
+      C = [];
+      D = [];
+    }
+
 pub record OneDigitCase : Type 0 where
   pub opening-honest : honestOpening one draws witness ≡ oneDigits (- 2)
   pub accepted : verdict one draws transcript (oneDigits (- 2)) ≡ Accepted 0
@@ -67,11 +114,15 @@ pub record OneDigitCase : Type 0 where
   -- "ν+μ above 16": (9,7), (15,1), (1,15) and (16,1), (8,9); with two digits (9,7) is refused
   pub row-5 : chunks 1 (+ 9) (+ 7) ∷ chunks 1 (+ 15) (+ 1) ∷ chunks 1 (+ 1) (+ 15) ∷ chunks 1 (+ 16) (+ 1) ∷ chunks 1 (+ 8) (+ 9) ∷ chunks 2 (+ 9) (+ 7) ∷ []
       ≡ true ∷ true ∷ true ∷ false ∷ false ∷ false ∷ []
-  -- "with one z digit part 9 is taken and part 10 is 2"
-  pub part-numbers : firstFailing (partTests 2 1 1 1 2 2 1 8 1 9 (oneDigits (- 2))) ∷ firstFailing (partTests 2 1 1 1 2 2 1 8 1 10 (oneDigits (- 2))) ∷ [] ≡ 0 ∷ 2 ∷ []
+  -- "with ν = 8 and μ = 1, part 17 is 5 and part 18 is 2; with one z digit part 9 is taken and part 10 is 2"
+  pub part-numbers : map (λ i. partRefusalOf (cut true) i (oneDigits (- 2))) (9 ∷ 10 ∷ []) ++ map (λ i. partRefusalOf (cut false) i digits) (17 ∷ 18 ∷ [])
+      ≡ 0 ∷ 2 ∷ 5 ∷ 2 ∷ []
+  -- a statement has each size under its name, with one digit and with two: a number of its own in every field
+  pub one-stated : statementOf (apart One) [] [] [] [] [] [] ≡ stated 1 2
+  pub two-stated : statementOf (apart (Two 17)) [] [] [] [] [] [] ≡ stated 2 17
 
 pub one-digit-case : OneDigitCase
-unfolding fold-computes
+unfolding fold-computes partRefusal
 one-digit-case =
     record {
       opening-honest = refl;
@@ -83,4 +134,6 @@ one-digit-case =
       next-sizes = refl;
       row-5 = refl;
       part-numbers = refl;
+      one-stated = refl;
+      two-stated = refl;
     }

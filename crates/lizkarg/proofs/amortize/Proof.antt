@@ -1,12 +1,12 @@
 -- `lizkarg::amortize` meets its contract: refused, or the digits of z are written. Assumes nothing.
 use borrow.Author.Needs.{needs}
-use Rattle.fold.specs.Laws.DigitCounts.{counts-few}
+use Rattle.fold.specs.Laws.DigitCounts.{digits-few}
 use Rattle.lizkarg.specs.Laws.CallLaws.{amortize-refused, amortize-facts, amortize-written}
 use Rattle.lizkarg.proofs.amortize.Statement.{statement}
 use Rattle.lizkarg.proofs.amortize.Tie as tie
 
 amortize-refusal-requires : tie.Need-amortize-refusal-requires
-amortize-refusal-requires c κs = rw (c .before .before .count .ensures) (counts-few (c .before .before .before .args .digits) .1)
+amortize-refusal-requires c κs = rw (c .before .before .count .ensures) (digits-few (c .before .before .before .args .digits) .1)
 
 returns : tie.Need-returns
 returns c =
@@ -24,7 +24,7 @@ write-z-requires c κs =
     let k = b .before in
     let a = k .before .args in
     let facts = amortize-facts (a .shape) (a .digits) (rw (k .count .ensures, b .base .ensures) at (r .amortize-refusal .ensures)) (e .if1 .left) in
-    rw (k .count .ensures, b .base .ensures) (counts-few (a .digits), facts)
+    rw (k .count .ensures, b .base .ensures) (digits-few (a .digits), facts)
 
 returns-2 : tie.Need-returns-2
 returns-2 c =

@@ -1,13 +1,13 @@
 -- `next_instance::next_instance` meets its contract: a refusal, a failed check, or all is written. Assumes nothing.
 use Rattle.fold.specs.Arguments.{countOf, basedSizes}
-use Rattle.fold.specs.Laws.DigitCounts.{counts-few}
+use Rattle.fold.specs.Laws.DigitCounts.{digits-few}
 use Rattle.next_instance.specs.Laws.CallLaws.{next-refused, call-facts, next-judged, next-written}
 use borrow.Author.Needs.{needs}
 use Rattle.next_instance.proofs.next_instance.Statement.{statement}
 use Rattle.next_instance.proofs.next_instance.Tie as tie
 
 next-refusal-requires : tie.Need-next-refusal-requires
-next-refusal-requires c κs = rw (c .before .before .count .ensures) (counts-few (c .before .before .before .args .sizes .z))
+next-refusal-requires c κs = rw (c .before .before .count .ensures) (digits-few (c .before .before .before .args .sizes .z))
 
 returns : tie.Need-returns
 returns c =
@@ -42,7 +42,7 @@ write-instance-requires c κs =
     let b = r .before .before in
     let k = b .before in (
       call-facts (k .count .result) (b .based .result) _ _ _ _ _ _ _ _ _ _ _ _ _ _ _ _ _ _ _ (r .next-refusal .ensures) (e .if1 .left),
-      rw (k .count .ensures) (counts-few (k .before .args .sizes .z)),
+      rw (k .count .ensures) (digits-few (k .before .args .sizes .z)),
     )
 
 returns-3 : tie.Need-returns-3

@@ -3,13 +3,13 @@ use mathlib.Core.Path.{ap}
 use Rattle.fold.specs.declared.Answer.the-variants.{Judged}
 use Rattle.fold.specs.Arguments.{countOf, basedSizes}
 use Rattle.fold.specs.Verdict.{verdict}
-use Rattle.fold.specs.Laws.DigitCounts.{counts-few}
+use Rattle.fold.specs.Laws.DigitCounts.{digits-few}
 use Rattle.verifier.specs.Laws.JudgementLaws.{call-facts, message-fails, outer-fails, opening-says, check-failed, refused, unrefused}
 use Rattle.verifier.proofs.verify.Statement.{statement}
 use Rattle.verifier.proofs.verify.Tie as tie
 
 verify-refusal-requires : tie.Need-verify-refusal-requires
-verify-refusal-requires c κs = rw (c .before .count .ensures) (counts-few (c .before .before .args .sizes .z))
+verify-refusal-requires c κs = rw (c .before .count .ensures) (digits-few (c .before .before .args .sizes .z))
 
 returns : tie.Need-returns
 returns c =
@@ -42,7 +42,7 @@ outer-checks-requires c κs =
     let r = e .before in
     let b = r .before in
     let k = b .before in (
-      rw (k .count .ensures) (counts-few (k .before .args .sizes .z) .1),
+      rw (k .count .ensures) (digits-few (k .before .args .sizes .z) .1),
       call-facts (k .count .result) (b .based .result) _ _ _ _ _ _ _ _ _ _ _ _ _ _ _ _ _ (r .verify-refusal .ensures) (e .if1 .left) .outer,
     )
 
@@ -68,7 +68,7 @@ opening-verdict-requires c κs =
     let r = e .before in
     let b = r .before in
     let k = b .before in (
-      rw (k .count .ensures) (counts-few (k .before .args .sizes .z)),
+      rw (k .count .ensures) (digits-few (k .before .args .sizes .z)),
       call-facts (k .count .result) (b .based .result) _ _ _ _ _ _ _ _ _ _ _ _ _ _ _ _ _ (r .verify-refusal .ensures) (e .if1 .left) .opening,
     )
 

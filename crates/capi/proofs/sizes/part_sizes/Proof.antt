@@ -4,7 +4,7 @@ use Rattle.capi.proofs.sizes.part_sizes.Statement.{statement}
 use Rattle.capi.proofs.sizes.part_sizes.Tie as tie
 
 returns : tie.Need-returns
-returns c = rw (c .is-one .ensures) refl
+returns c = rw (c .one-from .ensures) refl
 
 pub part-sizes-spec : {M : Type 1} → statement M
 part-sizes-spec = tie.close (tie.spec (λ c κs. tt) returns)

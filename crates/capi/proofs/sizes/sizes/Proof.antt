@@ -4,7 +4,7 @@ use Rattle.capi.proofs.sizes.sizes.Statement.{statement}
 use Rattle.capi.proofs.sizes.sizes.Tie as tie
 
 returns : tie.Need-returns
-returns c = rw (c .z-digits .ensures) refl
+returns c = rw (c .z-from .ensures) refl
 
 pub sizes-spec : {M : Type 1} → statement M
 sizes-spec = tie.close (tie.spec (λ c κs. tt) returns)
