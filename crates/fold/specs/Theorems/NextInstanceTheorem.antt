@@ -5,7 +5,9 @@
 --     next-instance-judged             of the verifier's answer, where the low digits are narrow
 --     next-instance-past               the same where the answer is not refused 15
 --     solving-refused                  with a wide low digit an opening that, padded, solves it is refused by 15
+--     next-padding                     a padded opening has zero padding
 --     next-solution, solution-accepted the same of solutions with zero padding
+--     some-ν, some-μ, length-s, length-cutOff   what the tests leave known, for FullChunks too
 use mathlib.Core.Path.{_≡_, refl, sym, subst, _∙_}
 use mathlib.Core.Logic.{_↔_}
 use mathlib.Core.Bool.{Bool, true, false}
