@@ -5,9 +5,9 @@ ghost use lib.ListN.{length};
 ghost use Rattle.algebra.specs.Sum.{sum};
 ghost use Rattle.residues.specs.Modulus.{Zq, cent};
 ghost use Rattle.fold.specs.Verdict.{check₂};
-ghost use Rattle.fold.specs.Known.WorkFacts.{MessageFacts};
+ghost use Rattle.fold.specs.Known.WorkFacts.{ConstantTermFacts};
 ghost use Rattle.checks.specs.ConstantTerms.{weighted, termHolds};
-use fold::Sizes;
+use fold::ConstraintSizes;
 use fold::counts::function_size;
 use residues::modulus;
 use ring::element::Element;
@@ -38,7 +38,7 @@ fn weighted_sum(
 
 // The constant term of b''_k is Σ ψ b' + Σ ω p.
 fn constant_term_holds(
-    sizes: Sizes,
+    sizes: ConstraintSizes,
     constant_terms: &[i32],
     psi: &[i32],
     omega: &[i32],
@@ -46,7 +46,7 @@ fn constant_term_holds(
     second_b: &[i32],
     k: usize,
 ) -> bool
-    requires { ⌜ MessageFacts sizes (now «constant_terms») (now psi) (now omega) (now p) (now «second_b») ⌝ }
+    requires { ⌜ ConstantTermFacts (sizes .shape .d) (sizes .shape .n) (sizes .shape .r) (sizes .l) (sizes .w) (now «constant_terms») (now psi) (now omega) (now p) (now «second_b») ⌝ }
     requires { ⌜ k < 5 ⌝ }
     ensures { λ r.
         ⌜ r ≡ termHolds (sizes .shape .d) (sizes .shape .n) (sizes .shape .r) (sizes .l) (sizes .w) (now («constant_terms» .entry)) (now (psi .entry))
@@ -64,14 +64,14 @@ fn constant_term_holds(
 
 // Check 2: all five.
 pub fn constant_terms_hold(
-    sizes: Sizes,
+    sizes: ConstraintSizes,
     constant_terms: &[i32],
     psi: &[i32],
     omega: &[i32],
     p: &[i32],
     second_b: &[i32],
 ) -> bool
-    requires { ⌜ MessageFacts sizes (now «constant_terms») (now psi) (now omega) (now p) (now «second_b») ⌝ }
+    requires { ⌜ ConstantTermFacts (sizes .shape .d) (sizes .shape .n) (sizes .shape .r) (sizes .l) (sizes .w) (now «constant_terms») (now psi) (now omega) (now p) (now «second_b») ⌝ }
     ensures { λ r.
         ⌜ r ≡ check₂ (sizes .shape .d) (sizes .shape .n) (sizes .shape .r) (sizes .l) (sizes .w) (now («constant_terms» .entry)) (now (psi .entry))
         (now (omega .entry)) (now (p .entry)) (now («second_b» .entry)) ⌝ }

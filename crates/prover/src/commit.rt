@@ -21,7 +21,7 @@ use ring::element::Element;
 use ring::product::inner;
 
 // t_i = A s_i: its κ elements, written from element `at` on.
-fn write_products(
+pub fn write_products(
     d: usize,
     n: usize,
     kappa: usize,

@@ -39,7 +39,21 @@ pub fn message_checks(
     if !one {
         return 1;
     }
-    let two = terms::constant_terms_hold(sizes, constant_terms, psi, omega, p, second_b);
+    let shape = sizes.shape;
+    let constraint_sizes = ConstraintSizes {
+        shape,
+        k: sizes.k,
+        l: sizes.l,
+        w: sizes.w,
+    };
+    let two = terms::constant_terms_hold(
+        constraint_sizes,
+        constant_terms,
+        psi,
+        omega,
+        p,
+        second_b,
+    );
     first(two, 2, 0)
 }
 

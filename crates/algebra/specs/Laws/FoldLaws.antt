@@ -64,7 +64,7 @@ module _ (𝓡 : CommRing) where
       inner-sum-right 𝓡 n r u (λ i k. c i ⊗ s i k) ∙ sum-cong 𝓡 r _ _ (λ i _. inner-scale-right 𝓡 n (c i) u (s i))
 
   -- check 7 before its symmetric form: Σ <φ_i, z> c_i as a full square
-  folded-square : (r n : ℕ) (c : ℕ → C) (φ s : ℕ → ℕ → C)
+  pub folded-square : (r n : ℕ) (c : ℕ → C) (φ s : ℕ → ℕ → C)
       → sum 𝓡 r (λ i. inner 𝓡 n (φ i) (folded 𝓡 r c s) ⊗ c i) ≡ sum 𝓡 r (λ i. sum 𝓡 r (λ j. inner 𝓡 n (φ i) (s j) ⊗ (c i ⊗ c j)))
   folded-square r n c φ s = sum-cong 𝓡 r _ _ (λ i _. row i)
     where

@@ -7,7 +7,7 @@ use Rattle.fold.specs.declared.Sizes.{Sizes}
 use Rattle.fold.specs.Sizes.{functionSize, tSize, garbageSize, restSize, openingSize}
 use Rattle.fold.specs.Laws.SizeBounds.{functionSize-bound}
 use Rattle.fold.specs.Opening.{tPlace, gPlace, hPlace}
-use Rattle.checks.specs.Known.Facts.{Fits}
+use Rattle.fold.specs.Known.Facts.{Shaped}
 
 -- the blocks lie within the opening, which is o long and whose z has tz digits
 module _ (tz : ℕ) (s : Sizes) (o : ℕ) (whole : o ≡ openingSize tz (s .shape .n) (s .shape .r) (s .kappa) (s .t1) (s .t2) * s .shape .d) where
@@ -40,5 +40,5 @@ t-part-within tz s o whole i place h e =
     = omega (arith, mul-le-mul-right (s .t1 * s .kappa) h) in
     omega (arith, t-within tz s o whole, mul-le-mul-right (s .shape .d) below)
 
-pub function-size-bound : (s : Sizes) → Fits s → functionSize (s .shape .n) (s .shape .r) ≤ 4232
-function-size-bound s fits = functionSize-bound _ _ (fits .shaped .rank-small) (fits .shaped .parts-small)
+pub function-size-bound : {d n r : ℕ} → Shaped d n r → functionSize n r ≤ 4232
+function-size-bound shaped = functionSize-bound _ _ (shaped .rank-small) (shaped .parts-small)

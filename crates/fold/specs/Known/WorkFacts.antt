@@ -4,6 +4,7 @@
 --     TFacts, GFacts, U₁Facts          message 1
 --     PairFacts, ValueFacts            message 3
 --     HFacts, U₂Facts                  message 4
+--     ConstantTermFacts                check 2, of a fold and of the bare level
 --     MessageFacts, FirstOuterFacts, SecondOuterFacts, OuterFacts              the verifier's checks 1 to 4
 --     FoldedFacts, AmortizedFacts, RelationFacts, OpeningFacts                 and 5 to 9
 --     EntryFacts, ConstantFacts        the next constraints
@@ -58,6 +59,15 @@ pub record AggregateFacts (d n r K L w : ℕ) (whole constantTerms projections �
   pub wholes : WholeFacts d n r K whole α
   pub seconds : SecondFacts d n r L w constantTerms projections ψ ω
   pub δ-length : length δ ≡ five * d
+
+-- check 2
+pub record ConstantTermFacts (d n r L w : ℕ) (constantTerms ψ ω p b″ : List ℤ) : Type 0 where
+  pub shaped : Shaped d n r
+  pub constant-terms-length : length constantTerms ≡ constantTermsLength d n r L
+  pub ψ-length : length ψ ≡ five * L
+  pub ω-length : length ω ≡ five * w
+  pub p-length : length p ≡ w
+  pub b″-length : length b″ ≡ five * d
 
 -- ---- message 1
 
@@ -128,11 +138,7 @@ module _ (sizes : Sizes) where
   -- checks 1 and 2
   pub record MessageFacts (constantTerms ψ ω p b″ : List ℤ) : Type 0 where
     pub limits : VerifySized sizes
-    pub constant-terms-length : length constantTerms ≡ constantTermsLength d n r l
-    pub ψ-length : length ψ ≡ five * l
-    pub ω-length : length ω ≡ five * w
-    pub p-length : length p ≡ w
-    pub b″-length : length b″ ≡ five * d
+    pub constant-term : ConstantTermFacts d n r l w constantTerms ψ ω p b″
 
   -- the coefficients of the next constraints
   pub record EntryFacts (A B C D c : List ℤ) : Type 0 where

@@ -13,8 +13,8 @@ use Rattle.checks.proofs.terms.constant_term_holds.Tie as tie
 mul-last : tie.Need-mul-last
 mul-last c =
     let s = c .before in
-    let small : c .function-size .result ≤ 4232 = rw (c .function-size .ensures) (function-size-bound (s .args .sizes) (s .pre .0 .limits)) in
-    omega (arith, mul-le-mul small (s .pre .0 .limits .shaped .degree .small))
+    let small : c .function-size .result ≤ 4232 = rw (c .function-size .ensures) (function-size-bound (s .pre .0 .shaped)) in
+    omega (arith, mul-le-mul small (s .pre .0 .shaped .degree .small))
 
 mul-weighted-sum : tie.Need-mul-weighted-sum
 mul-weighted-sum c =
@@ -24,9 +24,8 @@ mul-weighted-sum c =
 add-weighted-sum : tie.Need-add-weighted-sum
 add-weighted-sum c =
     let s = c .before .before in
-    let small : c .before .function-size .result ≤ 4232 = rw (c .before .function-size .ensures) (function-size-bound (s .args .sizes)
-    (s .pre .0 .limits)) in
-    omega (arith, mul-le-mul small (s .pre .0 .limits .shaped .degree .small))
+    let small : c .before .function-size .result ≤ 4232 = rw (c .before .function-size .ensures) (function-size-bound (s .pre .0 .shaped)) in
+    omega (arith, mul-le-mul small (s .pre .0 .shaped .degree .small))
 
 weighted-sum-requires : tie.Need-weighted-sum-requires
 weighted-sum-requires c κs =
@@ -49,7 +48,7 @@ weighted-sum-requires-2 c κs =
 from-slice-requires : tie.Need-from-slice-requires
 from-slice-requires c κs =
     let s = c .before .before .before .before .before .before in
-    (s .pre .0 .limits .shaped .degree, element-fits _ 5 (s .args .k) _ (s .pre .0 .b″-length) (s .pre .1))
+    (s .pre .0 .shaped .degree, element-fits _ 5 (s .args .k) _ (s .pre .0 .b″-length) (s .pre .1))
 
 returns : tie.Need-returns
 returns c =
@@ -62,8 +61,8 @@ returns c =
     let s = size .before in
     let z = s .args .sizes in
     let last = ap (λ (m : ℕ). m * z .shape .d) (size .function-size .ensures) in
-    term-holds (z .shape .d) (z .shape .n) (z .shape .r) (z .l) (z .w) (s .args .k) _ _ _ _ _ _ _ _ _ _ _ _ _ _ _ (s .pre .0 .limits .shaped .degree .small)
-    (s .pre .0 .limits .shaped .degree .positive)
+    term-holds (z .shape .d) (z .shape .n) (z .shape .r) (z .l) (z .w) (s .args .k) _ _ _ _ _ _ _ _ _ _ _ _ _ _ _ (s .pre .0 .shaped .degree .small)
+    (s .pre .0 .shaped .degree .positive)
     last refl refl (terms .weighted-sum .ensures) (projected .weighted-sum2 .ensures) (expected .add .ensures) (element .from-slice .ensures)
     (given .constant-term .ensures) (c .before .residue .ensures) (c .residue2 .ensures)
 

@@ -10,11 +10,11 @@ returns c = fails 1 _ (c .before .short-projection .ensures) (c .if1 .taken)
 returns-2 : tie.Need-returns-2
 returns-2 c =
     let a2 = c .before in
-    let e1 = a2 .before in
+    let e1 = a2 .before .before in
     passes 1 _ (e1 .before .short-projection .ensures) (e1 .if1 .left)
     (single 2 _ (a2 .constant-terms-hold .ensures) (c .first .ensures) none)
 
 pub message-checks-spec : {M : Type 1} → statement M
 message-checks-spec =
     tie.close
-    (tie.spec (λ c κs. (c .pre .limits .w-small, c .pre .limits .bound-small)) returns (λ c κs. c .before .before .pre) (λ c κs. tt) returns-2)
+    (tie.spec (λ c κs. (c .pre .limits .w-small, c .pre .limits .bound-small)) returns (λ c κs. c .before .before .before .pre .constant-term) (λ c κs. tt) returns-2)
