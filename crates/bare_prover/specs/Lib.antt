@@ -1,0 +1,4 @@
+-- Definitions
+pub mod Summands
+-- What the work functions know
+pub mod Known
