@@ -35,13 +35,13 @@ abbrev pub lastChecksOf : (tz : ℕ) → Sizes → (whole constantTerms projecti
 lastChecksOf tz s whole constantTerms projections ψ ω b″ α δ o =
     lastChecks (statementWith tz s [] [] [] [] whole constantTerms) (drawsOf projections ψ ω α δ []) (transcriptOf [] [] b″ []) o
 
--- the margin, and what check 9 says of a comparison with the bound
+-- the margin, and what a last check of a length says, by its number and a comparison with the bound
 abbrev pub marginOf : (tz : ℕ) → Sizes → (o : List ℤ) → ℕ
 marginOf tz s o = margin₉ (s .shape .d) (s .shape .n) (s .shape .r) tz (s .kappa) (s .t1) (s .t2) (s .target) o
 
-abbrev pub byLength : Margin → Verdict
-byLength (Within rest) = Accepted rest
-byLength Above = Failed 9
+abbrev pub byLength : (check : ℕ) → Margin → Verdict
+byLength check (Within rest) = Accepted rest
+byLength check Above = Failed check
 
 -- z stands at the start of a list
 pub record Recomposed (tz : ℕ) (s : Sizes) (o z : List ℤ) : Type 0 where

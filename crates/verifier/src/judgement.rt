@@ -104,12 +104,12 @@ fn amortized_checks(
     first(six, 6, 0)
 }
 
-// What check 9 says: accepted with what is left of the bound, or failed.
-fn by_length(margin: Margin) -> Verdict
-    ensures { λ v. ⌜ v ≡ byLength margin ⌝ }
+// What a last check of a length says: accepted with what is left of the bound, or failed.
+pub fn by_length(check: u8, margin: Margin) -> Verdict
+    ensures { λ v. ⌜ v ≡ byLength check margin ⌝ }
 {
     let Margin::Within(rest) = margin else {
-        return Verdict::Failed(9);
+        return Verdict::Failed(check);
     };
     Verdict::Accepted(rest)
 }
@@ -148,7 +148,7 @@ fn last_verdict(
         return Verdict::Failed(8);
     }
     let margin = norms::opening_margin(tz, sizes, opening);
-    by_length(margin)
+    by_length(9, margin)
 }
 
 // Checks 5 to 9, with z recomposed once.

@@ -87,17 +87,18 @@ check-failed k n m some e = failed-at k m some ∙ ap (λ j. judged j m) e
 pub check-passed : (k n m : ℕ) {v : Verdict} → v ≡ judged k m → k ≡ n → v ≡ judged n m
 check-passed k n m e f = e ∙ ap (λ j. judged j m) f
 
-pub within-says : {x : Margin} {rest : ℕ} → x ≡ Within rest → Accepted rest ≡ byLength x
-within-says e = rw e refl
+pub within-says : (k : ℕ) {x : Margin} {rest : ℕ} → x ≡ Within rest → Accepted rest ≡ byLength k x
+within-says k e = rw e refl
 
-pub above-says : {x : Margin} → x ≡ Above → Failed 9 ≡ byLength x
-above-says e = rw e refl
+pub above-says : (k : ℕ) {x : Margin} → x ≡ Above → Failed k ≡ byLength k x
+above-says k e = rw e refl
 
--- what check 9 says is the verdict on the one check, with what is left of the target as margin
-pub length-says : (target n : ℕ) {x : Margin} → x ≡ remaining target n → byLength x ≡ judged (firstFailing ((9, leb n target) ∷ [])) (target - n)
+-- what the last check says is the verdict on it alone, with what is left of the bound as margin
+pub length-says : (k bound n : ℕ) {x : Margin} → (k ≡ 0 → ⊥) → x ≡ remaining bound n
+    → byLength k x ≡ judged (firstFailing ((k, leb n bound) ∷ [])) (bound - n)
 unfolding remaining firstFailing judged
-length-says target n e = ap byLength e ∙ says (leb n target)
+length-says k bound n some e = ap (byLength k) e ∙ says (leb n bound)
   where
-    says : (t : Bool) → byLength (marginIf t (Within (target - n))) ≡ judged (cond t 0 9) (target - n)
+    says : (t : Bool) → byLength k (marginIf t (Within (bound - n))) ≡ judged (cond t 0 k) (bound - n)
     says true = refl
-    says false = refl
+    says false = failed-at k (bound - n) some

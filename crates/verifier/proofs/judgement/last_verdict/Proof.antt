@@ -20,7 +20,7 @@ returns-2 c =
     let a2 = c .before in
     let e1 = a2 .before in
     let a1 = e1 .before in
-    check-passed _ _ _ (c .by-length .ensures ∙ length-says _ _ (a2 .opening-margin .ensures))
+    check-passed _ _ _ (c .by-length .ensures ∙ length-says _ _ _ (λ e. omega arith) (a2 .opening-margin .ensures))
     (passes 8 _ (a1 .relation-holds .ensures (a1 .before .args .sizes .w) projections ω) (e1 .if1 .left) refl)
 
 pub last-verdict-spec : {M : Type 1} → statement M
