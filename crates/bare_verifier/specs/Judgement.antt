@@ -3,10 +3,6 @@ use mathlib.Core.Bool.{Bool}
 use mathlib.Core.List.{List, []}
 use Prim.Native.Nat.{ℕ}
 use lib.IntN.{ℤ}
-use Rattle.residues.specs.declared.length.Margin.{Margin}
-use Rattle.residues.specs.declared.length.Margin.the-variants.{Within, Above}
-use Rattle.fold.specs.declared.Verdict.{Verdict}
-use Rattle.fold.specs.declared.Verdict.the-variants.{Accepted, Failed}
 use Rattle.fold.specs.Arguments.{drawsOf}
 use Rattle.bare.specs.declared.BareSizes.{BareSizes}
 use Rattle.bare.specs.Arguments.{bareStatementOf, bareTranscriptOf}
@@ -25,10 +21,6 @@ abbrev pub aggregateChecksOf : BareSizes → (whole constantTerms projections ψ
 aggregateChecksOf m whole constantTerms projections ψ ω b″ α δ c o =
     aggregateChecks (bareStatementOf m [] whole constantTerms) (drawsOf projections ψ ω α δ c) (bareTranscriptOf [] b″) o
 
--- the margin, and what check 7 says of a comparison with the bound
+-- the margin
 abbrev pub marginOf : BareSizes → (o : List ℤ) → ℕ
 marginOf m o = zMargin (m .«z_bound») (zNumbers (m .shape .d) (m .shape .n) (m .shape .r) (m .kappa) o)
-
-abbrev pub byLength : Margin → Verdict
-byLength (Within rest) = Accepted rest
-byLength Above = Failed 7

@@ -89,7 +89,7 @@ fn diagonal_summand(
 ) -> Element
     requires { ⌜ DiagonalFacts sizes (now whole) (now «constant_terms») (now psi) (now alpha) (now delta) (now c) (now opening) ⌝ }
     requires { ⌜ (i < sizes .shape .r) × (q ≡ pair (sizes .shape .r) i i) ⌝ }
-    ensures { λ x. ⌜ x .coefficients ≡ array (sizes .shape .d) (diagonalSummand sizes (now (whole .entry)) (now («constant_terms» .entry)) (now (psi .entry))
+    ensures { λ x. ⌜ x .coefficients ≡ array (sizes .shape .d) (diagonalSummand (sizes .shape .d) (sizes .shape .n) (sizes .shape .r) (sizes .k) (sizes .l) (sizes .kappa) (now (whole .entry)) (now («constant_terms» .entry)) (now (psi .entry))
         (now (alpha .entry)) (now (delta .entry)) (now (opening .entry)) i) ⌝ }
 {
     let shape = sizes.shape;
@@ -124,7 +124,7 @@ fn diagonal_sum(
     opening: &[i32],
 ) -> Element
     requires { ⌜ DiagonalFacts sizes (now whole) (now «constant_terms») (now psi) (now alpha) (now delta) (now c) (now opening) ⌝ }
-    ensures { λ x. ⌜ x .coefficients ≡ array (sizes .shape .d) (sum (R (sizes .shape .d)) (sizes .shape .r) (diagonalSummand sizes (now (whole .entry))
+    ensures { λ x. ⌜ x .coefficients ≡ array (sizes .shape .d) (sum (R (sizes .shape .d)) (sizes .shape .r) (diagonalSummand (sizes .shape .d) (sizes .shape .n) (sizes .shape .r) (sizes .k) (sizes .l) (sizes .kappa) (now (whole .entry))
         (now («constant_terms» .entry)) (now (psi .entry)) (now (alpha .entry)) (now (delta .entry)) (now (opening .entry)))) ⌝ }
 {
     let d = sizes.shape.d;

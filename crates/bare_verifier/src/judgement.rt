@@ -3,7 +3,7 @@
 ghost use mathlib.Core.Path.{_≡_};
 ghost use Rattle.fold.specs.Answers.{firstFailing, judged};
 ghost use Rattle.bare.specs.Known.BareFacts.{BareMessageFacts, BareFoldedFacts, BareAggregateFacts};
-ghost use Rattle.bare_verifier.specs.Judgement.{messageChecksOf, foldedChecksOf, aggregateChecksOf, marginOf, byLength};
+ghost use Rattle.bare_verifier.specs.Judgement.{messageChecksOf, foldedChecksOf, aggregateChecksOf, marginOf};
 use crate::aggregate;
 use crate::folded;
 use bare::BareSizes;
@@ -12,7 +12,7 @@ use checks::terms;
 use fold::ConstraintSizes;
 use fold::Verdict;
 use limits::rows::first;
-use residues::length::Margin;
+use verifier::judgement::by_length;
 
 // Checks 1 and 2, which need no opening.
 pub fn message_checks(
@@ -59,16 +59,6 @@ pub fn folded_checks(sizes: BareSizes, a_matrix: &[i32], c: &[i32], opening: &[i
     }
     let four = folded::z_garbage(sizes, c, opening);
     first(four, 4, 0)
-}
-
-// What check 7 says: accepted with what is left of the bound, or failed.
-fn by_length(margin: Margin) -> Verdict
-    ensures { λ v. ⌜ v ≡ byLength margin ⌝ }
-{
-    let Margin::Within(rest) = margin else {
-        return Verdict::Failed(7);
-    };
-    Verdict::Accepted(rest)
 }
 
 // Checks 5, 6 and 7.
@@ -121,5 +111,5 @@ pub fn aggregate_verdict(
         return Verdict::Failed(6);
     }
     let margin = aggregate::z_margin(sizes, c, opening);
-    by_length(margin)
+    by_length(7, margin)
 }

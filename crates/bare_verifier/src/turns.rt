@@ -27,7 +27,7 @@ pub fn turn_element(sizes: BareSizes, c: &[i32], opening: &[i32], e: usize, i: u
 fn turn_summand(sizes: BareSizes, c: &[i32], opening: &[i32], e: usize, i: usize) -> Element
     requires { ⌜ BareOpeningFacts sizes (now c) (now opening) ⌝ }
     requires { ⌜ (e < 3) × (i < sizes .shape .r) ⌝ }
-    ensures { λ x. ⌜ x .coefficients ≡ array (sizes .shape .d) (turnSummand sizes (now (c .entry)) (now (opening .entry)) e i) ⌝ }
+    ensures { λ x. ⌜ x .coefficients ≡ array (sizes .shape .d) (turnSummand (sizes .shape .d) (sizes .shape .n) (sizes .shape .r) (sizes .kappa) (now (c .entry)) (now (opening .entry)) e i) ⌝ }
 {
     let d = sizes.shape.d;
     let challenge = Element::from_slice(d, c, i);
