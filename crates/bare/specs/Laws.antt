@@ -1,1 +1,3 @@
 pub mod InTurnLaws
+pub mod UnmixedLaws
+pub mod BareOpeningLaws
