@@ -1,3 +1,4 @@
 pub mod InTurnLaws
 pub mod UnmixedLaws
 pub mod BareOpeningLaws
+pub mod BareHonestChecks
