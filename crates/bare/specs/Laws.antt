@@ -2,3 +2,5 @@ pub mod InTurnLaws
 pub mod UnmixedLaws
 pub mod BareOpeningLaws
 pub mod BareHonestChecks
+pub mod BareHonestVerdict
+pub mod BareAccepted
