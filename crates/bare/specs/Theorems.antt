@@ -1,0 +1,3 @@
+pub mod BareFormed
+pub mod BareTaken
+pub mod BareHonestRuns
