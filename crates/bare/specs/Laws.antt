@@ -4,3 +4,4 @@ pub mod BareOpeningLaws
 pub mod BareHonestChecks
 pub mod BareHonestVerdict
 pub mod BareAccepted
+pub mod BareDifferences

@@ -1,3 +1,6 @@
 pub mod BareFormed
 pub mod BareTaken
 pub mod BareHonestRuns
+pub mod BareTwoOpenings
+pub mod BareMargin
+pub mod BareRising
