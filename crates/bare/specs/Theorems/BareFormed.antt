@@ -1,20 +1,15 @@
 -- SPECIFICATION 14.9: "The verifier does not refuse the honest messages and bare opening": their lengths are what the sizes give, and every number is in
 -- range. What no call refuses stands in BareTaken.antt.
 --     length-honestOpening, coefficients-honestOpening     the honest bare opening
---     coefficients-barePhi                                 the φ that the turns are lent
 --     honest-formed                                        the verifier's tests
 use mathlib.Core.Path.{_≡_, refl}
 use mathlib.Core.Bool.{true}
-use mathlib.Core.List.{List, []}
-use Prim.Native.Nat.{ℕ, zero, suc, _*_, _<_}
-use native.Mathlib.Nat.{le-step, lt-suc-self}
-use native.Mathlib.Omega.{arith}
+use mathlib.Core.List.{List}
+use Prim.Native.Nat.{_*_}
 use lib.ListN.{length}
 use lib.IntN.{ℤ}
-use Rattle.integers.specs.Flat.{flat}
 use Rattle.residues.specs.Range.{coefficients}
-use Rattle.residues.specs.Laws.RangeLaws.{coefficients-of, coefficients-join}
-use Rattle.ring.specs.Element.{R}
+use Rattle.residues.specs.Laws.RangeLaws.{coefficients-join}
 use Rattle.fold.specs.Answers.{firstFailing}
 use Rattle.fold.specs.Statement.{Relation, Draws}
 use Rattle.fold.specs.Laws.MessageLaws.{length-p, length-b″}
@@ -22,26 +17,16 @@ use Rattle.fold.specs.Laws.MessageRanges.{coefficients-elements, coefficients-p
 use Rattle.fold.specs.Laws.RefusalLaws.{_&_, passes-refusal, allOf-tail, allOf-cons, length-sized}
 use Rattle.fold.specs.Laws.TestLaws.{holds}
 use Rattle.bare.specs.Statement.{BareStatement, BareTranscript}
-use Rattle.bare.specs.Messages.{bareT, barePhi, turn, bareOpening}
+use Rattle.bare.specs.Messages.{bareOpening}
 use Rattle.bare.specs.Opening.{bareSize}
 use Rattle.bare.specs.Honest.{honestTranscript, honestOpening}
 use Rattle.bare.specs.Refusals.{bareProverTests, bareVerifyTests}
 use Rattle.bare.specs.Laws.BareOpeningLaws.{length-bareOpening}
+use Rattle.bare.specs.Laws.BareRanges.{coefficients-flat, coefficients-bareT, coefficients-turn}
 use Rattle.bare.specs.Laws.BareHonestChecks.{length-honestT, length-honestZ, length-honestTurns}
 
--- lists laid out one after the other
-coefficients-flat : (n : ℕ) (F : ℕ → List ℤ) → ((i : ℕ) → i < n → coefficients (F i) ≡ true) → coefficients (flat n F) ≡ true
-unfolding flat
-coefficients-flat zero F h = coefficients-of [] (λ i l. let no : ⊥ = omega arith in absurd no)
-coefficients-flat (suc n) F h =
-    coefficients-join (flat n F) (F n) (coefficients-flat n F (λ i l. h i (le-step l))) (h n (lt-suc-self n))
-
-pub coefficients-barePhi : (d n r : ℕ) (φ : ℕ → ℕ → R d .Carrier) → coefficients (barePhi d n r φ) ≡ true
-unfolding barePhi
-coefficients-barePhi d n r φ = coefficients-flat r _ (λ i _. coefficients-elements d n (φ i))
-
 module _ (𝓢 : BareStatement) (𝓓 : Draws) (s : List ℤ) where
-  open BareStatement 𝓢 using (relation, w, κ)
+  open BareStatement 𝓢 using (relation, w, κ, A)
   open Relation relation using (d, n, r, L, constantTerms)
   open Draws 𝓓 using (projections, ψ, ω)
 
@@ -55,10 +40,10 @@ module _ (𝓢 : BareStatement) (𝓓 : Draws) (s : List ℤ) where
   length-honestOpening = length-bareOpening d n r κ _ _ _ (length-honestT 𝓢 𝓓 s) (length-honestZ 𝓢 𝓓 s) (length-honestTurns 𝓢 𝓓 s)
 
   pub coefficients-honestOpening : coefficients o ≡ true
-  unfolding bareOpening bareT turn
+  unfolding bareOpening
   coefficients-honestOpening =
-      coefficients-join _ _ (coefficients-flat r _ (λ i _. coefficients-elements d κ _))
-      (coefficients-join _ _ (coefficients-elements d n _) (coefficients-flat r _ (λ i _. coefficients-elements d _ _)))
+      coefficients-join _ _ (coefficients-bareT d n r κ A s)
+      (coefficients-join _ _ (coefficients-elements d n _) (coefficients-flat r _ (λ i _. coefficients-turn d n _ _ s i)))
 
   -- the statement, the draws and the witness are not refused: nor are they, with the honest messages, by the verifier
   pub honest-formed : firstFailing (bareProverTests 𝓢 𝓓 s) ≡ 0 → firstFailing (bareVerifyTests 𝓢 𝓓 𝓣 o) ≡ 0

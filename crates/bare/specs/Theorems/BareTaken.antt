@@ -29,7 +29,7 @@ use Rattle.bare.specs.Messages.{four, barePhi}
 use Rattle.bare.specs.Refusals.{bareCommitTests, barePhiTests, bareTurnTests, bareProverTests}
 use Rattle.bare.specs.Refusals.{bareBoundTests, bareGivenLengths, bareGivenRanges, bareDrawTests}
 use Rattle.bare.specs.Laws.BareOpeningLaws.{length-barePhi}
-use Rattle.bare.specs.Theorems.BareFormed.{coefficients-barePhi}
+use Rattle.bare.specs.Laws.BareRanges.{coefficients-barePhi}
 
 -- ---- the challenges before a turn
 
