@@ -4,3 +4,5 @@ pub mod BareHonestRuns
 pub mod BareTwoOpenings
 pub mod BareMargin
 pub mod BareRising
+pub mod ChainEnds
+pub mod BareCalls
