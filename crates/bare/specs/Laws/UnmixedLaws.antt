@@ -1,20 +1,32 @@
 -- Row 14 of SPECIFICATION 7: "at the bare level some constraint has a nonzero a_ij with i < j". The test by index, and what it leaves of the aggregate.
 --     row-14               the test holds exactly when no constraint has mixed products
 --     Mixed, mixed-refused     it fails exactly when some constraint has a nonzero a_ij with i < j
+--     MixedNumbers, mixed-numbers-refused     "nonzero says that some of its d numbers is not 0" (7.l), where the numbers are in range
 --     aggregate-unmixed    then no a_ij with i < j of the aggregate is other than zero
 use mathlib.Core.Path.{_≡_, refl, sym, ap, ap₂, _∙_}
 use mathlib.Core.Logic.{_↔_, _⊎_, inl, inr, _≢_}
 use mathlib.Core.Bool.{true, false}
 use mathlib.Core.List.{List, [], _∷_}
-use Prim.Native.Nat.{ℕ, suc, _+_, _-_, _<_}
+use Prim.Native.Nat.{ℕ, suc, _+_, _*_, _-_, _≤_, _<_}
 use native.Mathlib.Omega.{arith}
-use lib.IntN.{ℤ}
+use lib.Dec.{eqb}
+use lib.ListN.{getD}
+use lib.Seq.{getD-drop}
+use lib.IntN.{ℤ, pos, natAbs}
+use borrow.Author.Tests.{eq-eqb}
 use Rattle.algebra.specs.Sum.{sum}
 use Rattle.algebra.specs.Triangle.{pair}
+use Rattle.algebra.specs.Polynomial.{coeff}
+use Rattle.algebra.specs.Laws.PolynomialLaws.{coeff-zero}
 use Rattle.algebra.specs.Laws.RingLaws.{mul-zero}
 use Rattle.algebra.specs.Laws.SumLaws.{sum-vanish}
-use Rattle.ring.specs.Element.{R, el, every}
-use Rattle.ring.specs.Laws.ElementEquality.{every-true, true-every, every-false, same-iff}
+use Rattle.residues.specs.Modulus.{Zq, red}
+use Rattle.residues.specs.Laws.ModulusLaws.{red-zero, centred-fixed, centred-eq}
+use Rattle.residues.specs.Range.{coefficients}
+use Rattle.residues.specs.Laws.RangeLaws.{coefficients-at}
+use Rattle.ring.specs.Element.{R, el, every, same}
+use Rattle.ring.specs.Laws.ElementPlaces.{coeff-el}
+use Rattle.ring.specs.Laws.ElementEquality.{every-true, true-every, FailsBelow, every-false, same-iff}
 use Rattle.fold.specs.Sizes.{five}
 use Rattle.fold.specs.Statement.{Relation, Draws, wholeAt, termAt}
 use Rattle.fold.specs.Laws.RefusalLaws.{_&_, never-true, false-true, allOf-all, all-allOf, SomeFails, allOf-false}
@@ -63,18 +75,19 @@ module _ (d r : ℕ) (xs : List ℤ) where
 
 -- ---- all constraints
 
--- constraint `place` of so many has one
-pub record SomeMixed (d r count : ℕ) (constraints : ℕ → List ℤ) : Type 0 where
+-- one of so many constraints has P
+pub record SomeConstraint (count : ℕ) (P : ℕ → Type 0) : Type 0 where
   pub place : ℕ
   pub below : place < count
-  pub has : MixedProduct d r (constraints place)
+  pub has : P place
 
 module _ (𝓡 : Relation) where
   open Relation 𝓡 using (d, n, r, K, L, whole, constantTerms)
 
   -- "some constraint has a nonzero a_ij with i < j", of either kind
   abbrev pub Mixed : Type 0
-  Mixed = SomeMixed d r K (wholeAt d n r whole) ⊎ SomeMixed d r L (termAt d n r constantTerms)
+  Mixed =
+      SomeConstraint K (λ k. MixedProduct d r (wholeAt d n r whole k)) ⊎ SomeConstraint L (λ l. MixedProduct d r (termAt d n r constantTerms l))
 
   pub row-14 : (allUnmixed d n r K L whole constantTerms ≡ true) ↔ Unmixed 𝓡
   unfolding allUnmixed
@@ -96,7 +109,8 @@ module _ (𝓡 : Relation) where
   unfolding allUnmixed
   mixed-refused = (λ e. found (allOf-false _ e), λ m. never-true _ (λ e. none m (row-14 .0 e)))
     where
-      some : (count : ℕ) (constraints : ℕ → List ℤ) → every count (λ k. unmixed d r (constraints k)) ≡ false → SomeMixed d r count constraints
+      some : (count : ℕ) (constraints : ℕ → List ℤ) → every count (λ k. unmixed d r (constraints k)) ≡ false
+          → SomeConstraint count (λ k. MixedProduct d r (constraints k))
       some count constraints e =
           let one = every-false count _ e in
           record { place = one .place; below = one .below; has = unmixed-false d r (constraints (one .place)) (one .fails) }
@@ -108,6 +122,82 @@ module _ (𝓡 : Relation) where
       none : Mixed → Unmixed 𝓡 → ⊥
       none (inl m) u = m .has .nonzero (u .wholly (m .place) (m .has .i) (m .has .j) (m .below) (m .has .mixed) (m .has .below))
       none (inr m) u = m .has .nonzero (u .in-constant-term (m .place) (m .has .i) (m .has .j) (m .below) (m .has .mixed) (m .has .below))
+
+-- ---- by numbers
+
+-- the same of a constraint by its numbers, d to an element
+pub record MixedNumber (d r : ℕ) (xs : List ℤ) : Type 0 where
+  pub i : ℕ
+  pub j : ℕ
+  pub x : ℕ
+  pub mixed : i < j
+  pub below : j < r
+  pub inside : x < d
+  pub nonzero : getD xs (pair r i j * d + x) (pos 0) ≢ pos 0
+
+module _ (d r : ℕ) (xs : List ℤ) (small : (k : ℕ) → natAbs (getD xs k (pos 0)) ≤ 2147483598) where
+  zero-at : (p : ℕ) → el d xs p ≡ R d .zero → (x : ℕ) → x < d → getD xs (p * d + x) (pos 0) ≡ pos 0
+  zero-at p e x h =
+      sym (centred-fixed (small (p * d + x)))
+      ∙ centred-eq _ _ (sym (coeff-el d xs p x h) ∙ ap (λ u. coeff Zq u x) e ∙ coeff-zero Zq d x ∙ sym red-zero)
+      ∙ centred-fixed (omega arith)
+
+  -- an element other than zero has such a number
+  number-of : (p : ℕ) → el d xs p ≢ R d .zero → FailsBelow d (λ x. eqb (coeff Zq (el d xs p) x .val) (coeff Zq (R d .zero) x .val))
+  unfolding same
+  number-of p nonzero = every-false d _ (never-true _ (λ e. nonzero (same-iff d _ _ .0 e)))
+
+  pub mixed-number : MixedProduct d r xs ↔ MixedNumber d r xs
+  mixed-number = (
+    λ m.
+        let one = number-of (pair r (m .i) (m .j)) (m .nonzero) in
+        record {
+          i = m .i;
+          j = m .j;
+          x = one .place;
+          mixed = m .mixed;
+          below = m .below;
+          inside = one .below;
+          nonzero = λ e.
+              false-true (sym (one .fails)
+              ∙ eq-eqb _ _ (ap (λ x. x .val)
+              (coeff-el d xs (pair r (m .i) (m .j)) (one .place) (one .below) ∙ ap red e ∙ red-zero ∙ sym (coeff-zero Zq d (one .place)))));
+        },
+    λ m.
+        record {
+          i = m .i;
+          j = m .j;
+          mixed = m .mixed;
+          below = m .below;
+          nonzero = λ e. m .nonzero (zero-at (pair r (m .i) (m .j)) e (m .x) (m .inside));
+        },
+  )
+
+module _ (𝓡 : Relation) where
+  open Relation 𝓡 using (d, n, r, K, L, whole, constantTerms)
+
+  abbrev pub MixedNumbers : Type 0
+  MixedNumbers =
+      SomeConstraint K (λ k. MixedNumber d r (wholeAt d n r whole k)) ⊎ SomeConstraint L (λ l. MixedNumber d r (termAt d n r constantTerms l))
+
+  pub mixed-numbers-refused : coefficients whole ≡ true → coefficients constantTerms ≡ true
+      → (allUnmixed d n r K L whole constantTerms ≡ false) ↔ MixedNumbers
+  unfolding wholeAt termAt
+  mixed-numbers-refused whole-small terms-small = (λ e. to (mixed-refused 𝓡 .0 e), λ m. mixed-refused 𝓡 .1 (back m))
+    where
+      small-whole : (k x : ℕ) → natAbs (getD (wholeAt d n r whole k) x (pos 0)) ≤ 2147483598
+      small-whole k x = rw (getD-drop _ whole x (pos 0)) (coefficients-at whole whole-small _)
+
+      small-term : (l x : ℕ) → natAbs (getD (termAt d n r constantTerms l) x (pos 0)) ≤ 2147483598
+      small-term l x = rw (getD-drop _ constantTerms x (pos 0)) (coefficients-at constantTerms terms-small _)
+
+      to : Mixed 𝓡 → MixedNumbers
+      to (inl m) = inl (record { place = m .place; below = m .below; has = mixed-number d r _ (small-whole (m .place)) .0 (m .has) })
+      to (inr m) = inr (record { place = m .place; below = m .below; has = mixed-number d r _ (small-term (m .place)) .0 (m .has) })
+
+      back : MixedNumbers → Mixed 𝓡
+      back (inl m) = inl (record { place = m .place; below = m .below; has = mixed-number d r _ (small-whole (m .place)) .1 (m .has) })
+      back (inr m) = inr (record { place = m .place; below = m .below; has = mixed-number d r _ (small-term (m .place)) .1 (m .has) })
 
 -- ---- the aggregate
 
