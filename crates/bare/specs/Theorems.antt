@@ -6,3 +6,4 @@ pub mod BareMargin
 pub mod BareRising
 pub mod ChainEnds
 pub mod BareCalls
+pub mod BareRefusals
