@@ -1,4 +1,4 @@
--- Row 14 of SPECIFICATION 7: "at the bare level some constraint has a nonzero a_ij with i < j". The test by index, and what it leaves of the aggregate.
+-- Row 14 of SPECIFICATION 7: "some constraint has a nonzero a_ij with i < j (bare level only)". The test by index, and what it leaves of the aggregate.
 --     row-14               the test holds exactly when no constraint has mixed products
 --     Mixed, mixed-refused     it fails exactly when some constraint has a nonzero a_ij with i < j
 --     MixedNumbers, mixed-numbers-refused     "nonzero says that some of its d numbers is not 0" (7.l), where the numbers are in range

@@ -63,8 +63,8 @@ module _ (sizes : BareSizes) (A whole constantTerms projections ψ ω α δ c s 
       (written-zero _ (committed .answer-is)) (written-zero _ (formed .answer-is)) (written-zero _ amortized) bounds
 
   -- the turns, from 1 to r: u i is what turn i was lent to write to, and g i what it left
-  module _ {v₁ phi : List ℤ} (formed : BarePhiFormed (constraintSizesOf sizes) whole constantTerms projections ψ ω α δ v₁ Written phi) (u g : ℕ → List ℤ)
-      (turned : (i : ℕ) → 1 ≤ i → i ≤ r → BareTurned shape i phi (take ((i - 1) * d) c) s (u i) Written (g i)) where
+  module _ {v₁ phi : List ℤ} (formed : BarePhiFormed (constraintSizesOf sizes) whole constantTerms projections ψ ω α δ v₁ Written phi)
+      (u g : ℕ → List ℤ) (turned : (i : ℕ) → 1 ≤ i → i ≤ r → BareTurned shape i phi (take ((i - 1) * d) c) s (u i) Written (g i)) where
     phi-is : phi ≡ phiOf (constraintSizesOf sizes) whole constantTerms projections ψ ω α δ
     phi-is = left _ _ _ (formed .answer-is) (formed .phi-is)
 

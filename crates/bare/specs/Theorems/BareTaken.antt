@@ -22,7 +22,8 @@ use Rattle.fold.specs.Answers.{firstFailing}
 use Rattle.fold.specs.Sizes.{five}
 use Rattle.fold.specs.Statement.{Relation, Draws}
 use Rattle.fold.specs.Refusals.{degree, shape, counts, sized, challenges, projectTests, aggregateTests, amortizeTests}
-use Rattle.fold.specs.Laws.RefusalLaws.{Passes, _&_, passes-refusal, All, allOf-all, all-allOf, length-sized, sized-length, base-iff, between-tested, challenges-iff}
+use Rattle.fold.specs.Laws.RefusalLaws.{Passes, _&_, passes-refusal, All, allOf-all, all-allOf}
+use Rattle.fold.specs.Laws.RefusalLaws.{length-sized, sized-length, base-iff, between-tested, challenges-iff}
 use Rattle.fold.specs.Laws.TestLaws.{Rows, holds}
 use Rattle.bare.specs.Statement.{BareStatement, bareAggregate}
 use Rattle.bare.specs.Messages.{four, barePhi}

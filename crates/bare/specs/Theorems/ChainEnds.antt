@@ -26,10 +26,11 @@ use Rattle.fold.specs.Statement.{Relation, Meets, Statement, Draws, Transcript}
 use Rattle.fold.specs.Verification.{verification}
 use Rattle.fold.specs.NextInstance.{m, n′, r′, nextWhole, nextWitness, relationOf}
 use Rattle.fold.specs.NextCall.{nextAnswer, nextOut}
-use Rattle.fold.specs.Refusals.{allOf, shape, constraintCount, projectionCount, commitmentRank, lengthBound, sized, inRange, challenges, projectionLength, nextTests}
-use Rattle.fold.specs.Refusals.{constantTermsLength}
+use Rattle.fold.specs.Refusals.{allOf, shape, constraintCount, projectionCount, commitmentRank, lengthBound, sized, inRange, challenges}
+use Rattle.fold.specs.Refusals.{projectionLength, constantTermsLength, nextTests}
 use Rattle.fold.specs.Known.CallLimits.{chunk-limits}
-use Rattle.fold.specs.Laws.RefusalLaws.{_&_, passes-refusal, All, allOf-all, all-allOf, length-sized, rank-iff, parts-iff, constraintCount-iff, rank-least, commitmentRank-most}
+use Rattle.fold.specs.Laws.RefusalLaws.{_&_, passes-refusal, All, allOf-all, all-allOf, length-sized}
+use Rattle.fold.specs.Laws.RefusalLaws.{rank-iff, parts-iff, constraintCount-iff, rank-least, commitmentRank-most}
 use Rattle.fold.specs.Laws.TestLaws.{Rows, holds}
 use Rattle.fold.specs.Laws.VerificationLaws.{AcceptedOpening, accepted-opening}
 use Rattle.fold.specs.Laws.PaddingLaws.{length-padded}
@@ -49,20 +50,23 @@ module _ (𝓑 : BareStatement) (𝓔 : Draws) where
   open Relation relation using (d, n, r, K, L)
   open Draws 𝓔 using (projections, ψ, ω, α, δ, c)
 
-  abbrev pub lentTests : List (ℕ × Bool)
-  lentTests =
-      (2, projectionCount (pos w))
-      ∷ (3, commitmentRank (pos κ))
-      ∷ (6, lengthBound (pos zBound))
-      ∷ (7, allOf
-      (sized A (κ * n * d)
+  abbrev pub lentLengths : List Bool
+  lentLengths =
+      sized A (κ * n * d)
       ∷ sized c (r * d)
       ∷ sized projections (projectionLength d n r w)
       ∷ sized ψ (five * L)
       ∷ sized ω (five * w)
       ∷ sized α (K * d)
       ∷ sized δ (five * d)
-      ∷ []))
+      ∷ []
+
+  abbrev pub lentTests : List (ℕ × Bool)
+  lentTests =
+      (2, projectionCount (pos w))
+      ∷ (3, commitmentRank (pos κ))
+      ∷ (6, lengthBound (pos zBound))
+      ∷ (7, allOf lentLengths)
       ∷ (8, allOf (inRange (A ∷ c ∷ projections ∷ ψ ∷ ω ∷ α ∷ δ ∷ [])))
       ∷ (9, projectionEntries projections)
       ∷ (10, challenges d r c)
