@@ -12,7 +12,7 @@ import random
 from itertools import combinations
 
 import bare
-import chain
+import chains
 import fold
 import ring
 import stored
@@ -372,8 +372,8 @@ def largest_sizes(rng):
 
 def ends_of_chains(rng):
     """The bare level after two folds and one with one z digit, d = 2 and 8, and after one such fold, d = 64: margin 0; one less, failed 7."""
-    for d, shapes, draw in ((2, chain.LONG, coefficients), (8, chain.SHORT, chain.short), (64, chain.ONE_FOLD, chain.short)):
-        levels, (s, x, y) = chain.chain(rng, d, shapes, draw)
+    for d, shapes, draw in ((2, chains.LONG, coefficients), (8, chains.SHORT, chains.short), (64, chains.ONE_FOLD, chains.short)):
+        levels, (s, x, y) = chains.chain(rng, d, shapes, draw)
         assert all(fold.answer("verify", f, lists) == accepted(0) for (f, lists), _ in levels)
         yield VERIFY, s, y, {}, accepted(0)
         if d == 2:

@@ -5,7 +5,7 @@ from contextlib import contextmanager
 
 import bare
 import bare_cases
-import chain
+import chains
 import fold
 import ring
 import sizes
@@ -186,9 +186,9 @@ def test_row_2_of_a_turn():
 
 def check_chain(d, shapes):
     """Every level is accepted with the margin 0, each next witness solves the next instance, and the bare level ends the chain."""
-    levels, (s, x, y) = chain.chain(random.Random(68), d, shapes)
+    levels, (s, x, y) = chains.chain(random.Random(68), d, shapes)
     for level, ((f, lists), witness) in enumerate(levels):
-        assert f.nu * sizes.next_rank(f) == f.n and chain.has_full_chunks(f)
+        assert f.nu * sizes.next_rank(f) == f.n and chains.has_full_chunks(f)
         assert f.tz == (1 if level == len(levels) - 1 else 2)
         assert fold.answer("verify", f, lists) == accepted(0)
         assert ring.squared_norm(witness) == f.target_beta_squared
@@ -205,7 +205,7 @@ def check_chain(d, shapes):
 
 def test_chains():
     """d = 2, 8, 64: two folds with two z digits, one with one, then the bare level, under tight bounds and with full chunks."""
-    for d, shapes in ((2, chain.LONG), (2, chain.SHORT), (8, chain.LONG), (64, chain.SHORT), (64, chain.ONE_FOLD)):
+    for d, shapes in ((2, chains.LONG), (2, chains.SHORT), (8, chains.LONG), (64, chains.SHORT), (64, chains.ONE_FOLD)):
         check_chain(d, shapes)
 
 
