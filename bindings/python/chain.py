@@ -87,12 +87,18 @@ def chain(d, seed=1):
     yield bare, proof, lizkarg.bare_verify(bare, proof)
 
 
+HEAD = "level  parts  elements  witness  opening  verdict"
+
+
+def line(level, sizes, opening, verdict):
+    return f"{level:>5}  {sizes.r:>5}  {sizes.n:>8}  {sizes.r * sizes.n * sizes.d:>7}  {opening:>7}  {verdict}"
+
+
 def main():
-    d = int(sys.argv[1]) if len(sys.argv) > 1 else 2
-    print("level  parts  elements  witness  opening  verdict")
-    for number, (sizes, proof, verdict) in enumerate(chain(d), start=1):
-        name = "bare" if isinstance(sizes, lizkarg.BareSizes) else number
-        print(f"{name:>5}  {sizes.r:>5}  {sizes.n:>8}  {sizes.r * sizes.n * d:>7}  {len(proof.opening):>7}  {verdict}")
+    print(HEAD)
+    for number, (sizes, proof, verdict) in enumerate(chain(int(sys.argv[1]) if len(sys.argv) > 1 else 2), start=1):
+        level = number if number <= len(LEVELS) else "bare"
+        print(line(level, sizes, len(proof.opening), verdict))
 
 
 if __name__ == "__main__":

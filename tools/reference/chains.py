@@ -84,7 +84,7 @@ def folds(rng, d, shapes, draw):
 
 
 def bare_level(rng, last, witness, draw, kappa=1, w=2):
-    """The bare level of the next instance of the last fold: sizes, the prover's lists, the verifier's lists."""
+    """The bare level of the next instance of the last fold, with κ rows of A and w projection rows: sizes, the prover's lists, the verifier's lists."""
     f, y = last
     s = BareSizes(f.d, sizes.next_rank(f), sizes.next_multiplicity(f), sizes.next_constraint_count(f), 0, w, kappa, f.target_beta_squared, 0)
     x = draws(rng, s, bare.LENGTHS, ["a_matrix"], witness, draw)
