@@ -4,7 +4,7 @@ import random
 import sys
 from pathlib import Path
 
-import case
+import case  # which puts the second implementation on the path
 
 import bare
 import chains
