@@ -23,7 +23,8 @@ extern "C" {
 enum { LIZKARG_ACCEPTED = 0, LIZKARG_FAILED = 1, LIZKARG_REFUSED = 2, LIZKARG_WRITTEN = 3 };
 
 /* An answer as two numbers. number: where accepted, the margin (0..999999999999999), which is the target bound minus the squared length of
- * all digits of the opening; the check that failed (1..9); the refusal (1..13, 15); else 0.
+ * all digits of the opening, at the bare level the bound on z minus the squared length of z; the check that failed (1..9, of the bare level
+ * 1..7); the refusal (1..15); else 0.
  *
  * The number has 64 bits because it holds the margin, here and in the three structs below that hold an answer. Code that was built against a
  * header in which it has 8 must be compiled anew. So must code that was built against one in which lizkarg_sizes and lizkarg_part_sizes do
@@ -41,6 +42,15 @@ typedef struct { size_t d, n, r, kappa, kappa1, b1, b2, t1, t2; } lizkarg_commit
 
 /* The sizes of message 4. */
 typedef struct { size_t d, n, r, k, l, w, kappa2, b1, t1; } lizkarg_garbage_sizes;
+
+/* The sizes of both kinds of constraints and of the projection rows. */
+typedef struct { size_t d, n, r, k, l, w; } lizkarg_constraint_sizes;
+
+/* The sizes of the verifier of the bare level; bound is beta^2, z_bound the bound on the squared length of z. */
+typedef struct {
+    size_t d, n, r, k, l, w, kappa;
+    uint64_t bound, z_bound;
+} lizkarg_bare_sizes;
 
 /* The sizes of the verifier; bound is beta^2, target is beta'^2. one_digit: 0, z is in two digits to base b; any other value, z is in one
  * digit, itself, and b is not looked at. An initialiser that leaves it out leaves it 0. Sheets have two z digits: their calls do not look at
@@ -144,7 +154,8 @@ lizkarg_answer lizkarg_verify(lizkarg_sizes sizes,
  * A chain, which folds the next instance in its turn, must cut with nu·n' = n, so that no chunk of z is padded: else the accepted end says
  * nothing of the first statement. Nobody sees the padding, and in a chunk of z it enters check 6: docs/CALLS.md has an example. With full
  * chunks each solution, its padding cut off, is an accepted opening if its low digits are narrow, which no one tests inside a chain, and an
- * accepted last opening gives by itself no opening one fold up. */
+ * accepted last opening gives by itself no opening one fold up. Where the last fold of a chain has one_digit, its next instance can be sent by
+ * lizkarg_bare_commit and the calls after it. */
 lizkarg_answer lizkarg_next_instance(lizkarg_sizes sizes, size_t nu, size_t mu,
     const int32_t *a_matrix, size_t a_matrix_len, const int32_t *b_matrix, size_t b_matrix_len,
     const int32_t *c_matrix, size_t c_matrix_len, const int32_t *d_matrix, size_t d_matrix_len,
@@ -161,6 +172,40 @@ uint8_t lizkarg_next_part_refusal(lizkarg_part_sizes sizes, size_t part, const i
 /* Part number part, from 1, of the next witness, without the zeros that pad it to n' elements: the length numbers of opening from
  * opening + start on. Both are 0 where lizkarg_next_part_refusal is not 0. A last chunk can be empty: then the length alone is 0. */
 lizkarg_part lizkarg_next_part(lizkarg_part_sizes sizes, size_t part, const int32_t *opening, size_t opening_len);
+
+/* The bare level, the last of a chain: nothing is committed to from outside, t is sent in the clear, z whole, and garbage in r turns, each
+ * before the next challenge is known. It takes the next instance of a fold with one_digit, and every other statement in which no a_ij with i < j
+ * is other than 0. p, b'' and z are those of lizkarg_project, lizkarg_aggregate and lizkarg_amortize_one_digit. The bare opening is one list: t
+ * (r·kappa elements, by part, then row), z (n), then the four elements of each turn: r·kappa + n + 4·r elements.
+ *
+ * Takes A (kappa·n elements) and the witness (r·n); writes t. Written, or refused 1 to 3, 7, 8. */
+lizkarg_answer lizkarg_bare_commit(lizkarg_shape shape, size_t kappa,
+    const int32_t *a_matrix, size_t a_matrix_len, const int32_t *witness, size_t witness_len, int32_t *t, size_t t_len);
+
+/* phi of the aggregate, from which the turns are made. Takes both kinds of constraints, the projection rows, psi, omega, alpha and delta as
+ * message 4 does; writes phi (r·n elements, by part). Written, or refused 1, 2, 7 to 9, 14 (an a_ij with i < j of a constraint of either kind is
+ * not 0, whatever its weight). */
+lizkarg_answer lizkarg_bare_phi(lizkarg_constraint_sizes sizes,
+    const int32_t *whole, size_t whole_len, const int32_t *constant_terms, size_t constant_terms_len,
+    const int32_t *projections, size_t projections_len, const int32_t *psi, size_t psi_len, const int32_t *omega, size_t omega_len,
+    const int32_t *alpha, size_t alpha_len, const int32_t *delta, size_t delta_len, int32_t *phi, size_t phi_len);
+
+/* Turn i, from 1 to r. Takes phi, the challenges before the turn (exactly i - 1 elements) and the witness; writes the turn's garbage (4 elements):
+ * the sum over j < i of (<phi_j,s_i> + <phi_i,s_j>)·c_j; <phi_i,s_i>; twice the sum over j < i of <s_i,s_j>·c_j; <s_i,s_i>. Written, or refused 1,
+ * 2 (also for a turn that is not 1 to r), 7, 8, 10. */
+lizkarg_answer lizkarg_bare_turn(lizkarg_shape shape, size_t turn,
+    const int32_t *phi, size_t phi_len, const int32_t *c, size_t c_len, const int32_t *witness, size_t witness_len,
+    int32_t *garbage, size_t garbage_len);
+
+/* The verifier of the bare level. Accepted with the margin, z_bound minus the squared length of z; failed with the first of its checks that
+ * fails: 1 projection, 2 constant terms, 3 A z, 4 the garbage equation of z, 5 that of phi, 6 the aggregate, 7 the length of z; or refused 1 to 3, 6
+ * to 10, 14 (as lizkarg_bare_phi). */
+lizkarg_answer lizkarg_bare_verify(lizkarg_bare_sizes sizes,
+    const int32_t *a_matrix, size_t a_matrix_len, const int32_t *whole, size_t whole_len,
+    const int32_t *constant_terms, size_t constant_terms_len, const int32_t *projections, size_t projections_len,
+    const int32_t *p, size_t p_len, const int32_t *psi, size_t psi_len, const int32_t *omega, size_t omega_len,
+    const int32_t *second_b, size_t second_b_len, const int32_t *alpha, size_t alpha_len, const int32_t *delta, size_t delta_len,
+    const int32_t *c, size_t c_len, const int32_t *opening, size_t opening_len);
 
 /* Judges a sheet as the program does: accepted with the margin; failed with the first check that fails; or refused 12 (also where the text
  * is longer than 65536 bytes), 1 to 6, 8 to 10, 15. */

@@ -53,6 +53,29 @@ typedef struct {
     lizkarg_list opening;        /* the digits of z, t, g, h; messages 1, 4 and 5 write them */
 } lizkarg_proof;
 
+/* The lists of the verifier of the bare level, in the order of its arguments; with k, l, r, w and kappa of lizkarg_bare_sizes. */
+typedef struct {
+    lizkarg_list a_matrix;       /* A: kappa rows of n elements */
+    lizkarg_list whole;          /* as in lizkarg_proof, no a_ij with i < j other than 0 */
+    lizkarg_list constant_terms; /* likewise */
+    lizkarg_list projections;    /* drawn: w rows of r·n elements, each number -1, 0 or 1 */
+    lizkarg_list p;              /* message 2: w numbers */
+    lizkarg_list psi;            /* drawn: 5 rows of l numbers */
+    lizkarg_list omega;          /* drawn: 5 rows of w numbers */
+    lizkarg_list second_b;       /* message 3: 5 elements b'' */
+    lizkarg_list alpha;          /* drawn: k elements */
+    lizkarg_list delta;          /* drawn: 5 elements */
+    lizkarg_list c;              /* drawn one by one, c_i after turn i: r challenges, by the rule at lizkarg_amortize */
+    lizkarg_list opening;        /* t, z, then the garbage of each turn */
+} lizkarg_bare_proof;
+
+/* The parts of a bare opening. */
+typedef struct {
+    lizkarg_list t;     /* by part, then row: r·kappa elements */
+    lizkarg_list z;     /* n elements */
+    lizkarg_list turns; /* 4 elements a turn: mixed phi, own phi, mixed z, own z */
+} lizkarg_bare_parts;
+
 /* The parts of an opening. */
 typedef struct {
     lizkarg_list z; /* z low, z high: n elements each; with one_digit z: n elements */
@@ -87,6 +110,23 @@ static inline lizkarg_garbage_sizes lizkarg_garbage_sizes_of(lizkarg_sizes s) {
 
 static inline lizkarg_part_sizes lizkarg_part_sizes_of(lizkarg_sizes s, size_t nu, size_t mu) {
     lizkarg_part_sizes sizes = {s.d, s.n, s.r, s.kappa, s.t1, s.t2, nu, mu, s.one_digit};
+    return sizes;
+}
+
+/* What lizkarg_bare_phi takes of the sizes of the bare level; and what lizkarg_project, lizkarg_aggregate and lizkarg_bare_commit take. */
+static inline lizkarg_constraint_sizes lizkarg_constraint_sizes_of(lizkarg_bare_sizes s) {
+    lizkarg_constraint_sizes sizes = {s.d, s.n, s.r, s.k, s.l, s.w};
+    return sizes;
+}
+
+static inline lizkarg_shape lizkarg_bare_shape_of(lizkarg_bare_sizes s) {
+    lizkarg_shape shape = {s.d, s.n, s.r};
+    return shape;
+}
+
+/* The sizes of a fold with one_digit that has those of the bare level, and the least of all others: the lists that both have are as long. */
+static inline lizkarg_sizes lizkarg_bare_as_fold(lizkarg_bare_sizes s) {
+    lizkarg_sizes sizes = {s.d, s.n, s.r, s.k, s.l, s.w, s.kappa, 1, 1, 0, 2, 2, 2, 2, s.bound, 0, 1};
     return sizes;
 }
 
@@ -190,6 +230,33 @@ static inline size_t lizkarg_next_length(lizkarg_sizes s, size_t nu, size_t mu) 
     return rank ? lizkarg_next_constraints(s) * (lizkarg_pairs(parts) + parts * rank + 1) * s.d : 0;
 }
 
+/* The sizes of the next instance of a fold with one_digit, sent bare with w projection rows and kappa rows of A. */
+static inline lizkarg_bare_sizes lizkarg_bare_sizes_of_next(lizkarg_sizes s, size_t nu, size_t mu, size_t w, size_t kappa, uint64_t z_bound) {
+    lizkarg_bare_sizes sizes = {s.d, lizkarg_next_rank(s, nu, mu), lizkarg_next_parts(s, nu, mu), lizkarg_next_constraints(s), 0, w, kappa, s.target, z_bound};
+    return sizes;
+}
+
+/* ---- lengths of the bare level, in numbers: 0 where the sizes are outside their limits. Its other lists are as long as those of
+ * lizkarg_bare_as_fold(sizes): lizkarg_a_matrix_length and so on. */
+
+static inline size_t lizkarg_bare_t_length(lizkarg_bare_sizes s) { return lizkarg_limited(lizkarg_bare_as_fold(s), s.r * s.kappa * s.d); }
+static inline size_t lizkarg_bare_z_length(lizkarg_bare_sizes s) { return lizkarg_limited(lizkarg_bare_as_fold(s), s.n * s.d); }
+static inline size_t lizkarg_bare_phi_length(lizkarg_bare_sizes s) { return lizkarg_witness_length(lizkarg_bare_as_fold(s)); }
+/* The garbage of one turn. */
+static inline size_t lizkarg_bare_garbage_length(lizkarg_bare_sizes s) { return lizkarg_limited(lizkarg_bare_as_fold(s), 4 * s.d); }
+static inline size_t lizkarg_bare_opening_length(lizkarg_bare_sizes s) {
+    size_t turns = lizkarg_limited(lizkarg_bare_as_fold(s), s.r * lizkarg_bare_garbage_length(s));
+    return lizkarg_bare_t_length(s) + lizkarg_bare_z_length(s) + turns;
+}
+
+/* All lists of a proof of the bare level together. */
+static inline size_t lizkarg_bare_proof_length(lizkarg_bare_sizes sizes) {
+    lizkarg_sizes s = lizkarg_bare_as_fold(sizes);
+    return lizkarg_a_matrix_length(s) + lizkarg_whole_length(s) + lizkarg_constant_terms_length(s) + lizkarg_projections_length(s)
+        + lizkarg_p_length(s) + lizkarg_psi_length(s) + lizkarg_omega_length(s) + lizkarg_second_b_length(s) + lizkarg_alpha_length(s)
+        + lizkarg_delta_length(s) + lizkarg_c_length(s) + lizkarg_bare_opening_length(sizes);
+}
+
 /* ---- lists out of a longer one */
 
 /* The first `length` numbers of rest, which holds those after them from then on. */
@@ -237,6 +304,37 @@ static inline lizkarg_digits lizkarg_digits_of(lizkarg_sizes s, lizkarg_list ope
     digits.g = lizkarg_cut(&opening, lizkarg_g_length(s));
     digits.h = lizkarg_cut(&opening, lizkarg_h_length(s));
     return digits;
+}
+
+/* The proof of the bare level whose lists stand in numbers one after another. Where numbers is not lizkarg_bare_proof_length long every list is
+ * empty, and the verifier refuses: by 7 if not by 1 to 3 or 6. */
+static inline lizkarg_bare_proof lizkarg_bare_proof_of(lizkarg_bare_sizes sizes, lizkarg_list numbers) {
+    lizkarg_sizes s = lizkarg_bare_as_fold(sizes);
+    lizkarg_bare_proof proof;
+    if (numbers.length != lizkarg_bare_proof_length(sizes)) numbers.length = 0;
+    proof.a_matrix = lizkarg_cut(&numbers, lizkarg_a_matrix_length(s));
+    proof.whole = lizkarg_cut(&numbers, lizkarg_whole_length(s));
+    proof.constant_terms = lizkarg_cut(&numbers, lizkarg_constant_terms_length(s));
+    proof.projections = lizkarg_cut(&numbers, lizkarg_projections_length(s));
+    proof.p = lizkarg_cut(&numbers, lizkarg_p_length(s));
+    proof.psi = lizkarg_cut(&numbers, lizkarg_psi_length(s));
+    proof.omega = lizkarg_cut(&numbers, lizkarg_omega_length(s));
+    proof.second_b = lizkarg_cut(&numbers, lizkarg_second_b_length(s));
+    proof.alpha = lizkarg_cut(&numbers, lizkarg_alpha_length(s));
+    proof.delta = lizkarg_cut(&numbers, lizkarg_delta_length(s));
+    proof.c = lizkarg_cut(&numbers, lizkarg_c_length(s));
+    proof.opening = lizkarg_cut(&numbers, lizkarg_bare_opening_length(sizes));
+    return proof;
+}
+
+/* The parts of a bare opening; all empty where it is not lizkarg_bare_opening_length long. */
+static inline lizkarg_bare_parts lizkarg_bare_parts_of(lizkarg_bare_sizes s, lizkarg_list opening) {
+    lizkarg_bare_parts parts;
+    if (opening.length != lizkarg_bare_opening_length(s)) opening.length = 0;
+    parts.t = lizkarg_cut(&opening, lizkarg_bare_t_length(s));
+    parts.z = lizkarg_cut(&opening, lizkarg_bare_z_length(s));
+    parts.turns = opening;
+    return parts;
 }
 
 /* ---- the calls
@@ -294,6 +392,61 @@ static inline lizkarg_answer lizkarg_proof_verify(lizkarg_sizes sizes, const liz
 /* The next instance; writes out, which is lizkarg_next_length long. The opening is not looked at. In a chain lizkarg_full_chunks must hold. */
 static inline lizkarg_answer lizkarg_proof_next_instance(lizkarg_sizes sizes, size_t nu, size_t mu, const lizkarg_proof *proof, lizkarg_list out) {
     return lizkarg_next_instance(sizes, nu, mu, LIZKARG_STATEMENT_DRAWS_MESSAGES, LIZKARG_LIST(out));
+}
+
+/* ---- the calls of the bare level
+ *
+ * As above. t, z and the garbage of each turn are written into the opening; where that is not lizkarg_bare_opening_length long the call is refused by
+ * 7 if not by a lower number. */
+
+/* t: from the matrix A. */
+static inline lizkarg_answer lizkarg_bare_proof_commit(lizkarg_bare_sizes sizes, lizkarg_list witness, lizkarg_bare_proof *proof) {
+    lizkarg_bare_parts parts = lizkarg_bare_parts_of(sizes, proof->opening);
+    return lizkarg_bare_commit(lizkarg_bare_shape_of(sizes), sizes.kappa, LIZKARG_LIST(proof->a_matrix), LIZKARG_LIST(witness), LIZKARG_LIST(parts.t));
+}
+
+/* Message 2: from the projections; writes p. */
+static inline lizkarg_answer lizkarg_bare_proof_project(lizkarg_bare_sizes sizes, lizkarg_list witness, lizkarg_bare_proof *proof) {
+    return lizkarg_project(lizkarg_bare_shape_of(sizes), sizes.w, LIZKARG_LIST(proof->projections), LIZKARG_LIST(witness), LIZKARG_LIST(proof->p));
+}
+
+/* Message 3: from the constant-term constraints, projections, psi and omega; writes second_b. */
+static inline lizkarg_answer lizkarg_bare_proof_aggregate(lizkarg_bare_sizes sizes, lizkarg_list witness, lizkarg_bare_proof *proof) {
+    return lizkarg_aggregate(lizkarg_bare_shape_of(sizes), sizes.l, sizes.w, LIZKARG_LIST(proof->constant_terms), LIZKARG_LIST(proof->projections),
+        LIZKARG_LIST(proof->psi), LIZKARG_LIST(proof->omega), LIZKARG_LIST(witness), LIZKARG_LIST(proof->second_b));
+}
+
+/* phi, from both kinds of constraints, projections, psi, omega, alpha and delta; writes phi, which is lizkarg_bare_phi_length long and no list of the
+ * proof. */
+static inline lizkarg_answer lizkarg_bare_proof_phi(lizkarg_bare_sizes sizes, const lizkarg_bare_proof *proof, lizkarg_list phi) {
+    return lizkarg_bare_phi(lizkarg_constraint_sizes_of(sizes), LIZKARG_LIST(proof->whole), LIZKARG_LIST(proof->constant_terms),
+        LIZKARG_LIST(proof->projections), LIZKARG_LIST(proof->psi), LIZKARG_LIST(proof->omega), LIZKARG_LIST(proof->alpha),
+        LIZKARG_LIST(proof->delta), LIZKARG_LIST(phi));
+}
+
+/* Turn number turn, from 1: from phi and the challenges before it, the first turn - 1 of c; writes its garbage. The other challenges are not
+ * looked at. */
+static inline lizkarg_answer lizkarg_bare_proof_turn(lizkarg_bare_sizes sizes, size_t turn, lizkarg_list phi, lizkarg_list witness, lizkarg_bare_proof *proof) {
+    lizkarg_list turns = lizkarg_bare_parts_of(sizes, proof->opening).turns, c = proof->c, garbage = {NULL, 0};
+    if (turns.length && 1 <= turn && turn <= sizes.r) {
+        lizkarg_cut(&turns, (turn - 1) * lizkarg_bare_garbage_length(sizes));
+        garbage = lizkarg_cut(&turns, lizkarg_bare_garbage_length(sizes));
+        if (c.length > (turn - 1) * sizes.d) c.length = (turn - 1) * sizes.d;
+    }
+    return lizkarg_bare_turn(lizkarg_bare_shape_of(sizes), turn, LIZKARG_LIST(phi), LIZKARG_LIST(c), LIZKARG_LIST(witness), LIZKARG_LIST(garbage));
+}
+
+/* z, from all challenges. */
+static inline lizkarg_answer lizkarg_bare_proof_amortize(lizkarg_bare_sizes sizes, lizkarg_list witness, lizkarg_bare_proof *proof) {
+    lizkarg_bare_parts parts = lizkarg_bare_parts_of(sizes, proof->opening);
+    return lizkarg_amortize_one_digit(lizkarg_bare_shape_of(sizes), LIZKARG_LIST(proof->c), LIZKARG_LIST(witness), LIZKARG_LIST(parts.z));
+}
+
+/* The verdict on the bare level. */
+static inline lizkarg_answer lizkarg_bare_proof_verify(lizkarg_bare_sizes sizes, const lizkarg_bare_proof *proof) {
+    return lizkarg_bare_verify(sizes, LIZKARG_LIST(proof->a_matrix), LIZKARG_LIST(proof->whole), LIZKARG_LIST(proof->constant_terms),
+        LIZKARG_LIST(proof->projections), LIZKARG_LIST(proof->p), LIZKARG_LIST(proof->psi), LIZKARG_LIST(proof->omega),
+        LIZKARG_LIST(proof->second_b), LIZKARG_LIST(proof->alpha), LIZKARG_LIST(proof->delta), LIZKARG_LIST(proof->c), LIZKARG_LIST(proof->opening));
 }
 
 #undef LIZKARG_STATEMENT_DRAWS_MESSAGES

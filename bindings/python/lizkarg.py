@@ -14,7 +14,8 @@
     >>> print(lizkarg.judge_sheet(open("examples/class-changed-digit.sheet", "rb").read()))
     failed: check 5, A z is not the sum of the c_i t_i
 
-`prove` makes a proof; `commit`, `project`, `aggregate`, `commit_garbage` and `amortize` are its five messages. A list holds ring elements one after
+`prove` makes a proof; `commit`, `project`, `aggregate`, `commit_garbage` and `amortize` are its five messages. `prove_bare` makes the last level of a chain,
+sent bare; `bare_commit`, `project`, `aggregate`, `bare_phi`, `bare_turn` and `amortize` are its messages. A list holds ring elements one after
 another, d numbers each, lowest power first, from -2147483598 to 2147483598; `lengths` says how long each list is. A call that refuses raises
 Refused, with the number of the row. The library is target/staticlib/liblizkarg.so, which bindings/python/build writes; LIZKARG_SO names another.
 """
@@ -36,7 +37,7 @@ class Refused(Exception):
 
     ROWS = {
         1: "the degree d is not 2, 4, 8, 16, 32 or 64",
-        2: "n, r, K, L, w or a part number is outside its limits",
+        2: "n, r, K, L, w or a part or turn number is outside its limits",
         3: "a commitment rank is not 1 to 8",
         4: "a base is not 2 to 65536 or a digit count is not 2 to 8",
         5: "nu or mu is below 1, or they cut into more than 16 parts",
@@ -48,6 +49,7 @@ class Refused(Exception):
         11: "the next instance has more than 256 elements to a part",
         12: "the text is no sheet, or longer than 65536 bytes",
         13: "the buffer is shorter than the text",
+        14: "a constraint of the bare level has a nonzero a_ij with i < j",
         15: "a low digit is more than half its base",
     }
 
@@ -92,6 +94,29 @@ class Failed:
 
     def __str__(self):
         return f"failed: check {self.check}, {self.CHECKS[self.check - 1]}"
+
+
+class BareAccepted(Accepted):
+    """All seven checks of the bare level hold. The margin is the bound on z minus the squared length of z."""
+
+    def __str__(self):
+        return f"accepted: all seven checks of the bare level hold, margin {self.margin}"
+
+
+class BareFailed(Failed):
+    """The first check of the bare level that fails."""
+
+    CHECKS = (
+        *Failed.CHECKS[:2],
+        "A z is not the sum of the c_i t_i",
+        "<z,z> is not what the garbage of z gives",
+        "the sum of <phi_i,z> c_i is not what the garbage of phi gives",
+        "the aggregated constraint does not hold",
+        "z is longer than the bound on z",
+    )
+
+    def __str__(self):
+        return f"failed: the bare level's check {self.check}, {self.CHECKS[self.check - 1]}"
 
 
 # ---- sizes and lists
@@ -140,6 +165,37 @@ class Proof(NamedTuple):
     opening: List[int]  # message 5: z low, z high, or z in one digit; the digits of t, g and h
 
 
+class BareSizes(NamedTuple):
+    """The sizes and bounds of the bare level. `project`, `aggregate` and `amortize` take them too; then z is whole."""
+
+    d: int  # the degree: 2, 4, 8, 16, 32 or 64
+    n: int  # elements to a part of the witness: 1 to 256
+    r: int  # parts of the witness, and turns: 1 to 16
+    k: int  # whole constraints: 0 to 32
+    l: int  # constant-term constraints: 0 to 32
+    w: int  # projection rows: 0 to 256
+    kappa: int  # rows of A: 1 to 8
+    bound: int  # β²: 0 to 999999999999999
+    z_bound: int  # the bound on the squared length of z: 0 to 999999999999999
+
+
+class BareProof(NamedTuple):
+    """All lists of the verifier of the bare level, in its order; those of the same name as in Proof. No constraint has an a_ij with i < j other than 0."""
+
+    a_matrix: List[int]
+    whole: List[int]
+    constant_terms: List[int]
+    projections: List[int]
+    p: List[int]  # message 2
+    psi: List[int]
+    omega: List[int]
+    second_b: List[int]  # message 3
+    alpha: List[int]
+    delta: List[int]
+    c: List[int]  # c_i is drawn after turn i
+    opening: List[int]  # t (by part, then row), z, then the four elements of each turn
+
+
 class Sheet(NamedTuple):
     """A sheet that was read."""
 
@@ -156,6 +212,14 @@ class NextSizes(NamedTuple):
     r: int  # r' = 2ν+μ, with one z digit ν+μ: the parts
     k: int  # K' = κ+κ1+κ2+3, the constraints, all of the whole kind
     whole: int  # how many numbers the constraints have
+
+
+def _as_fold(sizes):
+    """The sizes of the bare level as those of a fold with one z digit, and the least of all others; sizes of a fold as they are."""
+    if not isinstance(sizes, BareSizes):
+        return sizes
+    s = sizes
+    return Sizes(s.d, s.n, s.r, s.k, s.l, s.w, s.kappa, 1, 1, None, 2, 2, 2, 2, s.bound, 0)
 
 
 def z_digits(sizes):
@@ -175,6 +239,13 @@ def lengths(sizes):
         "p": s.w, "psi": FIVE * s.l, "omega": FIVE * s.w, "second_b": FIVE * s.d, "alpha": s.k * s.d, "delta": FIVE * s.d, "u2": s.kappa2 * s.d,
         "c": s.r * s.d, "opening": (z + t + g + h) * s.d, "witness": s.r * s.n * s.d, "z": z * s.d, "t": t * s.d, "g": g * s.d, "h": h * s.d,
     }
+
+
+def bare_lengths(sizes):
+    """How many numbers each list of the bare level has, by name: the lists of BareProof, the witness, t, phi, z, and the garbage of a turn."""
+    s, known = sizes, lengths(_as_fold(sizes))
+    own = {"t": s.r * s.kappa * s.d, "phi": s.r * s.n * s.d, "z": s.n * s.d, "garbage": 4 * s.d, "opening": (s.r * s.kappa + s.n + 4 * s.r) * s.d}
+    return {**{name: known[name] for name in BareProof._fields + ("witness",)}, **own}
 
 
 def next_sizes(sizes, nu, mu):
@@ -198,7 +269,7 @@ def has_full_chunks(sizes, nu, mu):
 
 # ---- the library
 
-_TYPES = {"bound": ctypes.c_uint64, "target": ctypes.c_uint64, "one_digit": ctypes.c_uint8}
+_TYPES = {"bound": ctypes.c_uint64, "target": ctypes.c_uint64, "z_bound": ctypes.c_uint64, "one_digit": ctypes.c_uint8}
 
 
 def _struct(name, fields):
@@ -211,6 +282,8 @@ _GarbageSizes = _struct("_GarbageSizes", "d n r k l w kappa2 b1 t1")
 _Sizes = _struct("_Sizes", " ".join(Sizes._fields) + " one_digit")
 _PartSizes = _struct("_PartSizes", "d n r kappa t1 t2 nu mu one_digit")
 _Part = _struct("_Part", "start length")
+_ConstraintSizes = _struct("_ConstraintSizes", "d n r k l w")
+_BareSizes = _struct("_BareSizes", " ".join(BareSizes._fields))
 _HEADER = "d n r k l w kappa kappa1 kappa2 b b1 b2 t1 t2 nu mu bound target".split()
 
 
@@ -243,7 +316,8 @@ def _library():
         "multiply": _Product, "next_part_refusal": ctypes.c_uint8, "next_part": _Part, "sheet_numbers": ctypes.c_size_t, "read_sheet": _Sheet,
         "sheet_bytes": ctypes.c_size_t, "write_sheet": _Text,
     }
-    for name in [*"commit project aggregate commit_garbage amortize amortize_one_digit verify next_instance judge_sheet".split(), *results]:
+    answers = "commit project aggregate commit_garbage amortize amortize_one_digit verify next_instance judge_sheet bare_commit bare_phi bare_turn bare_verify"
+    for name in [*answers.split(), *results]:
         getattr(library, "lizkarg_" + name).restype = results.get(name, _Answer)
     return library
 
@@ -278,13 +352,14 @@ def _bytes(text):
 
 def _sized(kind, sizes, **more):
     """The sizes that a call takes; a negative one stands as one that is past every limit. Without a base z has one digit, and b, which is not looked at, is 0."""
-    values = {**sizes._asdict(), **more, "one_digit": z_digits(sizes) == 1, "b": 0 if sizes.b is None else sizes.b}
+    fold = _as_fold(sizes)
+    values = {**fold._asdict(), **sizes._asdict(), **more, "one_digit": z_digits(fold) == 1, "b": 0 if fold.b is None else fold.b}
     return kind(*(values[field] if 0 <= values[field] < 2**64 else 2**64 - 1 for field, _ in kind._fields_))
 
 
 def _room(sizes, *names):
     """Lists to write to, of the lengths that the sizes give; empty where the sizes are past their limits, which the call refuses."""
-    known = lengths(sizes)
+    known = bare_lengths(sizes) if isinstance(sizes, BareSizes) else lengths(sizes)
     return [_zeros(known[name]) for name in names]
 
 
@@ -301,10 +376,10 @@ def _written(answer, *outs):
     return lists[0] if len(lists) == 1 else lists
 
 
-def _judged(answer):
+def _judged(answer, accepted=Accepted, failed=Failed):
     if answer.kind == 2:
         raise Refused(answer.number)
-    return Accepted(answer.number) if answer.kind == 0 else Failed(answer.number)
+    return accepted(answer.number) if answer.kind == 0 else failed(answer.number)
 
 
 # ---- the calls
@@ -350,7 +425,7 @@ def commit_garbage(sizes, whole, constant_terms, projections, psi, omega, alpha,
 def amortize(sizes, c, witness):
     """Message 5: z low, then z high, or z in one digit. Refused 1, 2, 4, 7, 8, 10, with one digit not 4."""
     outs = _room(sizes, "z")
-    if sizes.b is None:
+    if _as_fold(sizes).b is None:
         return _written(_call("amortize_one_digit", _sized(_Shape, sizes), _numbers(c), _numbers(witness), *outs), *outs)
     return _written(_call("amortize", _sized(_Shape, sizes), sizes.b, _numbers(c), _numbers(witness), *outs), *outs)
 
@@ -370,11 +445,45 @@ def verify(sizes, proof):
     return _judged(_call("verify", _sized(_Sizes, sizes), *map(_numbers, proof)))
 
 
+def bare_commit(sizes, a_matrix, witness):
+    """t of the bare level, in the clear. Refused 1, 2, 3, 7, 8."""
+    outs = _room(sizes, "t")
+    return _written(_call("bare_commit", _sized(_Shape, sizes), sizes.kappa, _numbers(a_matrix), _numbers(witness), *outs), *outs)
+
+
+def bare_phi(sizes, whole, constant_terms, projections, psi, omega, alpha, delta):
+    """φ of the aggregate, which the turns take. Refused 1, 2, 7 to 9, 14."""
+    outs = _room(sizes, "phi")
+    lists = map(_numbers, (whole, constant_terms, projections, psi, omega, alpha, delta))
+    return _written(_call("bare_phi", _sized(_ConstraintSizes, sizes), *lists, *outs), *outs)
+
+
+def bare_turn(sizes, turn, phi, c, witness):
+    """The four elements of a turn, from 1 to r; c are the challenges before it, turn - 1 elements. Refused 1, 2, 7, 8, 10."""
+    outs = _room(sizes, "garbage")
+    return _written(_call("bare_turn", _sized(_Shape, sizes), turn, _numbers(phi), _numbers(c), _numbers(witness), *outs), *outs)
+
+
+def prove_bare(sizes, witness, *, a_matrix, whole, constant_terms, projections, psi, omega, alpha, delta, c):
+    """The proof of the bare level, where everything is drawn already. bindings/python/chain.py is an example."""
+    t = bare_commit(sizes, a_matrix, witness)
+    p = project(sizes, projections, witness)
+    second_b = aggregate(sizes, constant_terms, projections, psi, omega, witness)
+    phi = bare_phi(sizes, whole, constant_terms, projections, psi, omega, alpha, delta)
+    turns = [x for turn in range(1, sizes.r + 1) for x in bare_turn(sizes, turn, phi, c[:(turn - 1) * sizes.d], witness)]
+    return BareProof(a_matrix, whole, constant_terms, projections, p, psi, omega, second_b, alpha, delta, c, t + amortize(sizes, c, witness) + turns)
+
+
+def bare_verify(sizes, proof):
+    """The verdict on the bare level: BareAccepted(margin) or BareFailed(check). Refused 1 to 3, 6 to 10, 14."""
+    return _judged(_call("bare_verify", _sized(_BareSizes, sizes), *map(_numbers, proof)), BareAccepted, BareFailed)
+
+
 def next_instance(sizes, nu, mu, proof):
     """The constraints of the next instance, one list; Failed(1) or Failed(2) where that check fails. The opening is not looked at. Refused 1 to 11.
 
     A chain must cut with ν·n' = n (`has_full_chunks`): else its accepted end says nothing of the first statement.
-    docs/CALLS.md says what a chain with full chunks shows, and what it does not.
+    docs/CALLS.md says what a chain with full chunks shows, and what it does not. That of a fold with one z digit can be sent bare: `prove_bare`.
     """
     out = _zeros(next_sizes(sizes, nu, mu).whole if nu > 0 and mu > 0 else 0)
     answer = _call("next_instance", _sized(_Sizes, sizes), nu, mu, *map(_numbers, proof[:-1]), out)

@@ -15,7 +15,11 @@ from pathlib import Path
 ROOT = Path(__file__).resolve().parent.parent.parent
 sys.path[:0] = [str(Path(__file__).resolve().parent), str(ROOT / "tools/reference"), str(ROOT / "tools/class")]
 
+import bare
+import bare_cases
+import bare_fixtures
 import case
+import chain
 import examples
 import fold
 import lizkarg
@@ -26,7 +30,7 @@ import sizes as reference
 from fixtures import SMALL, challenges, honest, margin_sides, random_lists, random_sizes, sides_of_challenges, uniform
 from library import library_sizes as taken
 from library import library_answer, library_verdict
-from lizkarg import Accepted, Failed, Proof, Refused
+from lizkarg import Accepted, BareAccepted, BareFailed, BareProof, BareSizes, Failed, Proof, Refused
 
 GIVEN = [name for name in Proof._fields if name not in ("u1", "p", "second_b", "u2", "opening")] + ["witness"]
 
@@ -71,10 +75,15 @@ def test_answers():
     assert str(Failed(9)) == "failed: check 9, the digits are longer than the target bound"
     assert str(Refused(7)) == "refused: 7, a list's length is not what the sizes give"
     assert str(Refused(13)) == "refused: 13, the buffer is shorter than the text"
+    assert str(Refused(14)) == "refused: 14, a constraint of the bare level has a nonzero a_ij with i < j"
+    assert BareAccepted(0) and not BareFailed(3) and BareAccepted(7) != Accepted(7) and BareFailed(3) != Failed(3)
+    assert str(BareAccepted(7)) == "accepted: all seven checks of the bare level hold, margin 7"
+    assert str(BareFailed(4)) == "failed: the bare level's check 4, <z,z> is not what the garbage of z gives"
+    assert len({str(BareFailed(check)) for check in range(1, 8)}) == 7
     assert str(Refused(15)) == "refused: 15, a low digit is more than half its base"
-    # the command verdict --words says the same; but it knows no parts
+    # the command verdict --words says the same; but it knows no parts and no turns
     said = re.findall(r"[012]\.[0-9*]+\) echo (?:'([^']*)'|\"([^\"]*)\") ;;", (ROOT / "verdict").read_text())
-    rows = [str(Refused(number)).replace("L, w or a part number", "L or w") for number in (1, 2, 3, 4, 5, 6, 8, 9, 10, 12, 15)]
+    rows = [str(Refused(number)).replace("L, w or a part or turn number", "L or w") for number in (1, 2, 3, 4, 5, 6, 8, 9, 10, 12, 15)]
     assert [one or other for one, other in said] == [str(Accepted("$2")), *(str(Failed(check)) for check in range(1, 10)), *rows]
 
 
@@ -137,6 +146,115 @@ def test_one_digit(count=40):
         assert found == row, (nu, mu)
     assert [refusal(lizkarg.next_part, z, 8, 1, part, proof.opening) for part in (0, 1, 9, 10)] == [2, 0, 0, 2]
     assert [refusal(lizkarg.next_part, z, 16, 1, part, proof.opening) for part in (17, 18)] == [5, 2]
+
+
+def bare_taken(s):
+    """The sizes of the second implementation, as the library's."""
+    return BareSizes(s.d, s.n, s.r, s.K, s.L, s.w, s.kappa, s.beta_squared, s.z_bound)
+
+
+def bare_lists(y):
+    return BareProof(**{"opening" if name == "bare_opening" else name: numbers for name, numbers in y.items()})
+
+
+def bare_given(x):
+    """The lists that prove_bare takes."""
+    return {name: x[name] for name in (*(name for name in BareProof._fields if name not in ("p", "second_b", "opening")), "witness")}
+
+
+def bare_call(number, s, x):
+    """A call of the bare level by its number in the stored cases."""
+    z = bare_taken(s)
+    if number == bare_cases.COMMIT:
+        return lizkarg.bare_commit(z, x["a_matrix"], x["witness"])
+    if number == bare_cases.PHI:
+        return lizkarg.bare_phi(z, *(x[name] for name in bare.CALLS["bare_phi"].reads))
+    if number == bare_cases.TURN:
+        return lizkarg.bare_turn(z, s.turn, x["phi"], x["earlier_c"], x["witness"])
+    return lizkarg.bare_verify(z, bare_lists({name: x[name] for name in bare.VERIFIER_LISTS}))
+
+
+def test_bare(count=40):
+    """The bare level: random honest ones and changed ones, every call of it."""
+    rng = random.Random(17)
+    for _ in range(count):
+        s, x, y = bare_fixtures.honest_case(rng)
+        z, proof = bare_taken(s), bare_lists(y)
+        assert lizkarg.prove_bare(z, **bare_given(x)) == proof
+        assert library_answer(lizkarg.bare_verify, z, proof) == bare.answer("bare_verify", s, y) == bare_fixtures.expected(s, y)
+        for name in bare.VERIFIER_LISTS + ["witness", "t", "phi", "garbage"]:
+            assert lizkarg.bare_lengths(z)["opening" if name == "bare_opening" else name] == bare.LENGTHS[name](s), name
+        name = rng.choice([name for name in y if y[name]])
+        place = rng.randrange(len(y[name]))
+        changed = y | {name: [*y[name][:place], rng.choice((0, 1, -2, 3, ring.LARGEST, -ring.LARGEST - 1)), *y[name][place + 1:]]}
+        assert library_answer(lizkarg.bare_verify, z, bare_lists(changed)) == bare.answer("bare_verify", s, changed)
+
+
+def test_bare_cases():
+    """The stored cases of crates/bare_cases, but those of which only the length of a written list is wrong: the binding makes these lists."""
+    seen = set()
+    for number, s, x, given in bare_cases.cases():
+        call = bare_cases.NUMBERED[number]
+        if any(length != bare.LENGTHS[name](s) for name, length in given.items()) and bare.refusal(call, s, x) == 0:
+            continue
+        kind, content = bare.answer(call, s, x)
+        seen.add((number, kind, content if kind == "refused" else 0))
+        try:
+            found = bare_call(number, s, x)
+        except Refused as refused:
+            assert (kind, content) == ("refused", refused.number), (call, s)
+            continue
+        if number == bare_cases.VERIFY:
+            assert found == {"accepted": BareAccepted, "failed": BareFailed}[kind](content), s
+        else:
+            assert content == {name: found for name in bare.CALLS[call].lengths_only}, (call, s)
+    assert {row for _, kind, row in seen if kind == "refused"} == {1, 2, 3, 6, 7, 8, 9, 10, 14}
+
+
+def test_bare_refusals():
+    s, x, y = bare_fixtures.honest_case(random.Random(18), d=2, n=2, r=3, K=1, L=1, w=1, kappa=1)
+    z, proof, phi = bare_taken(s), bare_lists(y), bare.bare_phi(s, x)["phi"]
+    for change, row in (({"d": -1}, 1), ({"n": 2**64}, 2), ({"r": 10**9}, 2), ({"kappa": 9}, 3), ({"z_bound": -1}, 6), ({"z_bound": 10**15}, 6), ({"bound": 10**15}, 6)):
+        assert refusal(lizkarg.bare_verify, z._replace(**change), proof) == row, change
+    for turn, row in ((-1, 2), (0, 2), (1, 7), (3, 0), (4, 2), (2**64, 2), (2**70, 2)):
+        assert refusal(lizkarg.bare_turn, z, turn, phi, x["c"][: 2 * s.d], x["witness"]) == row, turn
+    for kind in ("whole", "constant_terms"):
+        mixed = bare_lists(bare_fixtures.with_mixed(s, y, kind, 0, (1, 2), 1))
+        assert refusal(lizkarg.bare_verify, z, mixed) == 14 and refusal(lizkarg.bare_verify, z, mixed._replace(c=[3, *mixed.c[1:]])) == 10
+        assert refusal(lizkarg.bare_phi, z, *(getattr(mixed, name) for name in bare.CALLS["bare_phi"].reads)) == 14
+    assert refusal(lizkarg.bare_verify, z, proof._replace(opening=[2**70, *proof.opening[1:]])) == 8
+
+
+def test_chain():
+    """bindings/python/chain.py: every level of a chain is accepted with the margin 0 under tight bounds and full chunks, and the last one, sent bare, fails with one
+    less; at degree 2 the second implementation says the same of every level.
+    """
+    for d in (2, 8, 64):
+        levels = list(chain.chain(d))
+        assert [verdict for _, _, verdict in levels] == [Accepted(0)] * 3 + [BareAccepted(0)]
+        assert [sizes.b for sizes, _, _ in levels[:-1]] == [16, 128, None]
+        for level, (sizes, proof, _), (after, _, _) in zip(chain.LEVELS, levels, levels[1:]):
+            assert lizkarg.has_full_chunks(sizes, level["nu"], level["mu"]) and after.bound == sizes.target
+            assert lizkarg.verify(sizes._replace(target=sizes.target - 1), proof) == Failed(9)
+        z, last, _ = levels[-1]
+        assert lizkarg.bare_verify(z._replace(z_bound=z.z_bound - 1), last) == BareFailed(7)
+        # the instances before have mixed products
+        sizes, proof, _ = levels[2]
+        early = BareSizes(d, sizes.n, sizes.r, sizes.k, sizes.l, sizes.w, sizes.kappa, sizes.bound, z.z_bound)
+        assert refusal(lizkarg.bare_phi, early, *(getattr(proof, name) for name in bare.CALLS["bare_phi"].reads)) == 14
+        if d == 2:
+            same = reference.BareSizes(z.d, z.n, z.r, z.k, z.l, z.w, z.kappa, z.bound, z.z_bound)
+            lists = last._asdict()
+            assert bare.answer("bare_verify", same, lists | {"bare_opening": lists["opening"]}) == ("accepted", 0)
+            for s, proof, _ in levels[:-1]:
+                s = reference.Sizes(s.d, s.n, s.r, s.k, s.l, s.w, s.kappa, s.kappa1, s.kappa2, s.b, s.b1, s.b2, s.t1, s.t2, 1, 1, s.bound, s.target, 2 if s.b else 1)
+                assert fold.answer("verify", s, proof._asdict()) == ("accepted", 0)
+
+
+def test_chain_printed():
+    """What the program prints is what docs/CLASS.md shows."""
+    said = subprocess.run([sys.executable, ROOT / "bindings/python/chain.py"], capture_output=True, text=True, check=True).stdout
+    assert said.count("margin 0") == 4 and all("    " + line in (ROOT / "docs/CLASS.md").read_text().splitlines() for line in said.splitlines())
 
 
 def test_full_chunks():

@@ -1,5 +1,5 @@
 #!/usr/bin/env python3
-"""The class's page and sheets: python3 tools/class/page.py ROOT writes ROOT/docs/CLASS.md, ROOT/docs/pictures/class.svg and
+"""The class's page and sheets: python3 tools/class/page.py ROOT writes ROOT/docs/CLASS.md, ROOT/docs/pictures/class.svg, ROOT/docs/pictures/chain.svg and
 ROOT/examples/class*. python3 tools/class/page.py --library compares the class's case with the proved library (bindings/python/build builds it).
 
 Every number of the page is computed here, by the second implementation, so that the page cannot go stale: tools/all writes it anew and compares.
@@ -8,6 +8,7 @@ Every number of the page is computed here, by the second implementation, so that
 import sys
 
 import case
+import levels
 from case import pair
 from picture import picture
 
@@ -65,7 +66,7 @@ def sheets():
 
 # ---- the page
 
-def page():
+def page(chain_levels):
     s, x, y = case.honest()
     slots = fold.parts(s, x["witness"])
     s1, s2, s3 = (slot[0] for slot in slots)
@@ -346,6 +347,8 @@ the rows give p = {", ".join(str(k) for k in long_y["p"])}, and 2·({" + ".join(
     ./verdict --words examples/class-too-long.sheet
 {program_line("class-too-long")}
 
+{chain_section(chain_levels)}
+
 ## To try
 
 1. Make z from other drawn pairs, say {", ".join(f"c{i + 1} = {pair(e)}" for i, e in enumerate(case.OTHER_C))}, and make checks 5 and 6 by hand.
@@ -354,11 +357,46 @@ the rows give p = {", ".join(str(k) for k in long_y["p"])}, and 2·({" + ".join(
 4. Open examples/class.sheet in an editor (docs/SHEET.md says where each list stands), change one number, and say before the program does which check will fail, or why it is refused.
 5. In the same sheet, make the last number of the first line 150, keeping it in its columns. Which line will the program print? And with {length - 1}?
 6. Which of these can be a low and a high digit to base {s.b}: 2 and 7, or -3 and 0, or -2 and -9? What number is each pair?
+7. In the chain, the opening of level 1 has {chain_levels[0][2]} numbers, but level 2 folds {witness_numbers(chain_levels[1])}. What are the other {witness_numbers(chain_levels[1]) - chain_levels[0][2]}?
 
 Answers. 1: z = {pair(other_z)}; check 5 has {pair(times(a, other_z))} on both sides, check 6 {pair(times(other_z, other_z))}. 2: It does, since on this page a digit counts alike
 for all slots; in a real unit each digit has a number of its own. 3: For one,
-{", ".join(f"{slot[0]} and {slot[1]}" for slot in case.SHORTER)}: the squares add up to {sum(k * k for slot in case.SHORTER for k in slot)}. 5: 0 {150 - length}, since 150 - {length} = {150 - length}; and 1 9. 6: The first, {recomposed(s.b, 2, 7)}, and the last, {recomposed(s.b, -2, -9)}; -3 and 0 are -3, but the low digit is too wide: 1 and -1 are the same number.
+{", ".join(f"{slot[0]} and {slot[1]}" for slot in case.SHORTER)}: the squares add up to {sum(k * k for slot in case.SHORTER for k in slot)}. 5: 0 {150 - length}, since 150 - {length} = {150 - length}; and 1 9. 6: The first, {recomposed(s.b, 2, 7)}, and the last, {recomposed(s.b, -2, -9)}; -3 and 0 are -3, but the low digit is too wide: 1 and -1 are the same number. 7: Zeros, which fill the slots of the t, g and h digits up to {chain_levels[1][1].n} pairs.
 """
+
+
+def witness_numbers(level):
+    """How many numbers a level folds."""
+    _, s, _, _ = level
+    return s.r * s.n * s.d
+
+
+def chain_section(found):
+    """The chain: what each level folds and what is sent in the end."""
+    (_, first, opening, _), *_, (_, last, sent, _) = found
+    rest = opening - 2 * first.n * first.d
+    said = "\n".join("    " + line for line in levels.lines(found))
+    return f"""## Fold the proof again
+
+Six readings made a sheet of many more numbers: for so few, folding does not pay. With thousands it does. Here are {witness_numbers(found[0])} readings, in {first.r} slots (*parts*) of {first.n} pairs (*elements*) each. They become
+z, one slot of {first.n} pairs, and with the digits of z, t, g and h the opening has {opening} numbers: {2 * first.n * first.d} for z low and z high, {rest} for the rest.
+
+An opening is a heap of small numbers, and the checks ask for sums of them. That is what was folded in the first place. So the maker keeps the opening to himself, cuts it into slots and folds it as
+if it were readings; and the next opening again. At each level he sends a few fingerprints, p and b''. Only the last opening is sent.
+
+![How a proof shrinks level by level](pictures/chain.svg)
+
+    python3 bindings/python/chain.py
+{said}
+
+The last level is sent *bare*: without fingerprints and without digits. t stands there as it is, z whole, and the products come in {last.r} turns, one slot at a time, each before the next c is drawn, so that
+nobody can bend them to what is drawn later. It has seven checks, and its margin says how far z is below its bound. In the end {witness_numbers(found[0])} readings are
+proved by an opening of {sent} numbers: longer ones than readings are, but far fewer.
+
+Two things to look at in the table. The margin is 0 everywhere, since each bound was set to just what is needed. And {first.n} is always cut without a rest, into one slot of {first.n} or {first.n // last.n} of {last.n}: z must fill its slots. Where a slot of z is filled up with zeros a cheat could put
+other numbers there, and nobody would see it, since that opening is never sent (docs/CALLS.md).
+
+In a real unit an element has 64 numbers: `python3 bindings/python/chain.py 64`. The programs need the library; bindings/python/README.md says how it is built."""
 
 
 # The sizes of digits that occur on the page.
@@ -410,8 +448,10 @@ def program_line(wanted):
 
 
 def files():
-    yield "docs/CLASS.md", page().encode()
+    found = levels.named()
+    yield "docs/CLASS.md", page(found).encode()
     yield "docs/pictures/class.svg", picture().svg().encode()
+    yield "docs/pictures/chain.svg", levels.picture(found).svg().encode()
     for known, verdict, text in sheets():
         assert sheet.judge(text) == verdict, (known, sheet.judge(text))
         yield f"examples/{known}.sheet", text

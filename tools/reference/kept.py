@@ -13,12 +13,14 @@ import sys
 from collections import defaultdict, namedtuple
 from pathlib import Path
 
+import bare
 import fold
 import sheet
+from bare_cases import VERIFY as VERIFY_BARE
 from fold_cases import ONE_DIGIT, SIZES, call_of
 from next_cases import FOLD_READS, FOLD_WRITES, PLAIN_KINDS, next_list
 from next_fixtures import second_lists
-from sizes import CALLS, HEADER, Sizes
+from sizes import CALLS, HEADER, BareSizes, Sizes
 from stored import answer_numbers, numbers_text
 from writer_cases import SHOWN_BYTES
 
@@ -91,6 +93,22 @@ def fold_cases(given, stored):
     for line, output in paired(lines_of(given), lines_of(stored)):
         if call_of(int(line.split()[0])) == "verify":
             yield Case(line, [output], {0: [0]}, lambda line=line: judged_call(line), numbers_line)
+        else:
+            yield whole(line, [output])
+
+
+def judged_bare(line):
+    """The answer of the verifier of the bare level to a case of bare_cases."""
+    numbers = Numbers(line)
+    _, *sized = numbers.take(1 + len(BareSizes._fields))
+    return [bare.answer("bare_verify", BareSizes(*sized), numbers.lists(bare.VERIFIER_LISTS))]
+
+
+def bare_cases(given, stored):
+    """As fold_cases."""
+    for line, output in paired(lines_of(given), lines_of(stored)):
+        if int(line.split()[0]) == VERIFY_BARE:
+            yield Case(line, [output], {0: [0]}, lambda line=line: judged_bare(line), numbers_line)
         else:
             yield whole(line, [output])
 
@@ -183,15 +201,21 @@ def one_sheet(given, stored):
 
 
 FILES = {
-    "ring_cases": ring_cases, "fold_cases": fold_cases, "next_cases": next_cases, "sheet_cases": sheet_cases, "verdict_cases": verdict_cases,
+    "ring_cases": ring_cases, "fold_cases": fold_cases, "next_cases": next_cases, "bare_cases": bare_cases, "sheet_cases": sheet_cases, "verdict_cases": verdict_cases,
     "verdict": one_sheet,
 }
+
+
+# Those that an older tree need not have.
+NEW = ["bare_cases"]
 
 
 def stored_cases(tree):
     """The cases of a tree, by what the lines of this script call their file. An example is known by its name, too."""
     found = {}
     for crate, read in FILES.items():
+        if crate in NEW and not (tree / "crates" / crate).exists():
+            continue
         given, stored = ((tree / "crates" / crate / name).read_bytes() for name in ("stdin", "stdout"))
         try:
             found[f"crates/{crate}"] = list(read(given, stored))

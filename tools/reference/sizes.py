@@ -1,4 +1,4 @@
-"""The sizes of a fold, the lengths of its lists, and where a call stops: SPECIFICATION 7.
+"""The sizes of a fold and of the bare level, the lengths of a fold's lists, and where a call stops: SPECIFICATION 7.
 
 Every list is flat: numbers one after another in the order of the sheet. Quotations are from docs/SPECIFICATION.md.
 """
@@ -23,10 +23,18 @@ def header_numbers(s):
     return [getattr(s, name) for name in HEADER]
 
 
+
+class BareSizes(namedtuple("BareSizes", "d n r K L w kappa beta_squared z_bound turn", defaults=(1,))):
+    """The sizes of the bare level, and the number of a turn: "There are no κ1, κ2, bases or digit counts .. and no target bound." """
+
+    # "z whole": no call of the bare level takes a base of z
+    tz = 1
+
+
 # "Five is the count, since q^4 < 2^128."
 AGGREGATES = 5
 
-# Row 6: "β² or β'² negative or above 999999999999999".
+# Row 6: "β², β'² or the bound on z negative or above 999999999999999".
 LARGEST_BOUND = 999999999999999
 
 # Row 11: "n' above 256 (next instance only)".
@@ -207,8 +215,11 @@ def size_refusal(taken, s, part=None):
     # 1: "d not listed"
     if "d" in taken and s.d not in DEGREES:
         return 1
-    # 2: "n not 1..256, r not 1..16, K or L not 0..32, w not 0..256, a part number outside its range"
+    # 2: "n not 1..256, r not 1..16, K or L not 0..32, w not 0..256, a part or turn number outside its range"
     if outside("n", 1, 256) or outside("r", 1, 16) or outside("K L", 0, 32) or outside("w", 0, 256):
+        return 2
+    # "Turn i, from 1 to r"
+    if "turn" in taken and not 1 <= s.turn <= s.r:
         return 2
     # "(2 for a part outside 1..r')"
     if part is not None and not 1 <= part <= next_multiplicity(s):
@@ -222,8 +233,8 @@ def size_refusal(taken, s, part=None):
     # 5: "ν or μ below 1, 2ν+μ above 16; with one z digit ν+μ above 16"
     if "nu" in taken and (s.nu < 1 or s.mu < 1 or next_multiplicity(s) > 16):
         return 5
-    # 6: "β² or β'² negative or above 999999999999999"
-    if outside("beta_squared target_beta_squared", 0, LARGEST_BOUND):
+    # 6: "β², β'² or the bound on z negative or above 999999999999999"
+    if outside("beta_squared target_beta_squared z_bound", 0, LARGEST_BOUND):
         return 6
     return 0
 
@@ -237,10 +248,9 @@ def number_refusal(s, lists):
     if "projections" in lists and not are_projection_entries(lists["projections"]):
         return 9
     # 10: "challenge outside the rule (5.1)"
-    if "c" in lists:
-        challenges = lists["c"]
-        if not all(is_challenge(challenges[k : k + s.d]) for k in range(0, len(challenges), s.d)):
-            return 10
+    challenges = lists.get("c", []) + lists.get("earlier_c", [])
+    if not all(is_challenge(challenges[k : k + s.d]) for k in range(0, len(challenges), s.d)):
+        return 10
     return 0
 
 

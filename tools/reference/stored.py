@@ -12,7 +12,7 @@ from pathlib import Path
 
 import sheet
 
-WRITERS = "ring_cases fold_cases next_cases sheet_cases reader_cases examples second_case binding_cases".split()
+WRITERS = "ring_cases fold_cases next_cases bare_cases sheet_cases reader_cases examples second_case binding_cases".split()
 
 # What a list that a call writes holds before the call.
 FILL = 77

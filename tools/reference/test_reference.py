@@ -6,6 +6,7 @@ random cases.
 
 import time
 
+import test_bare
 import test_fold
 import test_kept
 import test_next
@@ -16,7 +17,7 @@ import test_sheet
 
 def main():
     started = time.time()
-    for module in (test_ring, test_fold, test_next, test_one_digit, test_sheet, test_kept):
+    for module in (test_ring, test_fold, test_next, test_one_digit, test_bare, test_sheet, test_kept):
         for name, test in vars(module).items():
             if name.startswith("test_"):
                 before = time.time()

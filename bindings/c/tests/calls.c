@@ -1,4 +1,4 @@
-/* Every call of lizkarg.h on stored cases: the layout of its structs, the order of its arguments, each number that a call writes. The
+/* Every call of lizkarg.h but those of the bare level (bare.c) on stored cases: the layout of its structs, the order of its arguments, each number that a call writes. The
  * cases come from tools/reference/binding_cases.py; `run` beside this file builds and runs the test. A list of no numbers is passed as NULL. */
 #include "../lizkarg.h"
 #include "held.h"
@@ -18,6 +18,9 @@ AT(lizkarg_sizes, one_digit, 128);
 SIZE(lizkarg_part_sizes, 72); AT(lizkarg_part_sizes, kappa, 24); AT(lizkarg_part_sizes, nu, 48); AT(lizkarg_part_sizes, mu, 56);
 AT(lizkarg_part_sizes, one_digit, 64);
 _Static_assert(sizeof((lizkarg_sizes){0}.one_digit) == 1 && sizeof((lizkarg_part_sizes){0}.one_digit) == 1, "one_digit");
+SIZE(lizkarg_constraint_sizes, 48); AT(lizkarg_constraint_sizes, d, 0); AT(lizkarg_constraint_sizes, k, 24); AT(lizkarg_constraint_sizes, w, 40);
+SIZE(lizkarg_bare_sizes, 72); AT(lizkarg_bare_sizes, d, 0); AT(lizkarg_bare_sizes, k, 24); AT(lizkarg_bare_sizes, kappa, 48);
+AT(lizkarg_bare_sizes, bound, 56); AT(lizkarg_bare_sizes, z_bound, 64);
 SIZE(lizkarg_sheet, 16 + 18 * 8); AT(lizkarg_sheet, kind, 0); AT(lizkarg_sheet, number, 8); AT(lizkarg_sheet, d, 16); AT(lizkarg_sheet, nu, 128);
 AT(lizkarg_sheet, mu, 136); AT(lizkarg_sheet, bound, 144); AT(lizkarg_sheet, target, 152);
 SIZE(lizkarg_text, 24); AT(lizkarg_text, kind, 0); AT(lizkarg_text, number, 8); AT(lizkarg_text, length, 16);

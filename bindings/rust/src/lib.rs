@@ -2,6 +2,8 @@
 #![deny(missing_docs, missing_debug_implementations)]
 
 mod answer;
+mod bare;
+mod bare_prover;
 mod element;
 mod proof;
 mod prover;
@@ -9,7 +11,9 @@ mod raw;
 mod sheet;
 mod sizes;
 
-pub use answer::{Next, Refused, Verdict};
+pub use answer::{BareVerdict, Next, Refused, Verdict};
+pub use bare::{BareLengths, BareMessages, BareProof, BareSizes, BareStatement};
+pub use bare_prover::BareProver;
 pub use element::Element;
 pub use proof::{Draws, Messages, Proof, Statement};
 pub use prover::Prover;

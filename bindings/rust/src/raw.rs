@@ -1,6 +1,6 @@
 //! The C interface, as bindings/c/lizkarg.h declares it, each list as a slice. All that is unsafe in this crate stands in `calls!`.
 
-use crate::{Element, Refused, Verdict};
+use crate::{BareVerdict, Element, Refused, Verdict};
 
 #[repr(C)]
 #[derive(Clone, Copy)]
@@ -31,6 +31,13 @@ impl Answer {
         self.not_refused().map(|answer| match answer.kind {
             0 => Verdict::Accepted(answer.number),
             _ => Verdict::Failed(answer.named()),
+        })
+    }
+
+    pub fn judged_bare(self) -> Result<BareVerdict, Refused> {
+        self.not_refused().map(|answer| match answer.kind {
+            0 => BareVerdict::Accepted(answer.number),
+            _ => BareVerdict::Failed(answer.named()),
         })
     }
 
@@ -71,6 +78,29 @@ pub struct GarbageSizes {
     pub kappa2: usize,
     pub b1: usize,
     pub t1: usize,
+}
+
+#[repr(C)]
+pub struct ConstraintSizes {
+    pub d: usize,
+    pub n: usize,
+    pub r: usize,
+    pub k: usize,
+    pub l: usize,
+    pub w: usize,
+}
+
+#[repr(C)]
+pub struct BareSizes {
+    pub d: usize,
+    pub n: usize,
+    pub r: usize,
+    pub k: usize,
+    pub l: usize,
+    pub w: usize,
+    pub kappa: usize,
+    pub bound: u64,
+    pub z_bound: u64,
 }
 
 #[repr(C)]
@@ -186,6 +216,12 @@ calls! {
         second_b, alpha, delta, u2, c; out: i32) -> Answer;
     lizkarg_next_part_refusal<i32>(sizes: PartSizes, part: usize; opening;) -> u8;
     lizkarg_next_part<i32>(sizes: PartSizes, part: usize; opening;) -> Part;
+    lizkarg_bare_commit<i32>(shape: Shape, kappa: usize; a_matrix, witness; t: i32) -> Answer;
+    lizkarg_bare_phi<i32>(
+        sizes: ConstraintSizes; whole, constant_terms, projections, psi, omega, alpha, delta; phi: i32) -> Answer;
+    lizkarg_bare_turn<i32>(shape: Shape, turn: usize; phi, c, witness; garbage: i32) -> Answer;
+    lizkarg_bare_verify<i32>(
+        sizes: BareSizes; a_matrix, whole, constant_terms, projections, p, psi, omega, second_b, alpha, delta, c, opening;) -> Answer;
     lizkarg_judge_sheet<u8>(; text;) -> Answer;
     lizkarg_sheet_numbers<u8>(; text;) -> usize;
     lizkarg_read_sheet<u8>(; text; numbers: i32) -> Header;

@@ -1,7 +1,7 @@
 use crate::raw;
 
 /// The number of second functions: b'' and δ have five elements, ψ and ω five rows.
-const FIVE: usize = 5;
+pub(crate) const FIVE: usize = 5;
 
 /// How an opening keeps z: in two digits, or whole in one. The next instance of one digit has no mixed products and fewer parts: r' = ν+μ. A sheet has two.
 #[derive(Clone, Copy, Debug, PartialEq, Eq, Hash)]
@@ -144,12 +144,12 @@ pub struct NextSizes {
 }
 
 /// The product, or the largest number where it is past that.
-fn product<const N: usize>(factors: [usize; N]) -> usize {
+pub(crate) fn product<const N: usize>(factors: [usize; N]) -> usize {
     factors.into_iter().fold(1, usize::saturating_mul)
 }
 
 /// The sum, or the largest number where it is past that.
-fn sum<const N: usize>(terms: [usize; N]) -> usize {
+pub(crate) fn sum<const N: usize>(terms: [usize; N]) -> usize {
     terms.into_iter().fold(0, usize::saturating_add)
 }
 
@@ -159,7 +159,7 @@ fn pairs(r: usize) -> usize {
 }
 
 /// The numbers of a and φ of a constraint.
-fn function(d: usize, n: usize, r: usize) -> usize {
+pub(crate) fn function(d: usize, n: usize, r: usize) -> usize {
     product([sum([pairs(r), product([r, n])]), d])
 }
 

@@ -72,10 +72,11 @@ fn words() {
     assert_eq!(error.to_string(), "refused: 7, a list's length is not what the sizes give");
     assert_ne!(Refused(11).reason(), Refused(99).reason());
     assert_eq!(Refused(13).to_string(), "refused: 13, the buffer is shorter than the text");
+    assert_eq!(Refused(14).to_string(), "refused: 14, a constraint of the bare level has a nonzero a_ij with i < j");
     assert_eq!(Refused(15).to_string(), "refused: 15, a low digit is more than half its base");
 }
 
-/// The command `verdict --words` says the same; but it knows no parts.
+/// The command `verdict --words` says the same; but it knows no parts and no turns.
 #[test]
 fn words_of_the_command() {
     let command = include_str!("../../../verdict");
@@ -86,7 +87,7 @@ fn words_of_the_command() {
         assert!(said(Failed(check).to_string()), "{}", Failed(check));
     }
     for row in [1, 2, 3, 4, 5, 6, 8, 9, 10, 12, 15] {
-        assert!(said(Refused(row).to_string().replace("L, w or a part number", "L or w")), "{}", Refused(row));
+        assert!(said(Refused(row).to_string().replace("L, w or a part or turn number", "L or w")), "{}", Refused(row));
     }
 }
 

@@ -30,6 +30,23 @@ typedef struct {
 
 extern const implementation ours, gcc_tuned, gcc_plain, clang_tuned, clang_tested, clang_centred, clang_plain, flint_based, rust_plain;
 
+/* The bare level over the same lists; the opening and phi are its own, and p, second_b and z are made already. */
+typedef struct {
+    lizkarg_bare_sizes s;
+    const lists *l;
+    int32_t *phi, *opening; /* t, z, then the turns */
+    size_t phi_length, opening_length;
+} bare_case;
+
+/* t, phi and all turns; the verdict. */
+typedef struct {
+    const char *name;
+    void (*prove)(const bare_case *x);
+    lizkarg_answer (*verify)(const bare_case *x);
+} bare_implementation;
+
+extern const bare_implementation ours_bare, rust_plain_bare;
+
 static inline size_t pairs(size_t r) { return r * (r + 1) / 2; }
 
 /* the numbers of a and phi of a constraint */

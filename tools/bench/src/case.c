@@ -96,6 +96,17 @@ void make_case(lizkarg_sizes *s, lists *l, int32_t most) {
     l->next = malloc(n.next * sizeof *l->next);
 }
 
+void without_products(const lizkarg_sizes *s, lists *l) {
+    int32_t *whole = (int32_t *)l->whole, *constant_terms = (int32_t *)l->constant_terms;
+    for (size_t k = 0; k < s->k + s->l; k++) {
+        int32_t *a = k < s->k ? whole + k * (function(s) + s->d) : constant_terms + (k - s->k) * (function(s) + 1);
+        for (size_t i = 0; i < s->r; i++)
+            for (size_t j = i; j < s->r; j++, a += s->d)
+                if (i < j) memset(a, 0, s->d * sizeof *a);
+    }
+    solve(s, l->witness, whole, constant_terms);
+}
+
 void free_case(lists *l) {
     const void *all[] = {l->a_matrix, l->b_matrix, l->c_matrix, l->d_matrix, l->whole, l->constant_terms, l->projections, l->psi, l->omega,
         l->alpha, l->delta, l->c, l->witness, l->u1, l->p, l->second_b, l->u2, l->z, l->next};

@@ -16,6 +16,11 @@ static double now(void) {
     return t.tv_sec * 1e9 + t.tv_nsec;
 }
 
+static void lessen(double *least, double from) {
+    double ns = now() - from;
+    if (ns < *least) *least = ns;
+}
+
 static void differ(const char *what, const char *who) {
     fprintf(stderr, "%s of %s differs from ours\n", what, who);
     exit(1);
@@ -175,6 +180,61 @@ static void linear(lizkarg_sizes s, int repetitions) {
     free_case(&l);
 }
 
+/* ---- the bare level */
+
+static const bare_implementation *const bare[] = {&ours_bare, &rust_plain_bare};
+enum { BARE = sizeof bare / sizeof *bare };
+
+/* A line of which only some implementations have a time. */
+static void bare_line(const char *what, const double *ns) {
+    printf("| %-26s |", what);
+    show(ns[0]);
+    for (int i = 1; i < COUNT; i++) {
+        int at = 0;
+        while (at < BARE && strcmp(bare[at]->name, all[i]->name)) at++;
+        if (at < BARE) printf(" | %12.2f", ns[at] / ns[0]);
+        else printf(" | %12s", "");
+    }
+    printf(" |\n");
+    fflush(stdout);
+}
+
+/* The bare level of the same sizes, without mixed products: t, phi and all turns by each implementation in turn, then the verdict, compared with ours. */
+static void bare_level(lizkarg_sizes s, int repetitions) {
+    lists l;
+    double prove[BARE], verify[BARE];
+    make_case(&s, &l, 1);
+    without_products(&s, &l);
+    bare_case x = {.s = {s.d, s.n, s.r, s.k, s.l, s.w, s.kappa, s.bound, s.target}, .l = &l, .phi_length = l.n.witness,
+        .opening_length = (s.r * s.kappa + s.n + 4 * s.r) * s.d};
+    size_t bytes = x.opening_length * sizeof(int32_t), phi_bytes = x.phi_length * sizeof(int32_t);
+    int32_t *z = malloc(s.n * s.d * sizeof *z), *first = malloc(bytes), *first_phi = malloc(phi_bytes);
+    lizkarg_shape shape = {s.d, s.n, s.r};
+    x.opening = malloc(bytes), x.phi = malloc(phi_bytes);
+    step(&ours, 1, &s, &l), step(&ours, 2, &s, &l);
+    if (lizkarg_amortize_one_digit(shape, l.c, l.n.c, l.witness, l.n.witness, z, s.n * s.d).kind != LIZKARG_WRITTEN) differ("z", "ours");
+    for (int i = 0; i < BARE; i++) prove[i] = verify[i] = 1e30;
+    lizkarg_answer ours_is = {0};
+    for (int round = 0; round < repetitions; round++)
+        for (int i = 0; i < BARE; i++) {
+            memset(x.opening, 0x55, bytes), memset(x.phi, 0x55, phi_bytes);
+            memcpy(x.opening + s.r * s.kappa * s.d, z, s.n * s.d * sizeof *z);
+            double from = now();
+            bare[i]->prove(&x);
+            lessen(&prove[i], from);
+            from = now();
+            lizkarg_answer answer = bare[i]->verify(&x);
+            lessen(&verify[i], from);
+            if (round == 0 && i == 0) memcpy(first, x.opening, bytes), memcpy(first_phi, x.phi, phi_bytes), ours_is = answer;
+            if (memcmp(first, x.opening, bytes) || memcmp(first_phi, x.phi, phi_bytes)) differ("bare opening", bare[i]->name);
+            if (answer.kind != LIZKARG_ACCEPTED || answer.number != ours_is.number) differ("verdict on the bare level", bare[i]->name);
+        }
+    bare_line("bare level, t, phi, turns", prove);
+    bare_line("bare level, verifier", verify);
+    free(z), free(first), free(first_phi), free(x.opening), free(x.phi);
+    free_case(&l);
+}
+
 /* Ours step by step, and the whole prover, the verifier and the next instance of some others as ratios. */
 static const implementation *grown[] = {&ours, &clang_tuned, &clang_tested, &clang_centred, &rust_plain, &flint_based};
 enum { GROWN = sizeof grown / sizeof *grown };
@@ -274,11 +334,6 @@ static writer *const writers[] = {by_ours, by_printf, by_hand};
 static const char *const writer_names[] = {"ours", "printf", "C by hand"};
 enum { WRITERS = sizeof writers / sizeof *writers };
 
-static void lessen(double *least, double from) {
-    double ns = now() - from;
-    if (ns < *least) *least = ns;
-}
-
 /* The sheet of an accepted proof, written by each writer, read, and judged by the call that the program makes. */
 static void sheet_line(const char *what, const lizkarg_sizes *s, const int32_t *numbers, size_t count) {
     size_t size = lizkarg_sheet_bytes(*s, NU, MU);
@@ -370,6 +425,7 @@ int main(int argc, char **argv) {
     inner_products("inner product, short", 4194303);
     fold(s, (int)v[5]);
     linear(s, (int)v[5]);
+    bare_level(s, (int)v[5]);
     sheets();
     printf("\nGrowth with n (r = 8) and with r (n = 64); w = 64, K = L = 2, kappa = 4, best of 9; ours, then ratios to ours\n\n");
     growth_heading();

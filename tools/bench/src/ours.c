@@ -53,3 +53,25 @@ static lizkarg_answer next(const lizkarg_sizes *s, const lists *l) {
 }
 
 const implementation ours = {"ours", multiply, commit, project, aggregate, garbage, amortize, verify, next};
+
+/* ---- the bare level */
+
+static void bare_prove(const bare_case *x) {
+    const lists *l = x->l;
+    const lizkarg_bare_sizes *s = &x->s;
+    size_t t = s->r * s->kappa * s->d, four = 4 * s->d;
+    int32_t *turns = x->opening + t + s->n * s->d;
+    lizkarg_constraint_sizes sizes = {s->d, s->n, s->r, s->k, s->l, s->w};
+    need(lizkarg_bare_commit(SHAPE, s->kappa, LIST(a_matrix), LIST(witness), x->opening, t));
+    need(lizkarg_bare_phi(sizes, LIST(whole), SECONDS, LIST(alpha), LIST(delta), x->phi, x->phi_length));
+    for (size_t i = 1; i <= s->r; i++)
+        need(lizkarg_bare_turn(SHAPE, i, x->phi, x->phi_length, l->c, (i - 1) * s->d, LIST(witness), turns + (i - 1) * four, four));
+}
+
+static lizkarg_answer bare_verify(const bare_case *x) {
+    const lists *l = x->l;
+    return lizkarg_bare_verify(x->s, LIST(a_matrix), LIST(whole), LIST(constant_terms), LIST(projections), LIST(p), LIST(psi), LIST(omega), LIST(second_b),
+        LIST(alpha), LIST(delta), LIST(c), x->opening, x->opening_length);
+}
+
+const bare_implementation ours_bare = {"ours", bare_prove, bare_verify};

@@ -56,3 +56,32 @@ static lizkarg_answer next(const lizkarg_sizes *s, const lists *l) {
 }
 
 const implementation rust_plain = {"rust_plain", plain_multiply, commit, project, aggregate, garbage, amortize, verify, next};
+
+/* ---- the bare level */
+
+typedef struct { uint64_t sizes[9]; const int32_t *lists[18]; } plain_bare_case;
+void plain_bare_prove(const plain_bare_case *x, int32_t *phi, int32_t *opening);
+uint8_t plain_bare_verify(const plain_bare_case *x, uint64_t *margin);
+
+/* B, C, D, u1 and u2 have no numbers there: any pointer stands for them */
+static plain_bare_case bare_lent(const bare_case *x) {
+    const lists *l = x->l;
+    const lizkarg_bare_sizes *s = &x->s;
+    const int32_t *none = l->a_matrix;
+    return (plain_bare_case){{s->d, s->n, s->r, s->k, s->l, s->w, s->kappa, s->bound, s->z_bound}, {l->a_matrix, none, none, none, l->whole, l->constant_terms,
+        none, l->projections, l->p, l->psi, l->omega, l->second_b, l->alpha, l->delta, none, l->c, x->opening, l->witness}};
+}
+
+static void bare_prove(const bare_case *x) {
+    plain_bare_case lent = bare_lent(x);
+    plain_bare_prove(&lent, x->phi, x->opening);
+}
+
+static lizkarg_answer bare_verify(const bare_case *x) {
+    plain_bare_case lent = bare_lent(x);
+    uint64_t margin = 0;
+    uint8_t check = plain_bare_verify(&lent, &margin);
+    return check ? (lizkarg_answer){LIZKARG_FAILED, check} : (lizkarg_answer){LIZKARG_ACCEPTED, margin};
+}
+
+const bare_implementation rust_plain_bare = {"rust_plain", bare_prove, bare_verify};

@@ -1,5 +1,5 @@
 //! What a call answers, in one type for both implementations.
-use lizkarg::{Next, Refused, Verdict};
+use lizkarg::{BareVerdict, Next, Refused, Verdict};
 
 #[derive(Clone, Copy, Debug, PartialEq, Eq)]
 pub enum Answer {
@@ -35,6 +35,16 @@ impl From<()> for Answer {
 impl From<Verdict> for Answer {
     fn from(verdict: Verdict) -> Answer {
         Answer::Judged(verdict)
+    }
+}
+
+/// The checks of the bare level are its own; they are numbered alike.
+impl From<BareVerdict> for Answer {
+    fn from(verdict: BareVerdict) -> Answer {
+        Answer::Judged(match verdict {
+            BareVerdict::Accepted(margin) => Verdict::Accepted(margin),
+            BareVerdict::Failed(check) => Verdict::Failed(check),
+        })
     }
 }
 

@@ -78,7 +78,7 @@ fn statement<'a>(s: &Sizes, l: &'a Lists) -> Statement<'a> {
     }
 }
 
-fn draws(l: &Lists) -> Draws<'_> {
+pub fn draws(l: &Lists) -> Draws<'_> {
     Draws { projections: &l.projections, psi: &l.psi, omega: &l.omega, alpha: &l.alpha, delta: &l.delta, c: &l.c }
 }
 

@@ -11,7 +11,7 @@ pub const MOST: i32 = ring::MOST as i32;
 pub const LARGEST_BOUND: u64 = 999999999999999;
 
 /// Numbers of a size that is drawn once for the list: tiny, short, the range's ends, or the whole range.
-fn fill(rng: &mut Random, xs: &mut [i32]) {
+pub fn fill(rng: &mut Random, xs: &mut [i32]) {
     let kind = rng.below(6);
     for x in xs {
         *x = match kind {
@@ -34,7 +34,7 @@ pub fn counted(rng: &mut Random, c: &mut [i32], twos: usize, ones: usize) {
 
 /// A challenge: at degree 64, 31 coefficients ±1 and 10 coefficients ±2; at a smaller one some of them, of squared length at most 71, and
 /// now and then just that.
-fn challenge(rng: &mut Random, c: &mut [i32]) {
+pub fn challenge(rng: &mut Random, c: &mut [i32]) {
     let d = c.len();
     if d == 64 {
         return counted(rng, c, 10, 31);
@@ -66,7 +66,7 @@ pub fn random(rng: &mut Random, s: &Sizes, short: bool) -> Lists {
 }
 
 /// Sets each constraint's constant to its function's value at the witness.
-fn solve(s: &Sizes, l: &mut Lists) {
+pub fn solve(s: &Sizes, l: &mut Lists) {
     let parts = messages::parts(s, &l.witness);
     let products = messages::pair_products(s, &parts);
     let value = |f| ring::flat(&[messages::value(s, f, &parts, &products)]);
@@ -87,7 +87,7 @@ pub fn chunks(rng: &mut Random, one_digit: bool) -> (usize, usize) {
     (nu, rng.between(1, 16 - digits * nu))
 }
 
-fn bound(rng: &mut Random) -> u64 {
+pub fn bound(rng: &mut Random) -> u64 {
     match rng.below(4) {
         0 => rng.next() % 1000,
         1 => rng.next() % 1_000_000_000_000,

@@ -1,5 +1,6 @@
 //! Folds at product size and at the limits: all five messages, the verdict, each block damaged, the next instance, a second fold.
 use crate::answer::Answer::{Judged, Refused};
+use crate::bare;
 use crate::calls::*;
 use crate::case::{self, Lists, LARGEST_BOUND, MOST};
 use crate::next_calls::*;
@@ -163,6 +164,9 @@ fn again(tally: &mut Tally, rng: &mut Random, case: &Case) {
     assert!(next::meets(&after, &written, &witness), "the next witness does not solve the next instance");
     change(&mut witness, 0);
     assert!(!next::meets(&after, &written, &witness));
+    if s.one_digit {
+        bare::bare_end(tally, rng, s, written.clone(), next::witness(s, &l.opening));
+    }
     let free = Sizes { w: s.w.max(1), kappa: 2, kappa1: 2, kappa2: 2, b: 256, b1: 256, b2: 256, t1: 4, t2: 4, ..after };
     let (t, answer) = second_fold(tally, rng, case, written, &free, true, true);
     println!("    second fold at n' = {}, r' = {}, K' = {}: {:?}", t.n, t.r, t.k, answer);
@@ -195,4 +199,5 @@ pub fn run(tally: &mut Tally, seed: u64) {
         }
         println!("    {:.1} s", from.elapsed().as_secs_f64());
     }
+    bare::large(tally, seed);
 }

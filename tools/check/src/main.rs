@@ -1,5 +1,6 @@
 //! Compares the library with the second implementation: `check [--seed N] [--small COUNT] [--medium COUNT] [--large 0|1]`.
 mod answer;
+mod bare;
 mod calls;
 mod case;
 mod large;

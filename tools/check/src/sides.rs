@@ -310,4 +310,5 @@ pub fn run(tally: &mut Tally) {
     sizes(tally);
     ranks(tally);
     long_sheets(tally);
+    crate::bare::sides(tally);
 }

@@ -1,5 +1,6 @@
 //! Random cases: valid, damaged, refused.
 use crate::answer::Answer::{self, Judged, Refused, Written};
+use crate::bare;
 use crate::calls::*;
 use crate::case::{self, Lists, MOST};
 use crate::next_calls::*;
@@ -10,7 +11,7 @@ use plain::lists::{Room, Sizes, LISTS, SIZES};
 use plain::{next, refusals, ring, sheet};
 
 /// A value near a limit, or any.
-fn odd_size(rng: &mut Random) -> u64 {
+pub fn odd_size(rng: &mut Random) -> u64 {
     match rng.below(8) {
         0 => 999999999999999,
         1 => 1000000000000000,
@@ -37,7 +38,7 @@ fn damage_size(rng: &mut Random, s: &mut Sizes) {
     *s = Sizes { one_digit: one_digit != (at == SIZES), ..Sizes::from_header(header) };
 }
 
-fn damage_list(rng: &mut Random, l: &mut Lists) {
+pub fn damage_list(rng: &mut Random, l: &mut Lists) {
     let list = l.each_mut().into_iter().nth(rng.below(LISTS)).unwrap();
     match rng.below(8) {
         0 => list.push(0),
@@ -298,6 +299,10 @@ fn statement(tally: &mut Tally, seed: u64, number: u64, sizes: fn(&mut Random) -
     products(tally, &mut rng);
     for _ in 0..3 {
         damaged(tally, &mut rng, s, l.clone());
+    }
+    bare::levels(tally, &mut rng, &s);
+    if rng.once_in(4) {
+        bare::chain(tally, &mut rng);
     }
 }
 

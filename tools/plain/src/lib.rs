@@ -2,6 +2,7 @@
 //! of numbers, whole functions formed and kept. A ring element is a vector of d centred numbers, lowest power first.
 #![forbid(unsafe_code)]
 
+pub mod bare;
 pub mod lists;
 pub mod messages;
 pub mod next;

@@ -30,11 +30,11 @@ pub struct Sizes {
 pub const SIZES: usize = 18;
 
 // Products and sums that stop at the largest number: sizes that a call does not take are not tested, and no list is so long.
-fn product<const N: usize>(factors: [usize; N]) -> usize {
+pub(crate) fn product<const N: usize>(factors: [usize; N]) -> usize {
     factors.into_iter().fold(1, usize::saturating_mul)
 }
 
-fn sum<const N: usize>(summands: [usize; N]) -> usize {
+pub(crate) fn sum<const N: usize>(summands: [usize; N]) -> usize {
     summands.into_iter().fold(0, usize::saturating_add)
 }
 

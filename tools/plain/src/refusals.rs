@@ -13,23 +13,23 @@ pub fn row(number: u8, passes: bool) -> Refusal {
 
 // Rows 1 to 6
 
-fn degree(s: &Sizes) -> Refusal {
+pub(crate) fn degree(s: &Sizes) -> Refusal {
     row(1, [2, 4, 8, 16, 32, 64].contains(&s.d))
 }
 
-fn shape(s: &Sizes) -> bool {
+pub(crate) fn shape(s: &Sizes) -> bool {
     (1..=256).contains(&s.n) && (1..=16).contains(&s.r)
 }
 
-fn count(k: usize) -> bool {
+pub(crate) fn count(k: usize) -> bool {
     k <= 32
 }
 
-fn rows(w: usize) -> bool {
+pub(crate) fn rows(w: usize) -> bool {
     w <= 256
 }
 
-fn ranks<const N: usize>(all: [usize; N]) -> Refusal {
+pub(crate) fn ranks<const N: usize>(all: [usize; N]) -> Refusal {
     row(3, all.iter().all(|k| (1..=8).contains(k)))
 }
 
@@ -75,12 +75,12 @@ macro_rules! reads {
 }
 
 /// Rows 7 and 8, for lists with the lengths that they should have, and for the lengths that a call writes.
-fn lists(reads: &[(&[i32], usize)], writes: &[(usize, usize)]) -> Refusal {
+pub(crate) fn lists(reads: &[(&[i32], usize)], writes: &[(usize, usize)]) -> Refusal {
     row(7, reads.iter().all(|(list, length)| list.len() == *length) && writes.iter().all(|(room, length)| room == length))?;
     row(8, reads.iter().all(|(list, _)| list.iter().all(|v| (*v as i64).abs() <= MOST)))
 }
 
-fn projections(entries: &[i32]) -> Refusal {
+pub(crate) fn projections(entries: &[i32]) -> Refusal {
     row(9, entries.iter().all(|v| [-1, 0, 1].contains(v)))
 }
 
@@ -95,7 +95,7 @@ fn challenge(d: usize, c: &[i32]) -> bool {
     }
 }
 
-fn challenges(d: usize, c: &[i32]) -> Refusal {
+pub(crate) fn challenges(d: usize, c: &[i32]) -> Refusal {
     row(10, c.chunks(d).all(|c| challenge(d, c)))
 }
 
