@@ -1,9 +1,12 @@
-// The library's calls: the ring product, the five messages, the verifier, the next instance, and the sheet, read, written and judged. None has a
-// `requires`: what it cannot take it refuses by number.
+// The library's calls: the ring product, the five messages, the verifier, the next instance, the bare level, and the sheet, read, written and judged.
+// None has a `requires`: what it cannot take it refuses by number.
 ghost use mathlib.Core.Path.{_≡_};
+ghost use Rattle.bare.specs.Calls.{BareCommitted, BarePhiFormed, BareTurned};
 ghost use Rattle.lizkarg.specs.Calls.{productOf, Committed, Projected, Aggregated, GarbageCommitted, Amortized};
+pub use bare_verifier::bare_verify;
 use fold::Answer;
 use fold::CommitSizes;
+use fold::ConstraintSizes;
 use fold::GarbageSizes;
 use fold::Shape;
 use fold::ZDigits;
@@ -192,5 +195,87 @@ pub fn amortize(shape: Shape, digits: ZDigits, c: &[i32], witness: &[i32], z: &m
         return Answer::Refused(refusal);
     }
     prover::amortize::write_z(tz, shape, b, c, witness, z);
+    Answer::Written
+}
+
+// The bare level: t, in the clear.
+pub fn bare_commit(
+    shape: Shape,
+    kappa: usize,
+    a_matrix: &[i32],
+    witness: &[i32],
+    t: &mut [i32],
+) -> Answer
+    ensures { λ x. ⌜ BareCommitted shape kappa (now («a_matrix» .entry)) (now (witness .entry)) (now (t .entry)) x (now (t .exit)) ⌝ }
+{
+    let refusal = bare_refusals::bare_commit_refusal(shape, kappa, a_matrix, witness, t);
+    if refusal != 0 {
+        return Answer::Refused(refusal);
+    }
+    bare_prover::commit::write_t(shape, kappa, a_matrix, witness, t);
+    Answer::Written
+}
+
+// The bare level: the φ of the aggregate, which the turns are lent.
+pub fn bare_phi(
+    sizes: ConstraintSizes,
+    whole: &[i32],
+    constant_terms: &[i32],
+    projections: &[i32],
+    psi: &[i32],
+    omega: &[i32],
+    alpha: &[i32],
+    delta: &[i32],
+    phi: &mut [i32],
+) -> Answer
+    ensures { λ x.
+        ⌜ BarePhiFormed sizes (now (whole .entry)) (now («constant_terms» .entry)) (now (projections .entry)) (now (psi .entry)) (now (omega .entry))
+        (now (alpha .entry)) (now (delta .entry)) (now (phi .entry)) x (now (phi .exit)) ⌝ }
+{
+    let refusal = bare_refusals::bare_phi_refusal(
+        sizes,
+        whole,
+        constant_terms,
+        projections,
+        psi,
+        omega,
+        alpha,
+        delta,
+        phi,
+    );
+    if refusal != 0 {
+        return Answer::Refused(refusal);
+    }
+    bare_prover::phi::write_phi(
+        sizes,
+        whole,
+        constant_terms,
+        projections,
+        psi,
+        omega,
+        alpha,
+        delta,
+        phi,
+    );
+    Answer::Written
+}
+
+// The bare level: the four elements of a turn, from the challenges before it.
+pub fn bare_turn(
+    shape: Shape,
+    turn: usize,
+    phi: &[i32],
+    c: &[i32],
+    witness: &[i32],
+    garbage: &mut [i32],
+) -> Answer
+    ensures { λ x.
+        ⌜ BareTurned shape turn (now (phi .entry)) (now (c .entry)) (now (witness .entry)) (now (garbage .entry)) x (now (garbage .exit)) ⌝ }
+{
+    let refusal = bare_refusals::bare_turn_refusal(shape, turn, phi, c, witness, garbage);
+    if refusal != 0 {
+        return Answer::Refused(refusal);
+    }
+    bare_prover::turn::write_turn(shape, turn, phi, c, witness, garbage);
     Answer::Written
 }
