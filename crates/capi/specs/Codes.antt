@@ -10,12 +10,14 @@ use Rattle.fold.specs.declared.Answer.{Answer}
 use Rattle.fold.specs.Answers.{kindOf, numberOf, written}
 use Rattle.fold.specs.declared.Shape.{Shape}
 use Rattle.fold.specs.declared.CommitSizes.{CommitSizes}
+use Rattle.fold.specs.declared.ConstraintSizes.{ConstraintSizes}
 use Rattle.fold.specs.declared.GarbageSizes.{GarbageSizes}
 use Rattle.fold.specs.declared.ZDigits.{ZDigits}
 use Rattle.fold.specs.declared.ZDigits.the-variants.{One, Two}
 use Rattle.fold.specs.declared.StatementSizes.{StatementSizes}
 use Rattle.fold.specs.declared.Sizes.{Sizes}
 use Rattle.fold.specs.declared.PartSizes.{PartSizes}
+use Rattle.bare.specs.declared.BareSizes.{BareSizes}
 use Rattle.next_instance.specs.declared.part.Place.{Place}
 use Rattle.sheet.specs.declared.header.SheetSizes.{SheetSizes}
 use Rattle.sheet.specs.declared.reader.SheetAnswer.{SheetAnswer}
@@ -27,6 +29,8 @@ use Rattle.lizkarg.specs.declared.Product.{Product}
 use Rattle.capi.specs.declared.sizes.CShape.{CShape}
 use Rattle.capi.specs.declared.sizes.CCommitSizes.{CCommitSizes}
 use Rattle.capi.specs.declared.sizes.CGarbageSizes.{CGarbageSizes}
+use Rattle.capi.specs.declared.sizes.CConstraintSizes.{CConstraintSizes}
+use Rattle.capi.specs.declared.sizes.CBareSizes.{CBareSizes}
 use Rattle.capi.specs.declared.sizes.CSizes.{CSizes}
 use Rattle.capi.specs.declared.sizes.CPartSizes.{CPartSizes}
 use Rattle.capi.specs.declared.next.CPart.{CPart}
@@ -145,6 +149,22 @@ sizesFrom c =
       t2 = c .t2;
       bound = c .bound;
       target = c .target;
+    }
+
+-- the sizes of both kinds of constraints, and of the bare level's verifier
+abbrev pub constraintSizesFrom : CConstraintSizes → ConstraintSizes
+constraintSizesFrom c = record { shape = shapeFrom (c .shape); k = c .k; l = c .l; w = c .w }
+
+abbrev pub bareSizesFrom : CBareSizes → BareSizes
+bareSizesFrom c =
+    record {
+      shape = shapeFrom (c .shape);
+      k = c .k;
+      l = c .l;
+      w = c .w;
+      kappa = c .kappa;
+      bound = c .bound;
+      «z_bound» = c .«z_bound»;
     }
 
 -- of a sheet, which keeps two digits

@@ -16,6 +16,7 @@ use sizes::CSizes;
 use types::CAnswer;
 use types::CSheet;
 
+pub mod bare_level;
 pub mod multiply;
 pub mod next;
 pub mod sizes;

@@ -1,8 +1,10 @@
 // The structs of sizes for C, laid out as bindings/c/lizkarg.h declares them, and the library's sizes from them. They are C's own: where a struct of
 // the library changes, these stay.
 ghost use mathlib.Core.Path.{_≡_};
-ghost use Rattle.capi.specs.Codes.{shapeFrom, commitSizesFrom, garbageSizesFrom, zFrom, sizesFrom, sheetSizesFrom, oneFrom, partSizesFrom};
+ghost use Rattle.capi.specs.Codes.{shapeFrom, commitSizesFrom, garbageSizesFrom, zFrom, sizesFrom, sheetSizesFrom, oneFrom, partSizesFrom, constraintSizesFrom, bareSizesFrom};
+use bare::BareSizes;
 use fold::CommitSizes;
+use fold::ConstraintSizes;
 use fold::GarbageSizes;
 use fold::PartSizes;
 use fold::Shape;
@@ -73,6 +75,27 @@ pub struct CPartSizes {
     pub nu: usize,
     pub mu: usize,
     pub one_digit: u8,
+}
+
+// The sizes of both kinds of constraints.
+#[repr(C)]
+pub struct CConstraintSizes {
+    pub shape: CShape,
+    pub k: usize,
+    pub l: usize,
+    pub w: usize,
+}
+
+// The sizes of the bare level's verifier; `bound` is β² and `z_bound` the bound on z.
+#[repr(C)]
+pub struct CBareSizes {
+    pub shape: CShape,
+    pub k: usize,
+    pub l: usize,
+    pub w: usize,
+    pub kappa: usize,
+    pub bound: u64,
+    pub z_bound: u64,
 }
 
 pub fn shape(c: CShape) -> Shape
@@ -205,5 +228,38 @@ pub fn part_sizes(c: CPartSizes) -> PartSizes
         nu: c.nu,
         mu: c.mu,
         one_digit: one_from(c.one_digit),
+    }
+}
+
+pub fn constraint_sizes(c: CConstraintSizes) -> ConstraintSizes
+    ensures { λ r. ⌜ r ≡ constraintSizesFrom c ⌝ }
+{
+    ConstraintSizes {
+        shape: Shape {
+            d: c.shape.d,
+            n: c.shape.n,
+            r: c.shape.r,
+        },
+        k: c.k,
+        l: c.l,
+        w: c.w,
+    }
+}
+
+pub fn bare_sizes(c: CBareSizes) -> BareSizes
+    ensures { λ r. ⌜ r ≡ bareSizesFrom c ⌝ }
+{
+    BareSizes {
+        shape: Shape {
+            d: c.shape.d,
+            n: c.shape.n,
+            r: c.shape.r,
+        },
+        k: c.k,
+        l: c.l,
+        w: c.w,
+        kappa: c.kappa,
+        bound: c.bound,
+        z_bound: c.z_bound,
     }
 }

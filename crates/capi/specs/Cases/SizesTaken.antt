@@ -5,20 +5,24 @@ use mathlib.Core.Bool.{true, false}
 use Prim.Native.Nat.{ℕ}
 use Rattle.fold.specs.declared.Shape.{Shape}
 use Rattle.fold.specs.declared.CommitSizes.{CommitSizes}
+use Rattle.fold.specs.declared.ConstraintSizes.{ConstraintSizes}
 use Rattle.fold.specs.declared.GarbageSizes.{GarbageSizes}
 use Rattle.fold.specs.declared.ZDigits.{ZDigits}
 use Rattle.fold.specs.declared.ZDigits.the-variants.{One, Two}
 use Rattle.fold.specs.declared.StatementSizes.{StatementSizes}
 use Rattle.fold.specs.declared.Sizes.{Sizes}
 use Rattle.fold.specs.declared.PartSizes.{PartSizes}
+use Rattle.bare.specs.declared.BareSizes.{BareSizes}
 use Rattle.next_instance.specs.declared.part.Place.{Place}
 use Rattle.capi.specs.declared.sizes.CShape.{CShape}
 use Rattle.capi.specs.declared.sizes.CCommitSizes.{CCommitSizes}
 use Rattle.capi.specs.declared.sizes.CGarbageSizes.{CGarbageSizes}
+use Rattle.capi.specs.declared.sizes.CConstraintSizes.{CConstraintSizes}
+use Rattle.capi.specs.declared.sizes.CBareSizes.{CBareSizes}
 use Rattle.capi.specs.declared.sizes.CSizes.{CSizes}
 use Rattle.capi.specs.declared.sizes.CPartSizes.{CPartSizes}
 use Rattle.capi.specs.declared.next.CPart.{CPart}
-use Rattle.capi.specs.Codes.{shapeFrom, commitSizesFrom, garbageSizesFrom, sizesFrom, sheetSizesFrom, partSizesFrom, placeFrom}
+use Rattle.capi.specs.Codes.{shapeFrom, commitSizesFrom, garbageSizesFrom, sizesFrom, sheetSizesFrom, partSizesFrom, constraintSizesFrom, bareSizesFrom, placeFrom}
 
 abbrev c : CShape
 c = record { d = 1; n = 2; r = 3 }
@@ -47,6 +51,9 @@ pub record SizesTaken : Type 0 where
       ≡ record { shape = s; kappa = 4; t1 = 5; t2 = 6; nu = 7; mu = 8; «one_digit» = false }
   pub one-part-sizes : partSizesFrom (record { shape = c; kappa = 4; t1 = 5; t2 = 6; nu = 7; mu = 8; «one_digit» = 255 })
       ≡ record { shape = s; kappa = 4; t1 = 5; t2 = 6; nu = 7; mu = 8; «one_digit» = true }
+  pub constraint-sizes : constraintSizesFrom (record { shape = c; k = 4; l = 5; w = 6 }) ≡ record { shape = s; k = 4; l = 5; w = 6 }
+  pub bare-sizes : bareSizesFrom (record { shape = c; k = 4; l = 5; w = 6; kappa = 7; bound = 8; «z_bound» = 9 })
+      ≡ record { shape = s; k = 4; l = 5; w = 6; kappa = 7; bound = 8; «z_bound» = 9 }
   pub place : placeFrom (record { start = 1; length = 2 }) ≡ record { start = 1; length = 2 }
 
 pub sizes-taken : SizesTaken
@@ -61,5 +68,7 @@ sizes-taken =
       sheet-sizes = refl;
       part-sizes = refl;
       one-part-sizes = refl;
+      constraint-sizes = refl;
+      bare-sizes = refl;
       place = refl;
     }
