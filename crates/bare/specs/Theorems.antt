@@ -6,4 +6,3 @@ pub mod BareMargin
 pub mod BareRising
 pub mod ChainEnds
 pub mod BareCalls
-pub mod BareRefusals

@@ -8,6 +8,9 @@ pub mod HonestRuns
 pub mod TwoOpenings
 -- z in one digit
 pub mod OneDigit
+-- The bare level
+pub mod BareLevel
+pub mod MixedProducts
 -- What accepted carries
 pub mod Margin
 -- The sheet and its verdict

@@ -1,6 +1,6 @@
 -- Demand 1 (SPECIFICATION 7.h): "Refused, by the table's numbers and with lent memory untouched: sizes or bounds outside the limits, a slice of the
 -- wrong length, a coefficient out of range, a projection entry other than -1, 0, 1, a challenge outside the rule, a next instance too large, a broken
--- sheet, a buffer shorter than the text, a low digit of more than half its base. All else is answered; every call ends and does nothing undefined."
+-- sheet, a buffer shorter than the text, a mixed product at the bare level, a low digit of more than half its base. All else is answered; every call ends and does nothing undefined."
 -- One theorem for each call, from its promise alone: it is refused by k exactly when the test of row k is the first of its tests that fails, and
 -- then nothing lent has changed (`Refuses`, crates/fold/specs/Theorems/FirstRefusal.antt). That a call ends and does nothing undefined is part of its proof.
 use mathlib.Core.Path.{_≡_, refl, _∙_}
@@ -11,6 +11,7 @@ use lib.ListN.{length}
 use lib.IntN.{ℤ}
 use Rattle.fold.specs.declared.Answer.{Answer}
 use Rattle.fold.specs.declared.CommitSizes.{CommitSizes}
+use Rattle.fold.specs.declared.ConstraintSizes.{ConstraintSizes}
 use Rattle.fold.specs.declared.GarbageSizes.{GarbageSizes}
 use Rattle.fold.specs.declared.Shape.{Shape}
 use Rattle.fold.specs.declared.ZDigits.{ZDigits}
@@ -28,6 +29,10 @@ use Rattle.writer.specs.Writing.{writingTests, SheetWritten}
 use Rattle.writer.specs.Writing as writing
 use Rattle.lizkarg.specs.Calls.{productOf, Committed, Projected, Aggregated, GarbageCommitted, Amortized}
 use Rattle.next_instance.specs.Calls.{NextCalled}
+use Rattle.bare.specs.Statement.{BareStatement, BareTranscript}
+use Rattle.bare.specs.Refusals.{bareCommitTests, barePhiTests, bareTurnTests, bareVerifyTests}
+use Rattle.bare.specs.Arguments.{bareVerification}
+use Rattle.bare.specs.Calls.{BareCommitted, BarePhiFormed, BareTurned}
 use Rattle.fold.specs.Theorems.FirstRefusal.{FirstFails, Refuses, message-refuses, judgement-refuses, next-call-refuses, number-refuses}
 use Rattle.fold.specs.Sizes.{countIf}
 
@@ -83,6 +88,28 @@ pub part-refuses : (m : PartSizes) (i : ℕ) (o : List ℤ) (number : ℕ) (part
     × (number ≡ suc k → part ≡ [])
 unfolding partRefusal nextPart
 part-refuses m i o number part is handed = number-refuses _ _ is handed
+
+-- the bare level: t, φ, a turn, and the verifier
+pub bare-commit-refuses : {m : Shape} {κ : ℕ} {A s v v′ : List ℤ} {answer : Answer} → BareCommitted m κ A s v answer v′
+    → Refuses (bareCommitTests (m .d) (m .n) (m .r) κ A s v) answer (v′ ≡ v)
+unfolding bareCommitTests
+bare-commit-refuses call = message-refuses _ refl (call .answer-is) (λ kept. call .t-is ∙ kept _ _)
+
+pub bare-phi-refuses : {m : ConstraintSizes} {whole constantTerms projections ψ ω α δ v v′ : List ℤ} {answer : Answer}
+    → BarePhiFormed m whole constantTerms projections ψ ω α δ v answer v′
+    → Refuses (barePhiTests (m .shape .d) (m .shape .n) (m .shape .r) (m .k) (m .l) (m .w) whole constantTerms projections ψ ω α δ v) answer (v′ ≡ v)
+unfolding barePhiTests
+bare-phi-refuses call = message-refuses _ refl (call .answer-is) (λ kept. call .phi-is ∙ kept _ _)
+
+pub bare-turn-refuses : {m : Shape} {i : ℕ} {phi c s v v′ : List ℤ} {answer : Answer} → BareTurned m i phi c s v answer v′
+    → Refuses (bareTurnTests (m .d) (m .n) (m .r) i phi c s v) answer (v′ ≡ v)
+unfolding bareTurnTests
+bare-turn-refuses call = message-refuses _ refl (call .answer-is) (λ kept. call .turn-is ∙ kept _ _)
+
+pub bare-verify-refuses : (𝓢 : BareStatement) (𝓓 : Draws) (𝓣 : BareTranscript) (o : List ℤ) (answer : Answer) → answer ≡ bareVerification 𝓢 𝓓 𝓣 o
+    → Refuses (bareVerifyTests 𝓢 𝓓 𝓣 o) answer Unit
+unfolding bareVerifyTests
+bare-verify-refuses 𝓢 𝓓 𝓣 o answer is = judgement-refuses _ refl _ is
 
 -- the reader of a sheet
 pub read-refuses : {text : List ℕ} {numbers numbers′ : List ℤ} {read : SheetAnswer} → SheetRead text numbers read numbers′
