@@ -249,6 +249,8 @@ pub fn constraint_sizes(c: CConstraintSizes) -> ConstraintSizes
 pub fn bare_sizes(c: CBareSizes) -> BareSizes
     ensures { λ r. ⌜ r ≡ bareSizesFrom c ⌝ }
 {
+    let bound = c.bound;
+    let z_bound = c.z_bound;
     BareSizes {
         shape: Shape {
             d: c.shape.d,
@@ -259,7 +261,7 @@ pub fn bare_sizes(c: CBareSizes) -> BareSizes
         l: c.l,
         w: c.w,
         kappa: c.kappa,
-        bound: c.bound,
-        z_bound: c.z_bound,
+        bound,
+        z_bound,
     }
 }
