@@ -9,3 +9,4 @@ pub mod NarrowCases
 pub mod ProductCases
 pub mod SecondCaseNumbers
 pub mod SecondCase
+pub mod BareCase
