@@ -17,7 +17,7 @@ use Rattle.fold.specs.Verdict.{check₁, check₂, check₅}
 use Rattle.bare.specs.Statement.{BareStatement, BareTranscript, bareAggregate}
 use Rattle.bare.specs.Opening.{tAt, zAt, mixedΦAt, ownΦAt, mixedZAt, ownZAt, zNumbers}
 
--- "the sum over all turns of (mixed)·c_i + (own)·c_i²"
+-- "the sum over all turns of" the mixed one times c_i and the own one times c_i²
 module _ (𝓡 : CommRing) where
   open CommRing 𝓡 using (Carrier, add, mul)
 

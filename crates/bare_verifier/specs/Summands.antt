@@ -7,7 +7,7 @@ use Rattle.ring.specs.Element.{R, el}
 use Rattle.fold.specs.Entries.{aggregateA}
 use Rattle.bare.specs.Opening.{turnAt}
 
--- "(mixed)·c_i + (own)·c_i²", of elements e and e + 1 of turn i
+-- the mixed one times c_i and the own one times c_i², of elements e and e + 1 of turn i
 unfoldable pub turnSummand : (d n r κ : ℕ) (c o : List ℤ) (e i : ℕ) → R d .Carrier
 turnSummand d n r κ c o e i =
     R d .add (R d .mul (turnAt d n r κ o e i) (el d c i)) (R d .mul (turnAt d n r κ o (e + 1) i) (R d .mul (el d c i) (el d c i)))

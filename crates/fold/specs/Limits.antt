@@ -27,6 +27,6 @@ mostDigits = 8
 abbrev pub mostChunks : ℕ
 mostChunks = 16
 
--- "β² or β'² negative or above 999999999999999"
+-- "β², β'² or the bound on z negative or above 999999999999999"
 abbrev pub mostBound : ℕ
 mostBound = 999999999999999

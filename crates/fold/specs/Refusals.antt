@@ -35,7 +35,7 @@ unfoldable pub degree : ℤ → Bool
 degree (pos d) = anyOf (eqb d 2 ∷ eqb d 4 ∷ eqb d 8 ∷ eqb d 16 ∷ eqb d 32 ∷ eqb d 64 ∷ [])
 degree (negsuc d) = false
 
--- row 2: "n not 1..256, r not 1..16, K or L not 0..32, w not 0..256, a part number outside its range"
+-- row 2: "n not 1..256, r not 1..16, K or L not 0..32, w not 0..256, a part or turn number outside its range"
 unfoldable pub rank : ℤ → Bool
 rank n = between 1 mostRank n
 
@@ -65,7 +65,7 @@ chunks tz (pos ν) (pos μ) = allOf (leb 1 ν ∷ leb 1 μ ∷ leb (tz * ν + μ
 chunks tz (pos ν) (negsuc μ) = false
 chunks tz (negsuc ν) μ = false
 
--- row 6: "β² or β'² negative or above 999999999999999"
+-- row 6: "β², β'² or the bound on z negative or above 999999999999999"
 unfoldable pub lengthBound : ℤ → Bool
 lengthBound β² = between 0 mostBound β²
 

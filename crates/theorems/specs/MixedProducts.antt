@@ -1,7 +1,7 @@
 -- SPECIFICATION 7, row 14: "some constraint has a nonzero a_ij with i < j (bare level only)". For the calls that take constraints, from their promises
 -- alone: `bare_verify`, whose promise is `answer ≡ bareVerification ..`, and `bare_phi`, whose promise is `BarePhiFormed`. `Mixed`
 -- (crates/bare/specs/Laws/UnmixedLaws.antt) says it by constraint and index, of both kinds; `MixedNumbers` there by numbers (7.l).
---     verify-refused-14, phi-refused-14    refused by 14 "exactly when some constraint has a nonzero a_ij with i < j", where the tests of all lower rows hold
+--     verify-refused-14, phi-refused-14    refused by 14 exactly when "some constraint has a nonzero a_ij with i < j", where the tests of all lower rows hold
 --     accepted-unmixed                     an accepted bare opening is of a statement without mixed products
 use mathlib.Core.Path.{_≡_, sym, ap, _∙_}
 use mathlib.Core.Bool.{true}

@@ -1,6 +1,6 @@
 -- Garbage in turn over a commutative ring: what the folded vector z = Σ c_i s_i satisfies where turn i knows c_1..c_(i-1) alone. Checks 4, 5 and 6 of
 -- SPECIFICATION 14.7.
---     in-turn-cong       "the sum over all turns of (mixed)·c_i + (own)·c_i²" depends on what it reads
+--     in-turn-cong       what stands "in turn" depends on what it reads
 --     folded-in-turn     Σ<φ_i,z>c_i is that sum over the mixed φ and the own φ
 --     self-in-turn       <z,z> is that sum over the mixed z and the own z
 --     rows-diagonal      a sum over pairs whose mixed entries are zero is that of its diagonal
