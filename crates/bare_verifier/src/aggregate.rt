@@ -175,16 +175,7 @@ pub fn aggregate_holds(
         (ownΦAt (sizes .shape .d) (sizes .shape .n) (sizes .shape .r) (sizes .kappa) (now (opening .entry)))) ⌝ }
 {
     let d = sizes.shape.d;
-    let z_sum = diagonal_sum(
-        sizes,
-        whole,
-        constant_terms,
-        psi,
-        alpha,
-        delta,
-        c,
-        opening,
-    );
+    let z_sum = diagonal_sum(sizes, whole, constant_terms, psi, alpha, delta, c, opening);
     let phi_sum = own_phi_sum(sizes, c, opening);
     let left = z_sum.sum(d, phi_sum);
     let right = aggregate_constant(sizes.shape, sizes.k, whole, alpha, delta, second_b);

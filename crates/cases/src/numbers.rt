@@ -5,6 +5,8 @@ ghost use lib.IntN.{pos};
 ghost use lib.ListN.{length, getD};
 ghost use Rattle.integers.specs.Laws.Bridge.{P};
 ghost use Prim.Native.Nat.{_≤_};
+ghost use mir.Syntax.{w64};
+ghost use mir.Val.{ofZ};
 ghost use Rattle.cases.specs.Numbers.{word, sizeAt, twoDigits, oneDigit};
 use residues::range;
 
@@ -75,6 +77,17 @@ pub fn natural(x: i64) -> u64
 {
     if x < 0 {
         return 0;
+    }
+    x as u64
+}
+
+// The number modulo 2^64.
+pub fn wrapped(x: i64) -> u64
+    ensures { λ r. ⌜ r ≡ ofZ w64 x ⌝ }
+{
+    if x < 0 {
+        let below = -1 - x;
+        return 18446744073709551615 - below as u64;
     }
     x as u64
 }

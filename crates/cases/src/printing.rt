@@ -44,3 +44,11 @@ pub fn print_words(xs: &[i32]) -> usize
     }
     i
 }
+
+// The numbers of a list, a blank before each.
+pub fn print_list(xs: &[i32]) -> usize
+    ensures { λ r. ⌜ r ≡ length (now (xs .entry)) ⌝ }
+{
+    print_gap(xs.len());
+    print_words(xs)
+}

@@ -6,7 +6,7 @@ ghost use lib.ListN.{length};
 ghost use Rattle.integers.specs.Remainder.{emod};
 ghost use Rattle.cases.specs.Sums.{checksum};
 use crate::printing::print_gap;
-use crate::printing::print_words;
+use crate::printing::print_list;
 use residues::range;
 
 // The modulus of checksums, 2^31 - 1.
@@ -70,7 +70,6 @@ pub fn print_shown(xs: &[i32]) -> usize
     if count > SHOWN {
         return count;
     }
-    print_gap(count);
-    print_words(xs);
+    print_list(xs);
     count
 }

@@ -16,7 +16,8 @@ use Rattle.capi.specs.Codes.{shapeFrom, zFrom, sizesFrom}
 use Rattle.cases.specs.Numbers.{padded, word, sizeAt, twoDigits, oneDigit}
 use Rattle.cases.specs.Text.{lineNumbers}
 use Rattle.cases.specs.Lists.{nthList}
-use Rattle.fold_cases.specs.Input.{sizesOf, room}
+use Rattle.cases.specs.Input.{room}
+use Rattle.fold_cases.specs.Input.{sizesOf}
 
 module _ (sizes : CSizes) (xs : List ℤ) where
   unfoldable pub commitAnswer : Answer

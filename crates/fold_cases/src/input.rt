@@ -1,18 +1,14 @@
 // The numbers of a case: the number of its call, its sizes, then its lists, and then the lengths of the lists that the call writes.
 ghost use mathlib.Core.Path.{_≡_};
-ghost use lib.IntN.{pos};
-ghost use lib.ListN.{length, replicate, take};
-ghost use Rattle.cases.specs.Numbers.{sizeAt};
 ghost use Rattle.fold.specs.Arguments.{commitSizesOf, garbageSizesOf};
 ghost use Rattle.capi.specs.Codes.{commitSizesFrom, garbageSizesFrom, sizesFrom};
-ghost use Rattle.fold_cases.specs.Input.{naturalAt, sizesOf};
+ghost use Rattle.fold_cases.specs.Input.{sizesOf};
 use capi::sizes::CCommitSizes;
 use capi::sizes::CGarbageSizes;
 use capi::sizes::CShape;
 use capi::sizes::CSizes;
-use cases::numbers::natural;
-use cases::numbers::size;
-use cases::numbers::wide_at;
+use cases::input::bound_at;
+use cases::input::size_at;
 
 // The last number of a call with z in two digits, and how many have one: 7 and 8 are 5 and 6 with one.
 pub const LAST: usize = 6;
@@ -21,24 +17,6 @@ pub const ONE_DIGIT: usize = 2;
 
 // Where the lists of a case begin: after its call and sixteen sizes.
 pub const LISTS: usize = 17;
-
-// The longest list that a call may write here.
-pub const ROOM: usize = 8192;
-
-// What fills such a list before the call.
-pub const FILL: i32 = 77;
-
-fn bound_at(wides: &[i64], place: usize) -> u64
-    ensures { λ r. ⌜ r ≡ naturalAt (now (wides .entry)) place ⌝ }
-{
-    natural(wide_at(wides, place))
-}
-
-fn size_at(wides: &[i64], place: usize) -> usize
-    ensures { λ r. ⌜ r ≡ naturalAt (now (wides .entry)) place ⌝ }
-{
-    bound_at(wides, place) as usize
-}
 
 // The sizes of a case: they may be any that an i64 holds, so that the calls refuse them.
 pub fn read_sizes(wides: &[i64], one_digit: u8) -> CSizes
@@ -95,11 +73,4 @@ pub fn garbage_sizes(sizes: CSizes) -> CGarbageSizes
         b1: sizes.b1,
         t1: sizes.t1,
     }
-}
-
-// The length of a list to write, 0 where it is too long. The filled array has a part that long.
-pub fn count_at(lengths: &[i32], place: usize) -> usize
-    ensures { λ r. ⌜ (r ≡ sizeAt 8192 (now (lengths .entry)) place) × (r ≡ length (take r (replicate 8192 (pos 77)))) ⌝ }
-{
-    size(lengths, place, ROOM)
 }

@@ -6,16 +6,17 @@ ghost use Rattle.capi.specs.Codes.{Coded, codeOf, shapeFrom, zFrom, sizesFrom};
 ghost use Rattle.cases.specs.Lists.{nthList};
 ghost use Rattle.fold.specs.Arguments.{commitSizesOf, garbageSizesOf};
 ghost use Rattle.fold_cases.specs.Answers.{commitAnswer, projectAnswer, aggregateAnswer, garbageAnswer, amortizeAnswer};
-use crate::input::FILL;
-use crate::input::ROOM;
 use crate::input::commit_sizes;
-use crate::input::count_at;
 use crate::input::garbage_sizes;
 use crate::output;
 use capi::sizes::CSizes;
 use capi::types::CAnswer;
+use cases::input::FILL;
+use cases::input::ROOM;
+use cases::input::count_at;
 use cases::lists::nth_list;
 use cases::lists::past_lists;
+use cases::printing;
 
 // Call 1: A, B, C, the witness; t's digits, g's digits, u1.
 fn commit(sizes: CSizes, lists: &[i32], t: &mut [i32], g: &mut [i32], u1: &mut [i32]) -> CAnswer
@@ -31,9 +32,9 @@ fn commit(sizes: CSizes, lists: &[i32], t: &mut [i32], g: &mut [i32], u1: &mut [
     let witness = nth_list(lists, 3);
     let answer = capi::lizkarg_commit(its, a_matrix, b_matrix, c_matrix, witness, t, g, u1);
     output::print_answer(answer);
-    output::print_list(t);
-    output::print_list(g);
-    output::print_list(u1);
+    printing::print_list(t);
+    printing::print_list(g);
+    printing::print_list(u1);
     answer
 }
 
@@ -66,7 +67,7 @@ fn project(sizes: CSizes, lists: &[i32], p: &mut [i32]) -> CAnswer
     let witness = nth_list(lists, 1);
     let answer = capi::lizkarg_project(sizes.shape, sizes.w, projections, witness, p);
     output::print_answer(answer);
-    output::print_list(p);
+    printing::print_list(p);
     answer
 }
 
@@ -103,7 +104,7 @@ fn aggregate(sizes: CSizes, lists: &[i32], second_b: &mut [i32]) -> CAnswer
         second_b,
     );
     output::print_answer(answer);
-    output::print_list(second_b);
+    printing::print_list(second_b);
     answer
 }
 
@@ -150,8 +151,8 @@ fn commit_garbage(sizes: CSizes, lists: &[i32], h: &mut [i32], u2: &mut [i32]) -
         u2,
     );
     output::print_answer(answer);
-    output::print_list(h);
-    output::print_list(u2);
+    printing::print_list(h);
+    printing::print_list(u2);
     answer
 }
 
@@ -188,7 +189,7 @@ fn amortize(sizes: CSizes, lists: &[i32], z: &mut [i32]) -> CAnswer
     let witness = nth_list(lists, 1);
     let answer = call_amortize(sizes, c, witness, z);
     output::print_answer(answer);
-    output::print_list(z);
+    printing::print_list(z);
     answer
 }
 

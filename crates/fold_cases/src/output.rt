@@ -1,10 +1,9 @@
-// Answers and lists on standard output. Each call answers what it printed: the answer's number, or how many numbers.
+// Answers on standard output.
 ghost use mathlib.Core.Path.{_≡_};
-ghost use lib.ListN.{length};
 use capi::types::CAnswer;
 use cases::printing;
 
-// The answer's kind and number.
+// The answer's kind and number; the number is what it answers.
 pub fn print_answer(answer: CAnswer) -> u64
     ensures { λ r. ⌜ r ≡ answer .number ⌝ }
 {
@@ -14,12 +13,4 @@ pub fn print_answer(answer: CAnswer) -> u64
     printing::print_gap(1);
     io::print_decimal(1, number);
     number
-}
-
-// The numbers of a list, a blank before each.
-pub fn print_list(xs: &[i32]) -> usize
-    ensures { λ r. ⌜ r ≡ length (now (xs .entry)) ⌝ }
-{
-    printing::print_gap(xs.len());
-    printing::print_words(xs)
 }

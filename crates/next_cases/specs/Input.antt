@@ -1,16 +1,10 @@
 -- CSizes among the numbers of a case, and those of a part of the next witness.
 use mathlib.Core.List.{List}
 use Prim.Native.Nat.{ℕ}
-use lib.ListN.{getD}
-use lib.IntN.{ℤ, pos}
-use mir.Syntax.{w64}
-use mir.Val.{ofZ}
+use lib.IntN.{ℤ}
 use Rattle.capi.specs.declared.sizes.CSizes.{CSizes}
 use Rattle.capi.specs.declared.sizes.CPartSizes.{CPartSizes}
-
--- The number at a place, 0 where there is none, modulo 2^64: -k stands for 2^64 - k.
-abbrev pub wideSize : List ℤ → ℕ → ℕ
-wideSize xs place = ofZ w64 (getD xs place (pos 0))
+use Rattle.cases.specs.Input.{wideSize}
 
 -- eighteen sizes, of which ν and μ, numbers 14 and 15, stand in no struct of a fold
 unfoldable pub sizesOf : List ℤ → (one : ℕ) → CSizes

@@ -17,7 +17,8 @@ use Rattle.capi.specs.Codes.{Coded, codeOf, shapeFrom, zFrom, sizesFrom, partSi
 use Rattle.cases.specs.Numbers.{padded, word, sizeAt, twoDigits, oneDigit}
 use Rattle.cases.specs.Lists.{pastLists, nthList}
 use Rattle.cases.specs.Text.{lineNumbers}
-use Rattle.next_cases.specs.Input.{wideSize, sizesOf, partSizesOf}
+use Rattle.cases.specs.Input.{wideSize}
+use Rattle.next_cases.specs.Input.{sizesOf, partSizesOf}
 use Rattle.next_cases.specs.Messages.{filled, blank, messageOf, openingOf, kept}
 use Rattle.next_cases.specs.Witness.{witnessOf}
 

@@ -6,7 +6,6 @@ ghost use mathlib.Core.Path.{_≡_};
 ghost use Rattle.lizkarg.specs.Calls.{Amortized};
 ghost use Rattle.capi.specs.Codes.{Coded, shapeFrom, zFrom};
 ghost use Rattle.next_cases.specs.Runs.{Committing, Projecting, Aggregating, GarbageCommitting, Amortizing, verdictOf, Folded};
-use crate::input::FILL;
 use crate::input::ROOM;
 use crate::messages::G;
 use crate::messages::H;
@@ -24,6 +23,7 @@ use capi::sizes::CCommitSizes;
 use capi::sizes::CGarbageSizes;
 use capi::sizes::CSizes;
 use capi::types::CAnswer;
+use cases::input::FILL;
 use cases::lists::nth_list;
 use cases::numbers::size;
 

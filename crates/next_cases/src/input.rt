@@ -1,13 +1,12 @@
 // The numbers of a case: its kind, its eighteen sizes, then its lists. What is missing counts as 0.
 ghost use mathlib.Core.Path.{_≡_};
 ghost use lib.IntN.{pos};
-ghost use mir.Syntax.{w64};
-ghost use mir.Val.{ofZ};
 ghost use Rattle.cases.specs.Numbers.{sizeOf};
-ghost use Rattle.next_cases.specs.Input.{wideSize, sizesOf};
+ghost use Rattle.next_cases.specs.Input.{sizesOf};
 use capi::sizes::CShape;
 use capi::sizes::CSizes;
-use cases::numbers::wide_at;
+use cases::input::bound_at;
+use cases::input::size_at;
 
 // The last kind with z in two digits, and how many have one: 4, 5 and 6 are 1, 2 and 3 with one.
 pub const LAST: usize = 3;
@@ -27,33 +26,6 @@ pub const LISTS: usize = 19;
 
 // The longest list that is written here.
 pub const ROOM: usize = 32768;
-
-// What fills such a list before a call.
-pub const FILL: i32 = 77;
-
-// The number modulo 2^64.
-fn wrapped(x: i64) -> u64
-    ensures { λ r. ⌜ r ≡ ofZ w64 x ⌝ }
-{
-    if x < 0 {
-        let below = -1 - x;
-        return 18446744073709551615 - below as u64;
-    }
-    x as u64
-}
-
-fn bound_at(wides: &[i64], place: usize) -> u64
-    ensures { λ x. ⌜ x ≡ wideSize (now (wides .entry)) place ⌝ }
-{
-    wrapped(wide_at(wides, place))
-}
-
-// The size at a place: it may be any of 64 bits, so that the calls refuse it.
-pub fn size_at(wides: &[i64], place: usize) -> usize
-    ensures { λ x. ⌜ x ≡ wideSize (now (wides .entry)) place ⌝ }
-{
-    bound_at(wides, place) as usize
-}
 
 // The sizes of a fold, from the first number on; ν and μ are left out.
 pub fn read_sizes(wides: &[i64], one_digit: u8) -> CSizes

@@ -1,12 +1,12 @@
 // Kind 1, the next instance.
 ghost use Rattle.next_cases.specs.Runs.{NextOfLists, InstanceRun};
-use crate::input::FILL;
 use crate::input::LISTS;
 use crate::input::ROOM;
 use crate::output::print_answer;
 use capi::next::lizkarg_next_instance;
 use capi::sizes::CSizes;
 use capi::types::CAnswer;
+use cases::input::FILL;
 use cases::lists::nth_list;
 use cases::lists::past_lists;
 use cases::lists::past_numbers;

@@ -7,6 +7,7 @@ use crate::input;
 use crate::instance;
 use crate::part;
 use crate::twice;
+use cases::input::size_at;
 use cases::lists;
 use cases::numbers;
 use cases::printing;
@@ -20,14 +21,14 @@ fn run_case(kind: usize, one_digit: u8, wides: &[i64], xs: &[i32]) -> u64
     ensures { λ r. ⌜ CaseRun (now (wides .entry)) (now (xs .entry)) kind «one_digit» r ⌝ }
 {
     let sizes = input::read_sizes(lists::past_wides(wides, input::SIZES), one_digit);
-    let nu = input::size_at(wides, input::NU);
-    let mu = input::size_at(wides, input::MU);
+    let nu = size_at(wides, input::NU);
+    let mu = size_at(wides, input::MU);
     if kind == 1 {
         let answer = instance::run_instance(sizes, nu, mu, xs);
         return answer.number;
     }
     if kind == 2 {
-        let number = input::size_at(wides, input::LISTS);
+        let number = size_at(wides, input::LISTS);
         return part::run_part(sizes, nu, mu, number, xs) as u64;
     }
     if kind == 3 {

@@ -46,14 +46,7 @@ pub fn message_checks(
         l: sizes.l,
         w: sizes.w,
     };
-    let two = terms::constant_terms_hold(
-        constraint_sizes,
-        constant_terms,
-        psi,
-        omega,
-        p,
-        second_b,
-    );
+    let two = terms::constant_terms_hold(constraint_sizes, constant_terms, psi, omega, p, second_b);
     first(two, 2, 0)
 }
 

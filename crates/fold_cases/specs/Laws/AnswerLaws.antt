@@ -1,32 +1,15 @@
--- Laws of the answers: what a library call promises of its answer, and lists with room for what it writes.
-use mathlib.Core.Path.{_≡_, refl, sym, ap, _∙_}
+-- Laws of the answers.
+use mathlib.Core.Path.{_≡_, refl, ap, _∙_}
 use mathlib.Core.List.{List, map}
-use Prim.Native.Nat.{ℕ, _≤_}
+use Prim.Native.Nat.{ℕ}
 use lib.IntN.{ℤ, pos}
-use lib.ListN.{length, take, replicate, length-replicate}
-use lib.Seq.{length-take-le}
+use lib.ListN.{length, replicate, length-replicate}
 use borrow.Author.Tests.{ne-eqb}
 use Rattle.capi.specs.declared.sizes.CSizes.{CSizes}
-use Rattle.cases.specs.Numbers.{padded, word, sizeAt}
+use Rattle.cases.specs.Numbers.{padded, word}
 use Rattle.cases.specs.Text.{lineNumbers}
-use Rattle.cases.specs.Laws.NumberLaws.{size-bound}
-use Rattle.cases.specs.Lists.{pastLists}
-use Rattle.fold_cases.specs.Input.{room}
 use Rattle.fold_cases.specs.Answers.{commitAnswer, projectAnswer, aggregateAnswer, garbageAnswer, amortizeAnswer, verifyAnswer}
 use Rattle.fold_cases.specs.Answers.{callAnswer, caseAnswer, lineAnswer}
-
--- a filled array has a part of every length up to its own
-pub part-fits : (n r : ℕ) (x : ℤ) → r ≤ n → r ≡ length (take r (replicate n x))
-part-fits n r x h = sym (length-take-le _ _ (rw (length-replicate n x) h))
-
-pub count-fits : (xs : List ℤ) (k : ℕ) {r : ℕ} → r ≡ sizeAt 8192 xs k → r ≤ 8192
-count-fits xs k e = rw e (size-bound 8192 xs k)
-
--- the room for a list is the part of the filled array that its length tells
-pub room-is : (k i : ℕ) (lists : List ℤ) {lengths : List ℤ} {r : ℕ} → lengths ≡ pastLists k lists → r ≡ sizeAt 8192 lengths i
-    → take r (replicate 8192 (pos 77)) ≡ room k i lists
-unfolding room
-room-is k i lists e f = rw (f, e)
 
 -- ---- a call by its number
 

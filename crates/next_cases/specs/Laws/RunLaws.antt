@@ -19,7 +19,8 @@ use Rattle.capi.specs.Codes.{Coded, codeOf, shapeFrom, zFrom, sizesFrom, partSi
 use Rattle.cases.specs.Numbers.{padded, word, sizeAt, sizeOf, twoDigits, oneDigit}
 use Rattle.cases.specs.Lists.{firstWidth, pastList, pastLists, nthList}
 use Rattle.cases.specs.Text.{lineNumbers}
-use Rattle.next_cases.specs.Input.{wideSize, sizesOf, partSizesOf}
+use Rattle.cases.specs.Input.{wideSize}
+use Rattle.next_cases.specs.Input.{sizesOf, partSizesOf}
 use Rattle.next_cases.specs.Messages.{filled, messageOf, openingOf, kept}
 use Rattle.next_cases.specs.Laws.MessageLaws.{front-filled, length-filled, blank-is}
 use Rattle.next_cases.specs.Witness.{nextWitness, productOf, widthFor, countFor, witnessOf}

@@ -33,9 +33,10 @@ loop-again : tie.Need-loop-again Inv-loop μ-loop
 loop-again c =
     let l = c .before .before .before in
     let s = l .before .before in
-    let taken = c .before .before .loop-test .taken in
-    (summed-step (l .loop .inv .0) (s .pre .opened .shaped .degree) taken (c .before .diagonal-summand .ensures) (c .sum .ensures),
-    diagonal-next (s .args .sizes .shape .r) (l .loop .i) (l .loop .q) taken (l .loop .inv .1))
+    let taken = c .before .before .loop-test .taken in (
+      summed-step (l .loop .inv .0) (s .pre .opened .shaped .degree) taken (c .before .diagonal-summand .ensures) (c .sum .ensures),
+      diagonal-next (s .args .sizes .shape .r) (l .loop .i) (l .loop .q) taken (l .loop .inv .1),
+    )
 
 pub diagonal-sum-spec : {M : Type 1} → statement M
 diagonal-sum-spec =

@@ -1,8 +1,8 @@
 -- `fold_cases::messages::run_amortize` meets its contract. Assumes nothing.
 use mathlib.Core.Path.{ap, _∙_}
 use Rattle.capi.specs.Codes.{codeOf}
+use Rattle.cases.specs.Laws.InputLaws.{count-fits, room-is}
 use Rattle.fold_cases.specs.Answers.{amortizeAnswer}
-use Rattle.fold_cases.specs.Laws.AnswerLaws.{count-fits, room-is}
 use Rattle.fold_cases.proofs.messages.run_amortize.Statement.{statement}
 use Rattle.fold_cases.proofs.messages.run_amortize.Tie as tie
 

@@ -1,8 +1,8 @@
 -- `fold_cases::messages::run_commit_garbage` meets its contract. Assumes nothing.
 use mathlib.Core.Path.{ap, _∙_}
 use Rattle.capi.specs.Codes.{codeOf}
+use Rattle.cases.specs.Laws.InputLaws.{count-fits, room-is}
 use Rattle.fold_cases.specs.Answers.{garbageAnswer}
-use Rattle.fold_cases.specs.Laws.AnswerLaws.{count-fits, room-is}
 use Rattle.fold_cases.proofs.messages.run_commit_garbage.Statement.{statement}
 use Rattle.fold_cases.proofs.messages.run_commit_garbage.Tie as tie
 

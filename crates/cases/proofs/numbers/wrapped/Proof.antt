@@ -1,4 +1,4 @@
--- `next_cases::input::wrapped` meets its contract. Assumes nothing.
+-- `cases::numbers::wrapped` meets its contract. Assumes nothing.
 use mathlib.Core.Path.{_≡_, refl}
 use mathlib.Core.Bool.{true, false}
 use Prim.Native.Nat.{_+_, _-_, _≤_}
@@ -10,8 +10,8 @@ use mir.Syntax.{w64}
 use mir.Val.{SFits, ofZ}
 use mir.Facts.{toZ-ofZ, fits-natAbs}
 use Rattle.integers.specs.Laws.Bridge.{N, zarith, pos-pn, sub-pn, natAbs-pn, pn-min, sfits-pn}
-use Rattle.next_cases.proofs.input.wrapped.Statement.{statement}
-use Rattle.next_cases.proofs.input.wrapped.Tie as tie
+use Rattle.cases.proofs.numbers.wrapped.Statement.{statement}
+use Rattle.cases.proofs.numbers.wrapped.Tie as tie
 
 -- -1 - x for a negative x
 below : (x : ℤ) → ltZ x (pos 0) ≡ true → SFits w64 x → SFits w64 (negsuc 0 -ℤ x)

@@ -1,8 +1,8 @@
--- `fold_cases::input::count_at` meets its contract. Assumes nothing.
+-- `cases::input::count_at` meets its contract. Assumes nothing.
 use lib.IntN.{pos}
-use Rattle.fold_cases.specs.Laws.AnswerLaws.{part-fits, count-fits}
-use Rattle.fold_cases.proofs.input.count_at.Statement.{statement}
-use Rattle.fold_cases.proofs.input.count_at.Tie as tie
+use Rattle.cases.specs.Laws.InputLaws.{part-fits, count-fits}
+use Rattle.cases.proofs.input.count_at.Statement.{statement}
+use Rattle.cases.proofs.input.count_at.Tie as tie
 
 size-requires : tie.Need-size-requires
 size-requires c κs = tt

@@ -1,0 +1,5 @@
+-- Definitions
+pub mod Input
+pub mod Answers
+-- Laws
+pub mod Laws
