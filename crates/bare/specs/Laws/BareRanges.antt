@@ -1,5 +1,4 @@
 -- Every number of the lists of the bare level is a coefficient, and so is every number of the next instance of a fold and of its padded opening.
---     coefficients-flat        lists laid out one after the other
 --     coefficients-bareT, coefficients-barePhi, coefficients-turn      t, φ and a turn
 --     coefficients-nextWhole, coefficients-padded     the constraints of a next instance, and its witness
 use mathlib.Core.Path.{_≡_, ap}
@@ -20,17 +19,11 @@ use Rattle.fold.specs.Messages.{elements}
 use Rattle.fold.specs.Chunks.{cut, cutPadded, padded}
 use Rattle.fold.specs.Constraint.{laidOut}
 use Rattle.fold.specs.NextInstance.{nextWhole}
-use Rattle.fold.specs.Laws.MessageRanges.{coefficients-elements}
+use Rattle.fold.specs.Laws.MessageRanges.{coefficients-flat, coefficients-elements}
 use Rattle.bare.specs.Messages.{bareT, barePhi, turn}
 
 pub coefficients-nil : coefficients [] ≡ true
 coefficients-nil = coefficients-of [] (λ i l. let no : ⊥ = omega arith in absurd no)
-
-pub coefficients-flat : (n : ℕ) (F : ℕ → List ℤ) → ((i : ℕ) → i < n → coefficients (F i) ≡ true) → coefficients (flat n F) ≡ true
-unfolding flat
-coefficients-flat zero F h = coefficients-nil
-coefficients-flat (suc n) F h =
-    coefficients-join (flat n F) (F n) (coefficients-flat n F (λ i l. h i (le-step l))) (h n (lt-suc-self n))
 
 -- ---- the messages
 

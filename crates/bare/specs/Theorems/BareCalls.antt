@@ -22,7 +22,7 @@ use Rattle.fold.specs.Statement.{Meets, Draws, part}
 use Rattle.fold.specs.Messages as Messages
 use Rattle.fold.specs.Messages.{elements}
 use Rattle.fold.specs.Refusals.{amortizeTests}
-use Rattle.fold.specs.Laws.HonestWritten.{left}
+use Rattle.fold.specs.Laws.HonestWritten.{written-zero, left}
 use Rattle.bare.specs.declared.BareSizes.{BareSizes}
 use Rattle.bare.specs.Statement.{BareStatement, bareAggregate}
 use Rattle.bare.specs.Messages.{bareOpening, turn}
@@ -34,12 +34,6 @@ use Rattle.bare.specs.Calls.{BareCommitted, phiOf, BarePhiFormed, BareTu
 use Rattle.bare.specs.Laws.BareOpeningLaws.{turn-of-phi}
 use Rattle.bare.specs.Theorems.BareTaken.{bare-messages-test-all}
 use Rattle.bare.specs.Theorems.BareHonestRuns.{BareHonestVerdict, honest-judged, honest-answers}
-
--- a call that answers `Written` was not refused
-written-zero : (n : ℕ) → Written ≡ answered n Written → n ≡ 0
-unfolding answered
-written-zero zero e = refl
-written-zero (suc n) e = let f : _≡_ {A = ℕ} 0 1 = cc in absurd (omega arith)
 
 module _ (sizes : BareSizes) (A whole constantTerms projections ψ ω α δ c s : List ℤ) where
   open BareSizes sizes using (shape, w, kappa)

@@ -13,7 +13,7 @@ use Rattle.residues.specs.Laws.RangeLaws.{coefficients-join}
 use Rattle.fold.specs.Answers.{firstFailing}
 use Rattle.fold.specs.Statement.{Relation, Draws}
 use Rattle.fold.specs.Laws.MessageLaws.{length-p, length-b″}
-use Rattle.fold.specs.Laws.MessageRanges.{coefficients-elements, coefficients-p, coefficients-b″}
+use Rattle.fold.specs.Laws.MessageRanges.{coefficients-flat, coefficients-elements, coefficients-p, coefficients-b″}
 use Rattle.fold.specs.Laws.RefusalLaws.{_&_, passes-refusal, allOf-tail, allOf-cons, length-sized}
 use Rattle.fold.specs.Laws.TestLaws.{holds}
 use Rattle.bare.specs.Statement.{BareStatement, BareTranscript}
@@ -22,7 +22,7 @@ use Rattle.bare.specs.Opening.{bareSize}
 use Rattle.bare.specs.Honest.{honestTranscript, honestOpening}
 use Rattle.bare.specs.Refusals.{bareProverTests, bareVerifyTests}
 use Rattle.bare.specs.Laws.BareOpeningLaws.{length-bareOpening}
-use Rattle.bare.specs.Laws.BareRanges.{coefficients-flat, coefficients-bareT, coefficients-turn}
+use Rattle.bare.specs.Laws.BareRanges.{coefficients-bareT, coefficients-turn}
 use Rattle.bare.specs.Laws.BareHonestChecks.{length-honestT, length-honestZ, length-honestTurns}
 
 module _ (𝓢 : BareStatement) (𝓓 : Draws) (s : List ℤ) where

@@ -8,7 +8,7 @@
 --     honest-judged         the verifier's answer, whatever the witness: it is a judgement
 --     honest-answers        the verifier's answer
 -- What no call refuses stands in BareTaken.antt.
-use mathlib.Core.Path.{_≡_, ap}
+use mathlib.Core.Path.{_≡_, refl, ap}
 use mathlib.Core.Logic.{_↔_}
 use mathlib.Core.List.{List}
 use Prim.Native.Nat.{_*_, _-_, _≤_, _<_}
@@ -19,13 +19,14 @@ use Rattle.fold.specs.declared.Verdict.the-variants.{Accepted, Failed}
 use Rattle.fold.specs.declared.Answer.the-variants.{Judged}
 use Rattle.fold.specs.Answers.{firstFailing, answered}
 use Rattle.fold.specs.Statement.{Relation, Meets, Draws}
+use Rattle.fold.specs.Laws.HonestVerdict.{outcome-fails-1, outcome-fails-last, outcome-accepted}
 use Rattle.fold.specs.Theorems.OneDigit.{Unmixed}
 use Rattle.bare.specs.Statement.{BareStatement, BareTranscript}
 use Rattle.bare.specs.Honest.{honestZ, honestTranscript, honestOpening}
 use Rattle.bare.specs.Verdict.{bareVerdict}
 use Rattle.bare.specs.Refusals.{bareProverTests}
 use Rattle.bare.specs.Arguments.{bareVerification}
-use Rattle.bare.specs.Laws.BareHonestVerdict.{outcome-fails-1, outcome-fails-7, outcome-accepted, honest-verdict, degree-positive, unmixed-statement}
+use Rattle.bare.specs.Laws.BareHonestVerdict.{honest-verdict, degree-positive, unmixed-statement}
 use Rattle.bare.specs.Theorems.BareFormed.{honest-formed}
 
 -- a verdict by the squared lengths of p and of z: `is v` says that the verdict is v
@@ -59,9 +60,9 @@ module _ (𝓢 : BareStatement) (𝓓 : Draws) (s : List ℤ) where
   honest-runs-shaped degree unmixed meets =
       let projected = 2 * normSq (𝓣 .p) in
       record {
-        failed-1 = rw (honest-verdict 𝓢 𝓓 s degree unmixed meets) (outcome-fails-1 projected (w * bound) (normSq z) zBound _);
-        failed-7 = rw (honest-verdict 𝓢 𝓓 s degree unmixed meets) (outcome-fails-7 projected (w * bound) (normSq z) zBound _);
-        accepted = rw (honest-verdict 𝓢 𝓓 s degree unmixed meets) (outcome-accepted projected (w * bound) (normSq z) zBound _);
+        failed-1 = rw (honest-verdict 𝓢 𝓓 s degree unmixed meets) (outcome-fails-1 7 refl projected (w * bound) (normSq z) zBound _);
+        failed-7 = rw (honest-verdict 𝓢 𝓓 s degree unmixed meets) (outcome-fails-last 7 refl projected (w * bound) (normSq z) zBound _);
+        accepted = rw (honest-verdict 𝓢 𝓓 s degree unmixed meets) (outcome-accepted 7 refl projected (w * bound) (normSq z) zBound _);
       }
 
   module _ (unrefused : firstFailing (bareProverTests 𝓢 𝓓 s) ≡ 0) where

@@ -5,8 +5,6 @@ use Prim.Native.Nat.{ℕ, suc, _+_, _-_, _*_, _≤_, _<_}
 use native.Mathlib.Nat.{mul-le-mul, mul-le-mul-right}
 use native.Mathlib.Numerals.{add-one}
 use native.Mathlib.Omega.{arith}
-use lib.ListN.{length, take, drop, length-drop}
-use lib.Seq.{take-all}
 use lib.IntN.{ℤ}
 use Rattle.algebra.specs.Triangle.{start, pair, pairs-count}
 use Rattle.algebra.specs.Laws.TriangleLaws.{start-suc, start-mono}
@@ -42,9 +40,6 @@ zero-row d r i xs {at} e =
 -- constraint k of those that stand `step` numbers apart
 pub constraint-within : (step count k : ℕ) {at len : ℕ} → k < count → at ≡ k * step → len ≡ count * step → at + step ≤ len
 constraint-within step count k h e size = omega (arith, e, size, block-before step k count h)
-
-pub rest-of : (xs : List ℤ) (at : ℕ) → take (length xs - at) (drop at xs) ≡ drop at xs
-rest-of xs at = take-all (length xs - at) (drop at xs) (omega (arith, length-drop at xs))
 
 -- a constraint holds its pairs
 pub pairs-in-whole : (d n r : ℕ) {size : ℕ} → size ≡ functionSize n r → pairs r * d ≤ (size + 1) * d

@@ -4,9 +4,9 @@ use mathlib.Core.List.{List}
 use Prim.Native.Nat.{ℕ, suc, _+_, _-_, _*_, _≤_, _<_}
 use native.Mathlib.Numerals.{add-one}
 use native.Mathlib.Omega.{arith}
-use lib.ListN.{length, take, drop, length-drop}
-use lib.Seq.{take-all}
+use lib.ListN.{length, take, drop}
 use lib.IntN.{ℤ}
+use Rattle.integers.specs.Laws.ListLaws.{rest-all}
 use Rattle.algebra.specs.Sum.{sum}
 use Rattle.algebra.specs.Laws.SumLaws.{sum-cong}
 use Rattle.algebra.specs.Triangle.{start, pair, pairs-count}
@@ -22,17 +22,13 @@ use Rattle.checks.specs.Relation.{linearSummand}
 use Rattle.bare.specs.Opening.{zPlace, zAt, turnAt}
 use Rattle.bare_verifier.specs.Summands.{diagonalSummand}
 
--- the rest of a list from a place on, as a slice is cut
-pub rest-of : (xs : List ℤ) (at : ℕ) → take (length xs - at) (drop at xs) ≡ drop at xs
-rest-of xs at = take-all (length xs - at) (drop at xs) (omega (arith, length-drop at xs))
-
 -- z, read from its place on
 pub linear-at : (d n r κ : ℕ) (φ : ℕ → ℕ → R d .Carrier) (c o : List ℤ) {at : ℕ} → at ≡ zPlace r κ * d
     → sum (R d) r (linearSummand d n φ c (take (length o - at) (drop at o)))
     ≡ sum (R d) r (λ i. R d .mul (inner (R d) n (φ i) (zAt d n r κ o)) (el d c i))
 unfolding linearSummand zAt
 linear-at d n r κ φ c o {at} e =
-    rw (rest-of o at, e)
+    rw (rest-all o at, e)
     (sum-cong (R d) r _ _ (λ i _. ap (λ x. R d .mul x (el d c i)) (inner-cong (R d) n (φ i) (φ i) _ _ (λ k _. refl) (λ k _. el-drop d o (zPlace r κ) k))))
 
 -- the diagonal of the aggregate's a

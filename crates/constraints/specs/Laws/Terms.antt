@@ -7,8 +7,8 @@ use Prim.Native.Nat.{ℕ, _+_, _-_, _*_, _^_, _≤_, _<_}
 use native.Mathlib.Nat.{mul-le-mul, mul-le-mul-right}
 use native.Mathlib.Omega.{arith}
 use lib.ListN.{length, getD, take, drop, length-drop}
-use lib.Seq.{take-all}
 use lib.IntN.{ℤ, pos}
+use Rattle.integers.specs.Laws.ListLaws.{rest-all}
 use lib.Signed.{mag}
 use mir.Syntax.{w32}
 use mir.Val.{toZ, ofZ}
@@ -27,9 +27,6 @@ use Rattle.constraints.specs.Known.Facts.{TermFacts, WholeFacts}
 use Rattle.constraints.specs.Laws.SizeLaws.{function-small, numbers-small}
 
 -- ---- the part of a list from a place on
-
-rest-all : (xs : List ℤ) (at : ℕ) → take (length xs - at) (drop at xs) ≡ drop at xs
-rest-all xs at = take-all (length xs - at) (drop at xs) (omega (arith, length-drop at xs))
 
 pub rest-room : (xs : List ℤ) (at : ℕ) {m : ℕ} → at + m ≤ length xs → m ≤ length (take (length xs - at) (drop at xs))
 rest-room xs at h = rw (rest-all xs at) (omega (arith, length-drop at xs))

@@ -1,5 +1,5 @@
 -- The verdict on honest messages, as a value: only the two tests of lengths are left of the nine checks.
---     outcome-fails-1, ..      failed 1, failed 9 or accepted, by the two tests
+--     outcome-fails-1, ..      failed 1, failed by the last check or accepted, by the two tests
 --     honest-verdict           the verdict on honest messages is their outcome
 --     shaped                   the sizes of a statement that is not refused
 use mathlib.Core.Path.{_≡_, refl, ap, ap₂}
@@ -8,9 +8,9 @@ use mathlib.Core.Logic.{_↔_}
 use mathlib.Core.List.{List, [], _∷_}
 use Prim.Native.Nat.{ℕ, _*_, _-_, _≤_, _<_}
 use native.Mathlib.Omega.{arith}
-use lib.Dec.{leb}
+use lib.Dec.{leb, ltb}
 use lib.IntN.{ℤ}
-use borrow.Author.Tests.{leb-true, leb-false, le-leb, lt-leb}
+use borrow.Author.Tests.{leb-true, leb-false, le-leb, lt-leb, ltb-true, lt-ltb}
 use Rattle.integers.specs.Sums.{normSq}
 use Rattle.fold.specs.declared.Verdict.{Verdict}
 use Rattle.fold.specs.declared.Verdict.the-variants.{Accepted, Failed}
@@ -23,43 +23,49 @@ use Rattle.fold.specs.Honest.{honestTranscript, honestOpening}
 use Rattle.fold.specs.Laws.HonestChecks.{Shaped, honest-length, passes₂, passes₃, passes₄, passes₅, passes₆, passes₇, passes₈, states₉}
 use Rattle.fold.specs.Refusals.{proverTests}
 use Rattle.fold.specs.Laws.RefusalLaws.{refusal-iff, allOf-all, degree-fits, base-least, digitCount-least}
-use Rattle.fold.specs.Laws.TestLaws.{holds, first-after, accepted-none, failed-number, number-failed}
+use Rattle.fold.specs.Laws.TestLaws.{rising, holds, first-after, accepted-none, failed-number, number-failed}
 
--- the two checks of lengths, and whether each holds
-abbrev pub lengthChecks : (first last : Bool) → List (ℕ × Bool)
-lengthChecks first last = (1, first) ∷ (9, last) ∷ []
+-- the two checks of lengths, 1 and the last, and whether each holds
+abbrev pub lengthChecks : (k : ℕ) (first last : Bool) → List (ℕ × Bool)
+lengthChecks k first last = (1, first) ∷ (k, last) ∷ []
 
 -- the others hold, and the last is y
 others-hold : (x c₂ c₃ c₄ c₅ c₆ c₇ c₈ c₉ y : Bool)
     → c₂ ≡ true → c₃ ≡ true → c₄ ≡ true → c₅ ≡ true → c₆ ≡ true → c₇ ≡ true → c₈ ≡ true → c₉ ≡ y
     → firstFailing ((1, x) ∷ (2, c₂) ∷ (3, c₃) ∷ (4, c₄) ∷ (5, c₅) ∷ (6, c₆) ∷ (7, c₇) ∷ (8, c₈) ∷ (9, c₉) ∷ [])
-    ≡ firstFailing (lengthChecks x y)
+    ≡ firstFailing (lengthChecks 9 x y)
 unfolding firstFailing
 others-hold x c₂ c₃ c₄ c₅ c₆ c₇ c₈ c₉ y e₂ e₃ e₄ e₅ e₆ e₇ e₈ e₉ = rw (e₂, e₃, e₄, e₅, e₆, e₇, e₈, e₉) refl
 
--- what the outcome says of the numbers that the tests compare, for a margin m
-module _ (a b c e m : ℕ) where
+-- what the outcome says of the numbers that the tests compare, for the number k of the last check and a margin m
+module _ (k : ℕ) (rises : ltb 1 k ≡ true) (a b c e m : ℕ) where
   abbrev outcome : ℕ
-  outcome = firstFailing (lengthChecks (leb a b) (leb c e))
+  outcome = firstFailing (lengthChecks k (leb a b) (leb c e))
+
+  in-order : rising 0 (lengthChecks k (leb a b) (leb c e)) ≡ true
+  in-order = rw rises refl
+
+  positive : 0 < k
+  positive = omega (arith, ltb-true 1 k rises)
 
   pub outcome-fails-1 : (judged outcome m ≡ Failed 1) ↔ (b < a)
   outcome-fails-1 =
-      let first = first-after 1 (leb a b) ((9, leb c e) ∷ []) [] refl in (
+      let first = first-after 1 (leb a b) ((k, leb c e) ∷ []) [] in-order in (
         λ v. leb-false a b (first .0 (failed-number outcome m 1 v) .1),
         λ h. number-failed outcome m 1 (omega arith) (first .1 (tt, lt-leb a b h)),
       )
 
-  pub outcome-fails-9 : (judged outcome m ≡ Failed 9) ↔ ((a ≤ b) × (e < c))
-  outcome-fails-9 =
-      let last = first-after 9 (leb c e) [] ((1, leb a b) ∷ []) refl in (
-        λ v. let ((first, _), fails) = last .0 (failed-number outcome m 9 v) in (leb-true a b first, leb-false c e fails),
-        λ h. number-failed outcome m 9 (omega arith) (last .1 ((le-leb a b (h .0), tt), lt-leb c e (h .1))),
+  pub outcome-fails-last : (judged outcome m ≡ Failed k) ↔ ((a ≤ b) × (e < c))
+  outcome-fails-last =
+      let last = first-after k (leb c e) [] ((1, leb a b) ∷ []) in-order in (
+        λ v. let ((first, _), fails) = last .0 (failed-number outcome m k v) in (leb-true a b first, leb-false c e fails),
+        λ h. number-failed outcome m k positive (last .1 ((le-leb a b (h .0), tt), lt-leb c e (h .1))),
       )
 
   pub outcome-accepted : (judged outcome m ≡ Accepted m) ↔ ((a ≤ b) × (c ≤ e))
   unfolding judged
   outcome-accepted =
-      let none = refusal-iff (lengthChecks (leb a b) (leb c e)) refl in (
+      let none = refusal-iff (lengthChecks k (leb a b) (leb c e)) (rw (lt-ltb 0 k positive) refl) in (
         λ v. let (first, (last, _)) = none .0 (accepted-none outcome m (ap (λ (w : Verdict). kindOf (Judged w)) v)) in (leb-true a b first, leb-true c e last),
         λ h. ap (λ k. judged k m) (none .1 (le-leb a b (h .0), (le-leb c e (h .1), tt))),
       )
@@ -70,7 +76,7 @@ module _ (𝓢 : Statement) (𝓓 : Draws) (s : List ℤ) where
 
   pub honest-verdict : Shaped 𝓢 → Meets relation s
       → verdict 𝓢 𝓓 (honestTranscript 𝓢 𝓓 s) (honestOpening 𝓢 𝓓 s)
-      ≡ judged (firstFailing (lengthChecks
+      ≡ judged (firstFailing (lengthChecks 9
       (leb (2 * normSq (honestTranscript 𝓢 𝓓 s .p)) (w * bound))
       (leb (normSq (honestOpening 𝓢 𝓓 s)) target)))
       (target - normSq (honestOpening 𝓢 𝓓 s))

@@ -18,7 +18,7 @@ use Rattle.fold.specs.Theorems.MessagesTaken.{messages-test-all}
 use Rattle.fold.specs.Theorems.HonestRuns.{HonestVerdict, honest-judged, honest-answers}
 
 -- a call that answers `Written` was not refused, and left what it promises
-written-zero : (n : ℕ) → Written ≡ answered n Written → n ≡ 0
+pub written-zero : (n : ℕ) → Written ≡ answered n Written → n ≡ 0
 unfolding answered
 written-zero zero e = refl
 written-zero (suc n) e = let f : _≡_ {A = ℕ} 0 1 = cc in absurd (omega arith)

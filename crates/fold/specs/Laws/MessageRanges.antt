@@ -23,7 +23,7 @@ use Rattle.fold.specs.Messages.{elements, garbageDigits, tDigits, gDigit
 use Rattle.fold.specs.Sizes.{five}
 
 -- lists laid out one after the other
-coefficients-flat : (n : ℕ) (F : ℕ → List ℤ) → ((i : ℕ) → i < n → coefficients (F i) ≡ true) → coefficients (flat n F) ≡ true
+pub coefficients-flat : (n : ℕ) (F : ℕ → List ℤ) → ((i : ℕ) → i < n → coefficients (F i) ≡ true) → coefficients (flat n F) ≡ true
 unfolding flat coefficients allWithin all
 coefficients-flat zero F h = refl
 coefficients-flat (suc n) F h =

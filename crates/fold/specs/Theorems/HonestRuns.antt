@@ -3,7 +3,7 @@
 -- otherwise failed 9 exactly when the squared length of all its digits is above the target bound; otherwise accepted, with the target bound minus
 -- that length as margin."
 -- SPECIFICATION 4.5: "z = Σ c_i s_i in two digits to base b": tz is 2. For another number of digits above 0, see `honest-runs-shaped`.
-use mathlib.Core.Path.{_≡_, ap}
+use mathlib.Core.Path.{_≡_, refl, ap}
 use mathlib.Core.Logic.{_↔_}
 use mathlib.Core.List.{List}
 use Prim.Native.Nat.{_*_, _-_, _≤_, _<_}
@@ -20,7 +20,7 @@ use Rattle.fold.specs.Honest.{honestTranscript, honestOpening}
 use Rattle.fold.specs.Refusals.{proverTests}
 use Rattle.fold.specs.Laws.HonestChecks.{Shaped}
 use Rattle.fold.specs.Theorems.HonestFormed.{honest-formed}
-use Rattle.fold.specs.Laws.HonestVerdict.{outcome-fails-1, outcome-fails-9, outcome-accepted, honest-verdict, shaped}
+use Rattle.fold.specs.Laws.HonestVerdict.{outcome-fails-1, outcome-fails-last, outcome-accepted, honest-verdict, shaped}
 
 -- a verdict by the squared lengths of p and of all digits of an opening o: `is v` says that the verdict is v
 module _ (𝓢 : Statement) where
@@ -49,9 +49,9 @@ module _ (𝓢 : Statement) (𝓓 : Draws) (s : List ℤ) where
   honest-runs-shaped sizes meets =
       let projected = 2 * normSq (𝓣 .p) in
       record {
-        failed-1 = rw (honest-verdict 𝓢 𝓓 s sizes meets) (outcome-fails-1 projected (w * bound) (normSq o) target _);
-        failed-9 = rw (honest-verdict 𝓢 𝓓 s sizes meets) (outcome-fails-9 projected (w * bound) (normSq o) target _);
-        accepted = rw (honest-verdict 𝓢 𝓓 s sizes meets) (outcome-accepted projected (w * bound) (normSq o) target _);
+        failed-1 = rw (honest-verdict 𝓢 𝓓 s sizes meets) (outcome-fails-1 9 refl projected (w * bound) (normSq o) target _);
+        failed-9 = rw (honest-verdict 𝓢 𝓓 s sizes meets) (outcome-fails-last 9 refl projected (w * bound) (normSq o) target _);
+        accepted = rw (honest-verdict 𝓢 𝓓 s sizes meets) (outcome-accepted 9 refl projected (w * bound) (normSq o) target _);
       }
 
   pub honest-runs : 0 < tz → firstFailing (proverTests 𝓢 𝓓 s) ≡ 0 → Meets relation s → HonestVerdict 𝓢 (𝓣 .p) o (λ v. verdict 𝓢 𝓓 𝓣 o ≡ v)

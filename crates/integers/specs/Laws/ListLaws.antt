@@ -8,7 +8,8 @@ use Prim.Native.Nat.{ℕ, zero, suc, _+_, _-_, _≤_, _<_}
 use native.Mathlib.Nat.{le-of-suc-le-suc, suc-add, zero-add, suc-sub-suc, sub-zero, suc-inj}
 use native.Mathlib.Omega.{arith}
 use lib.Dec.{ltb}
-use lib.ListN.{length, getD, take, drop, set, replicate}
+use lib.ListN.{length, getD, take, drop, set, replicate, length-drop}
+use lib.Seq.{take-all}
 use borrow.Author.Tests.{ltb-true, ltb-false, lt-ltb, le-ltb}
 use Rattle.integers.specs.Lists.{tab, upto}
 
@@ -106,3 +107,8 @@ pub map-tab {ℓ ℓ′} : {A : Type ℓ} {B : Type ℓ′} (g : A → B) (n : �
 unfolding tab
 map-tab g zero f = refl
 map-tab {B} g (suc n) f = ap (λ (l : List B). g (f 0) ∷ l) (map-tab g n (λ i. f (suc i)))
+
+-- ---- the rest of a list from a place on, as a slice is cut
+
+pub rest-all : {A : Type 0} (xs : List A) (at : ℕ) → take (length xs - at) (drop at xs) ≡ drop at xs
+rest-all xs at = take-all (length xs - at) (drop at xs) (omega (arith, length-drop at xs))

@@ -6,9 +6,10 @@ use native.Mathlib.Nat.{le-refl}
 use native.Mathlib.Omega.{arith}
 use lib.ListN.{length, drop, length-drop}
 use lib.IntN.{ℤ}
+use Rattle.integers.specs.Laws.ListLaws.{rest-all}
 use Rattle.ring.specs.Laws.Loops.{Tested, tested-start, tested-step, tested-end}
 use Rattle.bare.specs.Refusals.{unmixed}
-use Rattle.bare_refusals.specs.Laws.RowLaws.{constraint-within, rest-of}
+use Rattle.bare_refusals.specs.Laws.RowLaws.{constraint-within}
 use Rattle.bare_refusals.proofs.unmixed.each_unmixed.Statement.{statement}
 use Rattle.bare_refusals.proofs.unmixed.each_unmixed.Tie as tie
 
@@ -28,7 +29,7 @@ function-unmixed-requires c κs =
     let l = c .before .before in
     let s = l .before in
     let (few, fits, _) = s .pre .1 in
-    (s .pre .0, (few, rw (rest-of (s .args .xs .now) (l .loop .at)) (omega (arith, length-drop (l .loop .at) (s .args .xs .now), inside (c .before), fits))))
+    (s .pre .0, (few, rw (rest-all (s .args .xs .now) (l .loop .at)) (omega (arith, length-drop (l .loop .at) (s .args .xs .now), inside (c .before), fits))))
 
 loop-again : tie.Need-loop-again Inv-loop μ-loop
 loop-again c =
@@ -36,7 +37,7 @@ loop-again c =
     let a = l .before .args in
     let place = l .loop .inv .1 in
     let start : c .function-unmixed .result ≡ unmixed (a .d) (a .r) (drop (l .loop .k * a .step) (a .xs .now)) =
-    c .function-unmixed .ensures ∙ ap (λ (ys : List ℤ). unmixed (a .d) (a .r) ys) (rest-of (a .xs .now) (l .loop .at) ∙ ap (λ (p : ℕ). drop p (a .xs .now)) place) in
+    c .function-unmixed .ensures ∙ ap (λ (ys : List ℤ). unmixed (a .d) (a .r) ys) (rest-all (a .xs .now) (l .loop .at) ∙ ap (λ (p : ℕ). drop p (a .xs .now)) place) in
     (tested-step (l .loop .inv .0) (c .before .before .loop-test .taken) start, omega (arith, place))
 
 pub each-unmixed-spec : {M : Type 1} → statement M

@@ -5,11 +5,12 @@ use native.Mathlib.Nat.{le-refl}
 use native.Mathlib.Omega.{arith}
 use borrow.Author.Needs.{needs}
 use lib.ListN.{length, length-drop}
+use Rattle.integers.specs.Laws.ListLaws.{rest-all}
 use Rattle.ring.specs.Element.{same}
 use Rattle.ring.specs.Laws.Loops.{held}
 use Rattle.bare.specs.Verdict.{garbageOfΦ}
 use Rattle.bare_verifier.specs.Known.Facts.{z-fits}
-use Rattle.bare_verifier.specs.Laws.CheckLaws.{rest-of, linear-at}
+use Rattle.bare_verifier.specs.Laws.CheckLaws.{linear-at}
 use Rattle.bare_verifier.proofs.aggregate.phi_garbage.Statement.{statement}
 use Rattle.bare_verifier.proofs.aggregate.phi_garbage.Tie as tie
 
@@ -24,7 +25,7 @@ linear-sum-requires c κs =
     let s = place .before .before in
     let start = place .z-place .result * s .args .sizes .shape .d in (
       s .pre .aggregated,
-      (s .pre .opened .c-length, rw (rest-of (s .args .opening .now) start) (omega (arith, length-drop start (s .args .opening .now), starts place))),
+      (s .pre .opened .c-length, rw (rest-all (s .args .opening .now) start) (omega (arith, length-drop start (s .args .opening .now), starts place))),
     )
 
 returns : tie.Need-returns
