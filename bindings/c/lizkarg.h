@@ -173,7 +173,7 @@ uint8_t lizkarg_next_part_refusal(lizkarg_part_sizes sizes, size_t part, const i
  * opening + start on. Both are 0 where lizkarg_next_part_refusal is not 0. A last chunk can be empty: then the length alone is 0. */
 lizkarg_part lizkarg_next_part(lizkarg_part_sizes sizes, size_t part, const int32_t *opening, size_t opening_len);
 
-/* The bare level, the last of a chain: nothing is committed to from outside, t is sent in the clear, z whole, and garbage in r turns, each
+/* The bare level, the last of a chain: there are no outer commitments, t is sent in the clear, z whole, and garbage in r turns, each
  * before the next challenge is known. It takes the next instance of a fold with one_digit, and every other statement in which no a_ij with i < j
  * is other than 0. p, b'' and z are those of lizkarg_project, lizkarg_aggregate and lizkarg_amortize_one_digit. The bare opening is one list: t
  * (r·kappa elements, by part, then row), z (n), then the four elements of each turn: r·kappa + n + 4·r elements.

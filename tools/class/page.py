@@ -390,8 +390,8 @@ if it were readings; and the next opening again. At each level he sends a few fi
 {said}
 
 The last level is sent *bare*: without fingerprints and without digits. t stands there as it is, z whole, and the products come in {last.r} turns, one slot at a time, each before the next c is drawn, so that
-nobody can bend them to what is drawn later. It has seven checks, and its margin says how far z is below its bound. In the end {witness_numbers(found[0])} readings are
-proved by an opening of {sent} numbers: longer ones than readings are, but far fewer.
+none depends on what is drawn later. It has seven checks, and its margin says how far z is below its bound. In the end an opening of {sent} numbers,
+with what each level sends, stands for {witness_numbers(found[0])} readings: longer numbers than readings are, but far fewer. How much that proves is the paper's argument (docs/CALLS.md).
 
 Two things to look at in the table. The margin is 0 everywhere, since each bound was set to just what is needed. And {first.n} is always cut without a rest, into one slot of {first.n} or {first.n // last.n} of {last.n}: z must fill its slots. Where a slot of z is filled up with zeros a cheat could put
 other numbers there, and nobody would see it, since that opening is never sent (docs/CALLS.md).

@@ -2,7 +2,6 @@
 use mathlib.Core.Bool.{Bool}
 use mathlib.Core.List.{List, [], _∷_, _++_}
 use Prim.Native.Nat.{ℕ, suc, _+_, _*_, _-_}
-use lib.ListN.{drop}
 use lib.IntN.{ℤ, pos}
 use Rattle.algebra.specs.Triangle.{pair}
 use Rattle.residues.specs.Range.{coefficients, projectionEntries}

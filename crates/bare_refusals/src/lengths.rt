@@ -5,7 +5,7 @@ ghost use Prim.Native.Nat.{_*_, _-_, _≤_};
 ghost use Rattle.fold.specs.Refusals.{allOf};
 ghost use Rattle.fold.specs.Refusals as table;
 ghost use Rattle.fold.specs.Known.Facts.{Shaped};
-ghost use Rattle.fold.specs.Limits.{mostCommitmentRank, mostProjections};
+ghost use Rattle.fold.specs.Limits.{mostCommitmentRank};
 ghost use Rattle.bare.specs.Opening.{bareSize};
 use bare::BareSizes;
 use bare::places::TURN;

@@ -1,12 +1,10 @@
 // SPECIFICATION 7.14: no constraint has a nonzero a_ij with i < j.
 ghost use mathlib.Core.Path.{_≡_};
-ghost use Prim.Native.Nat.{suc, _+_, _-_, _*_, _≤_};
+ghost use Prim.Native.Nat.{_+_, _-_, _*_, _≤_};
 ghost use lib.ListN.{length, drop};
-ghost use Rattle.algebra.specs.Triangle.{pair};
 ghost use Rattle.ring.specs.Element.{Degree, R, el, every, same};
 ghost use Rattle.fold.specs.Sizes.{pairs};
-ghost use Rattle.fold.specs.Limits.{mostConstraints, mostParts};
-ghost use Rattle.fold.specs.Refusals.{wholeLength, constantTermsLength};
+ghost use Rattle.fold.specs.Limits.{mostParts};
 ghost use Rattle.bare.specs.Refusals.{unmixed, allUnmixed};
 ghost use Rattle.bare_refusals.specs.Known.Constraints.{Constraints};
 use fold::ConstraintSizes;

@@ -1,6 +1,6 @@
 // The turns of a bare opening: their elements, and what they sum to.
 ghost use mathlib.Core.Path.{_≡_};
-ghost use Prim.Native.Nat.{_+_, _<_, _≤_};
+ghost use Prim.Native.Nat.{_+_, _<_};
 ghost use Rattle.algebra.specs.Sum.{sum};
 ghost use Rattle.ring.specs.Element.{R, el, array};
 ghost use Rattle.bare.specs.Opening.{turnAt};

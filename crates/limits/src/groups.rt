@@ -42,7 +42,7 @@ pub fn digits(b1: usize, b2: usize, t1: usize, t2: usize) -> bool
     base(b1) & base(b2) & digit_count(t1) & digit_count(t2)
 }
 
-// Row 6: β² and β'².
+// Row 6: β², and β'² or the bound on z.
 pub fn length_bounds(bound: u64, target: u64) -> bool
     ensures { λ x. ⌜ x ≡ allOf (spec.lengthBound (pos bound) ∷ spec.lengthBound (pos target) ∷ []) ⌝ }
 {

@@ -1,5 +1,6 @@
 -- What a call of the bare level that is not refused knows of its arguments, as far as its work needs it.
---     BareCommitFacts, BarePhiFacts, BareTurnFacts, BareVerifyFacts
+--     BareCommitFacts, BarePhiFacts, BareTurnFacts, BareVerifyFacts     for each call, of
+--     BareMessageFacts, BareOpeningFacts, BareFoldedFacts, BareAggregateFacts     the verifier's checks
 --     bare-commit-facts, bare-phi-facts, bare-turn-facts, bare-verify-facts     that no refusal gives it
 use mathlib.Core.Path.{_≡_, refl}
 use mathlib.Core.List.{List}
@@ -8,7 +9,6 @@ use lib.ListN.{length}
 use lib.IntN.{ℤ}
 use Rattle.fold.specs.declared.Shape.{Shape}
 use Rattle.fold.specs.declared.ConstraintSizes.{ConstraintSizes}
-use Rattle.fold.specs.Answers.{firstFailing}
 use Rattle.fold.specs.Sizes.{five}
 use Rattle.fold.specs.Limits.{mostBound, mostCommitmentRank, mostProjections}
 use Rattle.fold.specs.Statement.{Draws}
@@ -79,7 +79,7 @@ module _ (sizes : ConstraintSizes) where
 -- ---- the verifier
 
 module _ (sizes : BareSizes) where
-  open BareSizes sizes using (shape, k, l, w, kappa, bound, «z_bound»)
+  open BareSizes sizes using (shape, k, l, w, kappa, bound)
   open Shape shape using (d, n, r)
 
   -- checks 1 and 2

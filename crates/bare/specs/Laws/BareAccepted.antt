@@ -121,6 +121,8 @@ module _ (𝓢 : BareStatement) (𝓓 : Draws) (𝓣 : BareTranscript) (o : List
     pub facts : BareAccepts 𝓢 𝓓 𝓣 o
     pub sized : length o ≡ bareSize n r κ * d
     pub small : coefficients o ≡ true
+    pub p-small : coefficients (𝓣 .p) ≡ true
+    pub b″-small : coefficients (𝓣 .b″) ≡ true
     pub rule : (i : ℕ) → i < r → challenge (take d (drop (i * d) c)) ≡ true
     pub unmixed : Unmixed relation
 
@@ -133,6 +135,8 @@ module _ (𝓢 : BareStatement) (𝓓 : Draws) (𝓣 : BareTranscript) (o : List
         facts = bare-accepts passed;
         sized = sized-length o _ (search (allOf-all _ (row 7)));
         small = search (allOf-all _ (row 8));
+        p-small = search (allOf-all _ (row 8));
+        b″-small = search (allOf-all _ (row 8));
         rule = challenges-iff d r c .0 (row 10);
         unmixed = row-14 relation .0 (row 14);
       }

@@ -42,18 +42,18 @@ module _ (d n : ℕ) (xs : List ℤ) (sized : length xs ≡ n * d) (small : (i :
           ∙ getD-drop (k * d) xs j (pos 0)
           ∙ sym (ap cent (coeff-el d xs k j l) ∙ cent-red _ ∙ centred-fixed (small (k * d + j) inside))
 
-  pub elements-el : elements d n (el d xs) ≡ xs
+  elements-el : elements d n (el d xs) ≡ xs
   unfolding elements
   elements-el = flat-cong n _ _ (λ k h. coeffs-el k h) ∙ flat-cut n d xs sized
 
 -- ---- one opening
 
 module _ (d n r κ : ℕ) (o : List ℤ) where
-  pub el-zNumbers : (k : ℕ) → k < n → el d (zNumbers d n r κ o) k ≡ zAt d n r κ o k
+  el-zNumbers : (k : ℕ) → k < n → el d (zNumbers d n r κ o) k ≡ zAt d n r κ o k
   unfolding zNumbers zAt
   el-zNumbers k h = el-part d o (zPlace r κ) n k h
 
-  pub length-zNumbers : length o ≡ bareSize n r κ * d → length (zNumbers d n r κ o) ≡ n * d
+  length-zNumbers : length o ≡ bareSize n r κ * d → length (zNumbers d n r κ o) ≡ n * d
   unfolding zNumbers bareSize zPlace
   length-zNumbers e = length-take-le _ _ (rw length-drop (omega arith))
 

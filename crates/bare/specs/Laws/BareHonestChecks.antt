@@ -76,7 +76,7 @@ module _ (𝓢 : BareStatement) (𝓓 : Draws) (s : List ℤ) where
   honest-z k h = opening-z d n r κ _ _ _ length-honestT length-honestZ k h ∙ el-elements d n (Messages.z d n r c s) k h
 
   -- a turn is made from the challenges before it, and is the same with all of them
-  pub honest-turn : (e i : ℕ) → e < four → i < r → turnAt d n r κ o e i ≡ turnElement d n φ c s i e
+  honest-turn : (e i : ℕ) → e < four → i < r → turnAt d n r κ o e i ≡ turnElement d n φ c s i e
   honest-turn e i l h =
       opening-turn d n r κ _ _ _ length-honestT length-honestZ e i
       ∙ el-turns d n r φ (λ i. take (i * d) c) s e i h l

@@ -33,7 +33,7 @@ module _ (d m n : ℕ) (F : ℕ → List ℤ) (wide : (i : ℕ) → i < n → le
   pub length-blocks : length (flat n F) ≡ n * m * d
   length-blocks = omega (arith, length-flat n (m * d) F wide)
 
-  pub el-blocks : (i k : ℕ) → i < n → k < m → el d (flat n F) (i * m + k) ≡ el d (F i) k
+  el-blocks : (i k : ℕ) → i < n → k < m → el d (flat n F) (i * m + k) ≡ el d (F i) k
   el-blocks i k h l = el-cong d (flat n F) (F i) (i * m + k) k entry
     where
       entry : (j : ℕ) → j < d → getD (flat n F) ((i * m + k) * d + j) (pos 0) ≡ getD (F i) (k * d + j) (pos 0)
@@ -57,7 +57,7 @@ module _ (d n r : ℕ) (φ : ℕ → ℕ → R d .Carrier) where
   unfolding barePhi
   length-barePhi = length-blocks d n r _ (λ i _. length-elements d n (φ i))
 
-  pub part-barePhi : (i k : ℕ) → i < r → k < n → part d n (barePhi d n r φ) i k ≡ φ i k
+  part-barePhi : (i k : ℕ) → i < r → k < n → part d n (barePhi d n r φ) i k ≡ φ i k
   unfolding barePhi part
   part-barePhi i k h l = el-blocks d n r _ (λ i _. length-elements d n (φ i)) i k h l ∙ el-elements d n (φ i) k l
 
@@ -87,7 +87,7 @@ module _ (d n : ℕ) (φ φ′ : ℕ → ℕ → R d .Carrier) (c c′ s : List 
       let earlier = sum-cong (R d) i _ _ (λ j h. ap (R d .mul (g d n s i j)) (c-same j h)) in ap₂ (R d .add) earlier earlier
   element-cong (suc (suc (suc e))) = refl
 
-  pub turn-cong : turn d n φ c s i ≡ turn d n φ′ c′ s i
+  turn-cong : turn d n φ c s i ≡ turn d n φ′ c′ s i
   unfolding turn elements
   turn-cong = flat-cong four _ _ (λ e _. ap (coeffs d) (element-cong e))
 

@@ -56,13 +56,13 @@ module _ (sizes : BareSizes) (A whole constantTerms projections ψ ω α δ c s 
       bare-messages-test-all 𝓢 𝓓 s v v₁ v₂
       (written-zero _ (committed .answer-is)) (written-zero _ (formed .answer-is)) (written-zero _ amortized) bounds
 
-  -- the turns, from 1 to r: u i is what turn i was lent to write to, and g i what it left
+  -- the turns, from 1 to r: u i is what turn i was lent to write to, and turns i what it left
   module _ {v₁ phi : List ℤ} (formed : BarePhiFormed (constraintSizesOf sizes) whole constantTerms projections ψ ω α δ v₁ Written phi)
-      (u g : ℕ → List ℤ) (turned : (i : ℕ) → 1 ≤ i → i ≤ r → BareTurned shape i phi (take ((i - 1) * d) c) s (u i) Written (g i)) where
+      (u turns : ℕ → List ℤ) (turned : (i : ℕ) → 1 ≤ i → i ≤ r → BareTurned shape i phi (take ((i - 1) * d) c) s (u i) Written (turns i)) where
     phi-is : phi ≡ phiOf (constraintSizesOf sizes) whole constantTerms projections ψ ω α δ
     phi-is = left _ _ _ (formed .answer-is) (formed .phi-is)
 
-    turn-written : (j : ℕ) → j < r → g (suc j) ≡ honestTurn 𝓢 𝓓 s j
+    turn-written : (j : ℕ) → j < r → turns (suc j) ≡ honestTurn 𝓢 𝓓 s j
     turn-written j h =
         let call = turned (suc j) (omega arith) (omega arith) in
         let number : suc j - 1 ≡ j = omega arith in
@@ -71,19 +71,19 @@ module _ (sizes : BareSizes) (A whole constantTerms projections ψ ω α δ c s 
         ∙ ap (λ (xs : List ℤ). turn d n (part d n xs) (take (j * d) c) s j) phi-is
         ∙ turn-of-phi d n r (bareAggregate 𝓢 𝓓 .φ) (take (j * d) c) s j h
 
-    pub turns-written : flat r (λ i. g (suc i)) ≡ honestTurns 𝓢 𝓓 s
+    pub turns-written : flat r (λ i. turns (suc i)) ≡ honestTurns 𝓢 𝓓 s
     turns-written = flat-cong r _ _ turn-written
 
     -- what the other calls left
     module _ {v t p b″ z : List ℤ} (committed : BareCommitted shape kappa A s v Written t)
         (p-is : p ≡ Messages.p d n r w projections s) (b-is : b″ ≡ Messages.b″ d n r (sizes .l) w constantTerms projections ψ ω s)
         (z-is : z ≡ elements d n (Messages.z d n r c s)) (unrefused : firstFailing (bareProverTests 𝓢 𝓓 s) ≡ 0)
-        {answer : Answer} (is : answer ≡ bareVerification 𝓢 𝓓 (bareTranscriptOf p b″) (bareOpening t z (flat r (λ i. g (suc i))))) where
+        {answer : Answer} (is : answer ≡ bareVerification 𝓢 𝓓 (bareTranscriptOf p b″) (bareOpening t z (flat r (λ i. turns (suc i))))) where
       t-is : t ≡ honestT 𝓢 𝓓 s
       t-is = left _ _ _ (committed .answer-is) (committed .t-is)
 
       pub honest-bare-written : Meets (𝓢 .relation) s → BareHonestVerdict 𝓢 p z (λ x. answer ≡ Judged x)
       honest-bare-written meets = rw (is, p-is, b-is, z-is, t-is, turns-written) (honest-answers 𝓢 𝓓 s unrefused meets)
 
-      pub judged-bare-written : answer ≡ Judged (bareVerdict 𝓢 𝓓 (bareTranscriptOf p b″) (bareOpening t z (flat r (λ i. g (suc i)))))
+      pub judged-bare-written : answer ≡ Judged (bareVerdict 𝓢 𝓓 (bareTranscriptOf p b″) (bareOpening t z (flat r (λ i. turns (suc i)))))
       judged-bare-written = is ∙ rw (p-is, b-is, z-is, t-is, turns-written) (honest-judged 𝓢 𝓓 s unrefused)

@@ -8,7 +8,7 @@
 --     honest-judged         the verifier's answer, whatever the witness: it is a judgement
 --     honest-answers        the verifier's answer
 -- What no call refuses stands in BareTaken.antt.
-use mathlib.Core.Path.{_≡_, refl, ap}
+use mathlib.Core.Path.{_≡_, refl}
 use mathlib.Core.Logic.{_↔_}
 use mathlib.Core.List.{List}
 use Prim.Native.Nat.{_*_, _-_, _≤_, _<_}
@@ -20,6 +20,7 @@ use Rattle.fold.specs.declared.Answer.the-variants.{Judged}
 use Rattle.fold.specs.Answers.{firstFailing, answered}
 use Rattle.fold.specs.Statement.{Relation, Meets, Draws}
 use Rattle.fold.specs.Laws.HonestVerdict.{outcome-fails-1, outcome-fails-last, outcome-accepted}
+use Rattle.fold.specs.Theorems.HonestRuns.{judged-iff}
 use Rattle.fold.specs.Theorems.OneDigit.{Unmixed}
 use Rattle.bare.specs.Statement.{BareStatement, BareTranscript}
 use Rattle.bare.specs.Honest.{honestZ, honestTranscript, honestOpening}
@@ -38,9 +39,6 @@ module _ (𝓢 : BareStatement) where
     pub failed-1 : is (Failed 1) ↔ (w * bound < 2 * normSq p)
     pub failed-7 : is (Failed 7) ↔ ((2 * normSq p ≤ w * bound) × (zBound < normSq z))
     pub accepted : is (Accepted (zBound - normSq z)) ↔ ((2 * normSq p ≤ w * bound) × (normSq z ≤ zBound))
-
-judged-iff : {v w : Verdict} {X : Type 0} → (v ≡ w) ↔ X → (Judged v ≡ Judged w) ↔ X
-judged-iff e = (λ h. e .0 cc, λ x. ap Judged (e .1 x))
 
 module _ (𝓢 : BareStatement) (𝓓 : Draws) (s : List ℤ) where
   open BareStatement 𝓢 using (relation, w, zBound)

@@ -5,10 +5,11 @@
 --     bare-project-taken, bare-aggregate-taken, bare-amortize-taken     messages 2, 3 and 5, the latter with one digit
 --     bare-messages-test-all
 --     challenges-before     the challenges before a turn keep the rule where all do
+--     turn-tested           what a turn that is not refused has tested of its lists
 use mathlib.Core.Path.{_≡_, refl, ap, _∙_}
 use mathlib.Core.Bool.{true}
 use mathlib.Core.List.{List, [], _∷_, _++_}
-use Prim.Native.Nat.{ℕ, zero, suc, _+_, _*_, _-_, _≤_}
+use Prim.Native.Nat.{ℕ, zero, suc, _+_, _*_, _-_, _≤_, _<_}
 use native.Mathlib.Nat.{mul-le-mul-right}
 use native.Mathlib.Omega.{arith}
 use lib.ListN.{length, take, drop}
@@ -40,10 +41,25 @@ part-before m (suc a) zero xs h = let no : ⊥ = omega arith in absurd no
 part-before m (suc a) (suc n) [] h = refl
 part-before m (suc a) (suc n) (x ∷ xs) h = part-before m a n xs (omega arith)
 
-pub challenges-before : (d r i : ℕ) (c : List ℤ) → i ≤ r → challenges d r c ≡ true → challenges d i (take (i * d) c) ≡ true
+challenges-before : (d r i : ℕ) (c : List ℤ) → i ≤ r → challenges d r c ≡ true → challenges d i (take (i * d) c) ≡ true
 challenges-before d r i c h e =
     challenges-iff d i (take (i * d) c) .1
     (λ j l. ap challenge (part-before d (j * d) (i * d) c (block-before d j i l)) ∙ challenges-iff d r c .0 e j (omega arith))
+
+-- ---- what a turn that is not refused has tested of its lists
+
+pub record TurnTested (d i : ℕ) (phi c s : List ℤ) : Type 0 where
+  pub φ-small : coefficients phi ≡ true
+  pub c-small : coefficients c ≡ true
+  pub s-small : coefficients s ≡ true
+  pub rule : (j : ℕ) → j < i - 1 → challenge (take d (drop (j * d) c)) ≡ true
+
+pub turn-tested : (d n r i : ℕ) (phi c s out : List ℤ) → firstFailing (bareTurnTests d n r i phi c s out) ≡ 0 → TurnTested d i phi c s
+unfolding bareTurnTests
+turn-tested d n r i phi c s out e =
+    let row = holds (bareTurnTests d n r i phi c s out) refl e in
+    let small = allOf-all _ (row 8) in
+    record { φ-small = search small; c-small = search small; s-small = search small; rule = challenges-iff d (i - 1) c .0 (row 10) }
 
 -- ---- the calls
 

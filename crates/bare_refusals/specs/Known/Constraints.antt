@@ -1,8 +1,6 @@
 -- Both kinds of constraints have the lengths that their sizes give.
 use mathlib.Core.Path.{_≡_}
-use mathlib.Core.Bool.{true}
 use mathlib.Core.List.{List}
-use Prim.Native.Nat.{ℕ}
 use lib.ListN.{length}
 use lib.IntN.{ℤ}
 use Rattle.fold.specs.declared.ConstraintSizes.{ConstraintSizes}

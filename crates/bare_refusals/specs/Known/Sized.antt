@@ -1,7 +1,6 @@
 -- What rows 1 to 6 leave known of the sizes of a call of the bare level, from the number that its tests of sizes give.
 use mathlib.Core.Path.{_≡_, refl, sym, _∙_}
 use Prim.Native.Nat.{ℕ, _≤_}
-use lib.IntN.{pos}
 use Rattle.fold.specs.declared.ConstraintSizes.{ConstraintSizes}
 use Rattle.fold.specs.declared.Shape.{Shape}
 use Rattle.fold.specs.Answers.{firstFailing}

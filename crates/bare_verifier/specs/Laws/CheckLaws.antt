@@ -1,7 +1,7 @@
 -- The left sides of checks 5 and 6 as their loops form them, and the pairs (i, i).
-use mathlib.Core.Path.{_≡_, refl, sym, ap, ap₂, _∙_}
+use mathlib.Core.Path.{_≡_, refl, sym, ap}
 use mathlib.Core.List.{List}
-use Prim.Native.Nat.{ℕ, suc, _+_, _-_, _*_, _≤_, _<_}
+use Prim.Native.Nat.{ℕ, _+_, _-_, _*_, _<_}
 use native.Mathlib.Numerals.{add-one}
 use native.Mathlib.Omega.{arith}
 use lib.ListN.{length, take, drop}
@@ -9,8 +9,8 @@ use lib.IntN.{ℤ}
 use Rattle.integers.specs.Laws.ListLaws.{rest-all}
 use Rattle.algebra.specs.Sum.{sum}
 use Rattle.algebra.specs.Laws.SumLaws.{sum-cong}
-use Rattle.algebra.specs.Triangle.{start, pair, pairs-count}
-use Rattle.algebra.specs.Laws.TriangleLaws.{start-suc, pair-zero, pair-row, pair-bound}
+use Rattle.algebra.specs.Triangle.{pair}
+use Rattle.algebra.specs.Laws.TriangleLaws.{start-suc, pair-zero, pair-bound}
 use Rattle.algebra.specs.DotProduct.{inner}
 use Rattle.algebra.specs.Laws.DotProductLaws.{inner-cong}
 use Rattle.ring.specs.Element.{R, el}

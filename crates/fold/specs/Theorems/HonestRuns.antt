@@ -32,7 +32,7 @@ module _ (𝓢 : Statement) where
     pub failed-9 : is (Failed 9) ↔ ((2 * normSq p ≤ w * bound) × (target < normSq o))
     pub accepted : is (Accepted (target - normSq o)) ↔ ((2 * normSq p ≤ w * bound) × (normSq o ≤ target))
 
-judged-iff : {v w : Verdict} {X : Type 0} → (v ≡ w) ↔ X → (Judged v ≡ Judged w) ↔ X
+pub judged-iff : {v w : Verdict} {X : Type 0} → (v ≡ w) ↔ X → (Judged v ≡ Judged w) ↔ X
 judged-iff e = (λ h. e .0 cc, λ x. ap Judged (e .1 x))
 
 module _ (𝓢 : Statement) (𝓓 : Draws) (s : List ℤ) where

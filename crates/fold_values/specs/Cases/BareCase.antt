@@ -41,9 +41,9 @@ case mixed zBound =
     record {
       relation = record { d = 2; n = 1; r = 2; K = 1; L = 0; bound = 25; whole = constraint mixed; constantTerms = [] };
       w = 0;
-      κ = 1;
+      κ = 2;
       zBound = zBound;
-      A = + 1 ∷ + 1 ∷ [];
+      A = + 1 ∷ + 1 ∷ + 2 ∷ + 0 ∷ [];
     }
 
 abbrev pub witness : List ℤ
@@ -58,11 +58,13 @@ transcript = record { p = []; b″ = 10 zeros∷ [] }
 abbrev pub phi : List ℤ
 phi = - 1 ∷ + 0 ∷ - 1 ∷ + 1 ∷ []
 
--- t_1, t_2, z, then the four of each turn: an element a line
+-- t_1, t_2, two rows each, z, then the four of each turn: an element a line
 abbrev pub openingWith : (t z mixedΦ ownΦ mixedZ ownZ : ℤ) → List ℤ
 openingWith t z mixedΦ ownΦ mixedZ ownZ =
     - 1 ∷ + 3
+    ∷ + 2 ∷ + 4
     ∷ t ∷ + 2
+    ∷ + 6 ∷ - 2
     ∷ + 0 ∷ z
     ∷ + 0 ∷ + 0
     ∷ - 1 ∷ - 2

@@ -1,6 +1,6 @@
 -- `bare_refusals::unmixed::function_unmixed` meets its contract. The rows so far are tested, and the next one starts at `at`. Assumes nothing.
 use mathlib.Core.Path.{_≡_, refl, _∙_}
-use Prim.Native.Nat.{ℕ, suc, _+_, _-_, _≤_}
+use Prim.Native.Nat.{suc, _+_, _-_, _≤_}
 use native.Mathlib.Nat.{mul-le-mul-right}
 use native.Mathlib.Omega.{arith}
 use Rattle.algebra.specs.Triangle.{start, pair}

@@ -1,10 +1,6 @@
 -- `bare_verifier::aggregate::diagonal_summand` meets its contract. Assumes nothing.
-use mathlib.Core.Path.{ap, _∙_}
-use Prim.Native.Nat.{ℕ}
 use native.Mathlib.Omega.{arith}
-use Rattle.ring.specs.Element.{array}
 use Rattle.ring.specs.Laws.Loops.{held-product}
-use Rattle.fold.specs.Entries.{aggregateA}
 use Rattle.bare_verifier.specs.Summands.{diagonalSummand}
 use Rattle.bare_verifier.specs.Laws.CheckLaws.{diagonal-below}
 use Rattle.bare_verifier.proofs.aggregate.diagonal_summand.Statement.{statement}

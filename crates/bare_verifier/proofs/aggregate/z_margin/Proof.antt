@@ -1,13 +1,12 @@
 -- `bare_verifier::aggregate::z_margin` meets its contract. Assumes nothing.
 use mathlib.Core.Path.{_≡_, ap, _∙_}
 use Prim.Native.Nat.{ℕ, _+_, _-_, _*_, _≤_}
-use native.Mathlib.Nat.{mul-le-mul}
 use native.Mathlib.Omega.{arith}
 use borrow.Author.Needs.{needs}
 use lib.ListN.{length, take, drop}
 use Rattle.integers.specs.Sums.{normSq}
 use Rattle.residues.specs.Length.{remaining}
-use Rattle.bare.specs.Opening.{zPlace, zNumbers}
+use Rattle.bare.specs.Opening.{zNumbers}
 use Rattle.bare_verifier.specs.Known.Facts.{z-fits}
 use Rattle.bare_verifier.proofs.aggregate.z_margin.Statement.{statement}
 use Rattle.bare_verifier.proofs.aggregate.z_margin.Tie as tie
