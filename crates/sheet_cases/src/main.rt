@@ -2,6 +2,7 @@
 // case a line with its number of bytes, the bytes, and a line feed; these numbers stand in 16 columns, as on a sheet. Standard output gets five
 // lines for each case: how many numbers the sheet holds; three times what the reader answers, with a slice of one number less than that, of as
 // many, and of one more; and what the judge answers. The cases of the writer follow: src/writer.rt.
+#![tactic(auto)]
 ghost use Rattle.std.specs.Prelude.{◌≡◌, ◌≤◌, min, ◌-◌, take, nat_abs};
 ghost use Rattle.fields.specs.Place.{number_at};
 

@@ -1,4 +1,5 @@
 // The program of verdicts: SPECIFICATION 10. It reads a sheet from standard input and prints the line of its verdict.
+#![tactic(auto)]
 ghost use Rattle.std.specs.Prelude.{◌≡◌, ◌≤◌, ◌<◌, length, take};
 ghost use Rattle.io.specs.Counts.{IsPrefixLen};
 ghost use Rattle.libc.specs.Io.{Moved};

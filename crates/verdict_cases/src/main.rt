@@ -1,5 +1,6 @@
 // Judges the sheets of a corpus: standard input has a line with the number of cases, then for each case a line with its number of bytes,
 // the bytes, and a line feed. Standard output gets the line of each verdict. The numbers stand in 16 columns, as on a sheet.
+#![tactic(auto)]
 ghost use Rattle.std.specs.Prelude.{◌≡◌, ◌≤◌, min, take, nat_abs};
 ghost use Rattle.fields.specs.Place.{number_at};
 ghost use Rattle.judge.specs.Judging.{judged_text, verdict_line};

@@ -16,7 +16,7 @@ unfoldable pub tail : (b t : ℕ) → (ℕ → ℤ) → ℕ → ℤ
 tail b t f k = value b (t - k) (λ e. f (k + e))
 
 module _ (b t : ℕ) (f : ℕ → ℤ) where
-  tail-start : centred (tail b t f t) ≡ pos 0
+  pub tail-start : centred (tail b t f t) ≡ pos 0
   unfolding tail value
   tail-start = rw sub_self (centred_fixed (omega arith))
 
@@ -70,3 +70,17 @@ module _ (b t : ℕ) (f : ℕ → ℤ) where
       let none : left ≡ 0 = omega arith in
       ap (to_z w32) inv ∙ to_z-of_z (centred-fits (tail b t f left)) ∙ ap (λ (n : ℕ). centred (tail b t f n)) none
       ∙ ap centred (tail-end b t f)
+
+  -- the same where the accumulator is read as a number
+  pub value_step : (left : ℕ) (acc r : ℤ) → 0 < left → left ≤ t → acc ≡ centred (tail b t f left) → SFits w32 (f (left - 1))
+      → r ≡ centred (acc *ℤ pos b +ℤ to_z w32 (of_z w32 (f (left - 1)))) → r ≡ centred (tail b t f (left - 1))
+  value_step left acc r h k inv fits e =
+      let back : left ≡ left - 1 + 1 = omega arith in
+      rw (inv, to_z-of_z fits) at e
+      ∙ ap (λ (n : ℕ). centred (centred (tail b t f n) *ℤ pos b +ℤ f (left - 1))) back
+      ∙ tail-centred b t f (left - 1) (omega arith)
+
+  pub value_end : (left : ℕ) (acc : ℤ) → left ≤ 0 → acc ≡ centred (tail b t f left) → acc ≡ centred (value b t f)
+  value_end left acc h inv =
+      let none : left ≡ 0 = omega arith in
+      inv ∙ ap (λ (n : ℕ). centred (tail b t f n)) none ∙ ap centred (tail-end b t f)

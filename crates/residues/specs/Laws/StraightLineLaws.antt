@@ -2,7 +2,7 @@
 use Rattle.std.specs.Prelude.{◌≡◌, refl, true, false, ◌&&◌, List, ◌⊎◌, ℕ}
 use Rattle.std.proofs.Common.{inl, inr}
 use mir.Syntax.{Width, Sign, signed, unsigned, Place, Opd, Op1, op1, cast, Op2, op2, add, sub, mul, div, rem}
-use mir.Syntax.{Body, seq, assign, block, loop, cond, switch, Arms, exit, call, Name}
+use mir.Syntax.{Body, seq, assign, block, loop, cond, switch, Arms, exit, call, Callee}
 use Rattle.residues.specs.StraightLine.{straight, Signed, AfterRemainder}
 use Rattle.residues.specs.StraightLine.{returned, added, subtracted, multiplied, divided, reduced, made_signed, first}
 
@@ -20,7 +20,7 @@ pub no_loop : (b : Body) → straight (loop b) ≡ false
 unfolding straight
 no_loop b = refl
 
-pub no_call : (f : Name) (xs : List Opd) (p : Place) → straight (call f xs p) ≡ false
+pub no_call : (f : Callee) (xs : List Opd) (p : Place) → straight (call f xs p) ≡ false
 unfolding straight
 no_call f xs p = refl
 

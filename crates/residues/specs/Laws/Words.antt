@@ -11,7 +11,7 @@ use Rattle.std.proofs.Math.Facts.{sfits_widen}
 use Rattle.integers.specs.Laws.Bridge.{zarith, bnd, sub_pn}
 
 pub word : (x : ℤ) → mag x < 2 ^ 31 → to_z w32 (of_z w32 x) ≡ x
-word x h = to_z-of_z (record { sfits = h })
+word x h = to_z-of_z {w = w32} {z = x} (record { sfits = h })
 
 abbrev pub held : ℤ → ℤ
 held z = to_z w64 (of_z w64 z)

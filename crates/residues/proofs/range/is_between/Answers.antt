@@ -2,12 +2,8 @@
 use mathlib.Core.Path.{refl}
 use mir.Facts.{to_z-of_z}
 use Rattle.residues.specs.Range.{between}
-use Rattle.residues.proofs.range.is_between.Statement.{statement}
-use Rattle.residues.proofs.range.is_between.Tie as tie
+use Rattle.residues.proofs.range.is_between.Goals as goal
 
-returns : tie.Need-returns
+pub returns : goal.returns
 unfolding between
 returns c = rw (to_z-of_z c.ranges.x, to_z-of_z c.ranges.low, to_z-of_z c.ranges.high) refl
-
-pub is-between-spec : {M : Type 1} → statement M
-is-between-spec = tie.close (tie.spec returns)

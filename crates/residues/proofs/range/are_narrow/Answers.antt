@@ -10,8 +10,7 @@ use mir.Facts.{to_z_pos, to_z-of_z}
 use Rattle.integers.specs.Laws.Bridge.{zarith, sub_pn, neg_pn, pos_pn}
 use Rattle.residues.specs.Range.{all_between}
 use Rattle.residues.specs.Laws.RangeLaws.{narrow-between}
-use Rattle.residues.proofs.range.are_narrow.Statement.{statement}
-use Rattle.residues.proofs.range.are_narrow.Tie as tie
+use Rattle.residues.proofs.range.are_narrow.Goals as goal
 
 opposite-fits : (n : ℕ) → n ≤ 32768 → SFits w32 (pos 0 -ℤ pos n)
 opposite-fits n h = omega (zarith, sub_pn (pos 0) (pos n), pos_pn n)
@@ -19,21 +18,18 @@ opposite-fits n h = omega (zarith, sub_pn (pos 0) (pos n), pos_pn n)
 opposite : (n : ℕ) → pos 0 -ℤ pos n ≡ neg_ℤ (pos n)
 opposite n = omega (zarith, sub_pn (pos 0) (pos n), neg_pn (pos n))
 
-sub-all-between : tie.Need-overflow-sub-all-between
-sub-all-between c =
+pub overflow_sub-half : goal.overflow_sub-half
+overflow_sub-half c =
     let small : c.args.base / 2 ≤ 32768 = omega (arith, c.requires.most) in
     rw (to_z_pos w32 {n = c.args.base / 2} (omega (arith, small))) (opposite-fits _ small)
 
-returns : tie.Need-returns
+pub returns : goal.returns
 returns c =
-    let a = c.before.args in
+    let a = c.args in
     let h = a.base / 2 in
-    let small : h ≤ 32768 = omega (arith, c.before.requires.most) in
+    let small : h ≤ 32768 = omega (arith, c.requires.most) in
     let half = to_z_pos w32 {n = h} (omega (arith, small)) in
     let low = ap (λ x. to_z w32 (of_z w32 (pos 0 -ℤ x))) half ∙ to_z-of_z (opposite-fits h small) ∙ opposite h in
-    c.all-between.ensures
+    c.all_between.ensures
     ∙ ap₂ (λ x y. all_between x y a.xs.now) low half
-    ∙ narrow-between a.base a.xs.now c.before.requires.least
-
-pub are-narrow-spec : {M : Type 1} → statement M
-are-narrow-spec = tie.close (tie.spec (λ c. search rules) sub-all-between (λ c κs. tt) returns)
+    ∙ narrow-between a.base a.xs.now c.requires.least

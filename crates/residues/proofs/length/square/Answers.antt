@@ -9,11 +9,7 @@ use lib.Signed.{nat_abs-le}
 use mir.Syntax.{w32, w64}
 use mir.Val.{Fits, SFits}
 use mir.Facts.{to_z-of_z}
-use Rattle.residues.proofs.length.square.Statement.{statement}
-use Rattle.residues.proofs.length.square.Tie as tie
-
-magnitude-requires : tie.Need-magnitude-requires
-magnitude-requires c κs = search rules
+use Rattle.residues.proofs.length.square.Goals as goal
 
 -- the square of an absolute value that an i32 has
 square-fits : {x : ℤ} {m : ℕ} → SFits w32 x → m ≡ nat_abs x → Fits w64 (m * m)
@@ -21,13 +17,10 @@ square-fits {x} {m} f e =
     let h : m ≤ 2 ^ 31 = rw e (nat_abs-le x f.sfits) in
     omega (arith, mul-le-mul h h)
 
-mul-result : tie.Need-overflow-mul-result
-mul-result c = square-fits c.before.ranges.x (c.magnitude.ensures ∙ ap nat_abs (to_z-of_z c.before.ranges.x))
+pub overflow_mul-result : goal.overflow_mul-result
+overflow_mul-result c = square-fits c.ranges.x (c.magnitude-m.ensures ∙ ap nat_abs (to_z-of_z c.ranges.x))
 
-returns : tie.Need-returns
+pub returns : goal.returns
 returns c =
-    let e = c.magnitude.ensures ∙ ap nat_abs (to_z-of_z c.before.ranges.x) in
+    let e = c.magnitude-m.ensures ∙ ap nat_abs (to_z-of_z c.ranges.x) in
     ap (λ (m : ℕ). m * m) e
-
-pub square-spec : {M : Type 1} → statement M
-square-spec = tie.close (tie.spec magnitude-requires mul-result returns)
