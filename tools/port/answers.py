@@ -147,12 +147,37 @@ def as_record(body, fields):
     return pre + (' ' if pre else '') + 'record { ' + '; '.join(f'{f} = {p}' for f, p in zip(fields, parts)) + ' }'
 
 
+def substitute(body, sub):
+    """free names of a term replaced"""
+    regions = []
+    for m in re.finditer(r'λ ((?:' + W + r'\s+)*' + W + r')\.\s|\(((?:' + W + r' )+): [^()]*\) →', body):
+        names = (m.group(1) or m.group(2)).split()
+        depth, j = 0, m.end()
+        while j < len(body):
+            if body[j] in '([{':
+                depth += 1
+            elif body[j] in ')]}':
+                depth -= 1
+                if depth < 0:
+                    break
+            j += 1
+        regions.append((m.start(), j, set(names)))
+
+    def one(m):
+        w = m.group(1)
+        if w in sub and not any(a <= m.start() < b and w in names for a, b, names in regions):
+            return sub[w]
+        return w
+    return re.sub(r'(?<![^\s(){}\[\];,|])(' + W + r')', one, body)
+
+
 class Function:
     def __init__(self, crate, folder, data, table, report):
         self.crate, self.folder, self.d, self.table, self.report = crate, folder, data, table, report
         self.places = data['places']
         self.index = {p[0]: i for i, p in enumerate(self.places)}
         self.need = None
+        self.goal = None
         self.path = os.path.relpath(folder, crate + '/proofs').replace('/', '.')
 
     def place(self, name):
@@ -176,6 +201,8 @@ class Function:
                         if m:
                             for v, w in re.findall(r'(\w+): i(8|16|32|64)\b', m.group(0)):
                                 self._signed[v] = 'w' + w
+                            for v, w in re.findall(r'let (?:mut )?(\w+) = [^;]* as i(8|16|32|64);', m.group(0)):
+                                self._signed[v] = 'w' + w
                             for v in re.findall(r'(\w+): isize\b', m.group(0)):
                                 self._signed[v] = 'w64'
                             return self._signed
@@ -198,70 +225,110 @@ class Function:
             return None
         return [fields[n - 1]] + rest
 
+    def trail(self, place):
+        out = []
+        while place is not None:
+            out.append(place)
+            place = self.parent(place)
+        return out
+
     def resolve(self, place, fields, whole):
-        """new text of a chain from a context at a place"""
+        """new text of a chain from a context at a place; the place itself where the chain ends there"""
         fields = list(fields)
         while fields and fields[0] == 'before':
             up = self.parent(place)
             if up is None:
-                self.report.append(f'{self.path}: no place before {self.places[place][0]}: {whole}')
-                return whole
+                fields = [f for k, f in enumerate(fields) if f != 'before' or any(g != 'before' for g in fields[:k])]
+                break
             place = up
             fields = fields[1:]
         if not fields:
             return place
         f, rest = fields[0], fields[1:]
-        p = self.places[place]
         rest = ['type_inv' if r == 'type-inv' else r for r in rest]
-        if place == 0 or p[1] is None:
-            if f == 'requires' and self.d.get('pre') and self.d['pre'].get('fields'):
+        if f in ('args', 'ranges', 'well-formed', 'well_formed'):
+            if rest:
+                for a, b in self.d.get('args', []):
+                    if a == f'.{f} .{rest[0]}':
+                        rest[0] = b.split('.')[-1]
+                        break
+            return 'c.' + '.'.join([f.replace('-', '_')] + rest)
+        if f == 'requires':
+            if self.d.get('pre') and self.d['pre'].get('fields'):
+                if not rest:
+                    return ('requires',)
                 new = self.positions(rest, self.d['pre']['fields'])
                 if new is None:
-                    names = self.d['pre']['fields']
-                    self.report.append(f'{self.path}: requires.{".".join(rest)} is several clauses: {whole}')
-                    return 'c.requires' + ''.join('.' + r for r in rest)
+                    return ('requires', rest)
                 return 'c.requires.' + '.'.join(new)
-            if f == 'well-formed':
-                f = 'well_formed'
             return 'c.' + '.'.join([f] + rest)
-        # arms: fields that have moved to the arm's step
-        best = None
-        for arm in self.d['arms']:
-            if arm:
-                for nf, step, path in arm[2]:
-                    if norm(step) == norm(f) and path and rest[:len(path)] == path and (best is None or len(path) > best[2]):
-                        best = (arm[0], nf, len(path))
-        if best and norm(p[2][0]) == norm(f):
-            return 'c.' + '.'.join([best[0], best[1]] + rest[best[2]:])
-        if norm(p[2][0]) == norm(f) or norm(p[2][1]) == norm(f):
-            new = p[2][1]
-            if rest and rest[0] == 'ensures' and p[3] in self.table and len(self.table[p[3]][1]) > 1:
-                got = self.positions(rest[1:], self.table[p[3]][1])
-                if got:
-                    rest = ['ensures'] + got
-            for old, bits in p[4]:
-                if rest and norm(rest[0]) == norm(old):
-                    rest[0] = bits
-            return 'c.' + '.'.join([new] + rest)
-        q = self.parent(place)
-        while q is not None:
-            if norm(self.places[q][2][0]) == norm(f):
-                return 'c.' + '.'.join([self.places[q][2][1]] + rest)
-            q = self.parent(q)
-        self.report.append(f'{self.path}: no step {f} at {p[0]}: {whole}')
+        # the step: at the place, before it, else on the goal's way, else anywhere
+        where = self.trail(place) + [p for p in self.trail(self.goal if self.goal is not None else place)] + list(range(len(self.places)))
+        for q in where:
+            p = self.places[q]
+            if p[1] is None:
+                continue
+            if norm(p[2][0]) == norm(f) or norm(p[2][1]) == norm(f):
+                best = None
+                for arm in self.d['arms']:
+                    if arm:
+                        for nf, step, path in arm[2]:
+                            if norm(step) == norm(f) and path and rest[:len(path)] == path and (best is None or len(path) > best[2]):
+                                best = (arm[0], nf, len(path))
+                if best:
+                    return 'c.' + '.'.join([best[0], best[1]] + rest[best[2]:])
+                new = p[2][1]
+                if rest and rest[0] == 'ensures' and p[3] in self.table and len(self.table[p[3]][1]) > 1:
+                    got = self.positions(rest[1:], self.table[p[3]][1])
+                    if got:
+                        rest = ['ensures'] + got
+                if rest == ['ensures'] and new.startswith('wrapping_'):
+                    rest = ['ensures', 'value']
+                for old, bits in p[4]:
+                    if rest and norm(rest[0]) == norm(old):
+                        rest[0] = bits
+                return 'c.' + '.'.join([new] + rest)
+        self.report.append(f'{self.path}: no step {f} at {self.places[place][0]}: {whole}')
         return whole
+
+    def chain(self, at, fields, whole):
+        if isinstance(at, tuple):
+            before = list(at[1]) if len(at) > 1 else []
+            return self.resolve(0, ['requires'] + before + fields, whole)
+        return self.resolve(at, fields, whole)
 
     def convert(self, body, var, place):
         """rewrite a body whose context `var` is at `place`"""
         aliases = {var: place}
+        self.goal = place
+        body = body.replace('.type-inv', '.type_inv')
         out, i = [], 0
         LET = re.compile(r'let (' + W + r')( : [^=]*?)? = (' + W + r')((?:\.' + W + r')*)(\s+)in\b\s*')
+        saved = []
         while i < len(body):
+            while saved and i >= saved[-1][0]:
+                aliases.update(saved.pop()[1])
+            m = re.compile(r'λ ((?:' + W + r'\s+)*' + W + r')\.\s').match(body, i)
+            if m:
+                names = [n for n in m.group(1).split() if n in aliases]
+                depth, j = 0, m.end()
+                while j < len(body):
+                    if body[j] in '([{':
+                        depth += 1
+                    elif body[j] in ')]}':
+                        depth -= 1
+                        if depth < 0:
+                            break
+                    j += 1
+                saved.append((j, {n: aliases.pop(n) for n in names}))
+                out.append(m.group(0))
+                i = m.end()
+                continue
             if i == 0 or body[i - 1] in ' \t\n(){}[];,|':
                 m = LET.match(body, i)
                 if m and m.group(3) in aliases:
-                    got = self.resolve(aliases[m.group(3)], m.group(4).split('.')[1:], m.group(0))
-                    if isinstance(got, int):
+                    got = self.chain(aliases[m.group(3)], m.group(4).split('.')[1:], m.group(0))
+                    if isinstance(got, (int, tuple)):
                         aliases[m.group(1)] = got
                         i = m.end()
                         continue
@@ -270,8 +337,13 @@ class Function:
                     del aliases[m.group(1)]
                 m = re.compile('(' + W + r')((?:\.' + W + r')*)').match(body, i)
                 if m and m.group(1) in aliases and not (body[:i].endswith('.')):
-                    got = self.resolve(aliases[m.group(1)], m.group(2).split('.')[1:], m.group(0))
-                    if isinstance(got, int):
+                    got = self.chain(aliases[m.group(1)], m.group(2).split('.')[1:], m.group(0))
+                    if isinstance(got, tuple):
+                        names = self.d['pre']['fields'][len(got[1]) if len(got) > 1 else 0:]
+                        got = '(' + ', ('.join('c.requires.' + n for n in names) + ')' * (len(names))
+                        if len(names) > 2:
+                            pass
+                    elif isinstance(got, int):
                         if got == place or self.need is None:
                             got = 'c'
                         else:
@@ -443,7 +515,7 @@ def turn(fn, text):
             if w and par in sub:
                 body = re.sub(r'to_z ' + w + ' ' + re.escape(par) + r'(?![^\s(){}\[\];,|])', sub[par], body)
                 sub[par] = f'(of_z {w} {sub[par]})'
-        body = re.sub(r'(?<![^\s(){}\[\];,|])(' + W + r')', lambda m: sub.get(m.group(1), m.group(1)), body)
+        body = substitute(body, sub)
         invariants.append(f'abbrev pub {kind}-{new_loop} : goal.{kind}-{new_loop}\n{kind}-{new_loop} l = {body}')
         inv_names[p['name']] = f'{kind}-{new_loop}'
     # goals
@@ -571,6 +643,10 @@ def turn(fn, text):
             before_inv.append((p['name'], t))
         else:
             helpers.append(p['text'])
+    everything = '\n'.join(invariants + answers)
+    for word, line in (('of_z', 'use mir.Val.{of_z}'), ('to_z', 'use mir.Val.{to_z}'), ('w32', 'use mir.Syntax.{w32}'), ('w64', 'use mir.Syntax.{w64}')):
+        if re.search(r'(?<![^\s(){}\[\];,|=])' + word + r'(?![^\s(){}\[\];,|])', everything) and not any(re.search(r'[{ ,]' + word + r'[},]', u) for u in uses):
+            uses.append(line)
     base = [u for u in uses if not re.search(r'\.(Statement|Tie)\b', u)]
     module = f'Rattle.{os.path.basename(fn.crate)}.proofs.{fn.path}'
     head = [h for h in head]

@@ -14,7 +14,7 @@ use Rattle.integers.specs.Laws.OverLaws.{length_over, part-over}
 use Rattle.ring.specs.Element.{every}
 use Rattle.ring.specs.Laws.ElementEquality.{every_true, every-zero, every-add-one}
 use Rattle.residues.specs.Range.{coefficients, challenge}
-use Rattle.residues.specs.Laws.RangeLaws.{coefficients-part}
+use Rattle.residues.proofs.Laws.RangeLaws.{coefficients-part}
 use Rattle.fold.specs.Refusals.{challenges}
 use Rattle.fields.specs.Place.{place, number_at, numbers_from, Span}
 use Rattle.fields.specs.Laws.PlaceLaws.{place_mono, contradiction}

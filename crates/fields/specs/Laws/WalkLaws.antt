@@ -15,7 +15,7 @@ use Rattle.integers.specs.Laws.ListLaws.{length-tab, get_d_tab, tab-suc}
 use Rattle.integers.specs.Over.{over}
 use Rattle.integers.specs.Laws.OverLaws.{over-nil, over-tab}
 use Rattle.residues.specs.Range.{all_within, coefficients}
-use Rattle.residues.specs.Laws.RangeLaws.{all_within-join, all_within_false, coefficients-at}
+use Rattle.residues.proofs.Laws.RangeLaws.{all_within-join, all_within_false, coefficients-at}
 use Rattle.fields.specs.Place.{field_width, place, number_at, numbers_from, Span}
 use Rattle.fields.specs.Laws.PlaceLaws.{place-next, place_mono}
 use Rattle.fields.specs.Field.{header_bytes}

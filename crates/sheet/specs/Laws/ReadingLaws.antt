@@ -5,7 +5,7 @@ use Rattle.std.proofs.Math.Path.{refl, sym, ap}
 use Rattle.std.proofs.Common.{◌∙◌, arith}
 use Rattle.std.proofs.Math.Nat.{zero-add}
 use borrow.Author.Tests.{eqb-true, eq-eqb, ne_eqb, not_true, not-false}
-use Rattle.residues.specs.Laws.RangeLaws.{coefficients-part}
+use Rattle.residues.proofs.Laws.RangeLaws.{coefficients-part}
 use Rattle.residues.specs.Range.{coefficients, projection_entries}
 use Rattle.fold.specs.Arguments.{VerifySized}
 use Rattle.fold.specs.Answers.{first_failing}

@@ -3,7 +3,7 @@ use mathlib.Core.Path.{ap₂}
 use Prim.Native.Nat.{ℕ, ◌+◌}
 use native.Mathlib.Omega.{arith}
 use Rattle.fold.specs.Opening.{g_place}
-use Rattle.fold.specs.Laws.PlaceBounds.{t-size-bound, t-place-bound}
+use Rattle.fold.proofs.Laws.PlaceBounds.{t-size-bound, t-place-bound}
 use borrow.Author.Rules.{rules}
 use Rattle.fold.proofs.places.g_place.Statement.{statement}
 use Rattle.fold.proofs.places.g_place.Tie as tie

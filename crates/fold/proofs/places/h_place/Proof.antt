@@ -3,7 +3,7 @@ use mathlib.Core.Path.{ap₂}
 use Prim.Native.Nat.{ℕ, ◌+◌}
 use native.Mathlib.Omega.{arith}
 use Rattle.fold.specs.Opening.{h_place}
-use Rattle.fold.specs.Laws.PlaceBounds.{g-size-bound, g-place-bound}
+use Rattle.fold.proofs.Laws.PlaceBounds.{g-size-bound, g-place-bound}
 use borrow.Author.Rules.{rules}
 use Rattle.fold.proofs.places.h_place.Statement.{statement}
 use Rattle.fold.proofs.places.h_place.Tie as tie

@@ -2,8 +2,8 @@
 use mathlib.Core.Path.{◌∙◌}
 use mir.Syntax.{w32}
 use mir.Facts.{to_z-of_z}
-use Rattle.residues.specs.Laws.Words.{widen, wide}
-use Rattle.residues.specs.Laws.DigitSteps.{base-held, base-product-fits, horner-fits}
+use Rattle.residues.proofs.Laws.Words.{widen, wide}
+use Rattle.residues.proofs.Laws.DigitSteps.{base-held, base-product-fits, horner-fits}
 use borrow.Author.Rules.{rules}
 use Rattle.residues.proofs.digits.fold_digit.Goals as goal
 

@@ -8,7 +8,7 @@ use mir.Val.{to_z, of_z}
 use mir.Facts.{to_z-of_z}
 use Rattle.residues.specs.Digits.{low, rest}
 use Rattle.residues.specs.DigitBlocks.{Peeled}
-use Rattle.residues.specs.Laws.DigitBlockLaws.{peel_start, peel_step}
+use Rattle.residues.proofs.Laws.DigitBlockLaws.{peel_start, peel_step}
 use Rattle.residues.proofs.digits.peel.Given as goal
 
 abbrev pub invariant-loop-i : goal.invariant-loop-i

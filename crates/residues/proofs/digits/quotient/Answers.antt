@@ -1,9 +1,9 @@
 -- `residues::digits::quotient` meets its contract: each step is in range, and together they round to the nearest whole number.
 use native.Mathlib.Omega.{arith}
 use mir.Facts.{to_z-of_z}
-use Rattle.residues.specs.Laws.Words.{widen, wide}
-use Rattle.residues.specs.Laws.DigitSteps.{added-product-fits, added-held, sum_fits, down_fits, down-held, remainder-held, down-small, remainder-small, up_small}
-use Rattle.residues.specs.Laws.DigitSteps.{rest-held, rest-fits}
+use Rattle.residues.proofs.Laws.Words.{widen, wide}
+use Rattle.residues.proofs.Laws.DigitSteps.{added-product-fits, added-held, sum_fits, down_fits, down-held, remainder-held, down-small, remainder-small, up_small}
+use Rattle.residues.proofs.Laws.DigitSteps.{rest-held, rest-fits}
 use borrow.Author.Rules.{rules}
 use Rattle.residues.proofs.digits.quotient.Goals as goal
 

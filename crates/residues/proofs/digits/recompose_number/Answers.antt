@@ -8,7 +8,7 @@ use lib.IntN.{ℤ, pos}
 use mir.Syntax.{w32}
 use mir.Facts.{to_z-of_z}
 use Rattle.residues.specs.Modulus.{centred}
-use Rattle.residues.specs.Laws.DigitSums.{tail, tail-start, value_step, value_end, place-fits}
+use Rattle.residues.proofs.Laws.DigitSums.{tail, tail-start, value_step, value_end, place-fits}
 use Rattle.residues.proofs.digits.recompose_number.Invariants.{digits_of}
 use Rattle.residues.proofs.digits.recompose_number.Goals as goal
 

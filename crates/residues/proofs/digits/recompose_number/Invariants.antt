@@ -7,7 +7,7 @@ use lib.IntN.{ℤ, pos}
 use mir.Syntax.{w32}
 use mir.Val.{of_z}
 use Rattle.residues.specs.Modulus.{centred}
-use Rattle.residues.specs.Laws.DigitSums.{tail}
+use Rattle.residues.proofs.Laws.DigitSums.{tail}
 use Rattle.residues.proofs.digits.recompose_number.Given as goal
 
 abbrev pub digits_of : List ℤ → ℕ → ℕ → ℕ → ℤ

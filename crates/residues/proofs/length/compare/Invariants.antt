@@ -7,8 +7,8 @@ use lib.Signed.{mag}
 use mir.Syntax.{w32}
 use mir.Val.{to_z, of_z}
 use Rattle.integers.specs.Sums.{sq}
-use Rattle.residues.specs.Laws.Words.{word}
-use Rattle.residues.specs.Laws.LengthLaws.{Compared, compared_start, compared_step, compared_above, compared_end}
+use Rattle.residues.proofs.Laws.Words.{word}
+use Rattle.residues.proofs.Laws.LengthLaws.{Compared, compared_start, compared_step, compared_above, compared_end}
 use Rattle.residues.proofs.length.compare.Given as goal
 
 abbrev pub invariant-loop-i : goal.invariant-loop-i

@@ -2,7 +2,7 @@
 use mathlib.Core.Path.{◌≡◌, refl, ◌∙◌}
 use mathlib.Core.Bool.{false}
 use borrow.Author.Rules.{rules}
-use Rattle.residues.specs.Laws.LengthLaws.{lessened-within, lessened-above}
+use Rattle.residues.proofs.Laws.LengthLaws.{lessened-within, lessened-above}
 use Rattle.residues.specs.StraightLine.{straight}
 use Rattle.residues.proofs.length.lessen.Code.Mir as code
 use Rattle.residues.proofs.length.lessen.Goals as goal

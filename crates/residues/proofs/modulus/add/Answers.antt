@@ -2,8 +2,8 @@
 use mathlib.Core.Path.{◌∙◌}
 use mir.Syntax.{w32}
 use mir.Facts.{to_z-of_z}
-use Rattle.residues.specs.Laws.Words.{widen, wide}
-use Rattle.residues.specs.Laws.Centring.{sum_fits, sum_near}
+use Rattle.residues.proofs.Laws.Words.{widen, wide}
+use Rattle.residues.proofs.Laws.Centring.{sum_fits, sum_near}
 use Rattle.residues.proofs.modulus.add.Goals as goal
 
 pub overflow_cast-a : goal.overflow_cast-a

@@ -5,8 +5,8 @@ use native.Mathlib.Omega.{arith}
 use borrow.Author.Rules.{rules}
 use mir.Facts.{to_z-of_z}
 use Rattle.residues.specs.Modulus.{q, centred}
-use Rattle.residues.specs.Laws.Centring.{quot_z_fits, shifted_fits, centre-fits, centre-fits-wide, remainder-held, shifted-held, low_held}
-use Rattle.residues.specs.Laws.StraightLineLaws.{signed_straight}
+use Rattle.residues.proofs.Laws.Centring.{quot_z_fits, shifted_fits, centre-fits, centre-fits-wide, remainder-held, shifted-held, low_held}
+use Rattle.residues.proofs.Laws.StraightLineLaws.{signed_straight}
 use Rattle.residues.specs.StraightLine.{straight, Signed, returned, added, subtracted, reduced, made_signed}
 use Rattle.residues.proofs.modulus.centre.Code.Mir as code
 use Rattle.residues.proofs.modulus.centre.Goals as goal

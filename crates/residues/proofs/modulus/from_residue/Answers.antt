@@ -5,9 +5,9 @@ use Prim.Native.Nat.{ℕ, ◌%◌, ◌<◌}
 use native.Mathlib.Omega.{arith}
 use borrow.Author.Rules.{rules}
 use mir.Facts.{to_z-of_z}
-use Rattle.residues.specs.Laws.ModulusLaws.{centred-mod, centred-fits}
-use Rattle.residues.specs.Laws.ResidueSteps.{carry_fits, upper_fits, upper-held, multiple_fits, lowered-held, lowered-fits, lowered-centred}
-use Rattle.residues.specs.Laws.StraightLineLaws.{after-remainder-straight}
+use Rattle.residues.proofs.Laws.ModulusLaws.{centred-mod, centred-fits}
+use Rattle.residues.proofs.Laws.ResidueSteps.{carry_fits, upper_fits, upper-held, multiple_fits, lowered-held, lowered-fits, lowered-centred}
+use Rattle.residues.proofs.Laws.StraightLineLaws.{after-remainder-straight}
 use Rattle.residues.specs.StraightLine.{straight, AfterRemainder, returned, added, subtracted, multiplied, divided, made_signed, first}
 use Rattle.residues.proofs.modulus.from_residue.Code.Mir as code
 use Rattle.residues.proofs.modulus.from_residue.Goals as goal

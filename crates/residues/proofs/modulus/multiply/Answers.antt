@@ -3,8 +3,8 @@ use borrow.Author.Rules.{rules}
 use mathlib.Core.Path.{◌∙◌}
 use mir.Syntax.{w32}
 use mir.Facts.{to_z-of_z}
-use Rattle.residues.specs.Laws.Words.{widen, wide}
-use Rattle.residues.specs.Laws.Centring.{product-fits}
+use Rattle.residues.proofs.Laws.Words.{widen, wide}
+use Rattle.residues.proofs.Laws.Centring.{product-fits}
 use Rattle.residues.proofs.modulus.multiply.Goals as goal
 
 pub overflow_cast-a : goal.overflow_cast-a

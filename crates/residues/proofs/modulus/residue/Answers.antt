@@ -3,9 +3,9 @@ use mathlib.Core.Path.{◌≡◌, refl}
 use mathlib.Core.Bool.{true}
 use native.Mathlib.Omega.{arith}
 use mir.Facts.{to_z-of_z, Fits-nat_abs}
-use Rattle.residues.specs.Laws.Words.{widen, wide}
-use Rattle.residues.specs.Laws.Centring.{quot_z_fits}
-use Rattle.residues.specs.Laws.ResidueSteps.{plus-q-fits, plus-q-held, residue_fits, residue_held}
+use Rattle.residues.proofs.Laws.Words.{widen, wide}
+use Rattle.residues.proofs.Laws.Centring.{quot_z_fits}
+use Rattle.residues.proofs.Laws.ResidueSteps.{plus-q-fits, plus-q-held, residue_fits, residue_held}
 use Rattle.residues.specs.StraightLine.{straight}
 use Rattle.residues.proofs.modulus.residue.Code.Mir as code
 use Rattle.residues.proofs.modulus.residue.Goals as goal

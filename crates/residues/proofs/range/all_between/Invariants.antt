@@ -7,8 +7,8 @@ use mir.Syntax.{w32}
 use mir.Val.{to_z, of_z}
 use mir.Facts.{to_z-of_z}
 use Rattle.residues.specs.Range.{between}
-use Rattle.residues.specs.Laws.RangeLaws.{Tested, tested-start, tested-step, tested-end}
-use Rattle.residues.specs.Laws.Words.{word}
+use Rattle.residues.proofs.Laws.RangeLaws.{Tested, tested-start, tested-step, tested-end}
+use Rattle.residues.proofs.Laws.Words.{word}
 use Rattle.residues.proofs.range.all_between.Given as goal
 
 abbrev pub invariant-loop-i : goal.invariant-loop-i

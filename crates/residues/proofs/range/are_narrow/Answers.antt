@@ -9,7 +9,7 @@ use mir.Val.{SFits, to_z, of_z}
 use mir.Facts.{to_z_pos, to_z-of_z}
 use Rattle.integers.specs.Laws.Bridge.{zarith, sub_pn, neg_pn, pos_pn}
 use Rattle.residues.specs.Range.{all_between}
-use Rattle.residues.specs.Laws.RangeLaws.{narrow-between}
+use Rattle.residues.proofs.Laws.RangeLaws.{narrow-between}
 use Rattle.residues.proofs.range.are_narrow.Goals as goal
 
 opposite-fits : (n : ℕ) → n ≤ 32768 → SFits w32 (pos 0 -ℤ pos n)

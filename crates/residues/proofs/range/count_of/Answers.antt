@@ -5,8 +5,8 @@ use native.Mathlib.Omega.{arith}
 use lib.Dec.{eqb}
 use lib.ListN.{length, get_or}
 use lib.IntN.{ℤ, pos, nat_abs}
-use Rattle.residues.specs.Laws.Words.{word}
-use Rattle.residues.specs.Laws.CountLaws.{one_if, Tally, tally_start, tally_step, tally_end}
+use Rattle.residues.proofs.Laws.Words.{word}
+use Rattle.residues.proofs.Laws.CountLaws.{one_if, Tally, tally_start, tally_step, tally_end}
 use Rattle.residues.proofs.range.count_of.Goals as goal
 
 pub loop-i-init : goal.loop-i-init

@@ -1,6 +1,6 @@
 -- `residues::range::is_counted_challenge` meets its contract. Assumes nothing.
 use borrow.Author.Rules.{rules}
-use Rattle.residues.specs.Laws.RangeLaws.{counted-tests}
+use Rattle.residues.proofs.Laws.RangeLaws.{counted-tests}
 use Rattle.residues.proofs.range.is_counted_challenge.Goals as goal
 
 pub returns : goal.returns

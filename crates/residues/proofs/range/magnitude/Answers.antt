@@ -2,8 +2,8 @@
 use mathlib.Core.Path.{◌≡◌, refl}
 use mathlib.Core.Bool.{true}
 use mir.Facts.{to_z-of_z, Fits-nat_abs}
-use Rattle.residues.specs.Laws.Words.{widen}
-use Rattle.residues.specs.Laws.AbsoluteValue.{turned-held, magnitude_fits}
+use Rattle.residues.proofs.Laws.Words.{widen}
+use Rattle.residues.proofs.Laws.AbsoluteValue.{turned-held, magnitude_fits}
 use Rattle.residues.specs.StraightLine.{straight}
 use Rattle.residues.proofs.range.magnitude.Code.Mir as code
 use Rattle.residues.proofs.range.magnitude.Goals as goal

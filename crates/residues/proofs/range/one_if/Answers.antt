@@ -4,7 +4,7 @@ use borrow.Author.Rules.{rules}
 use borrow.Author.Tests.{eq-eqb, ne_eqb}
 use lib.IntN.{nat_abs}
 use mir.Facts.{to_z-of_z}
-use Rattle.residues.specs.Laws.CountLaws.{one_if}
+use Rattle.residues.proofs.Laws.CountLaws.{one_if}
 use Rattle.residues.proofs.range.one_if.Goals as goal
 
 pub returns-then-m-a : goal.returns-then-m-a

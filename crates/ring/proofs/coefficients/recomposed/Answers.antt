@@ -1,5 +1,6 @@
 -- `ring::coefficients::recomposed` meets its contract. The loop's invariant: `sum` is recomposed from the digits from e up.
 use Rattle.std.proofs.Common.{◌≡◌, ℕ, ◌+◌, ◌-◌, ◌*◌, ◌<◌, ◌≤◌, length, sym, refl, ap, ◌∙◌, arith, w32, to_z}
+use mir.Val.{of_z}
 use mir.Facts.{to_z_pos}
 use Rattle.integers.specs.Laws.Bridge.{zarith}
 use Rattle.ring.specs.Element.{R, el, array}
@@ -60,7 +61,7 @@ pub loop-e-preserved : goal.loop-e-preserved
 loop-e-preserved c =
     let a = c.args in
     let digits : ℕ → (R a.d).Carrier = λ i. el a.d a.xs.now (a.p + i * a.stride) in
-    let base = ap (to_z w32) c.loop-e.invariant.2 ∙ to_z_pos w32 {n = a.base} (omega (arith, c.requires.base.most)) in
+    let base = to_z_pos w32 {n = a.base} (omega (arith, c.requires.base.most)) in
     let digit = c.loaded-digit in
     let high = c.scaled-high in (
       omega arith,

@@ -26,8 +26,8 @@ pub loop-i-preserved : goal.loop-i-preserved
 unfolding summand
 loop-i-preserved c =
     (
-      running_step c.loop-i.invariant.0 c.requires.0 c.loop-i-test.true c.wrapping_add_u64-sum.ensures,
-      running_step c.loop-i.invariant.1 c.requires.0 c.loop-i-test.true c.wrapping_add_u64-sum2.ensures,
+      running_step c.loop-i.invariant.0 c.requires.0 c.loop-i-test.true c.wrapping_add_u64-sum.ensures.value,
+      running_step c.loop-i.invariant.1 c.requires.0 c.loop-i-test.true c.wrapping_add_u64-sum2.ensures.value,
     )
 
 pub overflow_mul-first : goal.overflow_mul-first
@@ -36,7 +36,7 @@ overflow_mul-first c = omega (arith, running_high c.loop-i.invariant.0 c.require
 pub overflow_add-first : goal.overflow_add-first
 overflow_add-first c =
     let w = c.wrapping_sub_u64-low in
-    omega (arith, running_end-fits c.loop-i.invariant.0 c.requires.0 c.loop-i-test.false w.type_inv w.ensures)
+    omega (arith, running_end-fits c.loop-i.invariant.0 c.requires.0 c.loop-i-test.false w.type_inv w.ensures.value)
 
 pub overflow_mul-second : goal.overflow_mul-second
 overflow_mul-second c = omega (arith, running_high c.loop-i.invariant.1 c.requires.0)
@@ -44,7 +44,7 @@ overflow_mul-second c = omega (arith, running_high c.loop-i.invariant.1 c.requir
 pub overflow_add-second : goal.overflow_add-second
 overflow_add-second c =
     let w = c.wrapping_sub_u64-low2 in
-    omega (arith, running_end-fits c.loop-i.invariant.1 c.requires.0 c.loop-i-test.false w.type_inv w.ensures)
+    omega (arith, running_end-fits c.loop-i.invariant.1 c.requires.0 c.loop-i-test.false w.type_inv w.ensures.value)
 
 pub returns : goal.returns
 unfolding column
@@ -52,6 +52,6 @@ returns c =
     let w = c.wrapping_sub_u64-low in
     let w2 = c.wrapping_sub_u64-low2 in
     record {
-      first = running_end c.loop-i.invariant.0 c.requires.0 c.loop-i-test.false w.type_inv w.ensures;
-      second = running_end c.loop-i.invariant.1 c.requires.0 c.loop-i-test.false w2.type_inv w2.ensures;
+      first = running_end c.loop-i.invariant.0 c.requires.0 c.loop-i-test.false w.type_inv w.ensures.value;
+      second = running_end c.loop-i.invariant.1 c.requires.0 c.loop-i-test.false w2.type_inv w2.ensures.value;
     }

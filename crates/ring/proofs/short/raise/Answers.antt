@@ -1,6 +1,6 @@
 -- `ring::short::raise` meets its contract. The loop has filled i places from place 1 on and their negatives.
-use Rattle.std.proofs.Common.{◌+◌, ◌-◌, ◌*◌, get_or, pos, refl, ap, ◌∙◌, arith}
-use Rattle.residues.specs.Laws.Words.{word}
+use Rattle.std.proofs.Common.{ℕ, ◌+◌, ◌-◌, ◌*◌, get_or, pos, refl, ap, ◌∙◌, arith}
+use Rattle.residues.proofs.Laws.Words.{word}
 use Rattle.ring.specs.Short.{lifted, Raised}
 use Rattle.ring.specs.Laws.ShortOperand.{raised-start, raised-step, raised-limit, short-at}
 use Rattle.ring.specs.Laws.Loops.{Counted, counted_start, counted_step, counted-end}
@@ -27,7 +27,7 @@ pub loop-i-preserved : goal.loop-i-preserved
 loop-i-preserved c =
     counted_step c.loop-i-test.true (
     raised-step c.requires.degree c.loop-i-test.true c.loop-i.invariant.held
-    (c.raised-x.ensures ∙ ap lifted (word _ c.raised-arg-1.given ∙ ap (λ (goal.at.loop-i-preserved c).After-raised-arg-1. get_or c.args.v.now (goal.at.loop-i-preserved c).After-raised-arg-1 (pos 0)) (omega arith))) refl)
+    (c.raised-x.ensures ∙ ap lifted (word _ c.raised-arg-1.given ∙ ap (λ (k : ℕ). get_or c.args.v.now k (pos 0)) (omega arith))) refl)
 
 pub returns : goal.returns
 returns c = counted-end c.loop-i.invariant c.loop-i-test.false

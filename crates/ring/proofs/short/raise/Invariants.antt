@@ -1,5 +1,5 @@
 use Rattle.std.proofs.Common.{◌+◌, ◌-◌, ◌*◌, get_or, pos, refl, ap, ◌∙◌, arith}
-use Rattle.residues.specs.Laws.Words.{word}
+use Rattle.residues.proofs.Laws.Words.{word}
 use Rattle.ring.specs.Short.{lifted, Raised}
 use Rattle.ring.specs.Laws.ShortOperand.{raised-start, raised-step, raised-limit, short-at}
 use Rattle.ring.specs.Laws.Loops.{Counted, counted_start, counted_step, counted-end}

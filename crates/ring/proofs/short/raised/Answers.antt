@@ -1,6 +1,6 @@
 -- `ring::short::raised` meets its contract: 2^22 + x is not negative.
 use Rattle.std.proofs.Common.{◌≡◌, true, refl, to_z-of_z}
-use Rattle.residues.specs.Laws.Words.{widen, wide}
+use Rattle.residues.proofs.Laws.Words.{widen, wide}
 use Rattle.residues.specs.StraightLine.{straight}
 use Rattle.ring.specs.Short.{lifted}
 use Rattle.ring.specs.Laws.ShortOperand.{raised-fits, raised-natural}
