@@ -28,6 +28,7 @@ pub record Refuses (tests : List (ℕ × Bool)) (answer : Answer) (same : Type 0
 
 pub fails-first : (tests : List (ℕ × Bool)) (k : ℕ) → FirstFails k tests → first_failing tests ≡ k
 unfolding first_failing
+fails-first [] k h = elim h [ ]
 fails-first (test ∷ tests) k (inl (f, n)) = rw f n
 fails-first (test ∷ tests) k (inr (t, later)) = rw t (fails-first tests k later)
 
@@ -43,6 +44,7 @@ first-fails (test ∷ tests) k e = step (first-fails tests k) test.1 refl e
 
 -- no row has the number 0
 positive : (tests : List (ℕ × Bool)) (k : ℕ) → numbered tests ≡ true → FirstFails k tests → 0 < k
+positive [] k l h = elim h [ ]
 positive (test ∷ tests) k l (inl (f, n)) =
     subst (λ (j : ℕ). 0 < j) n (ltb→lt 0 test.0 (subst T (sym (both_left (ltb 0 test.0) (numbered tests) l)) tt))
 positive (test ∷ tests) k l (inr (t, later)) = positive tests k (both_right (ltb 0 test.0) (numbered tests) l) later

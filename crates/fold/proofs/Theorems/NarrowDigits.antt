@@ -190,3 +190,4 @@ module _ (𝓢 : Statement) (o : List ℤ) where
       to (inr (inl f)) = inr (inl (t-wide (low_narrow_false d r t₁ κ b₁ _ f)))
       to (inr (inr (inl f))) = inr (inr (inl (garbage-wide (g_place tz n r κ t₁) t₂ b₂ (low_narrow_false d (pairs r) t₂ 1 b₂ _ f))))
       to (inr (inr (inr (inl f)))) = inr (inr (inr (garbage-wide (h_place tz n r κ t₁ t₂) t₁ b₁ (low_narrow_false d (pairs r) t₁ 1 b₁ _ f))))
+      to (inr (inr (inr (inr f)))) = elim f [ ]
