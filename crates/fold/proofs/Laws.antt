@@ -8,10 +8,12 @@ pub mod HonestChecks
 pub mod HonestVerdict
 pub mod HonestWritten
 pub mod LaidOut
+pub mod LaidOutValues
 pub mod Layout
 pub mod MessageLaws
 pub mod MessageRanges
 pub mod NarrowLaws
+pub mod NarrowTests
 pub mod NextLaws
 pub mod NextOrder
 pub mod NextSolves

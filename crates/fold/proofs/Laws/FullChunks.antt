@@ -24,7 +24,7 @@ use Rattle.fold.specs.Chunks.{chunk, width}
 use Rattle.fold.specs.Constraint.{Constraint, φ'}
 use Rattle.fold.specs.NextInstance.{squares, constraint, m, n', r', next_witness, cut_off, next_whole, next_relation}
 use Rattle.fold.proofs.Laws.SelfProduct.{block-number}
-use Rattle.fold.proofs.Laws.LaidOut.{value_written}
+use Rattle.fold.proofs.Laws.LaidOutValues.{value_written}
 use Rattle.fold.proofs.Laws.NextOrder.{each}
 use Rattle.fold.proofs.Laws.PaddingLaws.{length-unpadded, norm_sq-padded, part-unpadded, norm_sq-unpadded}
 

@@ -24,7 +24,8 @@ use Rattle.fold.specs.Chunks.{width, padded}
 use Rattle.fold.proofs.Laws.PaddingLaws.{norm_sq-padded}
 use Rattle.fold.specs.Constraint.{Constraint}
 use Rattle.fold.specs.NextInstance.{constraint, next_whole, next_relation}
-use Rattle.fold.proofs.Laws.LaidOut.{value_written, constant-written}
+use Rattle.fold.proofs.Laws.LaidOut.{constant-written}
+use Rattle.fold.proofs.Laws.LaidOutValues.{value_written}
 use Rattle.fold.proofs.Laws.NextLaws.{value_of, value-five, value-six, value-seven, value-eight, value-three, value-four}
 use Rattle.fold.proofs.Laws.NextOrder.{Each, each, each_of}
 

@@ -14,7 +14,7 @@ use Rattle.fold.proofs.Laws.MessageRanges.{coefficients-u₁, coefficients-p, co
 use Rattle.fold.proofs.Laws.MessageRanges.{coefficients-z_digits, coefficients-t_digits, coefficients-g_digits, coefficients-h_digits}
 use Rattle.fold.specs.Opening.{t_place, g_place, h_place}
 use Rattle.fold.proofs.Laws.OpeningLaws.{length-opening, from-t, from-g, from-h}
-use Rattle.fold.proofs.Laws.NarrowLaws.{low_narrow-append, narrow-z_digits, narrow-t_digits, narrow-g_digits, narrow-h_digits}
+use Rattle.fold.proofs.Laws.NarrowTests.{low_narrow-append, narrow-z_digits, narrow-t_digits, narrow-g_digits, narrow-h_digits}
 use Rattle.fold.specs.Statement.{Statement, Draws, Transcript}
 use Rattle.fold.specs.Honest.{honest_transcript, honest_opening}
 use Rattle.fold.proofs.Laws.HonestChecks.{length-honest_z, length-honest_t, length-honest_g, length-honest_h}

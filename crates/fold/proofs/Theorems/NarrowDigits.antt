@@ -15,7 +15,8 @@ use Rattle.fold.specs.Statement.{Statement}
 use Rattle.fold.specs.Opening.{t_place, g_place, h_place}
 use Rattle.fold.specs.Refusals.{low_narrow, narrow_digits, narrow}
 use Rattle.fold.specs.Laws.RefusalLaws.{◌&◌, never_true, all_of_all, all_all_of, SomeFails, all_of_false}
-use Rattle.fold.proofs.Laws.NarrowLaws.{LowNarrow, low_narrow-at, low_narrow_of, WideDigit, low_narrow_false}
+use Rattle.fold.proofs.Laws.NarrowLaws.{LowNarrow, low_narrow-at}
+use Rattle.fold.proofs.Laws.NarrowTests.{low_narrow_of, WideDigit, low_narrow_false}
 
 module _ (𝓢 : Statement) (o : List ℤ) where
   open 𝓢 use {relation, tz, κ, b, b₁, b₂, t₁, t₂}

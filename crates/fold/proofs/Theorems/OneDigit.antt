@@ -3,7 +3,7 @@
 --     base-free, base-free-next    no answer of the verifier and of the next instance, and nothing that the latter writes, depends on the base that stands
 --                                  in the statement, as long as row 4 takes both
 --     Unmixed, next-unmixed        no constraint of the next instance has mixed products
-use Rattle.std.specs.Prelude.{◌≡◌, List, ℕ, ◌-◌, ◌<◌, ℤ, pos}
+use Rattle.std.specs.Prelude.{◌≡◌, List, ℕ, ◌<◌, ℤ, pos}
 use Rattle.std.proofs.Math.Path.{refl, ap}
 use Rattle.std.proofs.Common.{sym, ◌∙◌}
 use native.Mathlib.Omega.{arith}
@@ -17,7 +17,7 @@ use Rattle.fold.specs.Verification.{verification}
 use Rattle.fold.specs.NextInstance.{squares, constraint, next_whole, relation_of}
 use Rattle.fold.specs.NextCall.{next_answer, next_out, first_checks}
 use Rattle.fold.proofs.Laws.LaidOut.{a-written}
-use Rattle.fold.proofs.Laws.NarrowLaws.{low_narrow_of}
+use Rattle.fold.proofs.Laws.NarrowTests.{low_narrow_of}
 use Rattle.fold.proofs.Laws.NextOrder.{each}
 use Rattle.fold.proofs.Laws.OneDigit.{with_base, one-digit-verdict, one-digit-next, one_digit_diagonal}
 
