@@ -1,5 +1,7 @@
 // The library for C: each call of the library under a name that begins with `lizkarg_`. A call's contract is the library's, with its
 // answer as two numbers. C's rules hold of what is lent: bindings/c/lizkarg.h.
+#![tactic(auto)]
+
 ghost use Rattle.std.specs.Prelude.{◌≡◌};
 ghost use Rattle.fold.specs.declared.ZDigits.TheVariants.{One, Two};
 ghost use Rattle.fold.specs.Arguments.{statement_of, draws_of, transcript_of};

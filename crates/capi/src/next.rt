@@ -14,7 +14,7 @@ use next_instance::part::next_place;
 
 // The first number of a part in the opening, and how many there are; 0 and 0 where it is refused.
 #[repr(C)]
-#[derive(Drop)]
+#[derive(Clone, Copy)]
 pub struct CPart {
     pub start: usize,
     pub length: usize,

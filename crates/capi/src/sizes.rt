@@ -10,7 +10,7 @@ use fold::{
 
 // Degree, rank and number of parts.
 #[repr(C)]
-#[derive(Drop)]
+#[derive(Clone, Copy)]
 pub struct CShape {
     pub d: usize,
     pub n: usize,
@@ -19,7 +19,7 @@ pub struct CShape {
 
 // The sizes of message 1.
 #[repr(C)]
-#[derive(Drop)]
+#[derive(Clone, Copy)]
 pub struct CCommitSizes {
     pub shape: CShape,
     pub kappa: usize,
@@ -32,7 +32,7 @@ pub struct CCommitSizes {
 
 // The sizes of message 4.
 #[repr(C)]
-#[derive(Drop)]
+#[derive(Clone, Copy)]
 pub struct CGarbageSizes {
     pub shape: CShape,
     pub k: usize,
@@ -46,7 +46,7 @@ pub struct CGarbageSizes {
 // The sizes of the verifier; `bound` is β² and `target` is β'². Where `one_digit` is 0, z has two digits to base b; else it has one, and b is not
 // looked at.
 #[repr(C)]
-#[derive(Drop)]
+#[derive(Clone, Copy)]
 pub struct CSizes {
     pub shape: CShape,
     pub k: usize,
@@ -67,7 +67,7 @@ pub struct CSizes {
 
 // The sizes of an opening and of its cut into ν and μ chunks.
 #[repr(C)]
-#[derive(Drop)]
+#[derive(Clone, Copy)]
 pub struct CPartSizes {
     pub shape: CShape,
     pub kappa: usize,
@@ -80,7 +80,7 @@ pub struct CPartSizes {
 
 // The sizes of both kinds of constraints.
 #[repr(C)]
-#[derive(Drop)]
+#[derive(Clone, Copy)]
 pub struct CConstraintSizes {
     pub shape: CShape,
     pub k: usize,
@@ -90,7 +90,7 @@ pub struct CConstraintSizes {
 
 // The sizes of the bare level's verifier; `bound` is β² and `z_bound` the bound on z.
 #[repr(C)]
-#[derive(Drop)]
+#[derive(Clone, Copy)]
 pub struct CBareSizes {
     pub shape: CShape,
     pub k: usize,

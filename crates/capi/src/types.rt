@@ -10,7 +10,7 @@ use sheet::reader::SheetAnswer;
 
 // An answer: kind 0 accepted, 1 failed, 2 refused, 3 written; the margin, the number of the check or that of the refusal, else 0.
 #[repr(C)]
-#[derive(Drop)]
+#[derive(Clone, Copy)]
 pub struct CAnswer {
     pub kind: u8,
     pub number: u64,
@@ -18,7 +18,7 @@ pub struct CAnswer {
 
 // A sheet's header, in its order; `bound` is β² and `target` is β'².
 #[repr(C)]
-#[derive(Drop)]
+#[derive(Clone, Copy)]
 pub struct CHeader {
     pub d: usize,
     pub n: usize,
@@ -42,7 +42,7 @@ pub struct CHeader {
 
 // An answer and a sheet's header, whose numbers are all 0 where the sheet is refused.
 #[repr(C)]
-#[derive(Drop)]
+#[derive(Clone, Copy)]
 pub struct CSheet {
     pub kind: u8,
     pub number: u64,
@@ -51,14 +51,14 @@ pub struct CSheet {
 
 // A ring element: sixty-four numbers, lowest power first, those past d zero.
 #[repr(C)]
-#[derive(Drop)]
+#[derive(Clone, Copy)]
 pub struct CElement {
     pub coefficients: [i32; 64],
 }
 
 // An answer and a ring element, which is zero where the call is refused.
 #[repr(C)]
-#[derive(Drop)]
+#[derive(Clone, Copy)]
 pub struct CProduct {
     pub kind: u8,
     pub number: u64,

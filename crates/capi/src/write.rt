@@ -10,7 +10,7 @@ use writer::WriteAnswer;
 
 // An answer and the text's length in bytes, which is 0 where the call is refused.
 #[repr(C)]
-#[derive(Drop)]
+#[derive(Clone, Copy)]
 pub struct CText {
     pub kind: u8,
     pub number: u64,

@@ -1,7 +1,13 @@
 -- What the program makes of a read's answer: the count of the bytes that it put into the text, negative where it failed.
+--     Moved room got              what a read with room for so many bytes may answer
 --     place_after got from size    the place in a text of `size` bytes after a read from place `from` on
 --     interrupted got error       whether the read is to be made again
-use Rattle.std.specs.Prelude.{Bool, false, ℕ, ◌+◌, min, eqb, ℤ, pos, negsuc}
+use Rattle.std.specs.Prelude.{◌≡◌, Bool, false, ℕ, ◌+◌, ◌≤◌, min, eqb, ℤ, pos, negsuc}
+
+-- -1, or how many bytes it moved, at most as many as there is room for
+abbrev pub Moved : ℕ → ℤ → Type 0
+Moved room (pos count) = count ≤ room
+Moved room (negsuc k) = k ≡ 0
 
 -- the place after as many bytes as the read answered, cut at the end; the end where the read failed
 unfoldable pub place_after : ℤ → ℕ → ℕ → ℕ
