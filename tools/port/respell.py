@@ -182,4 +182,7 @@ def main():
 
 
 if __name__ == '__main__':
+    # twice: what the first run respelled tells which dashes of longer names stay
     main()
+    if '--plan' not in sys.argv:
+        main()

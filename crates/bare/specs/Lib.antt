@@ -13,5 +13,3 @@ pub mod Calls
 -- What a call that is not refused knows
 pub mod Known
 -- Laws and theorems
-pub mod Laws
-pub mod Theorems

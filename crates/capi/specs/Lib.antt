@@ -2,4 +2,3 @@
 pub mod Codes
 -- Closed cases
 pub mod Cases
-pub mod Laws

@@ -4,7 +4,7 @@ ghost use Rattle.fields.specs.Field.{column_byte, minus_due, signed_text};
 ghost use Rattle.fields.specs.Fields.{digit_step, value_from, same_bytes, read_field, field_at, is_number, number_in};
 
 // What 16 bytes of a sheet are.
-#[derive(Drop)]
+#[derive(Clone, Copy)]
 pub enum Field {
     Number(i64),
     Broken,

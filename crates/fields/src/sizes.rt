@@ -13,7 +13,7 @@ pub const HEADER_BYTES: usize = 289;
 
 // Where lines end: `head` numbers on lines of d, then `terms` numbers of constant-term constraints of `period` numbers each (lines of
 // d, and one of a single number), `middle` numbers on lines of d, `ones` on lines of one, and the rest on lines of d.
-#[derive(Drop)]
+#[derive(Clone, Copy)]
 pub struct Sections {
     pub d: usize,
     pub head: usize,

@@ -14,7 +14,7 @@ use crate::sizes::{Sections, ends_line};
 use residues::range::is_challenge;
 
 // Where fields end, or that they are broken.
-#[derive(Drop)]
+#[derive(Clone, Copy)]
 pub enum End {
     At(usize),
     Broken,

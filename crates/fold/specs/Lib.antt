@@ -26,6 +26,5 @@ pub mod Arguments
 -- What a call that is not refused knows
 pub mod Known
 -- Theorems
-pub mod Theorems
 -- Laws
 pub mod Laws

@@ -1,4 +1,5 @@
 // The answers of every call of the fold, SPECIFICATION 6 and 7, and the sizes that they take.
+#![tactic(auto)]
 pub mod chunks;
 pub mod counts;
 pub mod limits;
@@ -9,14 +10,14 @@ ghost use Rattle.fold.specs.Answers.{kind_of, number_of};
 ghost use Rattle.fold.specs.Arguments.{count_of, base_of, based_sizes, in_two_digits};
 
 // A judgement: accepted with the margin of check 9, or failed with the first check that fails.
-#[derive(Drop)]
+#[derive(Clone, Copy)]
 pub enum Verdict {
     Accepted(u64),
     Failed(u8),
 }
 
 // What a call answers: a refusal with its number, a judgement, or that everything asked for was written.
-#[derive(Drop)]
+#[derive(Clone, Copy)]
 pub enum Answer {
     Refused(u8),
     Judged(Verdict),
@@ -24,7 +25,7 @@ pub enum Answer {
 }
 
 // Degree, rank and number of parts.
-#[derive(Drop)]
+#[derive(Clone, Copy)]
 pub struct Shape {
     pub d: usize,
     pub n: usize,
@@ -32,7 +33,7 @@ pub struct Shape {
 }
 
 // The sizes of the constraints: the shape, and how many whole constraints, constant-term constraints and projection rows there are.
-#[derive(Drop)]
+#[derive(Clone, Copy)]
 pub struct ConstraintSizes {
     pub shape: Shape,
     pub k: usize,
@@ -41,7 +42,7 @@ pub struct ConstraintSizes {
 }
 
 // The sizes of message 1.
-#[derive(Drop)]
+#[derive(Clone, Copy)]
 pub struct CommitSizes {
     pub shape: Shape,
     pub kappa: usize,
@@ -53,7 +54,7 @@ pub struct CommitSizes {
 }
 
 // The sizes of message 4.
-#[derive(Drop)]
+#[derive(Clone, Copy)]
 pub struct GarbageSizes {
     pub shape: Shape,
     pub k: usize,
@@ -65,14 +66,14 @@ pub struct GarbageSizes {
 }
 
 // The digits of z: one, or two to a base.
-#[derive(Drop)]
+#[derive(Clone, Copy)]
 pub enum ZDigits {
     One,
     Two(usize),
 }
 
 // The sizes of the verifier; `bound` is β² and `target` is β'².
-#[derive(Drop)]
+#[derive(Clone, Copy)]
 pub struct StatementSizes {
     pub shape: Shape,
     pub k: usize,
@@ -91,7 +92,7 @@ pub struct StatementSizes {
 }
 
 // The same sizes with the base b of z's digits, as a sheet's header has them and as the work takes them. How many digits z has is said beside them, by tz.
-#[derive(Drop)]
+#[derive(Clone, Copy)]
 pub struct Sizes {
     pub shape: Shape,
     pub k: usize,
@@ -110,7 +111,7 @@ pub struct Sizes {
 }
 
 // The sizes of an opening and of its cut into ν and μ chunks; z has one digit or two.
-#[derive(Drop)]
+#[derive(Clone, Copy)]
 pub struct PartSizes {
     pub shape: Shape,
     pub kappa: usize,

@@ -1,5 +1,6 @@
 // The library's calls: the ring product, the five messages, the verifier, the next instance, the bare level, and the sheet, read, written and judged.
 // None has a `requires`: what it cannot take it refuses by number.
+#![tactic(auto)]
 ghost use Rattle.std.specs.Prelude.{◌≡◌};
 ghost use Rattle.bare.specs.Calls.{BareCommitted, BarePhiFormed, BareTurned};
 ghost use Rattle.lizkarg.specs.Calls.{product_of, Committed, Projected, Aggregated, GarbageCommitted, Amortized};
@@ -16,7 +17,7 @@ pub use verifier::verify;
 pub use writer::{sheet_bytes, write_sheet};
 
 // An answer and a ring element, which is zero where the call is refused.
-#[derive(Drop)]
+#[derive(Clone, Copy)]
 pub struct Product {
     pub answer: Answer,
     pub element: Element,

@@ -13,7 +13,7 @@ use fold::counts::{function_size, garbage_size, pair_count, t_size};
 // The number of z digits, ν, μ, m, n' and r', with the number of pairs i ≤ j of r' parts and the number of elements of a and φ together.
 // Before they are spread over the parts, the coefficients stand at the end of φ: those of z, t, g and h from these elements of the
 // constraint on.
-#[derive(Drop)]
+#[derive(Clone, Copy)]
 pub struct Cut {
     pub tz: usize,
     pub nu: usize,

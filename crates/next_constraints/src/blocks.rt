@@ -106,7 +106,7 @@ pub fn write_z(
 }
 
 // How the digits of an element stand: `count` of them to a base, each in row `row` of `rows`, the other rows zero.
-#[derive(Drop)]
+#[derive(Clone, Copy)]
 pub struct Digits {
     pub base: usize,
     pub count: usize,

@@ -9,7 +9,7 @@ use fold::counts::count_if;
 use refusals::part::part_refusal;
 
 // The first number of a part in the opening, and how many there are; 0 and 0 where it is refused.
-#[derive(Drop)]
+#[derive(Clone, Copy)]
 pub struct Place {
     pub start: usize,
     pub length: usize,

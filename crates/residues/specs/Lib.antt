@@ -7,6 +7,4 @@ pub mod StraightLine
 -- What the code forms
 pub mod DigitBlocks
 -- Theorems
-pub mod Theorems
 -- Laws
-pub mod Laws

@@ -5,7 +5,7 @@
 --     AfterRemainder b    an unsigned remainder, and then Signed
 use Rattle.std.specs.Prelude.{Bool, true, false, ◌&&◌}
 use mir.Syntax.{Width, Sign, unsigned, signed, Place, Opd, op2, op1, add, sub, mul, div, rem, cast}
-use mir.Syntax.{Body, skip, seq, assign, block, loop, cond, switch, exit, return, call}
+use mir.Syntax.{Body, skip, seq, assign, block, loop, cond, switch, exit, return, call, unreachable, call_v, lend_static}
 
 unfoldable pub straight : Body → Bool
 straight skip = true
@@ -18,6 +18,9 @@ straight (cond x a b) = false
 straight (switch x arms) = false
 straight (exit n) = false
 straight (call f xs p) = false
+straight unreachable = false
+straight (call_v f s xs p) = false
+straight (lend_static p q r) = false
 
 pub data Signed : Body → Type 0 where
   returned : Signed return

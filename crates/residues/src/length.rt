@@ -6,7 +6,7 @@ ghost use Rattle.residues.specs.Length.{remaining, lessened, holds};
 use crate::range::magnitude;
 
 // Whether a squared length is within a bound, and if so the bound minus the squared length.
-#[derive(Drop)]
+#[derive(Clone, Copy)]
 pub enum Margin {
     Within(u64),
     Above,

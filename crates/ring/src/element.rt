@@ -11,7 +11,7 @@ ghost use Rattle.ring.specs.Joined.{joined};
 use crate::{coefficients, constants, product};
 use residues::modulus;
 
-#[derive(Drop)]
+#[derive(Clone, Copy)]
 pub struct Element {
     pub coefficients: [i32; 64],
 }

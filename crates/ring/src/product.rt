@@ -43,7 +43,7 @@ fn extend(d: usize, v: &[i32], p: usize, e: &mut [u64; 129])
 }
 
 // Two columns.
-#[derive(Drop)]
+#[derive(Clone, Copy)]
 pub struct ColumnPair {
     pub first: u64,
     pub second: u64,

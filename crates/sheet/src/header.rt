@@ -13,7 +13,7 @@ use limits::next::next_bounds;
 use limits::rows::first;
 
 // The header's numbers: the fold's sizes, and into how many chunks z and the rest are cut, ν and μ.
-#[derive(Drop)]
+#[derive(Clone, Copy)]
 pub struct SheetSizes {
     pub sizes: Sizes,
     pub nu: usize,

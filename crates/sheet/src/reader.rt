@@ -16,7 +16,7 @@ use limits::rows::first;
 use limits::sizes::projection_length;
 
 // A sheet's sizes, or the number of the refusal.
-#[derive(Drop)]
+#[derive(Clone, Copy)]
 pub enum SheetAnswer {
     Sheet(SheetSizes),
     Refused(u8),

@@ -24,9 +24,9 @@ use Rattle.fold.specs.Arguments.{draws_of}
 use Rattle.fold.specs.Statement.{Meets, Statement, Draws, Transcript}
 use Rattle.fold.specs.Verification.{verification}
 use Rattle.fold.specs.NextInstance.{next_witness, relation_of}
-use Rattle.fold.specs.Laws.HonestWritten.{left}
+use Rattle.fold.proofs.Laws.HonestWritten.{left}
 use Rattle.fold.specs.Laws.TestLaws.{First}
-use Rattle.fold.specs.Theorems.HonestRuns.{judged_iff}
+use Rattle.fold.proofs.Theorems.HonestRuns.{judged_iff}
 use Rattle.next_instance.specs.Calls.{NextCalled}
 use Rattle.bare.specs.declared.BareSizes.{BareSizes}
 use Rattle.bare.specs.Statement.{BareStatement, BareTranscript}
@@ -36,12 +36,12 @@ use Rattle.bare.specs.Verdict.{bare_checks, bare_verdict}
 use Rattle.bare.specs.Refusals.{bare_bound_tests, bare_prover_tests, bare_verify_tests}
 use Rattle.bare.specs.Arguments.{bare_statement_of, bare_transcript_of, constraint_sizes_of, bare_verification}
 use Rattle.bare.specs.Calls.{BareCommitted, BarePhiFormed, BareTurned}
-use Rattle.bare.specs.Laws.BareAccepted.{bare_failed_iff}
-use Rattle.bare.specs.Theorems.BareCalls.{bare_tested, honest_bare_written, judged_bare_written}
-use Rattle.bare.specs.Theorems.BareHonestRuns.{BareHonestVerdict}
-use Rattle.bare.specs.Theorems.BareTwoOpenings.{BareShortPreimage, bare_two_openings}
-use Rattle.bare.specs.Theorems.BareMargin.{margin-exactly, number_is, number_small}
-use Rattle.bare.specs.Theorems.ChainEnds.{chain_meets}
+use Rattle.bare.proofs.Laws.BareAccepted.{bare_failed_iff}
+use Rattle.bare.proofs.Theorems.BareCalls.{bare_tested, honest_bare_written, judged_bare_written}
+use Rattle.bare.proofs.Theorems.BareHonestRuns.{BareHonestVerdict}
+use Rattle.bare.proofs.Theorems.BareTwoOpenings.{BareShortPreimage, bare_two_openings}
+use Rattle.bare.proofs.Theorems.BareMargin.{margin-exactly, number_is, number_small}
+use Rattle.bare.proofs.Theorems.ChainEnds.{chain_meets}
 use Rattle.lizkarg.specs.Calls.{Projected, Aggregated, Amortized}
 use Rattle.theorems.specs.OneDigit.{amortize-whole}
 

@@ -15,9 +15,9 @@ use Rattle.fold.specs.Messages.{opening}
 use Rattle.fold.specs.Verdict.{verdict}
 use Rattle.fold.specs.Verification.{verification}
 use Rattle.fold.specs.Refusals.{bound_tests}
-use Rattle.fold.specs.Theorems.HonestRuns.{HonestVerdict}
-use Rattle.fold.specs.Laws.DigitCounts.{digits-few}
-use Rattle.fold.specs.Laws.HonestWritten.{honest_written, judged-written, tested, left}
+use Rattle.fold.proofs.Theorems.HonestRuns.{HonestVerdict}
+use Rattle.fold.proofs.Laws.DigitCounts.{digits-few}
+use Rattle.fold.proofs.Laws.HonestWritten.{honest_written, judged-written, tested, left}
 use Rattle.lizkarg.specs.Calls.{Committed, Projected, Aggregated, GarbageCommitted, Amortized}
 
 module _ (sizes : StatementSizes) (A B C D whole constant_terms projections ψ ω α δ c s : List ℤ) where

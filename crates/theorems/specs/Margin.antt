@@ -16,7 +16,7 @@ use Rattle.fold.specs.declared.Verdict.TheVariants.{Accepted}
 use Rattle.fold.specs.Answers.{kind_of, number_of}
 use Rattle.fold.specs.Statement.{Statement, Draws, Transcript}
 use Rattle.fold.specs.Verification.{verification}
-use Rattle.fold.specs.Theorems.Margin.{margin-is, margin-exactly, number_is}
+use Rattle.fold.proofs.Theorems.Margin.{margin-is, margin-exactly, number_is}
 use Rattle.sheet.specs.Layout.{line_text}
 use Rattle.sheet.specs.Reading.{header_numbers, sizes_of, body_numbers}
 use Rattle.judge.specs.Judging.{sheet_opening, judged_text, verdict_line}

@@ -15,17 +15,17 @@ use Rattle.fold.specs.Statement.{Relation, Statement, Draws, Transcript}
 use Rattle.fold.specs.NextInstance.{relation_of}
 use Rattle.fold.specs.Laws.RefusalLaws.{false_true, all_of_all}
 use Rattle.fold.specs.Laws.TestLaws.{first_iff}
-use Rattle.fold.specs.Theorems.FirstRefusal.{fails-first, first-fails}
-use Rattle.fold.specs.Theorems.OneDigit.{Unmixed}
+use Rattle.fold.proofs.Theorems.FirstRefusal.{fails-first, first-fails}
+use Rattle.fold.proofs.Theorems.OneDigit.{Unmixed}
 use Rattle.next_instance.specs.Calls.{NextCalled}
 use Rattle.bare.specs.Statement.{BareStatement, BareTranscript}
 use Rattle.bare.specs.Refusals.{all_unmixed, bare_phi_tests, bare_verify_tests}
 use Rattle.bare.specs.Arguments.{bare_verification}
 use Rattle.bare.specs.Calls.{BarePhiFormed}
-use Rattle.bare.specs.Laws.UnmixedLaws.{Mixed, MixedNumbers, row_14, mixed-refused, mixed-numbers-refused}
-use Rattle.bare.specs.Laws.BareAccepted.{bare_accepted-opening}
-use Rattle.bare.specs.Theorems.ChainEnds.{chain_unmixed}
-use Rattle.bare.specs.Theorems.BareRising.{bare_phi-rising, bare_verify_rising}
+use Rattle.bare.proofs.Laws.UnmixedLaws.{Mixed, MixedNumbers, row_14, mixed-refused, mixed-numbers-refused}
+use Rattle.bare.proofs.Laws.BareAccepted.{bare_accepted-opening}
+use Rattle.bare.proofs.Theorems.ChainEnds.{chain_unmixed}
+use Rattle.bare.proofs.Theorems.BareRising.{bare_phi-rising, bare_verify_rising}
 use Rattle.theorems.specs.Refusals.{bare_phi-refuses, bare_verify_refuses}
 
 module _ (𝓢 : BareStatement) (𝓓 : Draws) (𝓣 : BareTranscript) (o : List ℤ) (answer : Answer) (is : answer ≡ bare_verification 𝓢 𝓓 𝓣 o) where

@@ -17,10 +17,10 @@ use Rattle.fold.specs.Statement.{Statement, Draws, Transcript}
 use Rattle.fold.specs.Refusals.{verify_tests}
 use Rattle.fold.specs.Verification.{verification}
 use Rattle.fold.specs.Laws.TestLaws.{first_iff}
-use Rattle.fold.specs.Laws.VerificationLaws.{accepted-opening}
-use Rattle.fold.specs.Theorems.FirstRefusal.{fails-first, first-fails}
-use Rattle.fold.specs.Theorems.LowestFirst.{verify-rising}
-use Rattle.fold.specs.Theorems.NarrowDigits.{NarrowOpening, narrow-exactly, WideOpening, wide-exactly}
+use Rattle.fold.proofs.Laws.VerificationLaws.{accepted-opening}
+use Rattle.fold.proofs.Theorems.FirstRefusal.{fails-first, first-fails}
+use Rattle.fold.proofs.Theorems.LowestFirst.{verify-rising}
+use Rattle.fold.proofs.Theorems.NarrowDigits.{NarrowOpening, narrow-exactly, WideOpening, wide-exactly}
 use Rattle.sheet.specs.Layout.{sheet_text, SheetNumbers}
 use Rattle.sheet.specs.Reading.{header_numbers, sizes_of}
 use Rattle.judge.specs.Judging.{sheet_statement, sheet_opening, sheet_narrow, judged_text}

@@ -22,9 +22,9 @@ use Rattle.fold.specs.Verification.{verification}
 use Rattle.fold.specs.Arguments.{statement_of, part_sizes_of, part_refusal_of, next_part_of}
 use Rattle.fold.specs.Chunks.{width, ZeroPadding}
 use Rattle.fold.specs.NextInstance.{m, n', r', next_witness, cut_off, relation_of}
-use Rattle.fold.specs.Laws.DigitCounts.{flag_says}
-use Rattle.fold.specs.Laws.NextCallLaws.{next-instance-written, past-written, wide-written, solution_written, full_written}
-use Rattle.fold.specs.Theorems.NarrowDigits.{NarrowOpening, narrow-exactly, WideOpening, wide-exactly}
+use Rattle.fold.proofs.Laws.DigitCounts.{flag_says}
+use Rattle.fold.proofs.Laws.NextCallLaws.{next-instance-written, past-written, wide-written, solution_written, full_written}
+use Rattle.fold.proofs.Theorems.NarrowDigits.{NarrowOpening, narrow-exactly, WideOpening, wide-exactly}
 use Rattle.next_instance.specs.Calls.{NextCalled}
 use Rattle.next_instance.specs.Laws.PartLaws.{part_handed_back}
 

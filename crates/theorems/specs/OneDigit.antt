@@ -18,16 +18,16 @@ use Rattle.fold.specs.Arguments.{base_of, statement_of}
 use Rattle.fold.specs.Messages.{elements, z}
 use Rattle.fold.specs.Verification.{verification}
 use Rattle.fold.specs.NextInstance.{relation_of}
-use Rattle.fold.specs.Laws.DigitCounts.{one-base-taken}
-use Rattle.fold.specs.Laws.OneDigit.{with_base, one-digit-is}
+use Rattle.fold.proofs.Laws.DigitCounts.{one-base-taken}
+use Rattle.fold.proofs.Laws.OneDigit.{with_base, one-digit-is}
 use Rattle.fold.specs.Laws.RefusalLaws.{false_true}
 use Rattle.fold.specs.Laws.TestLaws.{first_iff}
-use Rattle.fold.specs.Laws.HonestWritten.{left}
-use Rattle.fold.specs.Laws.NextCallLaws.{written_out}
-use Rattle.fold.specs.Theorems.OneDigit.{Unmixed, base-free, base-free-next}
-use Rattle.fold.specs.Theorems.OneDigit as fold
-use Rattle.fold.specs.Theorems.FirstRefusal.{fails-first}
-use Rattle.fold.specs.Theorems.LowestFirst.{amortize-rising}
+use Rattle.fold.proofs.Laws.HonestWritten.{left}
+use Rattle.fold.proofs.Laws.NextCallLaws.{written_out}
+use Rattle.fold.proofs.Theorems.OneDigit.{Unmixed, base-free, base-free-next}
+use Rattle.fold.proofs.Theorems.OneDigit as fold
+use Rattle.fold.proofs.Theorems.FirstRefusal.{fails-first}
+use Rattle.fold.proofs.Theorems.LowestFirst.{amortize-rising}
 use Rattle.lizkarg.specs.Calls.{Amortized}
 use Rattle.theorems.specs.Refusals.{amortize-refuses}
 use Rattle.next_instance.specs.Calls.{NextCalled}

@@ -29,7 +29,7 @@ use Rattle.bare.specs.Statement.{BareStatement, BareTranscript}
 use Rattle.bare.specs.Refusals.{bare_commit_tests, bare_phi_tests, bare_turn_tests, bare_verify_tests}
 use Rattle.bare.specs.Arguments.{bare_verification}
 use Rattle.bare.specs.Calls.{BareCommitted, BarePhiFormed, BareTurned}
-use Rattle.fold.specs.Theorems.FirstRefusal.{FirstFails, Refuses, message-refuses, judgement_refuses, next_call_refuses, number-refuses}
+use Rattle.fold.proofs.Theorems.FirstRefusal.{FirstFails, Refuses, message-refuses, judgement_refuses, next_call_refuses, number-refuses}
 use Rattle.fold.specs.Sizes.{count_if}
 
 -- the ring product, which is lent nothing to write to

@@ -13,14 +13,14 @@ use Rattle.fold.specs.declared.Answer.{Answer}
 use Rattle.fold.specs.declared.Answer.TheVariants.{Refused, Judged}
 use Rattle.fold.specs.declared.Verdict.{Verdict}
 use Rattle.fold.specs.Answers.{first_failing, answered}
-use Rattle.fold.specs.Theorems.FirstRefusal.{Refuses, judgement_refuses}
+use Rattle.fold.proofs.Theorems.FirstRefusal.{Refuses, judgement_refuses}
 use Rattle.sheet.specs.Layout.{fields, body_lines, sheet_text, SheetNumbers}
 use Rattle.sheet.specs.Reading.{header_tests, sizes_of, number_tests, body_tests, reading_tests}
 use Rattle.sheet.specs.declared.header.SheetSizes.{SheetSizes}
 use Rattle.writer.specs.declared.WriteAnswer.TheVariants.{Length}
 use Rattle.writer.specs.Writing.{header_fields, written_text, SheetWritten}
-use Rattle.writer.specs.Laws.LengthLaws.{sizes-given}
-use Rattle.writer.specs.Theorems.WriterTheorems.{written-exactly, text-put}
+use Rattle.writer.proofs.Laws.LengthLaws.{sizes-given}
+use Rattle.writer.proofs.Theorems.WriterTheorems.{written-exactly, text-put}
 use Rattle.judge.specs.Judging.{sheet_narrow, wide_test, judged_numbers, judged_text}
 use Rattle.judge.specs.Theorems.JudgeTheorem.{sheet_verdict, text_tests, Sheet, numbers-answer}
 use Rattle.judge.specs.Theorems.JudgeTheorem as judge

@@ -13,7 +13,7 @@ use Rattle.fold.specs.Answers.{kind_of}
 use Rattle.fold.specs.Statement.{Statement, Draws, Transcript}
 use Rattle.fold.specs.Verification.{verification}
 use Rattle.fold.specs.Differences.{difference, tg_digits}
-use Rattle.fold.specs.Theorems.TwoOpenings.{ShortKernel, ShortPreimage, two_openings, one_digit_openings}
+use Rattle.fold.proofs.Theorems.TwoOpenings.{ShortKernel, ShortPreimage, two_openings, one_digit_openings}
 use Rattle.ring.specs.Element.{el}
 
 pub two-accepted : (𝓢 : Statement) → 𝓢.tz ≡ 2 → (𝓓 𝓓' : Draws) (𝓣 𝓣' : Transcript) (o o' : List ℤ) (answer answer' : Answer)

@@ -1,4 +1,5 @@
 // The writer of a sheet: SPECIFICATION 10. Every test comes before the first byte is written.
+#![tactic(auto)]
 ghost use Rattle.std.specs.Prelude.{◌≡◌};
 ghost use Rattle.writer.specs.Writing.{sheet_bytes, SheetWritten};
 
@@ -12,7 +13,7 @@ mod lines;
 mod refusal;
 
 // The text's length in bytes, or the number of the refusal.
-#[derive(Drop)]
+#[derive(Clone, Copy)]
 pub enum WriteAnswer {
     Length(usize),
     Refused(u8),

@@ -21,7 +21,7 @@ use Rattle.fold.specs.Known.Facts.{Shaped}
 use Rattle.fold.specs.Sizes.{pairs, garbage_size}
 use Rattle.fold.specs.Statement.{part}
 use Rattle.fold.specs.Messages.{elements, times, half, h, h_digits, outer₂, u₂}
-use Rattle.fold.specs.Laws.WriterLaws.{length-elements, el-written, el-pairs, garbage_places, garbage_cong}
+use Rattle.fold.proofs.Laws.WriterLaws.{length-elements, el-written, el-pairs, garbage_places, garbage_cong}
 use Rattle.fold.specs.PairElements.{pair_elements}
 use Rattle.constraints.specs.Laws.AggregatedLaws.{values-sum}
 use Rattle.aggregation.specs.Garbage.{cross, part_product, square_elements, halved}

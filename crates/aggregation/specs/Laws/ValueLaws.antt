@@ -14,7 +14,7 @@ use Rattle.fold.specs.Statement.{part}
 use Rattle.fold.specs.Messages.{elements, g, second, b''}
 use Rattle.fold.specs.Sizes.{five}
 use Rattle.fold.specs.Entries.{second_a, secondΦ}
-use Rattle.fold.specs.Laws.EntryLaws.{second-value, el_inners}
+use Rattle.fold.proofs.Laws.EntryLaws.{second-value, el_inners}
 use Rattle.constraints.specs.Laws.Rows.{row-entry}
 use Rattle.fold.specs.Laws.SizeBounds.{pairs-bound}
 use Rattle.aggregation.specs.Rows.{added, plus_product, Sums}

@@ -12,7 +12,7 @@ use Rattle.ring.specs.Element.{R, el}
 use Rattle.ring.specs.Laws.ElementPlaces.{el-drop}
 use Rattle.fold.specs.Sizes.{pairs}
 use Rattle.fold.specs.Messages.{aggregate}
-use Rattle.fold.specs.Laws.EntryLaws.{aggregate-a}
+use Rattle.fold.proofs.Laws.EntryLaws.{aggregate-a}
 use Rattle.checks.specs.Relation.{linear_summand}
 use Rattle.bare.specs.Opening.{z_place, z_at, turn_at}
 use Rattle.bare_verifier.specs.Summands.{diagonal_summand}

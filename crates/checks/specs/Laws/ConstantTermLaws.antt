@@ -9,7 +9,7 @@ use Rattle.algebra.specs.Sum.{sum}
 use Rattle.algebra.specs.Laws.SumLaws.{sum-one-more, sum_cong}
 use Rattle.algebra.specs.Conjugation.{ct}
 use Rattle.residues.specs.Modulus.{q, Zq, red, cent, centred}
-use Rattle.residues.specs.Laws.ModulusLaws.{red-zero, red-add, red-mul, red_residue, red-cent, red-centred, cent-red, cent-fits, centred_fixed}
+use Rattle.residues.proofs.Laws.ModulusLaws.{red-zero, red-add, red-mul, red_residue, red-cent, red-centred, cent-red, cent-fits, centred_fixed}
 use Rattle.ring.specs.Element.{el, array, every}
 use Rattle.ring.specs.Laws.ElementLaws.{get_d_array}
 use Rattle.ring.specs.Laws.ElementSteps.{bits32, bits32-small, bits32-centred}

@@ -4,7 +4,7 @@ use Rattle.std.proofs.Common.{ap, ◌∙◌, arith}
 use Rattle.integers.specs.Sums.{norm_sq}
 use Rattle.residues.specs.declared.length.Margin.{Margin}
 use Rattle.residues.specs.Length.{remaining, lessened, holds}
-use Rattle.residues.specs.Laws.LengthLaws.{lessened-remaining, holds-remaining}
+use Rattle.residues.proofs.Laws.LengthLaws.{lessened-remaining, holds-remaining}
 use Rattle.fold.specs.Sizes.{t_size, garbage_size, rest_size, opening_size}
 use Rattle.fold.specs.Verdict.{check₁}
 use Rattle.fold.specs.Opening.{z_length, tg_length, h_length, digits_length, t_place, g_place, h_place}

@@ -12,9 +12,9 @@ use Rattle.ring.specs.Element.{R, lift, el, array, same}
 use Rattle.fold.specs.declared.Sizes.{Sizes}
 use Rattle.fold.specs.Sizes.{pairs}
 use Rattle.fold.specs.Entries.{aggregate_a}
-use Rattle.fold.specs.Laws.EntryLaws.{aggregate-a}
+use Rattle.fold.proofs.Laws.EntryLaws.{aggregate-a}
 use Rattle.fold.specs.Messages.{elements, aggregate, aggregate_constant}
-use Rattle.fold.specs.Laws.WriterLaws.{el-written}
+use Rattle.fold.proofs.Laws.WriterLaws.{el-written}
 use Rattle.fold.specs.Opening.{block, g_place, h_place, garbage_of}
 use Rattle.fold.specs.Verdict.{check₇, check₈}
 use Rattle.ring.specs.Laws.Loops.{held, held-product}

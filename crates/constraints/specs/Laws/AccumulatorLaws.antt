@@ -5,7 +5,7 @@ use Rattle.std.specs.Int.Signed.{mag, lt_z}
 use Rattle.std.specs.Int.{w32, w64}
 use Rattle.integers.specs.Laws.Bridge.{P, N, zarith, eq_pn, nat_abs_pn, pn_min, add_pn, sub_pn, mul_pn, abs_bnd, mul-bnd}
 use Rattle.residues.specs.Modulus.{centred}
-use Rattle.residues.specs.Laws.Words.{word, held}
+use Rattle.residues.proofs.Laws.Words.{word, held}
 use Rattle.ring.specs.Laws.ElementSteps.{bits32-centred}
 use Rattle.constraints.specs.Accumulator.{FiveRoom, AddedFive}
 

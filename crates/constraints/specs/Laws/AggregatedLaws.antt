@@ -14,7 +14,7 @@ use Rattle.fold.specs.Sizes.{pairs, function_size}
 use Rattle.fold.specs.Statement.{whole_constant}
 use Rattle.fold.specs.Messages.{aggregate, aggregate_constant}
 use Rattle.fold.specs.Sizes.{five}
-use Rattle.fold.specs.Laws.EntryLaws.{aggregate-φ}
+use Rattle.fold.proofs.Laws.EntryLaws.{aggregate-φ}
 use Rattle.fold.specs.Entries.{term_entry, projection_entry, secondΦ, whole_entry, aggregate_a, aggregateΦ}
 use Rattle.constraints.specs.Laws.Rows.{row-entry}
 use Rattle.constraints.specs.Aggregated.{weighted_a, second_rowΦ, weightedΦ, aggregate_rowΦ}

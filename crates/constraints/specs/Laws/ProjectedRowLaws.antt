@@ -18,8 +18,8 @@ use Rattle.algebra.specs.Polynomial.{coeff}
 use Rattle.algebra.specs.Laws.PolynomialLaws.{coeff-zero, coeff-add}
 use Rattle.algebra.specs.Laws.ConstantLaws.{coeff-constant-mul}
 use Rattle.residues.specs.Modulus.{Zq, red, cent, centred}
-use Rattle.residues.specs.Laws.ModulusLaws.{red-zero, red-add, red-mul, cent-red}
-use Rattle.residues.specs.Laws.Words.{word}
+use Rattle.residues.proofs.Laws.ModulusLaws.{red-zero, red-add, red-mul, cent-red}
+use Rattle.residues.proofs.Laws.Words.{word}
 use Rattle.ring.specs.Element.{R, el, array, number}
 use Rattle.ring.specs.Laws.ElementPlaces.{coeff-el}
 use Rattle.ring.specs.Laws.ElementArrays.{array-fill}

@@ -6,8 +6,8 @@ use Rattle.std.specs.Int.Signed.{mag, non_neg, yes_non_neg}
 use Rattle.std.specs.Int.{w32, w64}
 use Rattle.integers.specs.Laws.Bridge.{P, N, zarith, nat_abs_pn, pn_min, pos_pn, add_pn, sub_pn, abs_bnd, mul-bnd}
 use Rattle.residues.specs.Range.{projection_entries}
-use Rattle.residues.specs.Laws.RangeLaws.{all_within-at}
-use Rattle.residues.specs.Laws.Words.{word, held}
+use Rattle.residues.proofs.Laws.RangeLaws.{all_within-at}
+use Rattle.residues.proofs.Laws.Words.{word, held}
 use Rattle.constraints.specs.RowGroups.{decode, Coded, Codes, CodesOf, four_sum, Summand, WeightedSum, OmegaSums, omega_sum_count, code_count}
 use Rattle.fold.specs.Limits.{most_projections}
 

@@ -12,7 +12,7 @@ use Rattle.algebra.specs.Sum.{sum}
 use Rattle.ring.specs.Element.{R, Degree, lift, el, array, number}
 use Rattle.ring.specs.Laws.ElementLaws.{lift-array}
 use Rattle.ring.specs.Laws.Loops.{Summed, summed_step}
-use Rattle.residues.specs.Laws.Words.{word}
+use Rattle.residues.proofs.Laws.Words.{word}
 use Rattle.fold.specs.Limits.{most_constraints}
 use Rattle.fold.specs.Sizes.{function_size}
 use Rattle.fold.specs.Statement.{term_at, whole_at}

@@ -7,14 +7,14 @@ use Rattle.std.proofs.Common.{◌∙◌, add-zero, zero-mul, add_assoc, suc-mul,
 use Rattle.std.proofs.Math.Bool.{true, false}
 use Prim.Native.Nat.{ℕ, ◌+◌, ◌-◌, ◌*◌, ◌≤◌, ◌<◌}
 use Rattle.std.proofs.Math.IntN.{ℤ}
-use borrow.Author.Tests.{not_true, not-false}
+use borrow.Author.Tests.{not-true, not-false}
 use Rattle.integers.specs.Laws.ListLaws.{take-tab, drop-tab, tab_cong}
 use Rattle.integers.specs.Over.{over}
 use Rattle.integers.specs.Laws.OverLaws.{length_over, part-over}
 use Rattle.ring.specs.Element.{every}
 use Rattle.ring.specs.Laws.ElementEquality.{every_true, every-zero, every-add-one}
 use Rattle.residues.specs.Range.{coefficients, challenge}
-use Rattle.residues.specs.Laws.RangeLaws.{coefficients-part}
+use Rattle.residues.proofs.Laws.RangeLaws.{coefficients-part}
 use Rattle.fold.specs.Refusals.{challenges}
 use Rattle.fields.specs.Place.{place, number_at, numbers_from, Span}
 use Rattle.fields.specs.Laws.PlaceLaws.{place_mono, contradiction}
@@ -98,7 +98,7 @@ module _ {ends : ℕ → Bool} {text : List ℕ} {from start d r : ℕ} where
       challenged_false t = step (every r (λ i. challenge (take d (drop (i * d) (numbers_from ends header_bytes text from (r * d)))))) refl
         where
           step : (s : Bool) → every r (λ i. challenge (take d (drop (i * d) (numbers_from ends header_bytes text from (r * d))))) ≡ s → false ≡ s
-          step true q = contradiction (every_true r _ q e more) (sym tested-part ∙ not_true good t)
+          step true q = contradiction (every_true r _ q e more) (sym tested-part ∙ not-true good t)
           step false q = refl
 
       pub challenged_step : not good ≡ false → {next : ℕ} → next ≡ place ends header_bytes (at + d)

@@ -6,7 +6,7 @@ use Rattle.std.proofs.Math.Bool.{true, false}
 use Rattle.std.proofs.Math.Numerals.{add-one}
 use native.Mathlib.Omega.{arith}
 use Rattle.std.proofs.Math.ListN.{get_or-eq_default}
-use borrow.Author.Tests.{eqb-true, ltb-true, ltb-false, not_true, not-false}
+use borrow.Author.Tests.{eqb-true, ltb-true, ltb-false, not-true, not-false}
 use Rattle.ring.specs.Element.{every}
 use Rattle.ring.specs.Laws.ElementEquality.{every_true, every-zero, every-suc, every-add-one}
 use Rattle.fields.specs.declared.field.Field.{Field}
@@ -45,7 +45,7 @@ module _ (text : List ℕ) (at : ℕ) (last : Bool) {field : Field} {number : Bo
   where
     pub laid_none : not number ≡ true → false ≡ laid_field text at last
     unfolding laid_field
-    laid_none t = rw (← is-number text at read told, not_true number t) refl
+    laid_none t = rw (← is-number text at read told, not-true number t) refl
 
     pub laid-feed : not number ≡ false → last ≡ true → {feed : Bool} → feed ≡ eqb (get_or text (at + 16) 0) 10 → feed ≡ laid_field text at last
     unfolding laid_field
@@ -137,7 +137,7 @@ module _ (ends : ℕ → Bool) (at : ℕ) (text : List ℕ) (n here i : ℕ) (in
     laid_broken t = step (every n (λ k. laid_field text (place ends at k) (ends k))) refl
       where
         step : (t : Bool) → every n (λ k. laid_field text (place ends at k) (ends k)) ≡ t → end.TheVariants.Broken ≡ end_if t (place ends at n)
-        step true e = contradiction (every_true n _ e i more) (sym tested-place ∙ not_true good t)
+        step true e = contradiction (every_true n _ e i more) (sym tested-place ∙ not-true good t)
         step false e = refl
 
     module _ (kept : not good ≡ false) {width : ℕ} (wide : width ≡ field_width last) where

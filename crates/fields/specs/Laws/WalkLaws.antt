@@ -9,13 +9,13 @@ use Prim.Native.Nat.{ℕ, ◌+◌, ◌≤◌, ◌<◌}
 use native.Mathlib.Omega.{arith}
 use Rattle.std.proofs.Math.ListN.{length, set, length-set}
 use Rattle.std.proofs.Math.IntN.{ℤ}
-use borrow.Author.Tests.{le-leb, leb-true, leb-false, not_true, not-false}
+use borrow.Author.Tests.{le-leb, leb-true, leb-false, not-true, not-false}
 use Rattle.integers.specs.Lists.{tab, all}
 use Rattle.integers.specs.Laws.ListLaws.{length-tab, get_d_tab, tab-suc}
 use Rattle.integers.specs.Over.{over}
 use Rattle.integers.specs.Laws.OverLaws.{over-nil, over-tab}
 use Rattle.residues.specs.Range.{all_within, coefficients}
-use Rattle.residues.specs.Laws.RangeLaws.{all_within-join, all_within_false, coefficients-at}
+use Rattle.residues.proofs.Laws.RangeLaws.{all_within-join, all_within_false, coefficients-at}
 use Rattle.fields.specs.Place.{field_width, place, number_at, numbers_from, Span}
 use Rattle.fields.specs.Laws.PlaceLaws.{place-next, place_mono}
 use Rattle.fields.specs.Field.{header_bytes}
@@ -84,7 +84,7 @@ module _ {ends : ℕ → Bool} {text : List ℕ} {from start count bound : ℕ} 
 
     pub ranged_false : not good ≡ true → false ≡ all_within bound (numbers_from ends header_bytes text from count)
     ranged_false t =
-        let above = leb-false (nat_abs (number_at text here)) bound (sym tested ∙ not_true good t) in
+        let above = leb-false (nat_abs (number_at text here)) bound (sym tested ∙ not-true good t) in
         sym (all_within_false bound (numbers_from ends header_bytes text from count) j
         (rw (number_of ends text from count j more) (omega (arith, above, here-number))))
 

@@ -142,6 +142,7 @@ any_of_any (false ∷ ts) e = inr (any_of_any ts e)
 
 pub any_any_of : (ts : List Bool) → Any ts → any_of ts ≡ true
 unfolding any_of
+any_any_of [] a = elim a [ ]
 any_any_of (true ∷ ts) a = refl
 any_any_of (false ∷ ts) (inl e) = false_true e
 any_any_of (false ∷ ts) (inr a) = any_any_of ts a
@@ -175,6 +176,7 @@ degree-fits d e = cases ((degree_iff d).0 e)
     cases (inr (inr (inr (inl e)))) = at 16 (omega arith) (omega arith) e
     cases (inr (inr (inr (inr (inl e))))) = at 32 (omega arith) (omega arith) e
     cases (inr (inr (inr (inr (inr (inl e)))))) = at 64 (omega arith) (omega arith) e
+    cases (inr (inr (inr (inr (inr (inr e)))))) = elim e [ ]
 
 pub rank_iff : (n : ℕ) → (rank (pos n) ≡ true) ↔ ((1 ≤ n) × (n ≤ most_rank))
 unfolding rank

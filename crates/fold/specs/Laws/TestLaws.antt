@@ -9,7 +9,7 @@
 --     accepted-none, failed-number, number-failed     the verdict by its number
 use Rattle.std.specs.Prelude.{◌≡◌, refl, Bool, true, false, cond, not, ◌↔◌, List, [], ◌∷◌, ◌++◌, ℕ, zero, suc, ◌≤◌, ◌<◌, T, eqb, ltb}
 use Rattle.std.proofs.Common.{sym, ap, subst, ◌∙◌, arith, ltb-true, ltb-false, lt-ltb, eqb-true, eq-eqb, ne_eqb}
-use Rattle.std.proofs.lemmas.Bool.{eqb-false, not_true, not-false}
+use Rattle.std.proofs.lemmas.Bool.{eqb-false, not-true, not-false}
 use Rattle.fold.specs.declared.Verdict.{Verdict}
 use Rattle.fold.specs.declared.Verdict.TheVariants.{Failed}
 use Rattle.fold.specs.declared.Answer.TheVariants.{Judged}
@@ -69,7 +69,7 @@ none-fails = refl
 
 -- the same where code has computed the test, as r, and asks whether it fails
 pub fails : (k : ℕ) (tests : List (ℕ × Bool)) {r t : Bool} → r ≡ t → not r ≡ true → k ≡ first_failing ((k, t) ∷ tests)
-fails k tests {r} e f = failing k tests (sym e ∙ not_true r f)
+fails k tests {r} e f = failing k tests (sym e ∙ not-true r f)
 
 pub passes : (k : ℕ) (tests : List (ℕ × Bool)) {r t : Bool} {x : ℕ} → r ≡ t → not r ≡ false → x ≡ first_failing tests
     → x ≡ first_failing ((k, t) ∷ tests)

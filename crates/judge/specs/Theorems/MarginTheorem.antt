@@ -15,7 +15,7 @@ use Rattle.fold.specs.Verdict.{checks, verdict, margin₉}
 use Rattle.fold.specs.Limits.{most_bound}
 use Rattle.fold.specs.Arguments.{VerifySized}
 use Rattle.fold.specs.Laws.RefusalLaws.{both_left, both_right}
-use Rattle.fold.specs.Theorems.Margin.{margin-is}
+use Rattle.fold.proofs.Theorems.Margin.{margin-is}
 use Rattle.sheet.specs.Reading.{header_numbers, header_tests, sizes_of, body_numbers, number_tests, body_tests, reading_tests}
 use Rattle.sheet.specs.Layout.{line_text}
 use Rattle.sheet.specs.Laws.AnswerLaws.{reading-passed}

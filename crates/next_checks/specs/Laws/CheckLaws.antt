@@ -20,7 +20,7 @@ use Rattle.fold.specs.Arguments.{statement_with, draws_of, transcript_of}
 use Rattle.fold.specs.Constraint.{Constraint}
 use Rattle.fold.specs.NextInstance.{power, no-a, z_table, t_table, garbage_table, squares}
 use Rattle.fold.specs.NextInstance.{constraint₃, constraint₄, constraint₅, constraint₆, constraint₇, constraint₈}
-use Rattle.fold.specs.Laws.WriterLaws.{el-written}
+use Rattle.fold.proofs.Laws.WriterLaws.{el-written}
 use Rattle.next_constraints.specs.Blocks.{digit_row}
 use Rattle.next_constraints.specs.Tables.{Tables}
 use Rattle.next_checks.specs.Checks as own

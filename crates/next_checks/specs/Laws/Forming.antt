@@ -27,8 +27,8 @@ use Rattle.fold.specs.Sizes.{pairs, t_size, garbage_size}
 use Rattle.fold.specs.Messages.{elements}
 use Rattle.fold.specs.PairElements.{pair_elements}
 use Rattle.fold.specs.Laws.ChunkLaws.{start-scale}
-use Rattle.fold.specs.Laws.Layout.{length_triangle}
-use Rattle.fold.specs.Laws.WriterLaws.{length-elements, flat_start}
+use Rattle.fold.proofs.Laws.Layout.{length_triangle}
+use Rattle.fold.proofs.Laws.WriterLaws.{length-elements, flat_start}
 use Rattle.fold.specs.Constraint.{Constraint, φ', laid_out}
 use Rattle.fold.specs.NextInstance.{no-a}
 use Rattle.next_checks.specs.declared.cut.Cut.{Cut}

@@ -18,7 +18,7 @@ use Rattle.ring.specs.Element.{R, Degree, el, lift, coeffs, array}
 use Rattle.ring.specs.Laws.ElementPlaces.{place-below}
 use Rattle.fold.specs.declared.Sizes.{Sizes}
 use Rattle.fold.specs.Messages.{elements}
-use Rattle.fold.specs.Laws.WriterLaws.{length-elements}
+use Rattle.fold.proofs.Laws.WriterLaws.{length-elements}
 use Rattle.next_checks.specs.declared.cut.Cut.{Cut}
 use Rattle.next_checks.specs.Known.Facts.{CutFacts}
 use Rattle.next_checks.specs.Spread.{chunk_entry, widths, spread_entry}

@@ -24,8 +24,8 @@ use Rattle.ring.specs.Laws.ElementPlaces.{place-below, el-flat-coeffs}
 use Rattle.ring.specs.Laws.Numbers.{number-one}
 use Rattle.fold.specs.Sizes.{pairs, t_size, garbage_size}
 use Rattle.fold.specs.Messages.{elements}
-use Rattle.fold.specs.Laws.TableSums.{length_digits, length-parts, length_triangle}
-use Rattle.fold.specs.Laws.WriterLaws.{flat_start}
+use Rattle.fold.proofs.Laws.TableSums.{length_digits, length-parts, length_triangle}
+use Rattle.fold.proofs.Laws.WriterLaws.{flat_start}
 use Rattle.fold.specs.NextInstance.{power, zeros, z_table, t_table, garbage_table}
 use Rattle.next_constraints.specs.declared.blocks.Digits.{Digits}
 use Rattle.next_constraints.specs.Blocks.{numbers, digit_row}

@@ -16,7 +16,7 @@ use Rattle.ring.specs.Laws.ElementLaws.{length-coeffs}
 use Rattle.ring.specs.Laws.Loops.{held, held-sum}
 use Rattle.ring.specs.Laws.Writers.{Elements}
 use Rattle.fold.specs.Messages.{elements}
-use Rattle.fold.specs.Laws.WriterLaws.{length-elements, el-written}
+use Rattle.fold.proofs.Laws.WriterLaws.{length-elements, el-written}
 use Rattle.next_constraints.specs.Folded.{folded_sum, plus_multiple}
 
 -- the next element is not written yet

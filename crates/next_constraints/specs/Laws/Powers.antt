@@ -7,7 +7,7 @@ use Rattle.std.specs.Int.{w32}
 use Rattle.integers.specs.Laws.Bridge.{add_pn, zarith}
 use Rattle.algebra.specs.Polynomial.{constant}
 use Rattle.residues.specs.Modulus.{Zq, red, centred}
-use Rattle.residues.specs.Laws.ModulusLaws.{red-mul, red-centred, centred-eq, centred_fixed, centred-fits}
+use Rattle.residues.proofs.Laws.ModulusLaws.{red-mul, red-centred, centred-eq, centred_fixed, centred-fits}
 use Rattle.integers.specs.Lists.{tab}
 use Rattle.integers.specs.Laws.FlatLaws.{flat_cong}
 use Rattle.ring.specs.Element.{R, lift, el, coeffs, array, number}

@@ -6,7 +6,7 @@ use Rattle.std.specs.Int.{w32}
 use borrow.Author.Tests.{lt-ltb, le-ltb, eq-eqb, ne_eqb}
 use Rattle.integers.specs.Laws.Identities.{*ℤ_idl}
 use Rattle.residues.specs.Modulus.{Zq, red, centred}
-use Rattle.residues.specs.Laws.ModulusLaws.{red-mul, red-centred, centred-eq, centred-fits}
+use Rattle.residues.proofs.Laws.ModulusLaws.{red-mul, red-centred, centred-eq, centred-fits}
 use Rattle.ring.specs.Element.{R, array, number}
 use Rattle.ring.specs.Laws.Numbers.{number-mul}
 use Rattle.fold.specs.NextInstance.{power, squares}

@@ -13,9 +13,9 @@ use Rattle.ring.specs.Laws.ElementLaws.{lift-array}
 use Rattle.fold.specs.Sizes.{pairs}
 use Rattle.fold.specs.Messages.{elements, aggregate}
 use Rattle.fold.specs.Entries.{aggregate_a}
-use Rattle.fold.specs.Laws.EntryLaws.{aggregate-a}
+use Rattle.fold.proofs.Laws.EntryLaws.{aggregate-a}
 use Rattle.fold.specs.NextInstance.{product}
-use Rattle.fold.specs.Laws.WriterLaws.{el-written, el-pairs}
+use Rattle.fold.proofs.Laws.WriterLaws.{el-written, el-pairs}
 use Rattle.fold.specs.PairElements.{pair_elements}
 use Rattle.constraints.specs.Laws.AggregatedLaws.{values-product}
 use Rattle.next_constraints.specs.Tables.{TableRoom, Tables}

@@ -1,6 +1,6 @@
 -- `next_instance::next_instance` meets its contract: a refusal, a failed check, or all is written. Assumes nothing.
 use Rattle.fold.specs.Arguments.{count_of, based_sizes}
-use Rattle.fold.specs.Laws.DigitCounts.{digits-few}
+use Rattle.fold.proofs.Laws.DigitCounts.{digits-few}
 use Rattle.next_instance.specs.Laws.CallLaws.{next-refused, call_facts, next-judged, next-written}
 use borrow.Author.Rules.{rules}
 use Rattle.next_instance.proofs.next_instance.Statement.{statement}

@@ -21,7 +21,7 @@ use Rattle.fold.specs.Messages.{aggregate_constant}
 use Rattle.fold.specs.Constraint.{Constraint, laid_out}
 use Rattle.fold.specs.NextInstance.{next_whole, m, n', r', constraint₃, constraint₄, constraint₅, constraint₆, constraint₇, constraint₈}
 use Rattle.fold.specs.Laws.SizeBounds.{pairs-bound}
-use Rattle.fold.specs.Laws.LaidOut.{length-laid_out}
+use Rattle.fold.proofs.Laws.LaidOut.{length-laid_out}
 use Rattle.fold.specs.Known.NextFacts.{NextFacts}
 use Rattle.next_checks.specs.declared.cut.Cut.{Cut}
 use Rattle.next_checks.specs.Known.Facts.{CutFacts}

@@ -18,7 +18,7 @@ use Rattle.fold.specs.Arguments.{part_refusal_with, part_refusal_of, next_part_o
 use Rattle.fold.specs.Laws.RefusalLaws.{sized_iff}
 use Rattle.fold.specs.Laws.TestLaws.{holds, early-holds}
 use Rattle.fold.specs.Laws.ChunkLaws.{widths_cover}
-use Rattle.fold.specs.Laws.NextCallLaws.{part_of_padded}
+use Rattle.fold.proofs.Laws.NextCallLaws.{part_of_padded}
 use Rattle.fold.specs.Laws.SizeBounds.{product-bound}
 use Rattle.fold.specs.Known.CallLimits.{part-limits}
 use Rattle.fold.specs.Known.CutSizes.{CutSizes, cut-sizes, rest_size-bound}

@@ -10,7 +10,7 @@ use Rattle.ring.specs.Element.{R, lift, el, array}
 use Rattle.ring.specs.Laws.Loops.{held-sum}
 use Rattle.residues.specs.Digits.{split}
 use Rattle.fold.specs.Messages.{elements, times, z, z_digits}
-use Rattle.fold.specs.Laws.WriterLaws.{split-elements}
+use Rattle.fold.proofs.Laws.WriterLaws.{split-elements}
 use Rattle.prover.specs.Outputs.{outer}
 
 -- the digits, from the elements in the last place of a slice

@@ -17,10 +17,10 @@ use Rattle.algebra.specs.Integers.{ℤ-ring}
 use Rattle.algebra.specs.Sum.{sum}
 use Rattle.algebra.specs.Laws.SumLaws.{sum_cong, sum-one-more}
 use Rattle.residues.specs.Modulus.{centred}
-use Rattle.residues.specs.Laws.ModulusLaws.{centred-fits}
+use Rattle.residues.proofs.Laws.ModulusLaws.{centred-fits}
 use Rattle.residues.specs.Range.{projection_entries}
-use Rattle.residues.specs.Laws.RangeLaws.{projection-entries-at}
-use Rattle.residues.specs.Laws.Words.{word}
+use Rattle.residues.proofs.Laws.RangeLaws.{projection-entries-at}
+use Rattle.residues.proofs.Laws.Words.{word}
 use Rattle.fold.specs.Messages.{p}
 use Rattle.ring.specs.Laws.ElementPlaces.{block-before}
 use Rattle.prover.specs.Projected.{dot}

@@ -5,7 +5,7 @@
 use Rattle.std.specs.Prelude.{◌≡◌, refl, Bool, true, false, not, ◌&&◌, List, [], ◌∷◌, ◌++◌, ℕ}
 use Rattle.std.proofs.Math.Path.{sym}
 use Rattle.std.proofs.Common.{◌∙◌}
-use borrow.Author.Tests.{not_true, not-false}
+use borrow.Author.Tests.{not-true, not-false}
 use Rattle.fold.specs.Answers.{first_failing}
 use Rattle.fold.specs.Refusals.{all_of}
 use Rattle.fold.specs.Laws.RefusalLaws.{numbered, refusal_passes, All, all_of_all}
@@ -20,7 +20,7 @@ module _ (early : List (ℕ × Bool)) (m : ℕ) (t : Bool) (later : List (ℕ ×
 
   pub unfit : not s ≡ true → m ≡ first_failing (early ++ ((m, t) ∷ later))
   unfolding first_failing
-  unfit f = sym (after ∙ rw (sym q ∙ not_true s f) refl)
+  unfit f = sym (after ∙ rw (sym q ∙ not-true s f) refl)
 
   pub fit : {y : ℕ} → not s ≡ false → y ≡ first_failing later → y ≡ first_failing (early ++ ((m, t) ∷ later))
   unfolding first_failing

@@ -2,7 +2,7 @@
 use Rattle.std.specs.Prelude.{◌≡◌, Bool, true, ◌&&◌, List, ℕ, ◌+◌, ◌-◌, ◌*◌, ◌<◌, ◌≤◌, take, drop, ℤ}
 use Rattle.std.proofs.Common.{sym, ap, ◌∙◌, arith, lit≤}
 use Rattle.residues.specs.Range.{coefficients, projection_entries, challenge}
-use Rattle.residues.specs.Laws.RangeLaws.{all_within_mono}
+use Rattle.residues.proofs.Laws.RangeLaws.{all_within_mono}
 use Rattle.ring.specs.Laws.ElementEquality.{every-zero, every-next}
 use Rattle.fold.specs.Refusals.{challenges}
 

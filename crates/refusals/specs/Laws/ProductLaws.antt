@@ -3,7 +3,7 @@ use Rattle.std.specs.Prelude.{◌≡◌, refl, Bool, true, cond, ◌&&◌, List,
 use Rattle.std.proofs.Common.{sym, ap, ◌∙◌, arith, length-drop, drop_of_length-le, take_all}
 use Rattle.ring.specs.Element.{Degree}
 use Rattle.residues.specs.Range.{all_within, coefficients}
-use Rattle.residues.specs.Laws.RangeLaws.{all_within_of}
+use Rattle.residues.proofs.Laws.RangeLaws.{all_within_of}
 use Rattle.fold.specs.Arguments.{product_refusal}
 use Rattle.fold.specs.Refusals.{degree, is_element, product_tests}
 use Rattle.fold.specs.Laws.RefusalLaws.{refusal_passes, degree-fits}

@@ -10,13 +10,13 @@ use Rattle.algebra.specs.Laws.ConstantLaws.{coeff-constant-mul}
 use Rattle.algebra.specs.Laws.Convolution.{coeff-sum}
 use Rattle.integers.specs.Laws.FlatLaws.{block-fits}
 use Rattle.residues.specs.Modulus.{Zq, red, cent, centred}
-use Rattle.residues.specs.Laws.ModulusLaws.{red-zero, red-add, red-mul, cent-red}
+use Rattle.residues.proofs.Laws.ModulusLaws.{red-zero, red-add, red-mul, cent-red}
 use Rattle.ring.specs.Element.{R, number, lift, el}
 use Rattle.ring.specs.Laws.ElementLaws.{element-ext, coeff-lift}
 use Rattle.ring.specs.Laws.ElementPlaces.{coeff-el}
 use Rattle.residues.specs.Digits.{digit, split, value}
 use Rattle.ring.specs.Joined.{joined}
-use Rattle.residues.specs.Laws.DigitLaws.{recompose, value_cong, get_d_split}
+use Rattle.residues.proofs.Laws.DigitLaws.{recompose, value_cong, get_d_split}
 
 pub red-value : (b t : ℕ) (f : ℕ → ℤ) → red (value b t f) ≡ sum Zq t (λ e. Zq.mul (red (pos (b ^ e))) (red (f e)))
 unfolding value sum

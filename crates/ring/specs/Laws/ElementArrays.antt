@@ -19,7 +19,7 @@ use Rattle.algebra.specs.Conjugation.{conjugate}
 use Rattle.algebra.specs.Laws.ConjugationLaws.{coeff-conjugate-zero, coeff-conjugate}
 use Rattle.algebra.specs.Indeterminate.{indeterminate}
 use Rattle.residues.specs.Modulus.{Zq, red, cent, centred}
-use Rattle.residues.specs.Laws.ModulusLaws.{red-zero, red-one, red-add, red-mul, red-neg, cent-red, centred_fixed}
+use Rattle.residues.proofs.Laws.ModulusLaws.{red-zero, red-one, red-add, red-mul, red-neg, cent-red, centred_fixed}
 use Rattle.ring.specs.Element.{R, lift, el, array, number}
 use Rattle.ring.specs.Laws.ElementLaws.{coeff-lift, coeff-past}
 use Rattle.ring.specs.Laws.ElementPlaces.{coeff-el}

@@ -10,7 +10,7 @@ use Rattle.integers.specs.Laws.AllLaws.{all-at, all_of, all_false, all-last}
 use Rattle.algebra.specs.Laws.ResidueLaws.{residue_eq}
 use Rattle.algebra.specs.Polynomial.{coeff}
 use Rattle.residues.specs.Modulus.{q, Zq}
-use Rattle.residues.specs.Laws.ModulusLaws.{red_residue}
+use Rattle.residues.proofs.Laws.ModulusLaws.{red_residue}
 use Rattle.ring.specs.Element.{R, lift, every, same}
 use Rattle.ring.specs.Laws.ElementLaws.{element-ext, coeff-lift}
 

@@ -9,7 +9,7 @@ use Rattle.integers.specs.Laws.ListLaws.{length-tab, get_d_tab, take-tab}
 use Rattle.algebra.specs.Laws.VecLaws.{at-build, at-past, ext}
 use Rattle.algebra.specs.Polynomial.{coeff}
 use Rattle.residues.specs.Modulus.{Zq, red, cent}
-use Rattle.residues.specs.Laws.ModulusLaws.{red-cent, cent-bound}
+use Rattle.residues.proofs.Laws.ModulusLaws.{red-cent, cent-bound}
 use Rattle.ring.specs.Element.{R, lift, coeffs, array}
 
 module _ (d : ℕ) where

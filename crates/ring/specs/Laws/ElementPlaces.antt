@@ -14,7 +14,7 @@ use Rattle.integers.specs.Flat.{flat}
 use Rattle.integers.specs.Laws.FlatLaws.{get_d_flat}
 use Rattle.algebra.specs.Polynomial.{coeff}
 use Rattle.residues.specs.Modulus.{Zq, red}
-use Rattle.residues.specs.Laws.DigitBlockLaws.{last_fits}
+use Rattle.residues.proofs.Laws.DigitBlockLaws.{last_fits}
 use Rattle.ring.specs.Element.{R, lift, el, coeffs}
 use Rattle.ring.specs.Laws.ElementLaws.{coeff-lift, lift_cong, lift-coeffs, length-coeffs}
 

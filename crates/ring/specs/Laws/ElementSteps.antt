@@ -10,7 +10,7 @@ use Rattle.integers.specs.Laws.ListLaws.{tab_unique}
 use Rattle.integers.specs.Over.{over}
 use Rattle.integers.specs.Laws.OverLaws.{over-tab}
 use Rattle.residues.specs.Modulus.{centred}
-use Rattle.residues.specs.Laws.ModulusLaws.{centred-fits}
+use Rattle.residues.proofs.Laws.ModulusLaws.{centred-fits}
 
 -- a number as a 32-bit signed local holds it
 abbrev pub bits32 : ℤ → ℤ

@@ -7,7 +7,7 @@ use Rattle.algebra.specs.Polynomial.{coeff, constant}
 use Rattle.algebra.specs.Laws.PolynomialLaws.{coeff-add, coeff-neg}
 use Rattle.algebra.specs.Laws.ConstantLaws.{constant-add, constant-mul, coeff-constant-mul}
 use Rattle.residues.specs.Modulus.{Zq, red}
-use Rattle.residues.specs.Laws.ModulusLaws.{red-one, red-add, red-neg, red-mul, two-halves}
+use Rattle.residues.proofs.Laws.ModulusLaws.{red-one, red-add, red-neg, red-mul, two-halves}
 use Rattle.ring.specs.Element.{R, number}
 use Rattle.ring.specs.Laws.ElementLaws.{element-ext}
 

@@ -8,7 +8,7 @@ use Rattle.integers.specs.Remainder.{emod}
 use Rattle.integers.specs.Laws.RemainderLaws.{emod-lt}
 use Rattle.algebra.specs.Polynomial.{coeff}
 use Rattle.residues.specs.Modulus.{q, Zq}
-use Rattle.residues.specs.Laws.ModulusLaws.{q-value, q-above, red_residue}
+use Rattle.residues.proofs.Laws.ModulusLaws.{q-value, q-above, red_residue}
 use Rattle.ring.specs.Element.{Degree, R, el}
 use Rattle.ring.specs.Laws.ElementPlaces.{coeff-el}
 use Rattle.ring.specs.Product.{summand, column, most, Residues, Extended, TwoColumns, Room, Added}

@@ -13,7 +13,7 @@ use Rattle.algebra.specs.Laws.Convolution.{wrapped, wrapped_yes, wrapped-no, coe
 use Rattle.algebra.specs.Residue.{make, neg}
 use Rattle.algebra.specs.Laws.ResidueLaws.{make-val, make-add, make-mul, reduce-pos}
 use Rattle.residues.specs.Modulus.{q, q-positive, Zq, red, cent, centred}
-use Rattle.residues.specs.Laws.ModulusLaws.{q-value, cent-red}
+use Rattle.residues.proofs.Laws.ModulusLaws.{q-value, cent-red}
 use Rattle.ring.specs.Element.{Degree, R, lift, el, array}
 use Rattle.ring.specs.Laws.ElementArrays.{array-fill}
 use Rattle.ring.specs.Laws.ElementPlaces.{el-zero}

@@ -17,7 +17,7 @@ use Rattle.algebra.specs.Laws.Convolution.{wrapped, wrapped_yes, wrapped-no, coe
 use Rattle.algebra.specs.Residue.{make}
 use Rattle.algebra.specs.Laws.ResidueLaws.{make-eq, make-val, make-add, make-mul}
 use Rattle.residues.specs.Modulus.{q, q-positive, Zq, red}
-use Rattle.residues.specs.Laws.ModulusLaws.{red-add, red-neg}
+use Rattle.residues.proofs.Laws.ModulusLaws.{red-add, red-neg}
 use Rattle.ring.specs.Element.{Degree, R, el}
 use Rattle.ring.specs.Laws.ElementPlaces.{coeff-el}
 use Rattle.ring.specs.Product.{summand, most, Residues}

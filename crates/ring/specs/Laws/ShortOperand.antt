@@ -9,7 +9,7 @@ use Rattle.std.specs.Int.{w64}
 use Rattle.integers.specs.Laws.Bridge.{zarith, bnd, nat_abs_pn, pn_min, add_pn, neg_pn}
 use Rattle.integers.specs.Sums.{total}
 use Rattle.integers.specs.Laws.SumLaws.{total-add-one, total-summand, total-zeros}
-use Rattle.residues.specs.Laws.RangeLaws.{all_within-at, all_within_of}
+use Rattle.residues.proofs.Laws.RangeLaws.{all_within-at, all_within_of}
 use Rattle.ring.specs.Element.{Degree}
 use Rattle.ring.specs.Laws.ProductArrays.{le_or_lt, fill}
 use Rattle.ring.specs.Short.{lifted, short, Short, Raised, Narrow}

@@ -8,8 +8,8 @@ use Rattle.integers.specs.Laws.ListLaws.{length-tab}
 use Rattle.integers.specs.Over.{over}
 use Rattle.integers.specs.Laws.OverLaws.{over-is, over-nil, over-all, over-over, over-step, drop-over, length_over}
 use Rattle.residues.specs.Digits.{Base, split}
-use Rattle.residues.specs.Laws.DigitLaws.{length-split}
-use Rattle.residues.specs.Laws.DigitBlockLaws.{last_fits}
+use Rattle.residues.proofs.Laws.DigitLaws.{length-split}
+use Rattle.residues.proofs.Laws.DigitBlockLaws.{last_fits}
 use Rattle.ring.specs.Element.{Degree, el, array, coeffs}
 use Rattle.ring.specs.Laws.ElementLaws.{take-array, length-coeffs}
 use Rattle.capi.specs.declared.types.CProduct.{CProduct}

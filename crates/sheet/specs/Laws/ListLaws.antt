@@ -9,7 +9,7 @@ use Rattle.std.proofs.Common.{subst, ◌∙◌, length-drop, take-append-drop, l
 use native.Mathlib.Omega.{arith}
 use Rattle.std.proofs.Math.ListN.{take}
 use Rattle.residues.specs.Range.{coefficients}
-use Rattle.residues.specs.Laws.RangeLaws.{coefficients_of, coefficients-join, coefficients-part}
+use Rattle.residues.proofs.Laws.RangeLaws.{coefficients_of, coefficients-join, coefficients-part}
 use Rattle.fold.specs.Refusals.{whole_length, constant_terms_length, projection_length}
 use Rattle.fold.specs.declared.Sizes.{Sizes}
 use Rattle.sheet.specs.Lists.{list_lengths, list_at}

@@ -4,8 +4,8 @@ use Rattle.std.specs.Prelude.{◌≡◌, Bool, true, false, cond, not, List, ℕ
 use Rattle.std.proofs.Math.Path.{refl, sym, ap}
 use Rattle.std.proofs.Common.{◌∙◌, arith}
 use Rattle.std.proofs.Math.Nat.{zero-add}
-use borrow.Author.Tests.{eqb-true, eq-eqb, ne_eqb, not_true, not-false}
-use Rattle.residues.specs.Laws.RangeLaws.{coefficients-part}
+use borrow.Author.Tests.{eqb-true, eq-eqb, ne_eqb, not-true, not-false}
+use Rattle.residues.proofs.Laws.RangeLaws.{coefficients-part}
 use Rattle.residues.specs.Range.{coefficients, projection_entries}
 use Rattle.fold.specs.Arguments.{VerifySized}
 use Rattle.fold.specs.Answers.{first_failing}
@@ -66,7 +66,7 @@ challenges-end s = omega arith
 module _ (s : Sizes) (xs : List ℤ) where
   pub eight : {good : Bool} → good ≡ coefficients xs → not good ≡ true → 8 ≡ first_failing (number_tests s xs)
   unfolding first_failing number_tests
-  eight {good} e t = rw (← e, not_true good t) refl
+  eight {good} e t = rw (← e, not-true good t) refl
 
   pub nine_ten : {good projections ok : Bool} {r₉ r₁₀ : ℕ} → good ≡ coefficients xs → not good ≡ false
       → r₉ ≡ cond projections r₁₀ 9 → projections ≡ projection_entries (projections_in s xs)
@@ -97,7 +97,7 @@ module _ (s : Sizes) (text : List ℕ) (q : Sections) (e : Sectioned s q) {count
 
   pub twelve : (room : ℕ) → not good ≡ true → 12 ≡ first_failing (body_tests room s text)
   unfolding first_failing body_tests
-  twelve room t = rw (← laid-is, not_true good t) refl
+  twelve room t = rw (← laid-is, not-true good t) refl
 
   pub seven : (room : ℕ) → not good ≡ false → (room ≡ count → ⊥) → 7 ≡ first_failing (body_tests room s text)
   unfolding first_failing body_tests

@@ -14,7 +14,7 @@ use Rattle.integers.specs.Laws.ListLaws.{length-tab, get_d_tab}
 use Rattle.integers.specs.Laws.Bridge.{zarith, nat_abs_pn}
 use Rattle.ring.specs.Laws.ElementEquality.{every_true}
 use Rattle.residues.specs.Range.{coefficients}
-use Rattle.residues.specs.Laws.RangeLaws.{coefficients-at}
+use Rattle.residues.proofs.Laws.RangeLaws.{coefficients-at}
 use Rattle.fields.specs.declared.field.Field.{Field}
 use Rattle.fields.specs.declared.field.Field.TheVariants.{Number, Broken}
 use Rattle.fold.specs.declared.Sizes.{Sizes}

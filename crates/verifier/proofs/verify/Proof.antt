@@ -3,7 +3,7 @@ use mathlib.Core.Path.{ap}
 use Rattle.fold.specs.declared.Answer.TheVariants.{Judged}
 use Rattle.fold.specs.Arguments.{count_of, based_sizes}
 use Rattle.fold.specs.Verdict.{verdict}
-use Rattle.fold.specs.Laws.DigitCounts.{digits-few}
+use Rattle.fold.proofs.Laws.DigitCounts.{digits-few}
 use Rattle.verifier.specs.Laws.JudgementLaws.{call_facts, message-fails, outer-fails, opening_says, check_failed, refused, unrefused}
 use Rattle.verifier.proofs.verify.Statement.{statement}
 use Rattle.verifier.proofs.verify.Tie as tie

@@ -18,7 +18,7 @@ use Rattle.fold.specs.Arguments.{statement_with, draws_of, transcript_of, verify
 use Rattle.fold.specs.Laws.TestLaws.{stops, goes_on}
 use Rattle.fold.specs.Known.CallFacts.{VerifyFacts, verify-facts}
 use Rattle.checks.specs.Known.Facts.{Fits, z_value}
-use Rattle.fold.specs.Laws.WriterLaws.{el-written}
+use Rattle.fold.proofs.Laws.WriterLaws.{el-written}
 use Rattle.verifier.specs.Judgement.{Recomposed, message_checks_of, outer_checks_of, opening_checks_of, by_length}
 
 pub recomposed : (tz : ℕ) (s : Sizes) → Fits s → (o old z : List ℤ) → length z ≡ 16384 → z ≡ over old 0 (elements s.shape.d s.shape.n

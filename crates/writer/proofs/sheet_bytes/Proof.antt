@@ -1,6 +1,6 @@
 -- `writer::sheet_bytes` meets its contract.
 use mathlib.Core.List.{[]}
-use Rattle.writer.specs.Laws.RefusalLaws.{good_sizes, bytes_refused, bytes_good}
+use Rattle.writer.proofs.Laws.RefusalLaws.{good_sizes, bytes_refused, bytes_good}
 use borrow.Author.Rules.{rules}
 use Rattle.writer.proofs.sheet_bytes.Statement.{statement}
 use Rattle.writer.proofs.sheet_bytes.Tie as tie

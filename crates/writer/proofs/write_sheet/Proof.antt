@@ -1,6 +1,6 @@
 -- `writer::write_sheet` meets its contract.
-use Rattle.writer.specs.Laws.RefusalLaws.{write_refused, written-counted, written-room, write_done}
-use Rattle.writer.specs.Laws.LineLaws.{header-fits, body-fits, both-written}
+use Rattle.writer.proofs.Laws.RefusalLaws.{write_refused, written-counted, written-room, write_done}
+use Rattle.writer.proofs.Laws.LineLaws.{header-fits, body-fits, both-written}
 use borrow.Author.Rules.{rules}
 use Rattle.writer.proofs.write_sheet.Statement.{statement}
 use Rattle.writer.proofs.write_sheet.Tie as tie

@@ -1,7 +1,7 @@
 -- `aggregation::garbage::write_half_sums` meets its contract. The loop's invariant: the first i rows are written.
 use Prim.Native.Nat.{◌-◌}
 use native.Mathlib.Omega.{arith}
-use Rattle.fold.specs.Laws.WriterLaws.{Rows, rows_start, rows_fit, rows-below, rows-turn, rows_end}
+use Rattle.fold.proofs.Laws.WriterLaws.{Rows, rows_start, rows_fit, rows-below, rows-turn, rows_end}
 use Rattle.aggregation.specs.Garbage.{halved}
 use Rattle.aggregation.proofs.garbage.write_half_sums.Statement.{statement}
 use Rattle.aggregation.proofs.garbage.write_half_sums.Tie as tie

@@ -10,7 +10,7 @@ use Rattle.aggregation.specs.Garbage.{cross, square_elements}
 use Rattle.aggregation.specs.Laws.GarbageLaws.{row_written}
 use Rattle.constraints.specs.Laws.SizeLaws.{phi-room}
 use Rattle.fold.specs.Messages.{elements, aggregate}
-use Rattle.fold.specs.Laws.WriterLaws.{length-elements}
+use Rattle.fold.proofs.Laws.WriterLaws.{length-elements}
 use Rattle.ring.specs.Laws.ElementPlaces.{block-before, row_fits}
 use Rattle.ring.specs.Laws.Writers.{Blocks, blocks_start, blocks_over, blocks_end}
 use Rattle.aggregation.proofs.products.write_products.Statement.{statement}

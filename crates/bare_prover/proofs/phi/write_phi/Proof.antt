@@ -8,7 +8,7 @@ use lib.IntN.{pos}
 use Rattle.integers.specs.Laws.OverLaws.{over-all}
 use Rattle.ring.specs.Laws.Writers.{Blocks, blocks_start, blocks_fit, blocks_part, blocks_turn, blocks_all}
 use Rattle.fold.specs.Messages.{elements, aggregate}
-use Rattle.fold.specs.Laws.WriterLaws.{length-elements}
+use Rattle.fold.proofs.Laws.WriterLaws.{length-elements}
 use Rattle.bare.specs.Messages.{bare_phi}
 use Rattle.bare_prover.proofs.phi.write_phi.Statement.{statement}
 use Rattle.bare_prover.proofs.phi.write_phi.Tie as tie

@@ -1,6 +1,6 @@
 -- `capi::sizes::one_from` meets its contract: by whether the flag is 0. Assumes nothing.
 use mathlib.Core.Path.{refl}
-use Rattle.capi.specs.Laws.FlagLaws.{flag_one}
+use Rattle.capi.proofs.Laws.FlagLaws.{flag_one}
 use Rattle.capi.proofs.sizes.one_from.Statement.{statement}
 use Rattle.capi.proofs.sizes.one_from.Tie as tie
 

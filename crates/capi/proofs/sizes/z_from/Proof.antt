@@ -1,6 +1,6 @@
 -- `capi::sizes::z_from` meets its contract: by whether the flag is 0. Assumes nothing.
 use mathlib.Core.Path.{refl}
-use Rattle.capi.specs.Laws.FlagLaws.{flag_digits}
+use Rattle.capi.proofs.Laws.FlagLaws.{flag_digits}
 use Rattle.capi.proofs.sizes.z_from.Statement.{statement}
 use Rattle.capi.proofs.sizes.z_from.Tie as tie
 

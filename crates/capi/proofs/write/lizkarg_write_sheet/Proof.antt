@@ -2,7 +2,7 @@
 use borrow.Author.Rules.{rules}
 use mathlib.Core.Path.{ap, ◌∙◌}
 use Rattle.sheet.specs.declared.header.SheetSizes.{SheetSizes}
-use Rattle.writer.specs.Laws.AnswerLaws.{write_is}
+use Rattle.writer.proofs.Laws.AnswerLaws.{write_is}
 use Rattle.capi.specs.Codes.{sheet_sizes_from, text_code}
 use Rattle.capi.proofs.write.lizkarg_write_sheet.Statement.{statement}
 use Rattle.capi.proofs.write.lizkarg_write_sheet.Tie as tie

@@ -4,7 +4,7 @@ use Prim.Native.Nat.{ℕ, ◌*◌, ◌≤◌}
 use native.Mathlib.Omega.{arith}
 use native.Mathlib.Nat.{mul-le-mul, mul-le-mul_right}
 use Rattle.residues.specs.Length.{remaining}
-use Rattle.fold.specs.Laws.PlaceBounds.{t-place-bound, h-place-bound}
+use Rattle.fold.proofs.Laws.PlaceBounds.{t-place-bound, h-place-bound}
 use Rattle.checks.specs.Laws.SizeLaws.{h-within, t-before-h}
 use Rattle.checks.specs.Laws.NormLaws.{lengths_of_opening}
 use borrow.Author.Rules.{rules}

@@ -2,7 +2,7 @@
 use Prim.Native.Nat.{◌≤◌}
 use native.Mathlib.Omega.{arith}
 use Rattle.checks.specs.Laws.PlaceLaws.{row_fits, part-fits, element-fits}
-use Rattle.fold.specs.Laws.PlaceBounds.{t-size-bound, g-size-bound}
+use Rattle.fold.proofs.Laws.PlaceBounds.{t-size-bound, g-size-bound}
 use Rattle.checks.specs.Laws.SizeLaws.{t_within, g_within}
 use Rattle.checks.specs.Laws.Rows.{first-row}
 use borrow.Author.Rules.{rules}

@@ -2,7 +2,7 @@
 use Prim.Native.Nat.{◌≤◌}
 use native.Mathlib.Omega.{arith}
 use Rattle.checks.specs.Laws.PlaceLaws.{row_fits, part-fits, element-fits}
-use Rattle.fold.specs.Laws.PlaceBounds.{h-size-bound}
+use Rattle.fold.proofs.Laws.PlaceBounds.{h-size-bound}
 use Rattle.checks.specs.Laws.SizeLaws.{h-within}
 use Rattle.checks.specs.Laws.Rows.{second-row}
 use borrow.Author.Rules.{rules}

@@ -1,6 +1,6 @@
 -- `constraints::projected_rows::signed` meets its contract, by the sign of x.
 use mir.Facts.{to_z-of_z}
-use Rattle.residues.specs.Laws.Words.{widen, wide, opposite-fits, wide-opposite}
+use Rattle.residues.proofs.Laws.Words.{widen, wide, opposite-fits, wide-opposite}
 use Rattle.constraints.specs.Laws.AccumulatorLaws.{signed_positive, signed_negative, signed_zero}
 use Rattle.constraints.proofs.projected_rows.signed.Statement.{statement}
 use Rattle.constraints.proofs.projected_rows.signed.Tie as tie

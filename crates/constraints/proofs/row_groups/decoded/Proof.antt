@@ -4,7 +4,7 @@ use native.Mathlib.Omega.{arith}
 use borrow.Author.Rules.{rules}
 use mir.Syntax.{w64}
 use mir.Facts.{to_z-of_z, to_z_pos}
-use Rattle.residues.specs.Laws.Words.{widen}
+use Rattle.residues.proofs.Laws.Words.{widen}
 use Rattle.constraints.specs.RowGroups.{decode}
 use Rattle.constraints.specs.Laws.RowGroupLaws.{decode-fits}
 use Rattle.constraints.proofs.row_groups.decoded.Statement.{statement}

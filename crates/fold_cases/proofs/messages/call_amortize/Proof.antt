@@ -1,6 +1,6 @@
 -- `fold_cases::messages::call_amortize` meets its contract: by the flag of the sizes. Assumes nothing.
 use borrow.Author.Rules.{rules}
-use Rattle.capi.specs.Laws.FlagLaws.{flag_digits}
+use Rattle.capi.proofs.Laws.FlagLaws.{flag_digits}
 use Rattle.fold_cases.proofs.messages.call_amortize.Statement.{statement}
 use Rattle.fold_cases.proofs.messages.call_amortize.Tie as tie
 

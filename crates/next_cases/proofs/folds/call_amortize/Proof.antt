@@ -1,6 +1,6 @@
 -- `next_cases::folds::call_amortize` meets its contract: by the flag of the sizes. Assumes nothing.
 use borrow.Author.Rules.{rules}
-use Rattle.capi.specs.Laws.FlagLaws.{flag_digits}
+use Rattle.capi.proofs.Laws.FlagLaws.{flag_digits}
 use Rattle.next_cases.proofs.folds.call_amortize.Statement.{statement}
 use Rattle.next_cases.proofs.folds.call_amortize.Tie as tie
 

@@ -3,7 +3,7 @@ use mathlib.Core.Path.{refl}
 use native.Mathlib.Omega.{arith}
 use Rattle.fold.specs.Sizes.{next_parts}
 use Rattle.fold.specs.Laws.SizeBounds.{product-bound}
-use Rattle.fold.specs.Laws.PlaceBounds.{t-size-bound, g-size-bound}
+use Rattle.fold.proofs.Laws.PlaceBounds.{t-size-bound, g-size-bound}
 use Rattle.fold.specs.Known.CutSizes.{cut-sizes}
 use Rattle.next_checks.specs.Laws.CutLaws.{rest-small, room_of}
 use borrow.Author.Rules.{rules}

@@ -6,7 +6,7 @@ use lib.ListN.{length}
 use Rattle.ring.specs.Element.{array}
 use Rattle.ring.specs.Laws.Writers.{Elements, elements-start, elements-below, elements-fit, elements-turn, elements-end}
 use Rattle.fold.specs.Messages.{elements}
-use Rattle.fold.specs.Laws.WriterLaws.{length-elements}
+use Rattle.fold.proofs.Laws.WriterLaws.{length-elements}
 use Rattle.next_checks.specs.Spread.{chunk_entry}
 use Rattle.next_checks.specs.Laws.SpreadLaws.{chunk_kept}
 use Rattle.next_checks.proofs.spread.move_chunk.Statement.{statement}

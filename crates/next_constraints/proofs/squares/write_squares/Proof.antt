@@ -2,7 +2,7 @@
 use Prim.Native.Nat.{◌-◌}
 use native.Mathlib.Omega.{arith}
 use Rattle.fold.specs.NextInstance.{squares}
-use Rattle.fold.specs.Laws.WriterLaws.{Rows, rows_start, rows_fit, rows-below, rows-turn, rows_end}
+use Rattle.fold.proofs.Laws.WriterLaws.{Rows, rows_start, rows_fit, rows-below, rows-turn, rows_end}
 use Rattle.next_constraints.proofs.squares.write_squares.Statement.{statement}
 use Rattle.next_constraints.proofs.squares.write_squares.Tie as tie
 

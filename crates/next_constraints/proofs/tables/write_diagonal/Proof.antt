@@ -4,7 +4,7 @@ use Prim.Native.Nat.{◌-◌}
 use native.Mathlib.Omega.{arith}
 use lib.Dec.{eqb}
 use Rattle.ring.specs.Element.{R}
-use Rattle.fold.specs.Laws.WriterLaws.{Rows, rows_start, rows_fit, rows-below, rows-turn, rows_end}
+use Rattle.fold.proofs.Laws.WriterLaws.{Rows, rows_start, rows_fit, rows-below, rows-turn, rows_end}
 use Rattle.next_constraints.proofs.tables.write_diagonal.Statement.{statement}
 use Rattle.next_constraints.proofs.tables.write_diagonal.Tie as tie
 

@@ -1,5 +1,5 @@
 -- `next_instance::part::next_place` meets its contract: the place for as many z digits as there are. Assumes nothing.
-use Rattle.fold.specs.Laws.DigitCounts.{flag_few}
+use Rattle.fold.proofs.Laws.DigitCounts.{flag_few}
 use Rattle.next_instance.proofs.part.next_place.Statement.{statement}
 use Rattle.next_instance.proofs.part.next_place.Tie as tie
 

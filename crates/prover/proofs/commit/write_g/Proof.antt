@@ -4,7 +4,7 @@ use native.Mathlib.Nat.{mul-le-mul}
 use native.Mathlib.Omega.{arith}
 use Rattle.fold.specs.Laws.SizeBounds.{pairs-bound}
 use Rattle.fold.specs.Messages.{g, g_digits}
-use Rattle.fold.specs.Laws.WriterLaws.{garbage-written}
+use Rattle.fold.proofs.Laws.WriterLaws.{garbage-written}
 use Rattle.prover.proofs.commit.write_g.Statement.{statement}
 use Rattle.prover.proofs.commit.write_g.Tie as tie
 

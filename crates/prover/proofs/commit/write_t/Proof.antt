@@ -7,7 +7,7 @@ use Rattle.residues.specs.Digits.{split}
 use Rattle.fold.specs.Messages.{elements, t, t_digits}
 use Rattle.ring.specs.Laws.ElementPlaces.{row_fits}
 use Rattle.ring.specs.Laws.Writers.{Blocks, blocks_start, blocks_fit, blocks_part, blocks_turn, blocks_all}
-use Rattle.fold.specs.Laws.WriterLaws.{length-element-digits}
+use Rattle.fold.proofs.Laws.WriterLaws.{length-element-digits}
 use Rattle.prover.specs.Known.Facts.{PartFacts, t-length}
 use Rattle.prover.proofs.commit.write_t.Statement.{statement}
 use Rattle.prover.proofs.commit.write_t.Tie as tie

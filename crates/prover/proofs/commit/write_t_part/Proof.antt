@@ -2,7 +2,7 @@
 use borrow.Author.Rules.{rules}
 use Prim.Native.Nat.{◌-◌, ◌*◌, ◌+◌}
 use native.Mathlib.Omega.{arith}
-use Rattle.fold.specs.Laws.WriterLaws.{split-elements}
+use Rattle.fold.proofs.Laws.WriterLaws.{split-elements}
 use Rattle.ring.specs.Laws.ElementPlaces.{place-below, last-place, block-below}
 use Rattle.prover.proofs.commit.write_t_part.Statement.{statement}
 use Rattle.prover.proofs.commit.write_t_part.Tie as tie

@@ -7,7 +7,7 @@ use Rattle.ring.specs.Element.{el, coeffs}
 use Rattle.residues.specs.Digits.{split}
 use Rattle.ring.specs.Laws.ElementPlaces.{element-within}
 use Rattle.ring.specs.Laws.Writers.{Blocks, blocks_start, blocks_fit, blocks_part, blocks_turn, blocks_all}
-use Rattle.fold.specs.Laws.WriterLaws.{length_digits}
+use Rattle.fold.proofs.Laws.WriterLaws.{length_digits}
 use Rattle.prover.proofs.garbage.write_digits.Statement.{statement}
 use Rattle.prover.proofs.garbage.write_digits.Tie as tie
 

@@ -3,7 +3,7 @@ use borrow.Author.Rules.{rules}
 use mathlib.Core.Path.{◌∙◌}
 use native.Mathlib.Omega.{arith}
 use Rattle.fold.specs.Sizes.{garbage_size}
-use Rattle.fold.specs.Laws.WriterLaws.{garbage_places}
+use Rattle.fold.proofs.Laws.WriterLaws.{garbage_places}
 use Rattle.prover.proofs.garbage.write_garbage_digits.Statement.{statement}
 use Rattle.prover.proofs.garbage.write_garbage_digits.Tie as tie
 

@@ -2,7 +2,7 @@
 use Prim.Native.Nat.{◌-◌}
 use native.Mathlib.Omega.{arith}
 use Rattle.fold.specs.Messages.{g}
-use Rattle.fold.specs.Laws.WriterLaws.{Rows, rows_start, rows_fit, rows-below, rows-turn, rows_end}
+use Rattle.fold.proofs.Laws.WriterLaws.{Rows, rows_start, rows_fit, rows-below, rows-turn, rows_end}
 use Rattle.prover.proofs.garbage.write_pair_products.Statement.{statement}
 use Rattle.prover.proofs.garbage.write_pair_products.Tie as tie
 

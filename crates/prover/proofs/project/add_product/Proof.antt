@@ -1,7 +1,7 @@
 -- `prover::project::add_product` meets its contract: the sum stays far from the limits of 64 bits.
 use mir.Facts.{to_z-of_z}
-use Rattle.residues.specs.Laws.Words.{widen, wide}
-use Rattle.residues.specs.Laws.Centring.{product-fits}
+use Rattle.residues.proofs.Laws.Words.{widen, wide}
+use Rattle.residues.proofs.Laws.Centring.{product-fits}
 use Rattle.prover.specs.Laws.ProjectedLaws.{summand-fits}
 use Rattle.prover.proofs.project.add_product.Statement.{statement}
 use Rattle.prover.proofs.project.add_product.Tie as tie

@@ -2,7 +2,7 @@
 use Prim.Native.Nat.{◌+◌, ◌-◌}
 use native.Mathlib.Omega.{arith}
 use lib.ListN.{length}
-use Rattle.residues.specs.Laws.RangeLaws.{projection-entries-part}
+use Rattle.residues.proofs.Laws.RangeLaws.{projection-entries-part}
 use Rattle.prover.specs.Known.Facts.{projections-length, witness-short}
 use Rattle.prover.specs.Laws.ProjectedLaws.{Projecting, projecting-start, projecting-fit, projecting-part, projecting-turn, projecting-end}
 use Rattle.prover.proofs.project.write_p.Statement.{statement}

@@ -1,5 +1,5 @@
 -- `refusals::part::next_part_refusal` meets its contract: the tests for as many z digits as there are. Assumes nothing.
-use Rattle.fold.specs.Laws.DigitCounts.{flag_few}
+use Rattle.fold.proofs.Laws.DigitCounts.{flag_few}
 use Rattle.refusals.proofs.part.next_part_refusal.Statement.{statement}
 use Rattle.refusals.proofs.part.next_part_refusal.Tie as tie
 

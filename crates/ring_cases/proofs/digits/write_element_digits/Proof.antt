@@ -3,7 +3,7 @@ use Prim.Native.Nat.{◌*◌, ◌≤◌}
 use native.Mathlib.Omega.{arith}
 use lib.ListN.{length}
 use borrow.Author.Rules.{rules}
-use Rattle.residues.specs.Laws.DigitBlockLaws.{last_fits}
+use Rattle.residues.proofs.Laws.DigitBlockLaws.{last_fits}
 use Rattle.ring_cases.specs.Laws.ResultLaws.{degree-fits, base-fits, count_fits, rest-length, block-fits, block-length, element-digits-out}
 use Rattle.ring_cases.proofs.digits.write_element_digits.Statement.{statement}
 use Rattle.ring_cases.proofs.digits.write_element_digits.Tie as tie

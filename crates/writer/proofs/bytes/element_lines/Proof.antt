@@ -3,7 +3,7 @@ use mathlib.Core.Path.{◌≡◌, refl}
 use Prim.Native.Nat.{◌+◌, ◌*◌, ◌≤◌}
 use native.Mathlib.Omega.{arith}
 use Rattle.writer.specs.Writing.{element_lines}
-use Rattle.writer.specs.Laws.LengthLaws.{lines-most}
+use Rattle.writer.proofs.Laws.LengthLaws.{lines-most}
 use borrow.Author.Rules.{rules}
 use Rattle.writer.proofs.bytes.element_lines.Statement.{statement}
 use Rattle.writer.proofs.bytes.element_lines.Tie as tie

@@ -4,7 +4,7 @@ use Prim.Native.Nat.{◌+◌, ◌*◌, ◌≤◌}
 use native.Mathlib.Omega.{arith}
 use Rattle.fields.specs.Field.{header_bytes}
 use Rattle.writer.specs.Writing.{text_bytes}
-use Rattle.writer.specs.Laws.LengthLaws.{bytes_most}
+use Rattle.writer.proofs.Laws.LengthLaws.{bytes_most}
 use borrow.Author.Rules.{rules}
 use Rattle.writer.proofs.bytes.text_bytes.Statement.{statement}
 use Rattle.writer.proofs.bytes.text_bytes.Tie as tie

@@ -1,7 +1,7 @@
 -- `writer::header::write_header` meets its contract.
 use Prim.Native.Nat.{◌-◌}
 use native.Mathlib.Omega.{arith}
-use Rattle.writer.specs.Laws.LineLaws.{HeaderWritten, header-start, header-room, header-step, header-done}
+use Rattle.writer.proofs.Laws.LineLaws.{HeaderWritten, header-start, header-room, header-step, header-done}
 use Rattle.writer.proofs.header.write_header.Statement.{statement}
 use Rattle.writer.proofs.header.write_header.Tie as tie
 

@@ -3,7 +3,7 @@ use mathlib.Core.Path.{ap, ◌∙◌}
 use Rattle.integers.specs.Over.{over}
 use Rattle.fields.specs.Field.{header_bytes}
 use Rattle.sheet.specs.Laws.ReadingLaws.{lines-positive}
-use Rattle.writer.specs.Laws.LineLaws.{body-lines}
+use Rattle.writer.proofs.Laws.LineLaws.{body-lines}
 use borrow.Author.Rules.{rules}
 use Rattle.writer.proofs.lines.write_body.Statement.{statement}
 use Rattle.writer.proofs.lines.write_body.Tie as tie

@@ -5,10 +5,10 @@ use native.Mathlib.Omega.{arith}
 use lib.IntN.{ℤ, pos, nat_abs}
 use lib.Signed.{lt_z}
 use lib.ListN.{length, get_or}
-use Rattle.residues.specs.Laws.Words.{word}
+use Rattle.residues.proofs.Laws.Words.{word}
 use Rattle.fields.specs.Sections.{ends_line}
 use borrow.Author.Rules.{rules}
-use Rattle.writer.specs.Laws.LineLaws.{BodyWritten, body-start, body-room, body-step, body-done}
+use Rattle.writer.proofs.Laws.LineLaws.{BodyWritten, body-start, body-room, body-step, body-done}
 use Rattle.writer.proofs.lines.write_lines.Statement.{statement}
 use Rattle.writer.proofs.lines.write_lines.Tie as tie
 

@@ -5,7 +5,7 @@ use native.Mathlib.Omega.{arith}
 use lib.ListN.{length}
 use Rattle.residues.specs.Range.{projection_entries}
 use Rattle.fold.specs.Refusals.{challenges}
-use Rattle.writer.specs.Laws.RefusalLaws.{rows_inside, challenges-inside, rows_are, challenges_are, numbers_refusal}
+use Rattle.writer.proofs.Laws.RefusalLaws.{rows_inside, challenges-inside, rows_are, challenges_are, numbers_refusal}
 use borrow.Author.Rules.{rules}
 use Rattle.writer.proofs.refusal.number_refusal.Statement.{statement}
 use Rattle.writer.proofs.refusal.number_refusal.Tie as tie

@@ -1,5 +1,5 @@
 -- `writer::refusal::slice_refusal` meets its contract.
-use Rattle.writer.specs.Laws.RefusalLaws.{other-count, right-count}
+use Rattle.writer.proofs.Laws.RefusalLaws.{other-count, right-count}
 use borrow.Author.Rules.{rules}
 use Rattle.writer.proofs.refusal.slice_refusal.Statement.{statement}
 use Rattle.writer.proofs.refusal.slice_refusal.Tie as tie

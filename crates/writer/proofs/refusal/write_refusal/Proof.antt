@@ -1,5 +1,5 @@
 -- `writer::refusal::write_refusal` meets its contract.
-use Rattle.writer.specs.Laws.RefusalLaws.{good_sizes, refused-header, refused_slice, last_refusal}
+use Rattle.writer.proofs.Laws.RefusalLaws.{good_sizes, refused-header, refused_slice, last_refusal}
 use borrow.Author.Rules.{rules}
 use Rattle.writer.proofs.refusal.write_refusal.Statement.{statement}
 use Rattle.writer.proofs.refusal.write_refusal.Tie as tie

@@ -1,0 +1,30 @@
+-- `residues::digits::fold_digit` meets its contract: the product with the base and the sum fit 64 bits.
+use mathlib.Core.Path.{◌∙◌}
+use mir.Syntax.{w32}
+use mir.Facts.{to_z-of_z}
+use Rattle.residues.proofs.Laws.Words.{widen, wide}
+use Rattle.residues.proofs.Laws.DigitSteps.{base-held, base-product-fits, horner-fits}
+use borrow.Author.Rules.{rules}
+use Rattle.residues.proofs.digits.fold_digit.Goals as goal
+
+pub overflow_cast-product : goal.overflow_cast-product
+overflow_cast-product c = rw (to_z-of_z c.ranges.acc) (widen c.ranges.acc)
+
+pub overflow_mul-product : goal.overflow_mul-product
+overflow_mul-product c = rw (wide c.ranges.acc, base-held c.requires) (base-product-fits c.requires c.ranges.acc)
+
+pub overflow_cast-digit : goal.overflow_cast-digit
+overflow_cast-digit c = rw (to_z-of_z c.ranges.x) (widen c.ranges.x)
+
+pub overflow_add-product : goal.overflow_add-product
+overflow_add-product c =
+    let product = base-product-fits c.requires c.ranges.acc in
+    rw (wide c.ranges.acc, base-held c.requires, wide c.ranges.x, to_z-of_z product) (horner-fits c.requires c.ranges.acc c.ranges.x)
+
+pub returns : goal.returns
+returns c =
+    let base = c.requires in
+    let acc = c.ranges.acc in
+    let x = c.ranges.x in
+    to_z-of_z {w = w32} (record { sfits = c.centre.type_inv })
+    ∙ (rw (wide acc, base-held base, wide x, to_z-of_z (base-product-fits base acc), to_z-of_z (horner-fits base acc x)) at c.centre.ensures)

@@ -1,0 +1,11 @@
+use Rattle.std.proofs.Common.{◌-◌, ◌<◌, get_or, pos, negsuc, sym, ◌∙◌, arith}
+use Rattle.ring.specs.Laws.ElementSteps.{stored-number, stored-product}
+use Rattle.ring.specs.Laws.ElementArrays.{turned, turned_zero, turned-suc, array-conjugate}
+use Rattle.ring.specs.Laws.Loops.{Filling, filling_start, filling_step, filling_end}
+use Rattle.ring.proofs.coefficients.conjugated.Given as goal
+
+abbrev pub invariant-loop-k : goal.invariant-loop-k
+invariant-loop-k l = (0 < l.k) × Filling 64 l.d (turned l.d l.a) (pos 0) l.k l.out
+
+abbrev pub decreases-loop-k : goal.decreases-loop-k
+decreases-loop-k l = l.d - l.k

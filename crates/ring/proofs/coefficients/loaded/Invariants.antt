@@ -1,0 +1,12 @@
+use Rattle.std.proofs.Common.{◌+◌, ◌-◌, ◌*◌, get_or, pos, sym, ◌∙◌, arith}
+use Rattle.residues.specs.Modulus.{centred}
+use Rattle.ring.specs.Laws.ElementSteps.{stored-number}
+use Rattle.ring.specs.Laws.ElementArrays.{array-el}
+use Rattle.ring.specs.Laws.Loops.{Filling, filling_start, filling_step, filling_end}
+use Rattle.ring.proofs.coefficients.loaded.Given as goal
+
+abbrev pub invariant-loop-k : goal.invariant-loop-k
+invariant-loop-k l = Filling 64 l.d (λ i. centred (get_or l.xs (l.p * l.d + i) (pos 0))) (pos 0) l.k l.out
+
+abbrev pub decreases-loop-k : goal.decreases-loop-k
+decreases-loop-k l = l.d - l.k

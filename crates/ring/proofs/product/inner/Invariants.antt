@@ -1,0 +1,14 @@
+use Rattle.std.proofs.Common.{◌≡◌, ◌+◌, ◌-◌, length, refl, ◌∙◌, arith}
+use Rattle.algebra.specs.Sum.{sum}
+use Rattle.ring.specs.Element.{R}
+use Rattle.ring.specs.Product.{Holds}
+use Rattle.ring.specs.Laws.ElementPlaces.{place-below, element-fits}
+use Rattle.ring.specs.Laws.ProductLaws.{pair, pairs_start, pairs-step, holds-room, holds-end}
+use Rattle.ring.specs.Laws.Loops.{Counted, counted_start, counted_step, counted-end}
+use Rattle.ring.proofs.product.inner.Given as goal
+
+abbrev pub invariant-loop-k : goal.invariant-loop-k
+invariant-loop-k l =     (length l.a ≡ 64) × (length l.e ≡ 129) × Counted l.n (λ k. Holds l.d (sum (R l.d) k (pair l.d l.u l.p l.v l.s)) k l.acc) l.k
+
+abbrev pub decreases-loop-k : goal.decreases-loop-k
+decreases-loop-k l = l.n - l.k

@@ -1,0 +1,10 @@
+use Rattle.std.proofs.Common.{◌+◌, ◌-◌, ◌*◌, get_or, pos, nat_abs, ap, ◌∙◌, arith}
+use Rattle.residues.proofs.Laws.Words.{word}
+use Rattle.ring.specs.Laws.ShortOperand.{Counting, counting_start, counting_step, counting_end, magnitude_small}
+use Rattle.ring.proofs.short.is_short.Given as goal
+
+abbrev pub invariant-loop-i : goal.invariant-loop-i
+invariant-loop-i l = Counting l.d l.v l.p l.excess l.i
+
+abbrev pub decreases-loop-i : goal.decreases-loop-i
+decreases-loop-i l = l.d - l.i
