@@ -10,8 +10,7 @@ use mir.Syntax.{w64}
 use mir.Val.{SFits, of_z}
 use mir.Facts.{to_z-of_z, Fits-nat_abs}
 use Rattle.integers.specs.Laws.Bridge.{N, zarith, pos_pn, sub_pn, nat_abs_pn, pn_min, sfits_pn}
-use Rattle.cases.proofs.numbers.wrapped.Statement.{statement}
-use Rattle.cases.proofs.numbers.wrapped.Tie as tie
+use Rattle.cases.proofs.numbers.wrapped.Goals as goal
 
 -- -1 - x for a negative x
 below : (x : ℤ) → lt_z x (pos 0) ≡ true → SFits w64 x → SFits w64 (negsuc 0 -ℤ x)
@@ -37,19 +36,27 @@ itself : (x : ℤ) → T (non_neg x) → nat_abs x ≡ of_z w64 x
 itself (pos n) t = refl
 itself (negsuc n) t = absurd t
 
-less : (c : tie.Then1) → lt_z c.before.args.x (pos 0) ≡ true
-less c = rw (to_z-of_z c.before.ranges.x) at c.if1.true
+less : (c : goal.Then-x-lt0) → lt_z c.args.x (pos 0) ≡ true
+less c = rw (to_z-of_z c.ranges.x) at c.if-x-lt0.true
 
-no_less : (c : tie.Else1) → T (non_neg c.before.args.x)
-no_less c = itself-non_neg c.before.args.x (rw (to_z-of_z c.before.ranges.x) at c.if1.false)
+no_less : (c : goal.Else-x-lt0) → T (non_neg c.args.x)
+no_less c = itself-non_neg c.args.x (rw (to_z-of_z c.ranges.x) at c.if-x-lt0.false)
 
-pub wrapped-spec : {M : Type 1} → statement M
-wrapped-spec =
-    tie.close
-    (tie.spec
-    (λ c. let f = c.before.ranges.x in rw (to_z-of_z f) (below _ (less c) f))
-    (λ c. let f = c.before.ranges.x in rw (to_z-of_z f) (rw (to_z-of_z (below _ (less c) f)) (below-non_neg c.before.args.x (less c), Fits-nat_abs tt (below _ (less c) f))))
-    (λ c. let f = c.before.ranges.x in rw (to_z-of_z f) (rw (to_z-of_z (below _ (less c) f)) (below-small _ (less c) f)))
-    (λ c. let f = c.before.ranges.x in rw (to_z-of_z f) (rw (to_z-of_z (below _ (less c) f)) (negative c.before.args.x (less c))))
-    (λ c. let f = c.before.ranges.x in rw (to_z-of_z f) (no_less c, Fits-nat_abs tt f))
-    (λ c. rw (to_z-of_z c.before.ranges.x) (itself c.before.args.x (no_less c))))
+pub overflow_sub-below : goal.overflow_sub-below
+overflow_sub-below c = let f = c.ranges.x in rw (to_z-of_z f) (below _ (less c) f)
+
+pub overflow_cast-result : goal.overflow_cast-result
+overflow_cast-result c =
+    let f = c.ranges.x in rw (to_z-of_z f) (rw (to_z-of_z (below _ (less c) f)) (below-non_neg c.args.x (less c), Fits-nat_abs tt (below _ (less c) f)))
+
+pub overflow_sub-result : goal.overflow_sub-result
+overflow_sub-result c = let f = c.ranges.x in rw (to_z-of_z f) (rw (to_z-of_z (below _ (less c) f)) (below-small _ (less c) f))
+
+pub returns-then-x-lt0 : goal.returns-then-x-lt0
+returns-then-x-lt0 c = let f = c.ranges.x in rw (to_z-of_z f) (rw (to_z-of_z (below _ (less c) f)) (negative c.args.x (less c)))
+
+pub overflow_cast-result-2 : goal.overflow_cast-result-2
+overflow_cast-result-2 c = let f = c.ranges.x in rw (to_z-of_z f) (no_less c, Fits-nat_abs tt f)
+
+pub returns : goal.returns
+returns c = rw (to_z-of_z c.ranges.x) (itself c.args.x (no_less c))
