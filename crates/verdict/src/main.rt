@@ -1,9 +1,9 @@
 // The program of verdicts: SPECIFICATION 10. It reads a sheet from standard input and prints the line of its verdict.
 #![tactic(auto)]
 
-ghost use Rattle.std.specs.Prelude.{◌≡◌, ◌≤◌, ◌<◌, length, take};
+ghost use Rattle.std.specs.Prelude.{◌≡◌, ◌≤◌, ◌<◌, length, take, IfSome};
 ghost use Rattle.std.specs.Counts.{IsPrefixLen};
-ghost use Rattle.verdict.specs.Reads.{Moved, place_after, interrupted};
+ghost use Rattle.verdict.specs.Reads.{Moved, TookInto, TookBetween, place_after, interrupted};
 
 use std::io;
 use std::io::{ErrorKind, Read};
@@ -31,7 +31,8 @@ fn error_number(error: &io::Error) -> i32 {
 
 // One read into `part`, as C answers it: the count of its bytes, or -1, and the number of its error.
 fn read_into<R: Read>(input: &mut R, part: &mut [u8]) -> (isize, i32)
-    ensures { Moved (length part.old) result.0 }
+    ensures moved { Moved (length part.old) result.0 }
+    ensures bytes { TookInto (R.remaining input.old) (R.remaining input.new) result.0 part.new }
 {
     match input.read(part) {
         Ok(count) => (count as isize, 0),
@@ -42,7 +43,8 @@ fn read_into<R: Read>(input: &mut R, part: &mut [u8]) -> (isize, i32)
 // One read into `part`, made again where a signal interrupts it: an interrupted read is no failed one. No run uses up the tries, which are
 // counted so that the loop ends.
 fn read_once<R: Read>(input: &mut R, part: &mut [u8]) -> isize
-    ensures { Moved (length part.old) result }
+    ensures moved { Moved (length part.old) result }
+    ensures bytes { TookInto (R.remaining input.old) (R.remaining input.new) result part.new }
 {
     let mut tries = 18446744073709551615u64;
     while tries > 0 {
@@ -76,6 +78,8 @@ fn read_more<R: Read>(input: &mut R, text: &mut [u8], from: usize) -> usize
     requires { from ≤ length text.old }
     ensures lower_bound { (from ≤ result) × (result ≤ length text.old) }
     ensures text_unchanged { take from text.new ≡ take from text.old }
+    ensures bytes { from < length text.old → result < length text.old →
+        TookBetween (R.remaining input.old) (R.remaining input.new) from result text.new }
 {
     let size = text.len();
     let got = read_once(input, &mut text[from..]);
@@ -83,10 +87,11 @@ fn read_more<R: Read>(input: &mut R, text: &mut [u8], from: usize) -> usize
 }
 
 // Reads the input to its end, or until `text` is full, and answers how many bytes it read. Where a read fails it answers the length
-// of `text`, which is more than a sheet may have.
+// of `text`, which is more than a sheet may have. Fewer bytes than `text` has room for are all that the input has.
 fn read_text<R: Read>(input: &mut R, text: &mut [u8]) -> usize
     requires { 65536 < length text.old }
-    ensures { IsPrefixLen result text.new }
+    ensures within { IsPrefixLen result text.new }
+    ensures bytes { IfSome (R.remaining input.old) (λ xs. result < length text.old → take result text.new ≡ xs) }
 {
     let mut done = 0;
     while done < text.len() {
