@@ -15,6 +15,9 @@ def read(p):
     return open(p, encoding='utf-8').read()
 
 
+RETURNS = {}
+
+
 def source_clauses(top):
     table = {}
     for f in glob.glob(top + '/crates/*/src/**/*.rt', recursive=True):
@@ -34,6 +37,11 @@ def source_clauses(top):
             if m:
                 path = '::'.join([crate] + mod + ([owner] if owner and line.startswith(' ') else []) + [m.group(1)])
                 cur = table.setdefault(path, ([], []))
+                RETURNS.setdefault(path, None)
+                here = path
+            m = re.search(r'\) -> i(8|16|32|64)\b', line)
+            if m and cur is not None:
+                RETURNS[here] = 'w' + m.group(1)
             m = re.match(r'\s+(requires|ensures)\*?\s*(\w+)?\s*\{', line)
             if m and cur is not None:
                 cur[0 if m.group(1) == 'requires' else 1].append(m.group(2))
@@ -208,6 +216,13 @@ class Function:
                             return self._signed
         return self._signed
 
+    def own_params(self):
+        parts = self.path.split('.')
+        for f in glob.glob(self.crate + '/src/**/*.rt', recursive=True):
+            m = re.search(r'(?s)\bfn ' + parts[-1] + r'\b[^{]*?\((.*?)\)\s*(?:->|requires|ensures|where|\{)', read(f))
+            if m:
+                yield from re.findall(r'(\w+):', m.group(1))
+
     def parent(self, i):
         up = self.places[i][1]
         return None if up is None else self.index[up]
@@ -252,6 +267,8 @@ class Function:
                     if a == f'.{f} .{rest[0]}':
                         rest[0] = b.split('.')[-1]
                         break
+            if rest:
+                rest[0] = rest[0].replace('-', '_')
             return 'c.' + '.'.join([f.replace('-', '_')] + rest)
         if f == 'requires':
             if self.d.get('pre') and self.d['pre'].get('fields'):
@@ -284,6 +301,13 @@ class Function:
                         rest = ['ensures'] + got
                 if rest == ['ensures'] and new.startswith('wrapping_'):
                     rest = ['ensures', 'value']
+                if rest[:1] in (['auto'], ['new']) and rest[1:2] in (['0'], ['1']) and p[3] in self.d['params']:
+                    k = 1
+                    while k < len(rest) and rest[k] == '1':
+                        k += 1
+                    names = self.d['params'][p[3]]
+                    if k < len(rest) and rest[k] == '0' and k - 1 < len(names):
+                        rest = [rest[0], names[k - 1]] + rest[k + 1:]
                 for old, bits in p[4]:
                     if rest and norm(rest[0]) == norm(old):
                         rest[0] = bits
@@ -518,6 +542,38 @@ def turn(fn, text):
         body = substitute(body, sub)
         invariants.append(f'abbrev pub {kind}-{new_loop} : goal.{kind}-{new_loop}\n{kind}-{new_loop} l = {body}')
         inv_names[p['name']] = f'{kind}-{new_loop}'
+    # helpers over a context
+    over = {}
+    for p in parsed:
+        m = re.search(r'\((' + W + r') : tie\.(' + W + r')[^)]*\)\s*→\s*', p['sig'])
+        if m and 'tie.spec' not in p['body']:
+            mm = re.match(re.escape(p['name']) + r'\s+([^=]*?)\s*=\s', p['body'])
+            place = fn.place(m.group(2))
+            if mm and place is not None and p['sig'][:m.start()].rstrip().endswith(':'):
+                over[p['name']] = dict(var=m.group(1), place=place, type=p['sig'][m.end():], params=mm.group(1).split(), body=p['body'][mm.end():], unfolding=p['unfolding'])
+                used.add(p['name'])
+
+    def inline(body, place, seen=()):
+        """helpers over a context that a converted body cites, as lets before it"""
+        pre, unf = '', []
+        for name, h in over.items():
+            pat = r'(?<![^\s(){}\[\];,])' + re.escape(name) + r' (?:c(?![^\s(){}\[\];,])|\(goal\.at\.' + W + r' c\)\.' + W + r')'
+            if name in seen or not re.search(pat, body):
+                continue
+            bare = re.sub(r'\(' + pat + r'\)', name, body)
+            body = re.sub(pat, name, bare)
+            ty = fn.convert(h['type'], h['var'], h['place'])
+            fn.goal = place
+            tb = fn.convert(h['body'], h['params'][0], h['place']).strip()
+            rest = h['params'][1:]
+            if rest:
+                tb = 'λ ' + ' '.join(rest) + '. ' + tb
+            p2, ty, u2 = inline(' '.join(ty.split()), place, seen + (name,))
+            p3, tb, u3 = inline(tb, place, seen + (name,))
+            pre += p2 + p3 + f'let {name} : {ty} = {tb} in\n    '
+            unf += u2 + u3 + ([h['unfolding']] if h['unfolding'] else [])
+        return pre, body, unf
+
     # goals
     answered = {}
     renamed = {}
@@ -548,13 +604,26 @@ def turn(fn, text):
             fn.report.append(f'{fn.path}: answer {new}: {a[:60]}')
             continue
         plain = ' '.join(body.split())
-        if plain in ('search rules', 'omega arith', 'search needs', 'refl', 'tt'):
+        if plain in ('search rules', 'omega arith', 'search needs', 'refl', 'tt') and not (p and p['unfolding']):
             if plain in ('search rules', 'omega arith', 'search needs', 'tt'):
                 continue
         fn.need = new
         body = fn.convert(body, var, place).strip()
         fn.need = None
-        body = body.replace('to_z-of_z (record', 'to_z-of_z {w = w32} (record')
+        def width(m):
+            w = 'w32'
+            k = re.match(r'\(record \{ sfits = (' + W + r')(?:\.(' + W + r'))?\.type_inv', body[m.start() + len('to_z-of_z '):])
+            if k:
+                step = k.group(2)
+                if step is None:
+                    a = re.search(r'let ' + re.escape(k.group(1)) + r' = c\.(' + W + r') in', body)
+                    step = a.group(1) if a else None
+                for q in fn.places:
+                    if q[2][1] == step and RETURNS.get(q[3]):
+                        w = RETURNS[q[3]]
+            return 'to_z-of_z {w = ' + w + '} (record'
+        body = re.sub(r'to_z-of_z \(record', width, body)
+        body = re.sub(r'SFits w32 c\.(\S+)\.result', lambda m: 'SFits ' + next((RETURNS[q[3]] for q in fn.places if q[2][1] == m.group(1) and RETURNS.get(q[3])), 'w32') + ' c.' + m.group(1) + '.result', body)
         renamed[a] = new
         fields = None
         if new.startswith('returns'):
@@ -569,6 +638,10 @@ def turn(fn, text):
                 cands = [v for k2, v in fn.table.items() if new.startswith(k2.split('::')[-1] + '-') and len(v[0]) > 1]
                 if len({tuple(v[0]) for v in cands}) == 1:
                     fields = cands[0][0]
+        pre, body, unf = inline(body, place)
+        body = pre + body
+        names = {v for one in fn.d['params'].values() for v in one} | {v for l in loops for v in l[1]} | set(fn.own_params())
+        body = re.sub(r'(?<=\.)([a-z0-9]+(?:-[a-z0-9]+)+)(?![^\s(){}\[\];,.])', lambda m: m.group(1).replace('-', '_') if m.group(1).replace('-', '_') in names else m.group(1), body)
         if fields and len(fields) > 1:
             got = as_record(body, fields)
             if got:
@@ -579,8 +652,9 @@ def turn(fn, text):
         if p and p['comment']:
             txt += '\n'.join(p['comment']) + '\n'
         txt += f'pub {new} : goal.{new}\n'
-        if p and p['unfolding']:
-            txt += p['unfolding'] + '\n'
+        opened = ' '.join(u[len('unfolding '):] for u in ([p['unfolding']] if p and p['unfolding'] else []) + unf)
+        if opened:
+            txt += 'unfolding ' + ' '.join(dict.fromkeys(opened.split())) + '\n'
         sep = ' ' if '\n' not in body and len(body) < 130 else '\n    '
         txt += f'{new} c ={sep}{body}'
         answers.append(txt)
@@ -647,7 +721,7 @@ def turn(fn, text):
     for word, line in (('of_z', 'use mir.Val.{of_z}'), ('to_z', 'use mir.Val.{to_z}'), ('w32', 'use mir.Syntax.{w32}'), ('w64', 'use mir.Syntax.{w64}')):
         if re.search(r'(?<![^\s(){}\[\];,|=])' + word + r'(?![^\s(){}\[\];,|])', everything) and not any(re.search(r'[{ ,]' + word + r'[},]', u) for u in uses):
             uses.append(line)
-    base = [u for u in uses if not re.search(r'\.(Statement|Tie)\b', u)]
+    base = [u for u in uses if not re.search(r'\.proofs\.' + re.escape(fn.path) + r'\.(Statement|Tie)\b', u.replace('«', '').replace('»', ''))]
     module = f'Rattle.{os.path.basename(fn.crate)}.proofs.{fn.path}'
     head = [h for h in head]
     files = {}

@@ -114,6 +114,7 @@ module _ (𝓡 : Relation) where
       found : SomeFails (every K (λ k. unmixed d r (whole_at d n r whole k)) ∷ every L (λ l. unmixed d r (term_at d n r constant_terms l)) ∷ []) → Mixed
       found (inl e) = inl (some K (whole_at d n r whole) e)
       found (inr (inl e)) = inr (some L (term_at d n r constant_terms) e)
+      found (inr (inr e)) = elim e [ ]
 
       none : Mixed → Unmixed 𝓡 → ⊥
       none (inl m) u = m.has.nonzero (u.wholly m.place m.has.i m.has.j m.below m.has.mixed m.has.below)

@@ -1,0 +1,21 @@
+-- `constraints::projected_rows::centred_row` meets its contract. The first k elements are in place, zeros follow.
+use Prim.Native.Nat.{◌+◌, ◌-◌, ◌*◌}
+use native.Mathlib.Omega.{arith}
+use lib.ListN.{get_or, replicate}
+use lib.IntN.{pos}
+use Rattle.integers.specs.Lists.{tab, upto}
+use Rattle.residues.specs.Modulus.{centred}
+use Rattle.ring.specs.Laws.Loops.{Filling, filling_start, filling_step, filling_all}
+use Rattle.constraints.proofs.projected_rows.centred_row.Goals as goal
+
+pub loop-k-init : goal.loop-k-init
+loop-k-init c = filling_start
+
+pub centred_element-element-requires : goal.centred_element-element-requires
+centred_element-element-requires c = record { degree = c.requires; k_bound = omega arith }
+
+pub loop-k-preserved : goal.loop-k-preserved
+loop-k-preserved c = filling_step c.loop-k.invariant (omega arith) (omega arith) c.centred_element-element.ensures
+
+pub returns : goal.returns
+returns c = filling_all c.loop-k.invariant (omega arith)

@@ -1,0 +1,10 @@
+use Prim.Native.Nat.{◌-◌}
+use native.Mathlib.Omega.{arith}
+use Rattle.constraints.specs.Laws.RowGroupLaws.{Tabled, tabled_start, tabled_step, tabled_end, weights-place}
+use Rattle.constraints.proofs.row_groups.write_omega_sums.Given as goal
+
+abbrev pub invariant-loop-i : goal.invariant-loop-i
+invariant-loop-i l = Tabled l.w l.omega l.i l.omega_sums
+
+abbrev pub decreases-loop-i : goal.decreases-loop-i
+decreases-loop-i l = l.count - l.i

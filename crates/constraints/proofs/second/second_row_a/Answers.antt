@@ -1,0 +1,24 @@
+-- `constraints::second::second_row_a` meets its contract: the projection rows have no a. The loop has written the first k entries.
+use Prim.Native.Nat.{◌-◌}
+use native.Mathlib.Omega.{arith}
+use lib.ListN.{replicate}
+use lib.IntN.{pos}
+use Rattle.ring.specs.Element.{array}
+use Rattle.fold.specs.Entries.{second_a}
+use Rattle.ring.specs.Laws.Loops.{Filling, filling_start, filling_step, filling_all}
+use Rattle.constraints.specs.Laws.SizeLaws.{function-parts}
+use Rattle.constraints.proofs.second.second_row_a.Goals as goal
+
+pub loop-k-init : goal.loop-k-init
+loop-k-init c = filling_start
+
+pub term_entry-entry-requires : goal.term_entry-entry-requires
+term_entry-entry-requires c =
+    record { term_facts = c.requires.term_facts; k_bound = (omega arith, omega (arith, function-parts c.args.shape.n c.args.shape.r, c.requires.e_bound)) }
+
+pub loop-k-preserved : goal.loop-k-preserved
+unfolding second_a
+loop-k-preserved c = filling_step c.loop-k.invariant (omega arith) (omega arith) c.term_entry-entry.ensures
+
+pub returns : goal.returns
+returns c = filling_all c.loop-k.invariant (omega arith)

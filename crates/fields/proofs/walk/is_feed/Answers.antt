@@ -1,0 +1,7 @@
+-- `fields::walk::is_feed` meets its contract.
+use Rattle.fields.specs.Laws.PlaceLaws.{feed_outside}
+use borrow.Author.Rules.{rules}
+use Rattle.fields.proofs.walk.is_feed.Goals as goal
+
+pub returns : goal.returns
+returns c = feed_outside c.args.text.now c.args.at c.if-at-text.false

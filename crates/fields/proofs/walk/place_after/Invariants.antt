@@ -1,0 +1,11 @@
+use Prim.Native.Nat.{◌-◌}
+use native.Mathlib.Omega.{arith}
+use Rattle.fields.specs.Sections.{ends_line}
+use Rattle.fields.specs.Laws.WalkLaws.{Walked, walked_start, walked_index, walked_fits, walked_step, walked_end}
+use Rattle.fields.proofs.walk.place_after.Given as goal
+
+abbrev pub invariant-loop-j : goal.invariant-loop-j
+invariant-loop-j l = Walked (ends_line l.s) l.text l.from l.start l.count l.here l.j
+
+abbrev pub decreases-loop-j : goal.decreases-loop-j
+decreases-loop-j l = l.count - l.j

@@ -1,0 +1,11 @@
+use mathlib.Core.Path.{◌∙◌}
+use native.Mathlib.Omega.{arith}
+use lib.ListN.{length-set}
+use Rattle.fields.specs.Laws.WriteLaws.{Columns, columns-start, columns-step, columns-sign, columns-end}
+use Rattle.fields.proofs.write.write_columns.Given as goal
+
+abbrev pub invariant-loop-left : goal.invariant-loop-left
+invariant-loop-left l = Columns l.initial.text l.text l.at l.minus l.m l.left l.rest
+
+abbrev pub decreases-loop-left : goal.decreases-loop-left
+decreases-loop-left l = l.left

@@ -1,0 +1,10 @@
+-- `limits::bounds::commit_bounds` meets its contract: rows 1 to 4 in order. Assumes nothing.
+use Rattle.limits.specs.Laws.StageLaws.{single, none}
+use Rattle.limits.proofs.bounds.commit_bounds.Goals as goal
+
+pub returns : goal.returns
+returns c =
+    single 1 _ c.degree.ensures c.first-4.ensures
+    (single 2 _ c.shape-two.ensures c.first-3.ensures
+    (single 3 _ c.ranks-three.ensures c.first-2.ensures
+    (single 4 _ c.digits-four.ensures c.first.ensures none)))

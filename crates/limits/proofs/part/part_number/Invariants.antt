@@ -1,0 +1,11 @@
+use Prim.Native.Nat.{◌-◌}
+use native.Mathlib.Omega.{arith}
+use Rattle.limits.specs.Laws.CountLaws.{TakenOff, part-zero, taken_start, taken_step, part_of_z, part_of_rest}
+use borrow.Author.Rules.{rules}
+use Rattle.limits.proofs.part.part_number.Given as goal
+
+abbrev pub invariant-loop-e : goal.invariant-loop-e
+invariant-loop-e l = TakenOff l.tz l.nu l.part l.left l.e
+
+abbrev pub decreases-loop-e : goal.decreases-loop-e
+decreases-loop-e l = l.tz - l.e

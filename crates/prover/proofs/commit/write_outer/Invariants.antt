@@ -1,0 +1,15 @@
+use mathlib.Core.Path.{sym}
+use Prim.Native.Nat.{◌-◌}
+use native.Mathlib.Nat.{zero-add}
+use native.Mathlib.Omega.{arith}
+use Rattle.fold.specs.Messages.{elements}
+use Rattle.ring.specs.Laws.Writers.{Elements, elements_start₀, elements-fit, elements-turn, elements-all}
+use Rattle.prover.specs.Outputs.{outer}
+use Rattle.ring.specs.Laws.ElementPlaces.{row_fits}
+use Rattle.prover.proofs.commit.write_outer.Given as goal
+
+abbrev pub invariant-loop-k : goal.invariant-loop-k
+invariant-loop-k l = Elements l.d 0 l.rows (outer l.d l.m l.l l.b_matrix l.x l.c_matrix l.y) l.initial.out l.k l.out
+
+abbrev pub decreases-loop-k : goal.decreases-loop-k
+decreases-loop-k l = l.rows - l.k

@@ -1,0 +1,16 @@
+use mathlib.Core.Path.{◌∙◌}
+use Prim.Native.Nat.{◌-◌}
+use native.Mathlib.Omega.{arith}
+use lib.ListN.{length}
+use mir.Facts.{to_z-of_z}
+use Rattle.prover.specs.Laws.ProjectedLaws.{entry-small, Dotted, dotted_start, dotted_small, dotted_turn, dotted_end}
+use mir.Val.{of_z}
+use mir.Syntax.{w32}
+use mir.Syntax.{w64}
+use Rattle.prover.proofs.project.project_row.Given as goal
+
+abbrev pub invariant-loop-y : goal.invariant-loop-y
+invariant-loop-y l = Dotted l.row l.witness l.y (of_z w64 l.acc)
+
+abbrev pub decreases-loop-y : goal.decreases-loop-y
+decreases-loop-y l = length l.witness - l.y
