@@ -124,11 +124,12 @@ module _ (𝓢 : BareStatement) (𝓓 : Draws) (s : List ℤ) (taken : first_fai
       let before : i - 1 ≤ r = omega arith in
       let c-long : length (take ((i - 1) * d) c) ≡ (i - 1) * d = length-take-le _ c (omega (arith, c-size, mul-le-mul_right d before)) in
       let c-small : coefficients (take ((i - 1) * d) c) ≡ true = coefficients-part 0 ((i - 1) * d) c (search row₈) in
+      let s-sized : sized s (r * n * d) ≡ true = search row₇ in
       passes_refusal (bare_turn_tests d n r i (bare_phi d n r (bare_aggregate 𝓢 𝓓).φ) (take ((i - 1) * d) c) s out)
       (row₁
       & all_all_of _ (search (between-tested, row₂))
       & all_all_of _
-      (length-sized _ _ (length-bare_phi d n r (bare_aggregate 𝓢 𝓓).φ) & length-sized _ _ c-long & search row₇ & length-sized _ _ size & tt)
+      (length-sized _ _ (length-bare_phi d n r (bare_aggregate 𝓢 𝓓).φ) & length-sized _ _ c-long & s-sized & length-sized _ _ size & tt)
       & all_all_of _ (coefficients-bare_phi d n r (bare_aggregate 𝓢 𝓓).φ & c-small & search row₈ & tt)
       & challenges-before d r (i - 1) c before (search draws)
       & tt)
