@@ -270,6 +270,8 @@ class Function:
             if rest:
                 rest[0] = rest[0].replace('-', '_')
             return 'c.' + '.'.join([f.replace('-', '_')] + rest)
+        if f == 'pre':
+            f = 'requires'
         if f == 'requires':
             if self.d.get('pre') and self.d['pre'].get('fields'):
                 if not rest:
@@ -640,6 +642,24 @@ def turn(fn, text):
                     fields = cands[0][0]
         pre, body, unf = inline(body, place)
         body = pre + body
+        def unpair(text):
+            at = text.find('let (')
+            while at >= 0:
+                end = matching(text, at + 4)
+                if end > 0 and text.startswith(' = (', end + 1):
+                    stop = matching(text, end + 4)
+                    if stop > 0 and text.startswith(' in', stop + 1):
+                        left = re.findall(r"[^\s(),]+", text[at + 4:end + 1])
+                        right = re.findall(r'[^\s(),]+', text[end + 4:stop + 1])
+                        if len(left) == len(right):
+                            lets = ' '.join(f'let {a} = {b} in' for a, b in zip(left, right) if a != '_')
+                            text = text[:at] + lets + text[stop + 4:]
+                            at = text.find('let (', at)
+                            continue
+                at = text.find('let (', at + 5)
+            return text
+        body = unpair(body)
+        body = re.sub(r'(c\.if-' + W + r')\.taken', r'\1.true', body)
         names = {v for one in fn.d['params'].values() for v in one} | {v for l in loops for v in l[1]} | set(fn.own_params())
         body = re.sub(r'(?<=\.)([a-z0-9]+(?:-[a-z0-9]+)+)(?![^\s(){}\[\];,.])', lambda m: m.group(1).replace('-', '_') if m.group(1).replace('-', '_') in names else m.group(1), body)
         if fields and len(fields) > 1:
@@ -647,7 +667,9 @@ def turn(fn, text):
             if got:
                 body = got
             else:
-                fn.report.append(f'{fn.path}: {new}: clauses {fields} not split')
+                pre0, rest0 = lets(body)
+                paths = ['.1' * k + '.0' for k in range(len(fields) - 1)] + ['.1' * (len(fields) - 1)]
+                body = pre0 + (' ' if pre0 else '') + 'let all = ' + rest0.strip() + ' in record { ' + '; '.join(f'{f} = all{q}' for f, q in zip(fields, paths)) + ' }'
         txt = ''
         if p and p['comment']:
             txt += '\n'.join(p['comment']) + '\n'

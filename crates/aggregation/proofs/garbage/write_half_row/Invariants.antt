@@ -1,0 +1,13 @@
+use mathlib.Core.Path.{refl}
+use Prim.Native.Nat.{◌+◌, ◌-◌}
+use native.Mathlib.Omega.{arith}
+use Rattle.fold.specs.Messages.{elements}
+use Rattle.ring.specs.Laws.Writers.{Elements, elements-start, elements-below, elements-fit, elements-turn, elements-end}
+use Rattle.aggregation.specs.Garbage.{halved}
+use Rattle.aggregation.proofs.garbage.write_half_row.Given as goal
+
+abbrev pub invariant-loop-k : goal.invariant-loop-k
+invariant-loop-k l =     Elements l.d l.at (l.r - l.i) (λ k. halved l.d l.r l.products l.i (l.i + k)) l.initial.out l.k l.out
+
+abbrev pub decreases-loop-k : goal.decreases-loop-k
+decreases-loop-k l = l.r - l.i - l.k

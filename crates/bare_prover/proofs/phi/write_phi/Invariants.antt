@@ -1,0 +1,19 @@
+use mathlib.Core.Path.{refl, sym, ◌∙◌}
+use Prim.Native.Nat.{◌-◌, ◌*◌}
+use native.Mathlib.Nat.{mul-le-mul, le_refl}
+use native.Mathlib.Omega.{arith}
+use lib.ListN.{length-replicate}
+use lib.IntN.{pos}
+use Rattle.integers.specs.Laws.OverLaws.{over-all}
+use Rattle.ring.specs.Laws.Writers.{Blocks, blocks_start, blocks_fit, blocks_part, blocks_turn, blocks_all}
+use Rattle.fold.specs.Messages.{elements, aggregate}
+use Rattle.fold.proofs.Laws.WriterLaws.{length-elements}
+use Rattle.bare.specs.Messages.{bare_phi}
+use Rattle.bare_prover.proofs.phi.write_phi.Given as goal
+
+abbrev pub invariant-loop-i : goal.invariant-loop-i
+invariant-loop-i l =     Blocks 0 l.r (l.sizes.shape.n * l.sizes.shape.d) (λ i. elements l.sizes.shape.d l.sizes.shape.n ((aggregate l.sizes.shape.d l.sizes.shape.n l.r l.sizes.k
+    l.sizes.l l.sizes.w l.whole l.constant_terms l.projections l.psi l.omega l.alpha l.delta).φ i)) l.initial.out l.i l.at l.out
+
+abbrev pub decreases-loop-i : goal.decreases-loop-i
+decreases-loop-i l = l.r - l.i

@@ -1,0 +1,15 @@
+use mathlib.Core.Path.{◌≡◌, ap, ◌∙◌}
+use Prim.Native.Nat.{◌-◌}
+use native.Mathlib.Omega.{arith}
+use Rattle.algebra.specs.Triangle.{pair}
+use Rattle.ring.specs.Element.{array}
+use Rattle.checks.specs.Mixed.{mixed_row}
+use Rattle.checks.specs.Laws.MixedLaws.{mixed-all, pair-first, pair-next-row, pair_small}
+use Rattle.ring.specs.Laws.Loops.{Summed, summed_start, summed_step, summed_end}
+use Rattle.checks.proofs.amortized.mixed_sum.Given as goal
+
+abbrev pub invariant-loop-i : goal.invariant-loop-i
+invariant-loop-i l = Summed l.d l.r (mixed_row l.d l.r l.b l.t l.place l.c l.opening) l.i l.acc.coefficients × (l.q ≡ pair l.r l.i l.i)
+
+abbrev pub decreases-loop-i : goal.decreases-loop-i
+decreases-loop-i l = l.r - l.i

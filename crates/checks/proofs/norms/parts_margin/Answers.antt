@@ -1,0 +1,15 @@
+-- `checks::norms::parts_margin` meets its contract.
+use mathlib.Core.Path.{sym}
+use native.Mathlib.Omega.{arith}
+use lib.Seq.{length-take-le}
+use Rattle.checks.specs.Norms.{three_lengths}
+use Rattle.checks.specs.Laws.NormLaws.{three-lengths}
+use borrow.Author.Rules.{rules}
+use Rattle.checks.proofs.norms.parts_margin.Goals as goal
+
+pub slice_bounds-compare-end : goal.slice_bounds-compare-end
+slice_bounds-compare-end c = sym (length-take-le _ _ (omega arith))
+
+pub returns : goal.returns
+unfolding three_lengths
+returns c = three-lengths _ _ _ _ _ _ _ c.compare-low.ensures c.lessen-middle.ensures c.lessen.ensures

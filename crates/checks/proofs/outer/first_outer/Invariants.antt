@@ -1,0 +1,15 @@
+use Prim.Native.Nat.{◌-◌}
+use native.Mathlib.Omega.{arith}
+use Rattle.ring.specs.Element.{el, same}
+use Rattle.fold.specs.Messages.{outer₁}
+use Rattle.fold.specs.Verdict.{check₃}
+use Rattle.checks.specs.Known.Facts.{t_block_of, g_block_of}
+use Rattle.ring.specs.Laws.Loops.{Tested, tested-start, tested-step, tested-end}
+use Rattle.checks.proofs.outer.first_outer.Given as goal
+
+abbrev pub invariant-loop-k : goal.invariant-loop-k
+invariant-loop-k l = Tested l.rows (λ k. same l.sizes.shape.d (el l.sizes.shape.d l.u1 k) (outer₁ l.sizes.shape.d l.sizes.shape.r
+    l.sizes.kappa l.sizes.t1 l.sizes.t2 l.b_matrix l.c_matrix k (t_block_of l.tz l.sizes l.opening) (g_block_of l.tz l.sizes l.opening))) l.k l.all
+
+abbrev pub decreases-loop-k : goal.decreases-loop-k
+decreases-loop-k l = l.rows - l.k

@@ -1,0 +1,19 @@
+-- `checks::outer::row_times` meets its contract.
+use mathlib.Core.Path.{ap, ◌∙◌}
+use Prim.Native.Nat.{◌+◌, ◌*◌}
+use native.Mathlib.Omega.{arith}
+use Rattle.ring.specs.Element.{array}
+use Rattle.ring.specs.Laws.ElementPlaces.{place-below}
+use Rattle.checks.specs.Laws.PlaceLaws.{row-times}
+use borrow.Author.Rules.{rules}
+use Rattle.checks.proofs.outer.row_times.Goals as goal
+
+pub overflow_mul-row : goal.overflow_mul-row
+overflow_mul-row c =
+    let a = c.args in
+    omega (arith, place-below a.d (a.k * a.m + a.m) c.requires.degree.positive c.requires.d_in_bounds.0)
+
+pub returns : goal.returns
+returns c =
+    let a = c.args in
+    c.inner.ensures ∙ ap (array a.d) (row-times a.d a.m _ a.k _ a.place)

@@ -1,0 +1,42 @@
+-- `checks::relation::diagonal_sum` meets its contract. The accumulator holds the summands so far, and q is the number of the next pair (i, i).
+use mathlib.Core.Path.{◌≡◌, ap, ◌∙◌}
+use Prim.Native.Nat.{◌-◌}
+use native.Mathlib.Omega.{arith}
+use native.Mathlib.Nat.{le_refl}
+use Rattle.algebra.specs.Triangle.{pair}
+use Rattle.ring.specs.Element.{array}
+use Rattle.fold.specs.Opening.{block, garbage_of}
+use Rattle.checks.specs.Laws.PlaceLaws.{garbage-at}
+use Rattle.checks.specs.Laws.MixedLaws.{garbage-fits, pair-first, pair-next-row, pair_small}
+use Rattle.ring.specs.Laws.Loops.{Summed, summed_start, summed_step, summed_end}
+use Rattle.checks.proofs.relation.diagonal_sum.Goals as goal
+
+pub loop-i-init : goal.loop-i-init
+loop-i-init c = (summed_start (c.additive_identity-acc.ensures _), pair-first _)
+
+pub garbage_of-h-requires : goal.garbage_of-h-requires
+garbage_of-h-requires c =
+    let a = c.args in
+    let g = c.requires in
+    let i = c.loop-i.i in
+    let fits = garbage-fits a.d a.r a.t a.place i i c.loop-i.q _ (le_refl _) c.loop-i-test.true c.loop-i.invariant.1 g.inside in record { degree = g.degree; base = g.base; t_nonzero = g.digits; d_in_bounds = fits }
+
+pub sum-acc-requires : goal.sum-acc-requires
+sum-acc-requires c = c.requires.degree
+
+pub overflow_add-q : goal.overflow_add-q
+overflow_add-q c =
+    let small = pair_small c.args.r c.loop-i.i c.loop-i.q c.requires.parts c.loop-i-test.true c.loop-i.invariant.1 in
+    omega (arith, small, c.requires.parts)
+
+pub loop-i-preserved : goal.loop-i-preserved
+loop-i-preserved c =
+    let a = c.args in
+    let i = c.loop-i.i in
+    let taken = c.loop-i-test.true in
+    let place = garbage-at a.d a.r a.b a.t (block a.d a.opening.now a.place) i i c.loop-i.q c.loop-i.invariant.1 in
+    let value = c.garbage_of-h.ensures ∙ ap (array a.d) place in
+    (summed_step c.loop-i.invariant.0 c.requires.degree taken value c.sum-acc.ensures, pair-next-row a.r i c.loop-i.q taken c.loop-i.invariant.1)
+
+pub returns : goal.returns
+returns c = summed_end c.loop-i.invariant.0 c.loop-i-test.false

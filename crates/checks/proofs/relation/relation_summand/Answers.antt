@@ -1,0 +1,15 @@
+-- `checks::relation::relation_summand` meets its contract.
+use Rattle.checks.specs.Laws.MixedLaws.{garbage-below}
+use Rattle.checks.specs.Laws.RelationLaws.{relation-summand}
+use borrow.Author.Rules.{rules}
+use Rattle.checks.proofs.relation.relation_summand.Goals as goal
+
+pub garbage_of-g-requires : goal.garbage_of-g-requires
+garbage_of-g-requires c =
+    let z = c.args.sizes in
+    let g = c.requires.garbage in record { degree = g.degree; base = g.base; t_nonzero = g.digits; d_in_bounds = garbage-below z.shape.d z.shape.r z.t2 c.args.place c.args.q _ c.requires.q_bound g.inside }
+
+pub returns : goal.returns
+returns c =
+    relation-summand c.args.sizes _ _ _ _ _ _ c.args.place c.args.q _ _ _ c.requires.whole_facts.shaped.degree.small
+    c.aggregate_a-aggregate_a.ensures c.garbage_of-g.ensures c.product.ensures

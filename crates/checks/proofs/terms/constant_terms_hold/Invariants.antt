@@ -1,0 +1,14 @@
+use mathlib.Core.Path.{◌∙◌}
+use Prim.Native.Nat.{◌-◌}
+use native.Mathlib.Omega.{arith}
+use Rattle.checks.specs.ConstantTerms.{term_holds}
+use Rattle.checks.specs.Laws.ConstantTermLaws.{check_two}
+use Rattle.ring.specs.Laws.Loops.{Tested, tested-start, tested-step, tested-end}
+use Rattle.checks.proofs.terms.constant_terms_hold.Given as goal
+
+abbrev pub invariant-loop-k : goal.invariant-loop-k
+invariant-loop-k l = Tested 5 (term_holds l.sizes.shape.d l.sizes.shape.n l.sizes.shape.r l.sizes.l
+    l.sizes.w l.constant_terms l.psi l.omega l.p l.second_b) l.k l.all
+
+abbrev pub decreases-loop-k : goal.decreases-loop-k
+decreases-loop-k l = 5 - l.k

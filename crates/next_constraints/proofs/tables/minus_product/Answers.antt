@@ -1,0 +1,9 @@
+-- `next_constraints::tables::minus_product` meets its contract.
+use borrow.Author.Rules.{rules}
+use Rattle.next_constraints.specs.Laws.TableLaws.{product-end}
+use Rattle.next_constraints.proofs.tables.minus_product.Goals as goal
+
+pub returns : goal.returns
+returns c =
+    product-end c.args.d _ c.args.i c.args.j _ c.requires.degree c.from_slice-left.ensures c.from_slice-right.ensures
+    c.product-once.ensures c.pair_factor-factor.ensures c.scale-counted.ensures c.negation.ensures

@@ -1,0 +1,31 @@
+-- `next_constraints::tables::write_diagonal_row` meets its contract. The loop's invariant: the first k entries of row i are written.
+use mathlib.Core.Path.{refl}
+use mathlib.Core.Bool.{cond}
+use Prim.Native.Nat.{◌+◌, ◌-◌}
+use native.Mathlib.Omega.{arith}
+use lib.Dec.{eqb}
+use Rattle.ring.specs.Element.{R}
+use Rattle.fold.specs.Messages.{elements}
+use Rattle.ring.specs.Laws.Writers.{Elements, elements-start, elements-below, elements-fit, elements-turn, elements-end}
+use Rattle.next_constraints.proofs.tables.write_diagonal_row.Goals as goal
+
+pub loop-k-init : goal.loop-k-init
+loop-k-init c = elements-start c.requires.i_le_r.1
+
+pub overflow_add-place : goal.overflow_add-place
+overflow_add-place c = omega (arith, elements-below c.loop-k.invariant c.requires.degree)
+
+pub store-requires : goal.store-requires
+store-requires c = record { degree = c.requires.degree; d_in_bounds = elements-fit c.loop-k.invariant refl c.loop-k-test.true }
+
+pub loop-k-preserved : goal.loop-k-preserved
+loop-k-preserved c =
+    elements-turn c.loop-k.invariant c.requires.degree refl c.loop-k-test.true
+    (c.diagonal_entry-entry.ensures _ c.requires.degree.positive) c.store.ensures
+
+pub shape_of-out : goal.shape_of-out
+shape_of-out c = c.loop-k.invariant.same
+
+pub returns : goal.returns
+unfolding elements
+returns c = elements-end c.loop-k.invariant c.loop-k-test.false

@@ -1,0 +1,19 @@
+-- `refusals::ranges::message_ranges` meets its contract: each list in turn. Assumes nothing.
+use mathlib.Core.Path.{refl}
+use Rattle.limits.specs.Laws.RowLaws.{end, ◌&◌}
+use Rattle.limits.specs.Laws.StageLaws.{joined-tests}
+use Rattle.refusals.proofs.ranges.message_ranges.Goals as goal
+
+pub returns : goal.returns
+returns c =
+    joined-tests
+    (c.are_coefficients.ensures
+    & c.are_coefficients-2.ensures
+    & c.are_coefficients-3.ensures
+    & c.are_coefficients-4.ensures
+    & c.are_coefficients-5.ensures
+    & c.are_coefficients-6.ensures
+    & c.are_coefficients-7.ensures
+    & c.are_coefficients-8.ensures
+    & end)
+    refl
