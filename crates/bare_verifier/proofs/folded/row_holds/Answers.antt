@@ -21,11 +21,14 @@ overflow_mul-row c =
 pub inner-requires : goal.inner-requires
 inner-requires c =
     let m = c.args.sizes in
-    let o = c.requires.bare_folded_facts.opened in record { degree = o.shaped.degree; n_bound = (
+    let o = c.requires.bare_folded_facts.opened in record {
+      degree = o.shaped.degree;
+      n_bound = (
         omega (arith, o.shaped.rank-small),
         row_fits m.shape.d m.shape.n c.requires.k_lt_kappa (omega (arith, c.requires.bare_folded_facts.A-length)),
         rw c.z_place-start.ensures (z-fits m o),
-      ) }
+      );
+    }
 
 pub folded_row-right-requires : goal.folded_row-right-requires
 folded_row-right-requires c = record { bare_opening_facts = c.requires.bare_folded_facts.opened; k_lt_kappa = c.requires.k_lt_kappa }

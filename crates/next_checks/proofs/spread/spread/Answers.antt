@@ -26,11 +26,14 @@ pub move_chunk-requires : goal.move_chunk-requires
 move_chunk-requires c =
     let a = c.args in
     let cut = c.requires.cut_facts in
-    let inside = c.loop-s-test.true in record { degree = c.requires.verify_sized.shaped.degree; at_le_from = (
+    let inside = c.loop-s-test.true in record {
+      degree = c.requires.verify_sized.shaped.degree;
+      at_le_from = (
         spreading_order a.sizes a.cut cut c.loop-s.invariant,
         spreading_chunk a.sizes a.cut cut c.loop-s.invariant c.chunk_width-size.ensures inside,
         spreading_part a.sizes a.cut cut c.loop-s.invariant inside,
-      ) }
+      );
+    }
 
 pub overflow_add-start-in-loop-s : goal.overflow_add-start-in-loop-s
 overflow_add-start-in-loop-s c =

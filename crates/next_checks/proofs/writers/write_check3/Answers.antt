@@ -25,10 +25,13 @@ pub write_matrix_row-requires : goal.write_matrix_row-requires
 write_matrix_row-requires c =
     let a = c.args in
     let m = t_size a.sizes.shape.r a.sizes.kappa a.sizes.t1 in
-    let all : a.sizes.kappa1 * m * a.sizes.shape.d ≤ length a.b_matrix.now = omega (arith, c.requires.b_matrix_len) in record { degree = c.requires.verify_sized.shaped.degree; d_in_bounds = rw (t-columns a.sizes a.cut c.requires.cut_facts) (
+    let all : a.sizes.kappa1 * m * a.sizes.shape.d ≤ length a.b_matrix.now = omega (arith, c.requires.b_matrix_len) in record {
+      degree = c.requires.verify_sized.shaped.degree;
+      d_in_bounds = rw (t-columns a.sizes a.cut c.requires.cut_facts) (
         row_fits a.sizes.shape.d m c.requires.u1_len.1 all,
         block-fits a.sizes.shape.d a.at a.cut.size a.cut.t (rw c.write_zeros.auto.out c.requires.d_in_bounds) m (t_block a.sizes a.cut c.requires.cut_facts),
-      ) }
+      );
+    }
 
 pub overflow_add-at-2 : goal.overflow_add-at-2
 overflow_add-at-2 c =
@@ -39,10 +42,13 @@ write_matrix_row-requires-2 c =
     let a = c.args in
     let m = garbage_size a.sizes.shape.r a.sizes.t2 in
     let kept = c.write_matrix_row.auto.out ∙ c.write_zeros.auto.out in
-    let all : a.sizes.kappa1 * m * a.sizes.shape.d ≤ length a.c_matrix.now = omega (arith, c.requires.c_matrix_len) in record { degree = c.requires.verify_sized.shaped.degree; d_in_bounds = rw (g-columns a.sizes a.cut c.requires.cut_facts) (
+    let all : a.sizes.kappa1 * m * a.sizes.shape.d ≤ length a.c_matrix.now = omega (arith, c.requires.c_matrix_len) in record {
+      degree = c.requires.verify_sized.shaped.degree;
+      d_in_bounds = rw (g-columns a.sizes a.cut c.requires.cut_facts) (
         row_fits a.sizes.shape.d m c.requires.u1_len.1 all,
         block-fits a.sizes.shape.d a.at a.cut.size a.cut.g (rw kept c.requires.d_in_bounds) m (g-block a.sizes a.cut c.requires.cut_facts),
-      ) }
+      );
+    }
 
 pub from_slice-requires : goal.from_slice-requires
 from_slice-requires c =

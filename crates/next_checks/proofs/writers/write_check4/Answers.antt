@@ -27,10 +27,13 @@ pub write_matrix_row-requires : goal.write_matrix_row-requires
 write_matrix_row-requires c =
     let a = c.args in
     let m = garbage_size a.sizes.shape.r a.sizes.t1 in
-    let all : a.sizes.kappa2 * m * a.sizes.shape.d ≤ length a.d_matrix.now = omega (arith, c.requires.d_matrix_len) in record { degree = c.requires.verify_sized.shaped.degree; d_in_bounds = rw (h-columns a.sizes a.cut c.requires.cut_facts) (
+    let all : a.sizes.kappa2 * m * a.sizes.shape.d ≤ length a.d_matrix.now = omega (arith, c.requires.d_matrix_len) in record {
+      degree = c.requires.verify_sized.shaped.degree;
+      d_in_bounds = rw (h-columns a.sizes a.cut c.requires.cut_facts) (
         row_fits a.sizes.shape.d m c.requires.u2_len.1 all,
         block-fits a.sizes.shape.d a.at a.cut.size a.cut.h (rw c.write_zeros.auto.out c.requires.d_in_bounds) m (h-block a.sizes a.cut c.requires.cut_facts),
-      ) }
+      );
+    }
 
 pub from_slice-requires : goal.from_slice-requires
 from_slice-requires c =

@@ -35,10 +35,15 @@ unfolding t_size
 write_parts-requires c =
     let a = c.args in
     let limits = c.requires.verify_sized in
-    let kept = c.write_z.auto.out ∙ c.write_zeros.auto.out in record { degree = limits.shaped.degree; base = limits.base₁; rows_bound = product-bound a.sizes.t1 a.sizes.kappa 8 8 limits.t₁-most limits.κ-small; d_in_bounds = (
-            c.requires.a_matrix_len.1,
-            block-fits a.sizes.shape.d a.at a.cut.size a.cut.t (rw kept c.requires.k_lt_kappa.1) _ (t_block a.sizes a.cut c.requires.cut_facts),
-          ) }
+    let kept = c.write_z.auto.out ∙ c.write_zeros.auto.out in record {
+      degree = limits.shaped.degree;
+      base = limits.base₁;
+      rows_bound = product-bound a.sizes.t1 a.sizes.kappa 8 8 limits.t₁-most limits.κ-small;
+      d_in_bounds = (
+        c.requires.a_matrix_len.1,
+        block-fits a.sizes.shape.d a.at a.cut.size a.cut.t (rw kept c.requires.k_lt_kappa.1) _ (t_block a.sizes a.cut c.requires.cut_facts),
+      );
+    }
 
 pub finish-requires : goal.finish-requires
 finish-requires c =

@@ -38,7 +38,7 @@ pub loop-left-preserved : goal.loop-left-preserved
 loop-left-preserved c =
     let at = c.loop-left in (
       to_z-of_z {w = w32} {z = c.fold_digit-acc.result} (record { sfits = c.fold_digit-acc.type_inv })
-      ∙ value_step _ _ (digits_of c.args.digits.now c.args.at c.args.width) at.left _ _ (omega arith) at.invariant.1
+          ∙ value_step _ _ (digits_of c.args.digits.now c.args.at c.args.width) at.left _ _ (omega arith) at.invariant.1
           at.invariant.0 (record { sfits = c.fold_digit-arg-1.given }) c.fold_digit-acc.ensures,
       omega arith,
     )

@@ -16,11 +16,16 @@ slice_bounds-write_z-end c = sym (length-replicate 16384 (pos 0))
 
 pub write_z-requires : goal.write_z-requires
 write_z-requires c =
-    let f = c.requires.opening_facts.relation.limits in record { degree = f.shaped.degree; base = f.base; tz_nonzero = c.requires.tz_nonzero.0; d_in_bounds = (
-            z-within c.args.tz c.args.sizes _ c.requires.opening_facts.relation.o-length,
-            mul-le-mul f.shaped.rank-small
-                f.shaped.degree.small,
-          ) }
+    let f = c.requires.opening_facts.relation.limits in record {
+      degree = f.shaped.degree;
+      base = f.base;
+      tz_nonzero = c.requires.tz_nonzero.0;
+      d_in_bounds = (
+        z-within c.args.tz c.args.sizes _ c.requires.opening_facts.relation.o-length,
+        mul-le-mul f.shaped.rank-small
+            f.shaped.degree.small,
+      );
+    }
 
 pub slice_bounds-amortized_checks-end : goal.slice_bounds-amortized_checks-end
 slice_bounds-amortized_checks-end c =
