@@ -26,15 +26,6 @@ module _ (𝓡 : CommRing) where
 
   -- ---- quadratic forms in the challenges
 
-  pub mixed_cong : (r : ℕ) (g g' : ℕ → ℕ → C) (c c' : ℕ → C)
-      → ((i j : ℕ) → i ≤ j → j < r → g i j ≡ g' i j) → ((i : ℕ) → i < r → c i ≡ c' i) → mixed 𝓡 r g c ≡ mixed 𝓡 r g' c'
-  unfolding mixed
-  mixed_cong r g g' c c' e h =
-      ap₂ ◌⊕◌
-      (sum_cong 𝓡 r _ _ (λ i l. ap₂ ◌⊗◌ (e i i (omega arith) l) (ap₂ ◌⊗◌ (h i l) (h i l))))
-      (ap (λ x. (𝟙 ⊕ 𝟙) ⊗ x)
-      (below_cong 𝓡 r _ _ (λ i j d l. ap₂ ◌⊗◌ (e i j (omega arith) l) (ap₂ ◌⊗◌ (h i (omega arith)) (h j l)))))
-
   -- a full square is such a form in the mean of its two halves
   pub mixed-square : (r : ℕ) (f g : ℕ → ℕ → C) (c : ℕ → C)
       → ((i : ℕ) → f i i ≡ g i i) → ((i j : ℕ) → f i j ⊕ f j i ≡ (𝟙 ⊕ 𝟙) ⊗ g i j)
