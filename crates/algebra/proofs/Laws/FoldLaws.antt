@@ -4,9 +4,9 @@
 --     value-garbage      check 8
 --     sum_one_differs    two combinations whose challenges differ at one place, as two openings give them
 -- Checks 7 and 8 take the ring's 1/2 as `half`, with 2 · half = 1.
-use Rattle.std.specs.Prelude.{ℕ, ◌≤◌, ◌<◌, ◌≡◌, refl, ◌≢◌}
+use Rattle.std.specs.Prelude.{ℕ, ◌<◌, ◌≡◌, refl, ◌≢◌}
 use Rattle.std.proofs.Math.Path.{sym, ap, ap₂}
-use Rattle.std.proofs.Common.{◌∙◌, arith}
+use Rattle.std.proofs.Common.{◌∙◌}
 use Rattle.algebra.specs.CommRing.{CommRing}
 use Rattle.algebra.specs.Laws.RingLaws.{add-mul, one-mul, zero-mul}
 use Rattle.algebra.specs.Sum.{sum}

@@ -1,4 +1,5 @@
 -- Laws of the operations of 𝓚[X]/(X^d + 1): coefficient by coefficient, and the laws of a commutative ring.
+-- What X times a polynomial has at the constant term is in ../../proofs/Laws/TimesXLaws.antt.
 use Rattle.std.specs.Prelude.{◌≡◌}
 use Rattle.std.proofs.Math.Path.{refl, sym}
 use Rattle.std.proofs.Common.{ap, ◌∙◌, arith}
