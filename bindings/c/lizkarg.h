@@ -1,4 +1,4 @@
-/* Lizkarg for C: the calls of crates/capi, built by `rt staticlib capi` as target/staticlib/libcapi.a (x86-64, System V). bindings/c/install
+/* Lizkarg for C: the calls of crates/capi, built by `tools/staticlib` as target/staticlib/libcapi.a (x86-64, System V). bindings/c/install
  * installs it as liblizkarg.a. lizkarg_proof.h has the same calls over a struct of named lists, and the lengths of the lists.
  *
  * Every call tests what it is given and refuses by a number of SPECIFICATION 7; on a refusal nothing lent is changed.

@@ -1,4 +1,4 @@
-// Links target/staticlib/libcapi.a, which `rt staticlib capi` writes; LIZKARG_LIB names another folder.
+// Links target/staticlib/libcapi.a, which `tools/staticlib` writes; LIZKARG_LIB names another folder.
 use std::path::PathBuf;
 
 fn main() {
@@ -9,7 +9,7 @@ fn main() {
     };
     let archive = folder.join("libcapi.a");
     println!("cargo:rerun-if-changed={}", archive.display());
-    assert!(archive.exists(), "{} is missing: run `rt staticlib capi` first, or set LIZKARG_LIB", archive.display());
+    assert!(archive.exists(), "{} is missing: run `tools/staticlib` first, or set LIZKARG_LIB", archive.display());
     println!("cargo:rustc-link-search=native={}", folder.display());
     println!("cargo:rustc-link-lib=static=capi");
 }

@@ -138,7 +138,7 @@ def edit_rows(words, kept):
 
 
 def crates():
-    return re.findall(r"^(\w+):", (HERE / "crates.txt").read_text(), re.MULTILINE)
+    return re.findall(r"^(\w+)(?: staticlib)?:", (HERE / "crates.txt").read_text(), re.MULTILINE)
 
 
 def functions(crate):

@@ -25,7 +25,7 @@ def layers():
         if line.startswith("#"):
             groups.append((line[1:].strip(), []))
         elif ":" in line:
-            groups[-1][1].append(line.split(":")[0])
+            groups[-1][1].append(line.split(":")[0].split()[0])
     row, gap, left, width = 60, 12, 330, 900
     page = Page(width, 92 + len(groups) * row, "The crates in layers")
     page.text(20, 32, "The crates in layers. Each uses only the promises of those above it, or before it in its row.", bold=True)

@@ -667,7 +667,9 @@ def turn(fn, text):
             if got:
                 body = got
             else:
-                fn.report.append(f'{fn.path}: {new}: clauses {fields} not split')
+                pre0, rest0 = lets(body)
+                paths = ['.1' * k + '.0' for k in range(len(fields) - 1)] + ['.1' * (len(fields) - 1)]
+                body = pre0 + (' ' if pre0 else '') + 'let all = ' + rest0.strip() + ' in record { ' + '; '.join(f'{f} = all{q}' for f, q in zip(fields, paths)) + ' }'
         txt = ''
         if p and p['comment']:
             txt += '\n'.join(p['comment']) + '\n'

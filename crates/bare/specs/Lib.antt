@@ -12,4 +12,5 @@ pub mod Arguments
 pub mod Calls
 -- What a call that is not refused knows
 pub mod Known
+
 -- Laws and theorems

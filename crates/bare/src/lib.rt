@@ -1,5 +1,6 @@
 // The bare level, SPECIFICATION 14: its sizes, and where its opening's blocks stand.
 #![tactic(auto)]
+
 pub mod places;
 
 use fold::Shape;

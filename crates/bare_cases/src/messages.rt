@@ -15,31 +15,32 @@ use capi::types::CAnswer;
 use cases::input::{FILL, ROOM, count_at};
 use cases::lists::{nth_list, past_lists};
 use cases::printing;
+use std::io::Stdout;
 
 // Call 1: A, the witness; t.
-fn commit(sizes: CBareSizes, lists: &[i32], t: &mut [i32]) -> CAnswer
+fn commit(stdout: Stdout, sizes: CBareSizes, lists: &[i32], t: &mut [i32]) -> CAnswer
     ensures { Coded (λ answer. BareCommitted (shape_from sizes.shape) sizes.kappa (nth_list 0 lists.now) (nth_list 1 lists.now)
         t.old answer t.new) result }
 {
     let a_matrix = nth_list(lists, 0);
     let witness = nth_list(lists, 1);
     let answer = bare_level::lizkarg_bare_commit(sizes.shape, sizes.kappa, a_matrix, witness, t);
-    output::print_answer(answer);
-    printing::print_list(t);
+    output::print_answer(stdout, answer);
+    printing::print_list(stdout, t);
     answer
 }
 
-pub fn run_commit(sizes: CBareSizes, lists: &[i32]) -> CAnswer
+pub fn run_commit(stdout: Stdout, sizes: CBareSizes, lists: &[i32]) -> CAnswer
     ensures { result ≡ code_of (commit_answer sizes lists.now) }
 {
     let lengths = past_lists(lists, 2);
     let t_count = count_at(lengths, 0);
     let mut t = [FILL; ROOM];
-    commit(sizes, lists, &mut t[..t_count])
+    commit(stdout, sizes, lists, &mut t[..t_count])
 }
 
 // Call 2: the whole and the constant-term functions, the rows, psi, omega, alpha, delta; φ.
-fn form_phi(sizes: CBareSizes, lists: &[i32], phi: &mut [i32]) -> CAnswer
+fn form_phi(stdout: Stdout, sizes: CBareSizes, lists: &[i32], phi: &mut [i32]) -> CAnswer
     ensures { Coded (λ answer. BarePhiFormed (constraint_sizes_of (bare_sizes_from sizes)) (nth_list 0 lists.now) (nth_list 1 lists.now)
         (nth_list 2 lists.now) (nth_list 3 lists.now) (nth_list 4 lists.now) (nth_list 5 lists.now)
         (nth_list 6 lists.now) phi.old answer phi.new) result }
@@ -63,22 +64,28 @@ fn form_phi(sizes: CBareSizes, lists: &[i32], phi: &mut [i32]) -> CAnswer
         delta,
         phi,
     );
-    output::print_answer(answer);
-    printing::print_list(phi);
+    output::print_answer(stdout, answer);
+    printing::print_list(stdout, phi);
     answer
 }
 
-pub fn run_phi(sizes: CBareSizes, lists: &[i32]) -> CAnswer
+pub fn run_phi(stdout: Stdout, sizes: CBareSizes, lists: &[i32]) -> CAnswer
     ensures { result ≡ code_of (phi_answer sizes lists.now) }
 {
     let lengths = past_lists(lists, 7);
     let phi_count = count_at(lengths, 0);
     let mut phi = [FILL; ROOM];
-    form_phi(sizes, lists, &mut phi[..phi_count])
+    form_phi(stdout, sizes, lists, &mut phi[..phi_count])
 }
 
 // Call 3: φ, the earlier challenges, the witness; the turn's garbage.
-fn take_turn(sizes: CBareSizes, turn: usize, lists: &[i32], garbage: &mut [i32]) -> CAnswer
+fn take_turn(
+    stdout: Stdout,
+    sizes: CBareSizes,
+    turn: usize,
+    lists: &[i32],
+    garbage: &mut [i32],
+) -> CAnswer
     ensures { Coded (λ answer. BareTurned (shape_from sizes.shape) turn (nth_list 0 lists.now) (nth_list 1 lists.now)
         (nth_list 2 lists.now) garbage.old answer garbage.new) result }
 {
@@ -86,16 +93,16 @@ fn take_turn(sizes: CBareSizes, turn: usize, lists: &[i32], garbage: &mut [i32])
     let c = nth_list(lists, 1);
     let witness = nth_list(lists, 2);
     let answer = bare_level::lizkarg_bare_turn(sizes.shape, turn, phi, c, witness, garbage);
-    output::print_answer(answer);
-    printing::print_list(garbage);
+    output::print_answer(stdout, answer);
+    printing::print_list(stdout, garbage);
     answer
 }
 
-pub fn run_turn(sizes: CBareSizes, turn: usize, lists: &[i32]) -> CAnswer
+pub fn run_turn(stdout: Stdout, sizes: CBareSizes, turn: usize, lists: &[i32]) -> CAnswer
     ensures { result ≡ code_of (turn_answer sizes turn lists.now) }
 {
     let lengths = past_lists(lists, 3);
     let garbage_count = count_at(lengths, 0);
     let mut garbage = [FILL; ROOM];
-    take_turn(sizes, turn, lists, &mut garbage[..garbage_count])
+    take_turn(stdout, sizes, turn, lists, &mut garbage[..garbage_count])
 }

@@ -8,9 +8,10 @@ use capi::bare_level;
 use capi::sizes::CBareSizes;
 use capi::types::CAnswer;
 use cases::lists::nth_list;
+use std::io::Stdout;
 
 // Call 4: A, the whole and the constant-term functions, the rows, p, psi, omega, b'', alpha, delta, the challenges, the opening.
-pub fn run_verify(sizes: CBareSizes, lists: &[i32]) -> CAnswer
+pub fn run_verify(stdout: Stdout, sizes: CBareSizes, lists: &[i32]) -> CAnswer
     ensures { result ≡ code_of (verify_answer sizes lists.now) }
 {
     let a_matrix = nth_list(lists, 0);
@@ -40,6 +41,6 @@ pub fn run_verify(sizes: CBareSizes, lists: &[i32]) -> CAnswer
         c,
         opening,
     );
-    output::print_answer(answer);
+    output::print_answer(stdout, answer);
     answer
 }

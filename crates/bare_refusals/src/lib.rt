@@ -1,5 +1,6 @@
 // The number with which each call of the bare level refuses, 0 where it does not: SPECIFICATION 7.
 #![tactic(auto)]
+
 pub mod bounds;
 pub mod lengths;
 pub mod unmixed;

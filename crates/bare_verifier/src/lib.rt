@@ -1,5 +1,6 @@
 // The verifier of the bare level: SPECIFICATION 14.7. It refuses a call, or judges it by checks 1 to 7.
 #![tactic(auto)]
+
 ghost use Rattle.std.specs.Prelude.{◌≡◌};
 ghost use Rattle.fold.specs.Arguments.{draws_of};
 ghost use Rattle.bare.specs.Arguments.{bare_statement_of, bare_transcript_of, bare_verification};

@@ -10,8 +10,7 @@ use crate::types::CAnswer;
 use crate::{sizes, types};
 
 // t: `lizkarg::bare_commit`.
-#[unsafe(no_mangle)]
-pub extern "C" fn lizkarg_bare_commit(
+pub fn lizkarg_bare_commit(
     shape: CShape,
     kappa: usize,
     a_matrix: &[i32],
@@ -26,8 +25,7 @@ pub extern "C" fn lizkarg_bare_commit(
 }
 
 // φ: `lizkarg::bare_phi`.
-#[unsafe(no_mangle)]
-pub extern "C" fn lizkarg_bare_phi(
+pub fn lizkarg_bare_phi(
     sizes: CConstraintSizes,
     whole: &[i32],
     constant_terms: &[i32],
@@ -57,8 +55,7 @@ pub extern "C" fn lizkarg_bare_phi(
 }
 
 // A turn: `lizkarg::bare_turn`.
-#[unsafe(no_mangle)]
-pub extern "C" fn lizkarg_bare_turn(
+pub fn lizkarg_bare_turn(
     shape: CShape,
     turn: usize,
     phi: &[i32],
@@ -75,8 +72,7 @@ pub extern "C" fn lizkarg_bare_turn(
 }
 
 // The verifier: `lizkarg::bare_verify`.
-#[unsafe(no_mangle)]
-pub extern "C" fn lizkarg_bare_verify(
+pub fn lizkarg_bare_verify(
     sizes: CBareSizes,
     a_matrix: &[i32],
     whole: &[i32],

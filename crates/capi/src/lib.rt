@@ -1,6 +1,7 @@
 // The library for C: each call of the library under a name that begins with `lizkarg_`. A call's contract is the library's, with its
-// answer as two numbers. C's rules hold of what is lent: bindings/c/lizkarg.h.
+// answer as two numbers. C's rules hold of what is lent: bindings/c/lizkarg.h. Crate capi_c exports these functions.
 #![tactic(auto)]
+
 ghost use Rattle.std.specs.Prelude.{◌≡◌};
 ghost use Rattle.fold.specs.declared.ZDigits.TheVariants.{One, Two};
 ghost use Rattle.fold.specs.Arguments.{statement_of, draws_of, transcript_of};
@@ -22,8 +23,7 @@ pub mod types;
 pub mod write;
 
 // Message 1: `lizkarg::commit`.
-#[unsafe(no_mangle)]
-pub extern "C" fn lizkarg_commit(
+pub fn lizkarg_commit(
     sizes: CCommitSizes,
     a_matrix: &[i32],
     b_matrix: &[i32],
@@ -42,8 +42,7 @@ pub extern "C" fn lizkarg_commit(
 }
 
 // Message 2: `lizkarg::project`.
-#[unsafe(no_mangle)]
-pub extern "C" fn lizkarg_project(
+pub fn lizkarg_project(
     shape: CShape,
     w: usize,
     projections: &[i32],
@@ -59,8 +58,7 @@ pub extern "C" fn lizkarg_project(
 }
 
 // Message 3: `lizkarg::aggregate`.
-#[unsafe(no_mangle)]
-pub extern "C" fn lizkarg_aggregate(
+pub fn lizkarg_aggregate(
     shape: CShape,
     l: usize,
     w: usize,
@@ -90,8 +88,7 @@ pub extern "C" fn lizkarg_aggregate(
 }
 
 // Message 4: `lizkarg::commit_garbage`.
-#[unsafe(no_mangle)]
-pub extern "C" fn lizkarg_commit_garbage(
+pub fn lizkarg_commit_garbage(
     sizes: CGarbageSizes,
     whole: &[i32],
     constant_terms: &[i32],
@@ -128,8 +125,7 @@ pub extern "C" fn lizkarg_commit_garbage(
 }
 
 // Message 5: `lizkarg::amortize`, two digits to base b.
-#[unsafe(no_mangle)]
-pub extern "C" fn lizkarg_amortize(
+pub fn lizkarg_amortize(
     shape: CShape,
     b: usize,
     c: &[i32],
@@ -145,8 +141,7 @@ pub extern "C" fn lizkarg_amortize(
 }
 
 // Message 5: `lizkarg::amortize`, one digit.
-#[unsafe(no_mangle)]
-pub extern "C" fn lizkarg_amortize_one_digit(
+pub fn lizkarg_amortize_one_digit(
     shape: CShape,
     c: &[i32],
     witness: &[i32],
@@ -161,8 +156,7 @@ pub extern "C" fn lizkarg_amortize_one_digit(
 }
 
 // The verifier: `lizkarg::verify`.
-#[unsafe(no_mangle)]
-pub extern "C" fn lizkarg_verify(
+pub fn lizkarg_verify(
     sizes: CSizes,
     a_matrix: &[i32],
     b_matrix: &[i32],
@@ -213,16 +207,14 @@ pub extern "C" fn lizkarg_verify(
 }
 
 // How many numbers a sheet holds: `lizkarg::sheet_numbers`.
-#[unsafe(no_mangle)]
-pub extern "C" fn lizkarg_sheet_numbers(text: &[u8]) -> usize
+pub fn lizkarg_sheet_numbers(text: &[u8]) -> usize
     ensures { result ≡ number_count text.now }
 {
     lizkarg::sheet_numbers(text)
 }
 
 // The reader: `lizkarg::read_sheet`.
-#[unsafe(no_mangle)]
-pub extern "C" fn lizkarg_read_sheet(text: &[u8], numbers: &mut [i32]) -> CSheet
+pub fn lizkarg_read_sheet(text: &[u8], numbers: &mut [i32]) -> CSheet
     ensures { SheetCoded text.now numbers.old result numbers.new }
 {
     let answer = lizkarg::read_sheet(text, numbers);
@@ -230,8 +222,7 @@ pub extern "C" fn lizkarg_read_sheet(text: &[u8], numbers: &mut [i32]) -> CSheet
 }
 
 // The judge of a sheet: `lizkarg::judge_sheet`.
-#[unsafe(no_mangle)]
-pub extern "C" fn lizkarg_judge_sheet(text: &[u8]) -> CAnswer
+pub fn lizkarg_judge_sheet(text: &[u8]) -> CAnswer
     ensures { result ≡ code_of (judged_text text.now) }
 {
     let answer = lizkarg::judge_sheet(text);

@@ -7,8 +7,7 @@ use crate::types;
 use crate::types::{CElement, CProduct};
 use ring::element::Element;
 
-#[unsafe(no_mangle)]
-pub extern "C" fn lizkarg_multiply(d: usize, x: CElement, y: CElement) -> CProduct
+pub fn lizkarg_multiply(d: usize, x: CElement, y: CElement) -> CProduct
     ensures { result ≡ product_code (product_of d x.coefficients y.coefficients) }
 {
     let a = x.coefficients;

@@ -21,8 +21,7 @@ pub struct CPart {
 }
 
 // The next instance: `lizkarg::next_instance`.
-#[unsafe(no_mangle)]
-pub extern "C" fn lizkarg_next_instance(
+pub fn lizkarg_next_instance(
     sizes: CSizes,
     nu: usize,
     mu: usize,
@@ -77,8 +76,7 @@ pub extern "C" fn lizkarg_next_instance(
 }
 
 // The number with which part `part`, from 1, is refused, else 0: `lizkarg::next_part_refusal`.
-#[unsafe(no_mangle)]
-pub extern "C" fn lizkarg_next_part_refusal(sizes: CPartSizes, part: usize, opening: &[i32]) -> u8
+pub fn lizkarg_next_part_refusal(sizes: CPartSizes, part: usize, opening: &[i32]) -> u8
     ensures { result ≡ part_refusal_of (part_sizes_from sizes) part opening.now }
 {
     let given = sizes::part_sizes(sizes);
@@ -86,8 +84,7 @@ pub extern "C" fn lizkarg_next_part_refusal(sizes: CPartSizes, part: usize, open
 }
 
 // The place in the opening of what `lizkarg::next_part` hands back.
-#[unsafe(no_mangle)]
-pub extern "C" fn lizkarg_next_part(sizes: CPartSizes, part: usize, opening: &[i32]) -> CPart
+pub fn lizkarg_next_part(sizes: CPartSizes, part: usize, opening: &[i32]) -> CPart
     ensures { Placed (part_sizes_from sizes) part opening.now (place_from result) }
 {
     let given = sizes::part_sizes(sizes);

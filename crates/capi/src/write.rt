@@ -35,8 +35,7 @@ fn text_code(answer: WriteAnswer) -> CText
 }
 
 // How many bytes a sheet has: `lizkarg::sheet_bytes`.
-#[unsafe(no_mangle)]
-pub extern "C" fn lizkarg_sheet_bytes(sizes: CSizes, nu: usize, mu: usize) -> usize
+pub fn lizkarg_sheet_bytes(sizes: CSizes, nu: usize, mu: usize) -> usize
     ensures { result ≡ sheet_bytes (record { sizes = sheet_sizes_from sizes; nu = nu; mu = mu }) }
 {
     let given = sizes::sheet_sizes(sizes);
@@ -48,8 +47,7 @@ pub extern "C" fn lizkarg_sheet_bytes(sizes: CSizes, nu: usize, mu: usize) -> us
 }
 
 // The writer: `lizkarg::write_sheet`.
-#[unsafe(no_mangle)]
-pub extern "C" fn lizkarg_write_sheet(
+pub fn lizkarg_write_sheet(
     sizes: CSizes,
     nu: usize,
     mu: usize,

@@ -1,51 +1,64 @@
-// Results on standard output. Each call answers what it printed: a magnitude, or how many numbers, blanks or line ends.
+// Results on standard output. Each call answers what it printed: a magnitude, or how many numbers, blanks or line ends. No result depends on
+// whether a write succeeds: one that fails is passed over.
 ghost use Rattle.std.specs.Prelude.{◌≡◌, min, nat_abs, length};
 
-fn print_word(x: i32) -> u64
+use std::io::Stdout;
+
+// Bytes as they are. The answer says whether they were written.
+pub fn print_bytes(stdout: Stdout, bytes: &[u8]) -> bool {
+    stdout.write_all(bytes).is_ok()
+}
+
+// A number in decimal. The answer says whether it was written.
+pub fn print_decimal(stdout: Stdout, x: u64) -> bool {
+    stdout.print(x).is_ok()
+}
+
+fn print_word(stdout: Stdout, x: i32) -> u64
     ensures { result ≡ nat_abs x }
 {
     if x < 0 {
-        io::write_all(1, b"-");
+        print_bytes(stdout, b"-");
     }
     let number = residues::range::magnitude(x);
-    io::print_decimal(1, number);
+    print_decimal(stdout, number);
     number
 }
 
 // A blank between two results, and none before the first.
-pub fn print_gap(place: usize) -> usize
+pub fn print_gap(stdout: Stdout, place: usize) -> usize
     ensures { result ≡ min 1 place }
 {
     if place > 0 {
-        io::write_all(1, b" ");
+        print_bytes(stdout, b" ");
         return 1;
     }
     0
 }
 
-pub fn print_line_end() -> usize
+pub fn print_line_end(stdout: Stdout) -> usize
     ensures { result ≡ 1 }
 {
-    io::write_all(1, b"\n");
+    print_bytes(stdout, b"\n");
     1
 }
 
-pub fn print_words(xs: &[i32]) -> usize
+pub fn print_words(stdout: Stdout, xs: &[i32]) -> usize
     ensures { result ≡ length xs.now }
 {
     let mut i = 0;
     while i < xs.len() {
-        print_gap(i);
-        print_word(xs[i]);
+        print_gap(stdout, i);
+        print_word(stdout, xs[i]);
         i += 1;
     }
     i
 }
 
 // The numbers of a list, a blank before each.
-pub fn print_list(xs: &[i32]) -> usize
+pub fn print_list(stdout: Stdout, xs: &[i32]) -> usize
     ensures { result ≡ length xs.now }
 {
-    print_gap(xs.len());
-    print_words(xs)
+    print_gap(stdout, xs.len());
+    print_words(stdout, xs)
 }

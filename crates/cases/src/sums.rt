@@ -3,8 +3,9 @@ ghost use Rattle.std.specs.Prelude.{◌≡◌, ◌<◌, pos, ◌+ℤ◌, ◌*ℤ
 ghost use Rattle.integers.specs.Remainder.{emod};
 ghost use Rattle.cases.specs.Sums.{checksum};
 
-use crate::printing::{print_gap, print_list};
+use crate::printing::{print_decimal, print_gap, print_list};
 use residues::range;
+use std::io::Stdout;
 
 // The modulus of checksums, 2^31 - 1.
 const MODULUS: u64 = 2147483647;
@@ -48,25 +49,25 @@ fn checksum(xs: &[i32]) -> u64
 }
 
 // The length and the checksum of a list, a blank before each.
-pub fn print_sum(xs: &[i32]) -> usize
+pub fn print_sum(stdout: Stdout, xs: &[i32]) -> usize
     ensures { result ≡ length xs.now }
 {
     let count = xs.len();
-    print_gap(1);
-    io::print_decimal(1, count as u64);
-    print_gap(1);
-    io::print_decimal(1, checksum(xs));
+    print_gap(stdout, 1);
+    print_decimal(stdout, count as u64);
+    print_gap(stdout, 1);
+    print_decimal(stdout, checksum(xs));
     count
 }
 
 // The same, and after it the numbers of a list that is not too long.
-pub fn print_shown(xs: &[i32]) -> usize
+pub fn print_shown(stdout: Stdout, xs: &[i32]) -> usize
     ensures { result ≡ length xs.now }
 {
-    let count = print_sum(xs);
+    let count = print_sum(stdout, xs);
     if count > SHOWN {
         return count;
     }
-    print_list(xs);
+    print_list(stdout, xs);
     count
 }

@@ -1,5 +1,6 @@
 // Checks 1 to 9 of the verdict, each a test: SPECIFICATION 6. An opening's z has tz digits.
 #![tactic(auto)]
+
 pub mod amortized;
 pub mod linear;
 pub mod norms;

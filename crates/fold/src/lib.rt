@@ -1,5 +1,6 @@
 // The answers of every call of the fold, SPECIFICATION 6 and 7, and the sizes that they take.
 #![tactic(auto)]
+
 pub mod chunks;
 pub mod counts;
 pub mod limits;

@@ -2,13 +2,14 @@
 // standard output gets the answer and what the call wrote, one line for each. The check compares them with the results of the second
 // implementation.
 #![tactic(auto)]
+
 mod input;
 mod messages;
 mod output;
 mod runs;
 mod verification;
 
-fn main() {
+fn main(rt: HostRuntime) {
     let mut text = [0u8; 2097152];
-    runs::run_text(&mut text);
+    runs::run_text(rt.stdin(), rt.stdout(), &mut text);
 }

@@ -14,9 +14,17 @@ use capi::types::CAnswer;
 use cases::input::{FILL, ROOM, count_at};
 use cases::lists::{nth_list, past_lists};
 use cases::printing;
+use std::io::Stdout;
 
 // Call 1: A, B, C, the witness; t's digits, g's digits, u1.
-fn commit(sizes: CSizes, lists: &[i32], t: &mut [i32], g: &mut [i32], u1: &mut [i32]) -> CAnswer
+fn commit(
+    stdout: Stdout,
+    sizes: CSizes,
+    lists: &[i32],
+    t: &mut [i32],
+    g: &mut [i32],
+    u1: &mut [i32],
+) -> CAnswer
     ensures { Coded (λ answer. Committed (commit_sizes_of (sizes_from sizes)) (nth_list 0 lists.now) (nth_list 1 lists.now)
         (nth_list 2 lists.now) (nth_list 3 lists.now) t.old g.old u1.old
         answer t.new g.new u1.new) result }
@@ -27,14 +35,14 @@ fn commit(sizes: CSizes, lists: &[i32], t: &mut [i32], g: &mut [i32], u1: &mut [
     let c_matrix = nth_list(lists, 2);
     let witness = nth_list(lists, 3);
     let answer = capi::lizkarg_commit(its, a_matrix, b_matrix, c_matrix, witness, t, g, u1);
-    output::print_answer(answer);
-    printing::print_list(t);
-    printing::print_list(g);
-    printing::print_list(u1);
+    output::print_answer(stdout, answer);
+    printing::print_list(stdout, t);
+    printing::print_list(stdout, g);
+    printing::print_list(stdout, u1);
     answer
 }
 
-pub fn run_commit(sizes: CSizes, lists: &[i32]) -> CAnswer
+pub fn run_commit(stdout: Stdout, sizes: CSizes, lists: &[i32]) -> CAnswer
     ensures { result ≡ code_of (commit_answer sizes lists.now) }
 {
     let lengths = past_lists(lists, 4);
@@ -45,6 +53,7 @@ pub fn run_commit(sizes: CSizes, lists: &[i32]) -> CAnswer
     let mut g = [FILL; ROOM];
     let mut u1 = [FILL; ROOM];
     commit(
+        stdout,
         sizes,
         lists,
         &mut t[..t_count],
@@ -54,29 +63,29 @@ pub fn run_commit(sizes: CSizes, lists: &[i32]) -> CAnswer
 }
 
 // Call 2: the rows, the witness; p.
-fn project(sizes: CSizes, lists: &[i32], p: &mut [i32]) -> CAnswer
+fn project(stdout: Stdout, sizes: CSizes, lists: &[i32], p: &mut [i32]) -> CAnswer
     ensures { Coded (λ answer. Projected (shape_from sizes.shape) sizes.w (nth_list 0 lists.now) (nth_list 1 lists.now)
         p.old answer p.new) result }
 {
     let projections = nth_list(lists, 0);
     let witness = nth_list(lists, 1);
     let answer = capi::lizkarg_project(sizes.shape, sizes.w, projections, witness, p);
-    output::print_answer(answer);
-    printing::print_list(p);
+    output::print_answer(stdout, answer);
+    printing::print_list(stdout, p);
     answer
 }
 
-pub fn run_project(sizes: CSizes, lists: &[i32]) -> CAnswer
+pub fn run_project(stdout: Stdout, sizes: CSizes, lists: &[i32]) -> CAnswer
     ensures { result ≡ code_of (project_answer sizes lists.now) }
 {
     let lengths = past_lists(lists, 2);
     let p_count = count_at(lengths, 0);
     let mut p = [FILL; ROOM];
-    project(sizes, lists, &mut p[..p_count])
+    project(stdout, sizes, lists, &mut p[..p_count])
 }
 
 // Call 3: the constant-term functions, the rows, psi, omega, the witness; b''.
-fn aggregate(sizes: CSizes, lists: &[i32], second_b: &mut [i32]) -> CAnswer
+fn aggregate(stdout: Stdout, sizes: CSizes, lists: &[i32], second_b: &mut [i32]) -> CAnswer
     ensures { Coded (λ answer. Aggregated (shape_from sizes.shape) sizes.l sizes.w (nth_list 0 lists.now)
         (nth_list 1 lists.now) (nth_list 2 lists.now) (nth_list 3 lists.now)
         (nth_list 4 lists.now) second_b.old answer second_b.new) result }
@@ -97,22 +106,28 @@ fn aggregate(sizes: CSizes, lists: &[i32], second_b: &mut [i32]) -> CAnswer
         witness,
         second_b,
     );
-    output::print_answer(answer);
-    printing::print_list(second_b);
+    output::print_answer(stdout, answer);
+    printing::print_list(stdout, second_b);
     answer
 }
 
-pub fn run_aggregate(sizes: CSizes, lists: &[i32]) -> CAnswer
+pub fn run_aggregate(stdout: Stdout, sizes: CSizes, lists: &[i32]) -> CAnswer
     ensures { result ≡ code_of (aggregate_answer sizes lists.now) }
 {
     let lengths = past_lists(lists, 5);
     let second_b_count = count_at(lengths, 0);
     let mut second_b = [FILL; ROOM];
-    aggregate(sizes, lists, &mut second_b[..second_b_count])
+    aggregate(stdout, sizes, lists, &mut second_b[..second_b_count])
 }
 
 // Call 4: the whole and the constant-term functions, the rows, psi, omega, alpha, delta, D, the witness; h's digits, u2.
-fn commit_garbage(sizes: CSizes, lists: &[i32], h: &mut [i32], u2: &mut [i32]) -> CAnswer
+fn commit_garbage(
+    stdout: Stdout,
+    sizes: CSizes,
+    lists: &[i32],
+    h: &mut [i32],
+    u2: &mut [i32],
+) -> CAnswer
     ensures { Coded (λ answer. GarbageCommitted (garbage_sizes_of (sizes_from sizes)) (nth_list 0 lists.now)
         (nth_list 1 lists.now) (nth_list 2 lists.now) (nth_list 3 lists.now)
         (nth_list 4 lists.now) (nth_list 5 lists.now) (nth_list 6 lists.now)
@@ -143,13 +158,13 @@ fn commit_garbage(sizes: CSizes, lists: &[i32], h: &mut [i32], u2: &mut [i32]) -
         h,
         u2,
     );
-    output::print_answer(answer);
-    printing::print_list(h);
-    printing::print_list(u2);
+    output::print_answer(stdout, answer);
+    printing::print_list(stdout, h);
+    printing::print_list(stdout, u2);
     answer
 }
 
-pub fn run_commit_garbage(sizes: CSizes, lists: &[i32]) -> CAnswer
+pub fn run_commit_garbage(stdout: Stdout, sizes: CSizes, lists: &[i32]) -> CAnswer
     ensures { result ≡ code_of (garbage_answer sizes lists.now) }
 {
     let lengths = past_lists(lists, 9);
@@ -157,7 +172,7 @@ pub fn run_commit_garbage(sizes: CSizes, lists: &[i32]) -> CAnswer
     let u2_count = count_at(lengths, 1);
     let mut h = [FILL; ROOM];
     let mut u2 = [FILL; ROOM];
-    commit_garbage(sizes, lists, &mut h[..h_count], &mut u2[..u2_count])
+    commit_garbage(stdout, sizes, lists, &mut h[..h_count], &mut u2[..u2_count])
 }
 
 // z in two digits, or in one.
@@ -172,23 +187,23 @@ fn call_amortize(sizes: CSizes, c: &[i32], witness: &[i32], z: &mut [i32]) -> CA
 }
 
 // Call 5: the challenges, the witness; z's digits.
-fn amortize(sizes: CSizes, lists: &[i32], z: &mut [i32]) -> CAnswer
+fn amortize(stdout: Stdout, sizes: CSizes, lists: &[i32], z: &mut [i32]) -> CAnswer
     ensures { Coded (λ answer. Amortized (shape_from sizes.shape) (z_from sizes.one_digit sizes.b) (nth_list 0 lists.now) (nth_list 1 lists.now)
         z.old answer z.new) result }
 {
     let c = nth_list(lists, 0);
     let witness = nth_list(lists, 1);
     let answer = call_amortize(sizes, c, witness, z);
-    output::print_answer(answer);
-    printing::print_list(z);
+    output::print_answer(stdout, answer);
+    printing::print_list(stdout, z);
     answer
 }
 
-pub fn run_amortize(sizes: CSizes, lists: &[i32]) -> CAnswer
+pub fn run_amortize(stdout: Stdout, sizes: CSizes, lists: &[i32]) -> CAnswer
     ensures { result ≡ code_of (amortize_answer sizes lists.now) }
 {
     let lengths = past_lists(lists, 2);
     let z_count = count_at(lengths, 0);
     let mut z = [FILL; ROOM];
-    amortize(sizes, lists, &mut z[..z_count])
+    amortize(stdout, sizes, lists, &mut z[..z_count])
 }

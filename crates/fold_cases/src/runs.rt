@@ -8,54 +8,56 @@ use crate::{input, messages, verification};
 use capi::sizes::CSizes;
 use capi::types::CAnswer;
 use cases::lists::past_numbers;
+use cases::reading::read_full;
 use cases::{numbers, printing, text};
+use std::io::{Stdin, Stdout};
 
 // A call by its number: every other than 1 to 5 is the verifier's.
-fn run_call(call: usize, sizes: CSizes, lists: &[i32]) -> CAnswer
+fn run_call(stdout: Stdout, call: usize, sizes: CSizes, lists: &[i32]) -> CAnswer
     ensures { result ≡ code_of (call_answer call sizes lists.now) }
 {
     match call {
-        1 => messages::run_commit(sizes, lists),
-        2 => messages::run_project(sizes, lists),
-        3 => messages::run_aggregate(sizes, lists),
-        4 => messages::run_commit_garbage(sizes, lists),
-        5 => messages::run_amortize(sizes, lists),
-        _ => verification::run_verify(sizes, lists),
+        1 => messages::run_commit(stdout, sizes, lists),
+        2 => messages::run_project(stdout, sizes, lists),
+        3 => messages::run_aggregate(stdout, sizes, lists),
+        4 => messages::run_commit_garbage(stdout, sizes, lists),
+        5 => messages::run_amortize(stdout, sizes, lists),
+        _ => verification::run_verify(stdout, sizes, lists),
     }
 }
 
 // One case: its numbers, with all their bits and as numbers of 32 bits.
-fn run_case(wides: &[i64], words: &[i32]) -> CAnswer
+fn run_case(stdout: Stdout, wides: &[i64], words: &[i32]) -> CAnswer
     ensures { result ≡ code_of (case_answer wides.now words.now) }
 {
     let number = numbers::size(words, 0, 8);
     let call = numbers::two_digits(input::LAST, input::ONE_DIGIT, number);
     let one_digit = numbers::one_digit(input::LAST, number);
     let sizes = input::read_sizes(wides, one_digit);
-    run_call(call, sizes, past_numbers(words, input::LISTS))
+    run_call(stdout, call, sizes, past_numbers(words, input::LISTS))
 }
 
 // The case of one line.
-fn run_line(line: &[u8]) -> CAnswer
+fn run_line(stdout: Stdout, line: &[u8]) -> CAnswer
     ensures { result ≡ code_of (line_answer line.now) }
 {
     let mut wides = [0i64; 16384];
     let mut words = [0i32; 16384];
     text::scan(line, &mut wides);
     numbers::narrow(&wides, &mut words);
-    run_case(&wides, &words)
+    run_case(stdout, &wides, &words)
 }
 
 // Every line of a text; the answer is how many there are.
-fn run_all(lines: &[u8]) -> usize
+fn run_all(stdout: Stdout, lines: &[u8]) -> usize
     ensures { past_lines result lines.now ≡ [] }
 {
     let mut at = 0;
     let mut count = 0;
     while at < lines.len() {
         let end = at + text::line_length(&lines[at..]);
-        run_line(&lines[at..end]);
-        printing::print_line_end();
+        run_line(stdout, &lines[at..end]);
+        printing::print_line_end(stdout);
         at = end;
         count += 1;
     }
@@ -63,9 +65,9 @@ fn run_all(lines: &[u8]) -> usize
 }
 
 // Reads a text into the buffer and runs its lines; the answer is how many there are.
-pub fn run_text(buffer: &mut [u8]) -> usize
+pub fn run_text(mut stdin: Stdin, stdout: Stdout, buffer: &mut [u8]) -> usize
     ensures { Lines buffer.new result }
 {
-    let length = io::read_full(0, buffer);
-    run_all(&buffer[..length])
+    let length = read_full(&mut stdin, buffer);
+    run_all(stdout, &buffer[..length])
 }

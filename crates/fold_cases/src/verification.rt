@@ -7,10 +7,11 @@ use crate::output;
 use capi::sizes::CSizes;
 use capi::types::CAnswer;
 use cases::lists::nth_list;
+use std::io::Stdout;
 
 // Call 6: A, B, C, D, the whole and the constant-term functions, u1, the rows, p, psi, omega, b'', alpha, delta, u2, the challenges, the
 // opening.
-pub fn run_verify(sizes: CSizes, lists: &[i32]) -> CAnswer
+pub fn run_verify(stdout: Stdout, sizes: CSizes, lists: &[i32]) -> CAnswer
     ensures { result ≡ code_of (verify_answer sizes lists.now) }
 {
     let a_matrix = nth_list(lists, 0);
@@ -50,6 +51,6 @@ pub fn run_verify(sizes: CSizes, lists: &[i32]) -> CAnswer
         c,
         opening,
     );
-    output::print_answer(answer);
+    output::print_answer(stdout, answer);
     answer
 }

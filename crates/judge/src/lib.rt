@@ -1,5 +1,6 @@
 // The judge of a sheet: SPECIFICATION 10.
 #![tactic(auto)]
+
 ghost use Rattle.std.specs.Prelude.{◌≡◌};
 ghost use Rattle.judge.specs.Judging.{judged_by, judged_text, verdict_line};
 ghost use Rattle.judge.specs.Known.Read.{ReadBounded, Into};

@@ -1,6 +1,7 @@
 // The library's calls: the ring product, the five messages, the verifier, the next instance, the bare level, and the sheet, read, written and judged.
 // None has a `requires`: what it cannot take it refuses by number.
 #![tactic(auto)]
+
 ghost use Rattle.std.specs.Prelude.{◌≡◌};
 ghost use Rattle.bare.specs.Calls.{BareCommitted, BarePhiFormed, BareTurned};
 ghost use Rattle.lizkarg.specs.Calls.{product_of, Committed, Projected, Aggregated, GarbageCommitted, Amortized};

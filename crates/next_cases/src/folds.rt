@@ -15,8 +15,10 @@ use capi::types::CAnswer;
 use cases::input::FILL;
 use cases::lists::nth_list;
 use cases::numbers::size;
+use std::io::Stdout;
 
 fn commit(
+    stdout: Stdout,
     place: usize,
     sizes: CSizes,
     lists: &[i32],
@@ -56,14 +58,15 @@ fn commit(
         g,
         u1,
     );
-    print_answer(place, answer);
-    keep(messages, lengths, T, t);
-    keep(messages, lengths, G, g);
-    keep(messages, lengths, U1, u1);
+    print_answer(stdout, place, answer);
+    keep(stdout, messages, lengths, T, t);
+    keep(stdout, messages, lengths, G, g);
+    keep(stdout, messages, lengths, U1, u1);
     answer
 }
 
 fn project(
+    stdout: Stdout,
     sizes: CSizes,
     lists: &[i32],
     witness: &[i32],
@@ -77,12 +80,13 @@ fn project(
     let mut room = [FILL; ROOM];
     let p = &mut room[..count];
     let answer = capi::lizkarg_project(sizes.shape, sizes.w, nth_list(lists, 6), witness, p);
-    print_answer(1, answer);
-    keep(messages, lengths, P, p);
+    print_answer(stdout, 1, answer);
+    keep(stdout, messages, lengths, P, p);
     answer
 }
 
 fn aggregate(
+    stdout: Stdout,
     sizes: CSizes,
     lists: &[i32],
     witness: &[i32],
@@ -106,12 +110,13 @@ fn aggregate(
         witness,
         second_b,
     );
-    print_answer(1, answer);
-    keep(messages, lengths, SECOND_B, second_b);
+    print_answer(stdout, 1, answer);
+    keep(stdout, messages, lengths, SECOND_B, second_b);
     answer
 }
 
 fn commit_garbage(
+    stdout: Stdout,
     sizes: CSizes,
     lists: &[i32],
     whole: &[i32],
@@ -152,9 +157,9 @@ fn commit_garbage(
         h,
         u2,
     );
-    print_answer(1, answer);
-    keep(messages, lengths, H, h);
-    keep(messages, lengths, U2, u2);
+    print_answer(stdout, 1, answer);
+    keep(stdout, messages, lengths, H, h);
+    keep(stdout, messages, lengths, U2, u2);
     answer
 }
 
@@ -170,6 +175,7 @@ fn call_amortize(sizes: CSizes, c: &[i32], witness: &[i32], z: &mut [i32]) -> CA
 }
 
 fn amortize(
+    stdout: Stdout,
     sizes: CSizes,
     lists: &[i32],
     witness: &[i32],
@@ -184,13 +190,20 @@ fn amortize(
     let z = &mut room[..count];
     let c = nth_list(lists, 11);
     let answer = call_amortize(sizes, c, witness, z);
-    print_answer(1, answer);
-    keep(messages, lengths, Z, z);
+    print_answer(stdout, 1, answer);
+    keep(stdout, messages, lengths, Z, z);
     answer
 }
 
 // The verdict on the messages.
-fn verify(sizes: CSizes, lists: &[i32], whole: &[i32], lengths: &[i32], messages: &[i32]) -> CAnswer
+fn verify(
+    stdout: Stdout,
+    sizes: CSizes,
+    lists: &[i32],
+    whole: &[i32],
+    lengths: &[i32],
+    messages: &[i32],
+) -> CAnswer
     ensures { result ≡ verdict_of sizes lists.now whole.now lengths.now messages.now }
 {
     let answer = capi::lizkarg_verify(
@@ -213,12 +226,13 @@ fn verify(sizes: CSizes, lists: &[i32], whole: &[i32], lengths: &[i32], messages
         nth_list(lists, 11),
         opening(messages, lengths),
     );
-    print_answer(1, answer);
+    print_answer(stdout, 1, answer);
     answer
 }
 
 // A fold: prints each message's answer and the sums of what it wrote, and the verdict, which it answers; a blank first where `place` is not 0.
 pub fn run_fold(
+    stdout: Stdout,
     place: usize,
     sizes: CSizes,
     lists: &[i32],
@@ -230,10 +244,10 @@ pub fn run_fold(
     ensures { Folded sizes lists.now whole.now witness.now lengths.now messages.old result
         messages.new }
 {
-    commit(place, sizes, lists, witness, lengths, messages);
-    project(sizes, lists, witness, lengths, messages);
-    aggregate(sizes, lists, witness, lengths, messages);
-    commit_garbage(sizes, lists, whole, witness, lengths, messages);
-    amortize(sizes, lists, witness, lengths, messages);
-    verify(sizes, lists, whole, lengths, messages)
+    commit(stdout, place, sizes, lists, witness, lengths, messages);
+    project(stdout, sizes, lists, witness, lengths, messages);
+    aggregate(stdout, sizes, lists, witness, lengths, messages);
+    commit_garbage(stdout, sizes, lists, whole, witness, lengths, messages);
+    amortize(stdout, sizes, lists, witness, lengths, messages);
+    verify(stdout, sizes, lists, whole, lengths, messages)
 }

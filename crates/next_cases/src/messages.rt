@@ -6,6 +6,7 @@ ghost use Rattle.next_cases.specs.Messages.{start_of, message_of, opening_of, ke
 use cases::lists::put;
 use cases::numbers::size;
 use cases::sums::print_sum;
+use std::io::Stdout;
 
 // Which list each message is.
 pub const Z: usize = 0;
@@ -56,10 +57,10 @@ pub fn message<'a>(messages: &'a [i32], lengths: &[i32], number: usize) -> &'a [
 }
 
 // Keeps the list of this number, and prints its sum.
-pub fn keep(messages: &mut [i32], lengths: &[i32], number: usize, xs: &[i32])
+pub fn keep(stdout: Stdout, messages: &mut [i32], lengths: &[i32], number: usize, xs: &[i32])
     ensures { messages.new ≡ kept messages.old lengths.now number xs.now }
 {
     let start = total(lengths, number, messages.len());
     put(messages, start, xs, xs.len());
-    print_sum(xs);
+    print_sum(stdout, xs);
 }

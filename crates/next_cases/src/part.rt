@@ -8,7 +8,9 @@ ghost use Rattle.next_cases.specs.Input.{part_sizes_of};
 use capi::next::{CPart, lizkarg_next_part, lizkarg_next_part_refusal};
 use capi::sizes::{CPartSizes, CSizes};
 use cases::lists::{nth_list, past_numbers};
+use cases::printing::print_decimal;
 use cases::sums::print_shown;
+use std::io::Stdout;
 
 // Where the opening stands, after the part's number.
 const OPENING: usize = 20;
@@ -48,19 +50,19 @@ pub fn next_part(sizes: CPartSizes, part: usize, opening: &[i32]) -> &[i32]
 }
 
 // The number with which a part is refused, which is printed, and the part.
-fn print_part(sizes: CPartSizes, part: usize, opening: &[i32]) -> u8
+fn print_part(stdout: Stdout, sizes: CPartSizes, part: usize, opening: &[i32]) -> u8
     ensures { result ≡ part_refusal_of (part_sizes_from sizes) part opening.now }
 {
     let refusal = lizkarg_next_part_refusal(sizes, part, opening);
-    io::print_decimal(1, refusal as u64);
-    print_shown(next_part(sizes, part, opening));
+    print_decimal(stdout, refusal as u64);
+    print_shown(stdout, next_part(sizes, part, opening));
     refusal
 }
 
 // The opening follows the part's number.
-pub fn run_part(sizes: CSizes, nu: usize, mu: usize, part: usize, xs: &[i32]) -> u8
+pub fn run_part(stdout: Stdout, sizes: CSizes, nu: usize, mu: usize, part: usize, xs: &[i32]) -> u8
     ensures { result ≡ part_refusal_of (part_sizes_from (part_sizes_of sizes nu mu)) part (nth_list 0 (drop 20 xs.now)) }
 {
     let opening = nth_list(past_numbers(xs, OPENING), 0);
-    print_part(part_sizes(sizes, nu, mu), part, opening)
+    print_part(stdout, part_sizes(sizes, nu, mu), part, opening)
 }

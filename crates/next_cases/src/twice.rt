@@ -17,9 +17,11 @@ use cases::input::FILL;
 use cases::lists::{nth_list, past_lists, past_numbers, past_wides};
 use cases::numbers::size;
 use cases::sums::print_sum;
+use std::io::Stdout;
 
 // The next instance after a fold, whose parameters are those of module folds.
 fn print_next(
+    stdout: Stdout,
     sizes: CSizes,
     nu: usize,
     mu: usize,
@@ -54,13 +56,14 @@ fn print_next(
         nth_list(lists, 11),
         out,
     );
-    print_answer(1, answer);
-    print_sum(out);
+    print_answer(stdout, 1, answer);
+    print_sum(stdout, out);
     answer
 }
 
 // The first fold, of its own whole functions and witness, and its next instance.
 fn run_first(
+    stdout: Stdout,
     sizes: CSizes,
     nu: usize,
     mu: usize,
@@ -74,8 +77,8 @@ fn run_first(
 {
     let whole = nth_list(lists, 4);
     let witness = nth_list(lists, 12);
-    run_fold(0, sizes, lists, whole, witness, lengths, messages);
-    print_next(sizes, nu, mu, lists, whole, lengths, messages, out);
+    run_fold(stdout, 0, sizes, lists, whole, witness, lengths, messages);
+    print_next(stdout, sizes, nu, mu, lists, whole, lengths, messages, out);
 }
 
 // A product of sizes; 0 where one passes what a list can have.
@@ -86,17 +89,33 @@ fn product(x: usize, y: usize) -> usize
 }
 
 // The second fold; the lengths stand after its lists.
-fn run_second(sizes: CSizes, whole: &[i32], witness: &[i32], lists: &[i32]) -> CAnswer
+fn run_second(
+    stdout: Stdout,
+    sizes: CSizes,
+    whole: &[i32],
+    witness: &[i32],
+    lists: &[i32],
+) -> CAnswer
     ensures { SecondRun sizes whole.now witness.now lists.now result }
 {
     let lengths = past_lists(lists, 13);
     let mut messages = [FILL; ROOM];
-    print_sum(witness);
-    run_fold(1, sizes, lists, whole, witness, lengths, &mut messages)
+    print_sum(stdout, witness);
+    run_fold(
+        stdout,
+        1,
+        sizes,
+        lists,
+        whole,
+        witness,
+        lengths,
+        &mut messages,
+    )
 }
 
 // The next witness from the first fold's opening, and the second fold. The witness has as many parts as the sizes say.
 fn with_witness(
+    stdout: Stdout,
     first: CPartSizes,
     sizes: CSizes,
     opening: &[i32],
@@ -110,11 +129,18 @@ fn with_witness(
     let mut room = [FILL; ROOM];
     let witness = &mut room[..count];
     write_witness(first, sizes.shape.r, width, opening, witness);
-    run_second(sizes, whole, witness, lists)
+    run_second(stdout, sizes, whole, witness, lists)
 }
 
 // The first fold's lists and lengths, that of the next constraints among them; the second fold's sizes, lists and lengths.
-pub fn run_twice(sizes: CSizes, nu: usize, mu: usize, wides: &[i64], xs: &[i32]) -> CAnswer
+pub fn run_twice(
+    stdout: Stdout,
+    sizes: CSizes,
+    nu: usize,
+    mu: usize,
+    wides: &[i64],
+    xs: &[i32],
+) -> CAnswer
     ensures { TwiceRun sizes nu mu wides.now xs.now result }
 {
     let lists = past_numbers(xs, LISTS);
@@ -125,8 +151,9 @@ pub fn run_twice(sizes: CSizes, nu: usize, mu: usize, wides: &[i64], xs: &[i32])
     let mut messages = [FILL; ROOM];
     let mut room = [FILL; ROOM];
     let whole = &mut room[..count];
-    run_first(sizes, nu, mu, lists, lengths, &mut messages, whole);
+    run_first(stdout, sizes, nu, mu, lists, lengths, &mut messages, whole);
     with_witness(
+        stdout,
         part_sizes(sizes, nu, mu),
         second_sizes,
         opening(&messages, lengths),

@@ -1,5 +1,6 @@
 // The next instance: SPECIFICATION 8. The call has no `requires`: what it cannot take it refuses by number.
 #![tactic(auto)]
+
 ghost use Rattle.fold.specs.Arguments.{statement_of, draws_of, transcript_of};
 ghost use Rattle.next_instance.specs.Calls.{NextCalled};
 

@@ -1,6 +1,7 @@
 // The number with which each call refuses, 0 where it does not: SPECIFICATION 7. Sizes are tested before lengths, which
 // are products of them, and lengths before what the lists hold.
 #![tactic(auto)]
+
 pub mod draws;
 pub mod lengths;
 pub mod narrow;

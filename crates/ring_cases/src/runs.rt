@@ -4,7 +4,9 @@ ghost use Rattle.cases.specs.Text.{past_lines, Lines};
 ghost use Rattle.ring_cases.specs.Results.{is_element, results_of, line_results, Results};
 
 use crate::{digits, elements, product, values};
+use cases::reading::read_full;
 use cases::{numbers, printing, text};
+use std::io::{Stdin, Stdout};
 
 fn is_element(operation: usize) -> bool
     ensures { result ≡ is_element operation }
@@ -46,24 +48,24 @@ fn run_line(line: &[u8], out: &mut [i32]) -> usize
 }
 
 // The results of a line on standard output.
-fn print_results(line: &[u8]) -> usize
+fn print_results(stdout: Stdout, line: &[u8]) -> usize
     ensures { result ≡ length (line_results line.now) }
 {
     let mut out = [0i32; 512];
     let count = run_line(line, &mut out);
-    printing::print_words(&out[..count])
+    printing::print_words(stdout, &out[..count])
 }
 
 // Every line of a text; the answer is how many there are.
-fn run_all(lines: &[u8]) -> usize
+fn run_all(stdout: Stdout, lines: &[u8]) -> usize
     ensures { past_lines result lines.now ≡ [] }
 {
     let mut at = 0;
     let mut count = 0;
     while at < lines.len() {
         let end = at + text::line_length(&lines[at..]);
-        print_results(&lines[at..end]);
-        printing::print_line_end();
+        print_results(stdout, &lines[at..end]);
+        printing::print_line_end(stdout);
         at = end;
         count += 1;
     }
@@ -71,9 +73,9 @@ fn run_all(lines: &[u8]) -> usize
 }
 
 // Reads a text into the buffer and runs its lines; the answer is how many there are.
-pub fn run_text(buffer: &mut [u8]) -> usize
+pub fn run_text(mut stdin: Stdin, stdout: Stdout, buffer: &mut [u8]) -> usize
     ensures { Lines buffer.new result }
 {
-    let length = io::read_full(0, buffer);
-    run_all(&buffer[..length])
+    let length = read_full(&mut stdin, buffer);
+    run_all(stdout, &buffer[..length])
 }

@@ -3,13 +3,16 @@
 // lines for each case: how many numbers the sheet holds; three times what the reader answers, with a slice of one number less than that, of as
 // many, and of one more; and what the judge answers. The cases of the writer follow: src/writer.rt.
 #![tactic(auto)]
+
 ghost use Rattle.std.specs.Prelude.{◌≡◌, ◌≤◌, min, ◌-◌, take, nat_abs};
 ghost use Rattle.fields.specs.Place.{number_at};
 
 use capi::types::CHeader;
-use cases::printing::{print_gap, print_line_end};
+use cases::printing::{print_decimal, print_gap, print_line_end};
+use cases::reading::read_full;
 use cases::sums::print_shown;
 use fields::walk::number_size;
+use std::io::{Stdin, Stdout};
 
 mod writer;
 
@@ -50,21 +53,21 @@ fn number_in(line: &[u8], most: usize) -> usize
 }
 
 // Reads a line of one number.
-fn read_number(most: usize) -> usize
+fn read_number(mut stdin: Stdin, most: usize) -> usize
     ensures { result ≤ most }
 {
     let mut line = [0u8; 17];
-    io::read_full(0, &mut line);
+    read_full(&mut stdin, &mut line);
     number_in(&line, most)
 }
 
 // Reads a case of `count` bytes and its line feed. It answers false where `text` has no room for it or the input ends before.
-fn read_case(text: &mut [u8], count: usize) -> bool {
+fn read_case(mut stdin: Stdin, text: &mut [u8], count: usize) -> bool {
     if text.len() <= count {
         return false;
     }
     let end = count + 1;
-    let got = io::read_full(0, &mut text[..end]);
+    let got = read_full(&mut stdin, &mut text[..end]);
     got == end
 }
 
@@ -79,96 +82,96 @@ fn front(text: &[u8], count: usize) -> &[u8]
 }
 
 // A number, with a blank before it.
-fn print_number(x: u64) -> u64
+fn print_number(stdout: Stdout, x: u64) -> u64
     ensures { result ≡ x }
 {
-    print_gap(1);
-    io::print_decimal(1, x);
+    print_gap(stdout, 1);
+    print_decimal(stdout, x);
     x
 }
 
-fn print_answer(kind: u8, number: u64) -> u64
+fn print_answer(stdout: Stdout, kind: u8, number: u64) -> u64
     ensures { result ≡ number }
 {
-    io::print_decimal(1, kind as u64);
-    print_number(number)
+    print_decimal(stdout, kind as u64);
+    print_number(stdout, number)
 }
 
-fn print_header(h: CHeader) -> u64
+fn print_header(stdout: Stdout, h: CHeader) -> u64
     ensures { result ≡ h.target }
 {
-    print_number(h.d as u64);
-    print_number(h.n as u64);
-    print_number(h.r as u64);
-    print_number(h.k as u64);
-    print_number(h.l as u64);
-    print_number(h.w as u64);
-    print_number(h.kappa as u64);
-    print_number(h.kappa1 as u64);
-    print_number(h.kappa2 as u64);
-    print_number(h.b as u64);
-    print_number(h.b1 as u64);
-    print_number(h.b2 as u64);
-    print_number(h.t1 as u64);
-    print_number(h.t2 as u64);
-    print_number(h.nu as u64);
-    print_number(h.mu as u64);
-    print_number(h.bound);
-    print_number(h.target)
+    print_number(stdout, h.d as u64);
+    print_number(stdout, h.n as u64);
+    print_number(stdout, h.r as u64);
+    print_number(stdout, h.k as u64);
+    print_number(stdout, h.l as u64);
+    print_number(stdout, h.w as u64);
+    print_number(stdout, h.kappa as u64);
+    print_number(stdout, h.kappa1 as u64);
+    print_number(stdout, h.kappa2 as u64);
+    print_number(stdout, h.b as u64);
+    print_number(stdout, h.b1 as u64);
+    print_number(stdout, h.b2 as u64);
+    print_number(stdout, h.t1 as u64);
+    print_number(stdout, h.t2 as u64);
+    print_number(stdout, h.nu as u64);
+    print_number(stdout, h.mu as u64);
+    print_number(stdout, h.bound);
+    print_number(stdout, h.target)
 }
 
 // Reads a text into a slice and prints the answer, the header and the slice afterwards.
-fn print_read(text: &[u8], numbers: &mut [i32]) -> bool {
+fn print_read(stdout: Stdout, text: &[u8], numbers: &mut [i32]) -> bool {
     let read = capi::lizkarg_read_sheet(text, numbers);
-    print_answer(read.kind, read.number);
-    print_header(read.header);
-    print_shown(numbers);
-    print_line_end();
+    print_answer(stdout, read.kind, read.number);
+    print_header(stdout, read.header);
+    print_shown(stdout, numbers);
+    print_line_end(stdout);
     true
 }
 
 // The same with a slice of `count` numbers, each 77 before.
-fn run_reader(text: &[u8], count: usize) -> bool {
+fn run_reader(stdout: Stdout, text: &[u8], count: usize) -> bool {
     let mut numbers = [77i32; 8192];
     if NUMBERS < count {
         return false;
     }
-    print_read(text, &mut numbers[..count])
+    print_read(stdout, text, &mut numbers[..count])
 }
 
 // The lines of a text whose numbers and one more have room.
-fn run_text(text: &[u8]) -> bool {
+fn run_text(stdout: Stdout, text: &[u8]) -> bool {
     let count = capi::lizkarg_sheet_numbers(text);
-    io::print_decimal(1, count as u64);
-    print_line_end();
+    print_decimal(stdout, count as u64);
+    print_line_end(stdout);
     if NUMBERS <= count {
         return false;
     }
-    run_reader(text, less(count));
-    run_reader(text, count);
-    run_reader(text, count + 1);
+    run_reader(stdout, text, less(count));
+    run_reader(stdout, text, count);
+    run_reader(stdout, text, count + 1);
     let judged = capi::lizkarg_judge_sheet(text);
-    print_answer(judged.kind, judged.number);
-    print_line_end();
+    print_answer(stdout, judged.kind, judged.number);
+    print_line_end(stdout);
     true
 }
 
 // Reads a case and prints its lines.
-fn run_case(text: &mut [u8], count: usize) -> bool {
-    if !read_case(text, count) {
+fn run_case(stdin: Stdin, stdout: Stdout, text: &mut [u8], count: usize) -> bool {
+    if !read_case(stdin, text, count) {
         return false;
     }
-    run_text(front(text, count))
+    run_text(stdout, front(text, count))
 }
 
 // Runs cases until one fails, and answers how many it ran.
-fn run_cases(text: &mut [u8], cases: usize) -> usize
+fn run_cases(stdin: Stdin, stdout: Stdout, text: &mut [u8], cases: usize) -> usize
     ensures { result ≤ cases }
 {
     let mut i = 0;
     while i < cases {
-        let count = read_number(BYTES);
-        if !run_case(text, count) {
+        let count = read_number(stdin, BYTES);
+        if !run_case(stdin, stdout, text, count) {
             return i;
         }
         i += 1;
@@ -176,10 +179,12 @@ fn run_cases(text: &mut [u8], cases: usize) -> usize
     i
 }
 
-fn main() {
+fn main(rt: HostRuntime) {
+    let stdin = rt.stdin();
+    let stdout = rt.stdout();
     let mut text = [0u8; 131073];
-    let cases = read_number(CASES);
-    run_cases(&mut text, cases);
-    let written = read_number(CASES);
-    writer::run_writer(&mut text, written);
+    let cases = read_number(stdin, CASES);
+    run_cases(stdin, stdout, &mut text, cases);
+    let written = read_number(stdin, CASES);
+    writer::run_writer(stdin, stdout, &mut text, written);
 }

@@ -7,9 +7,11 @@ use crate::{front, lesser, print_number, read_case};
 use capi::sizes::{CShape, CSizes};
 use capi::write::{CText, lizkarg_sheet_bytes, lizkarg_write_sheet};
 use cases::numbers::word;
-use cases::printing::print_line_end;
+use cases::printing::{print_bytes, print_decimal, print_line_end};
+use cases::reading::read_full;
 use cases::sums::with_number;
 use fields::walk::{number_at, number_size};
+use std::io::{Stdin, Stdout};
 
 // Most numbers of a case.
 const NUMBERS: usize = 8192;
@@ -77,35 +79,35 @@ fn byte_sum(text: &[u8]) -> u64
 }
 
 // The length and the checksum of a buffer, and its bytes where they are not too many.
-fn print_buffer(text: &[u8]) -> bool {
+fn print_buffer(stdout: Stdout, text: &[u8]) -> bool {
     let count = text.len();
-    print_number(count as u64);
-    print_number(byte_sum(text));
-    print_line_end();
+    print_number(stdout, count as u64);
+    print_number(stdout, byte_sum(text));
+    print_line_end(stdout);
     if count <= SHOWN {
-        io::write_all(1, text);
+        print_bytes(stdout, text);
     }
-    print_line_end();
+    print_line_end(stdout);
     true
 }
 
-fn print_answer(wrote: CText) -> bool {
-    print_number(wrote.kind as u64);
-    print_number(wrote.number);
-    print_number(wrote.length as u64);
+fn print_answer(stdout: Stdout, wrote: CText) -> bool {
+    print_number(stdout, wrote.kind as u64);
+    print_number(stdout, wrote.number);
+    print_number(stdout, wrote.length as u64);
     true
 }
 
 // Writes a sheet into a buffer, and prints the answer and the buffer afterwards.
-fn print_written(line: &[u8], numbers: &[i32], text: &mut [u8]) -> bool {
+fn print_written(stdout: Stdout, line: &[u8], numbers: &[i32], text: &mut [u8]) -> bool {
     let sizes = sizes_on(line);
     let nu = size_at(line, 224);
     let mu = size_at(line, 240);
     let bytes = lizkarg_sheet_bytes(sizes, nu, mu);
-    io::print_decimal(1, bytes as u64);
+    print_decimal(stdout, bytes as u64);
     let wrote = lizkarg_write_sheet(sizes, nu, mu, numbers, text);
-    print_answer(wrote);
-    print_buffer(text)
+    print_answer(stdout, wrote);
+    print_buffer(stdout, text)
 }
 
 // Each byte becomes 77.
@@ -118,16 +120,23 @@ fn refill(buffer: &mut [u8]) {
 }
 
 // The same with the numbers of a text, and a buffer whose bytes are 77 before.
-fn run_write(line: &[u8], text: &[u8], numbers: &mut [i32], buffer: &mut [u8]) -> bool
+fn run_write(
+    stdout: Stdout,
+    line: &[u8],
+    text: &[u8],
+    numbers: &mut [i32],
+    buffer: &mut [u8],
+) -> bool
     requires { length numbers.old ≤ 8192 }
 {
     numbers_on(text, numbers);
     refill(buffer);
-    print_written(line, numbers, buffer)
+    print_written(stdout, line, numbers, buffer)
 }
 
 // The same with `count` numbers and a buffer of `room` bytes, where there is room for them.
 fn run_sized(
+    stdout: Stdout,
     line: &[u8],
     text: &[u8],
     numbers: &mut [i32],
@@ -144,31 +153,58 @@ fn run_sized(
     if buffer.len() < room {
         return false;
     }
-    run_write(line, text, &mut numbers[..count], &mut buffer[..room])
+    run_write(
+        stdout,
+        line,
+        text,
+        &mut numbers[..count],
+        &mut buffer[..room],
+    )
 }
 
 // Reads a case and prints its lines.
-fn run_case(text: &mut [u8], numbers: &mut [i32], buffer: &mut [u8]) -> bool {
+fn run_case(
+    mut stdin: Stdin,
+    stdout: Stdout,
+    text: &mut [u8],
+    numbers: &mut [i32],
+    buffer: &mut [u8],
+) -> bool {
     let mut line = [0u8; 321];
-    let got = io::read_full(0, &mut line);
+    let got = read_full(&mut stdin, &mut line);
     if got != 321 {
         return false;
     }
     let count = lesser(size_at(&line, 288), NUMBERS);
     let room = size_at(&line, 304);
-    if !read_case(text, 16 * count) {
+    if !read_case(stdin, text, 16 * count) {
         return false;
     }
-    run_sized(&line, front(text, 16 * count), numbers, buffer, count, room)
+    run_sized(
+        stdout,
+        &line,
+        front(text, 16 * count),
+        numbers,
+        buffer,
+        count,
+        room,
+    )
 }
 
 // Runs cases until one fails, and answers how many it ran.
-fn run_cases(text: &mut [u8], numbers: &mut [i32], buffer: &mut [u8], cases: usize) -> usize
+fn run_cases(
+    stdin: Stdin,
+    stdout: Stdout,
+    text: &mut [u8],
+    numbers: &mut [i32],
+    buffer: &mut [u8],
+    cases: usize,
+) -> usize
     ensures { result ≤ cases }
 {
     let mut i = 0;
     while i < cases {
-        if !run_case(text, numbers, buffer) {
+        if !run_case(stdin, stdout, text, numbers, buffer) {
             return i;
         }
         i += 1;
@@ -177,10 +213,10 @@ fn run_cases(text: &mut [u8], numbers: &mut [i32], buffer: &mut [u8], cases: usi
 }
 
 // The same, with room for the numbers and for the buffer.
-pub fn run_writer(text: &mut [u8], cases: usize) -> usize
+pub fn run_writer(stdin: Stdin, stdout: Stdout, text: &mut [u8], cases: usize) -> usize
     ensures { result ≤ cases }
 {
     let mut numbers = [0i32; 8192];
     let mut buffer = [0u8; 140000];
-    run_cases(text, &mut numbers, &mut buffer, cases)
+    run_cases(stdin, stdout, text, &mut numbers, &mut buffer, cases)
 }

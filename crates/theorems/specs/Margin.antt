@@ -44,4 +44,4 @@ module _ (text : List ℕ) (answer : Answer) (is : answer ≡ judged_text text) 
   line-accepted e m whole = rw is (judge.line-accepted text (ap kind_of (sym is) ∙ e) m whole)
 
   pub number_printed : number_of answer ≤ 999999999999999
-  number_printed = rw is (judge.number-printed text)
+  number_printed = rw is (judge.number_printed text)

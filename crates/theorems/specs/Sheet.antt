@@ -28,13 +28,13 @@ use Rattle.judge.specs.Theorems.JudgeTheorem as judge
 module _ (h xs : List ℤ) (numbers : SheetNumbers h xs) (fits : length (sheet_text h xs) ≤ 65536) (answer : Answer)
     (is : answer ≡ judged_text (sheet_text h xs)) where
   pub sheet_judged : sheet_narrow (sizes_of h) xs ≡ true → answer ≡ Judged (sheet_verdict (sizes_of h) xs)
-  sheet_judged thin = is ∙ judge.sheet-judged h xs numbers fits thin
+  sheet_judged thin = is ∙ judge.sheet_judged h xs numbers fits thin
 
   pub sheet_wide : sheet_narrow (sizes_of h) xs ≡ false → answer ≡ Refused 15
-  sheet_wide wide = is ∙ judge.sheet-wide h xs numbers fits wide
+  sheet_wide wide = is ∙ judge.sheet_wide h xs numbers fits wide
 
 pub judged_sheet : (text : List ℕ) (answer : Answer) → answer ≡ judged_text text → (v : Verdict) → answer ≡ Judged v → Sheet text v
-judged_sheet text answer is v e = judge.judged-sheet text v (sym is ∙ e)
+judged_sheet text answer is v e = judge.judged_sheet text v (sym is ∙ e)
 
 pub written-answer : {h : SheetSizes} {xs : List ℤ} {before after : List ℕ} {m : ℕ} → SheetWritten h xs before (Length m) after → m ≤ 65536
     → (answer : Answer) → answer ≡ judged_text (take m after)
@@ -43,7 +43,7 @@ unfolding written_text
 written-answer {h} {xs} {m = m} call fits answer is =
     let (numbers, same, room) = (written-exactly call m).0 refl in
     rw (sizes-given h) at
-    (is ∙ ap judged_text (text-put call).0 ∙ judge.sheet-answer (header_fields h) xs numbers (omega (arith, same, fits)))
+    (is ∙ ap judged_text (text-put call).0 ∙ judge.sheet_answer (header_fields h) xs numbers (omega (arith, same, fits)))
 
 pub text-refuses : (text : List ℕ) → length text ≤ 65536 → (answer : Answer) → answer ≡ judged_text text
     → Refuses (text_tests text) answer Unit

@@ -1,7 +1,24 @@
 -- What the program makes of a read's answer: the count of the bytes that it put into the text, negative where it failed.
+--     Moved room got              what a read with room for so many bytes may answer
+--     TookInto, TookBetween       what a read did to the bytes that the input has left, where these are known
 --     place_after got from size    the place in a text of `size` bytes after a read from place `from` on
 --     interrupted got error       whether the read is to be made again
-use Rattle.std.specs.Prelude.{Bool, false, ℕ, ◌+◌, min, eqb, ℤ, pos, negsuc}
+use Rattle.std.specs.Prelude.{◌≡◌, Bool, false, ℕ, ◌+◌, ◌-◌, ◌≤◌, ◌<◌, min, eqb, ℤ, pos, negsuc, List, length, take, drop, Option}
+use Rattle.std.specs.Io.KnownBytes.{Keeps, Consumes, IsAtEnd}
+
+-- -1, or how many bytes it moved, at most as many as there is room for
+abbrev pub Moved : ℕ → ℤ → Type 0
+Moved room (pos count) = count ≤ room
+Moved room (negsuc k) = k ≡ 0
+
+-- a read into `part` took as many bytes as it answered and put them at the part's front, none with room left only at the end; none where it failed
+abbrev pub TookInto : Option (List ℕ) → Option (List ℕ) → ℤ → List ℕ → Type 0
+TookInto old new (pos count) part = Consumes old new (take count part) × (count ≡ 0 → 0 < length part → IsAtEnd new)
+TookInto old new (negsuc k) part = Keeps old new
+
+-- the bytes of the text from place `from` to place `to` were taken, and none only at the end
+abbrev pub TookBetween : Option (List ℕ) → Option (List ℕ) → ℕ → ℕ → List ℕ → Type 0
+TookBetween old new from to text = Consumes old new (take (to - from) (drop from text)) × (to ≡ from → IsAtEnd new)
 
 -- the place after as many bytes as the read answered, cut at the end; the end where the read failed
 unfoldable pub place_after : ℤ → ℕ → ℕ → ℕ

@@ -1,29 +1,54 @@
 // The program of verdicts: SPECIFICATION 10. It reads a sheet from standard input and prints the line of its verdict.
 #![tactic(auto)]
-ghost use Rattle.std.specs.Prelude.{◌≡◌, ◌≤◌, ◌<◌, length, take};
-ghost use Rattle.io.specs.Counts.{IsPrefixLen};
-ghost use Rattle.libc.specs.Io.{Moved};
-ghost use Rattle.verdict.specs.Reads.{place_after, interrupted};
+
+ghost use Rattle.std.specs.Prelude.{◌≡◌, ◌≤◌, ◌<◌, length, take, IfSome};
+ghost use Rattle.std.specs.Counts.{IsPrefixLen};
+ghost use Rattle.verdict.specs.Reads.{Moved, TookInto, TookBetween, place_after, interrupted};
+
+use std::io;
+use std::io::{ErrorKind, Read};
+
+// C's number of the error of an interrupted call.
+const EINTR: i32 = 4;
 
 // Whether a signal ended a read before its first byte: it answered `got`, and C's errno is `error`.
 fn interrupted(got: isize, error: i32) -> bool
     ensures { result ≡ interrupted got error }
 {
     if got < 0 {
-        return error == libc::EINTR;
+        return error == EINTR;
     }
     false
 }
 
+// C's number of a read's error where a signal interrupted it, and 0 where the read failed otherwise.
+fn error_number(error: &io::Error) -> i32 {
+    if error.kind() == ErrorKind::Interrupted {
+        return EINTR;
+    }
+    0
+}
+
+// One read into `part`, as C answers it: the count of its bytes, or -1, and the number of its error.
+fn read_into<R: Read>(input: &mut R, part: &mut [u8]) -> (isize, i32)
+    ensures moved { Moved (length part.old) result.0 }
+    ensures bytes { TookInto (R.remaining input.old) (R.remaining input.new) result.0 part.new }
+{
+    match input.read(part) {
+        Ok(count) => (count as isize, 0),
+        Err(error) => (-1, error_number(&error)),
+    }
+}
+
 // One read into `part`, made again where a signal interrupts it: an interrupted read is no failed one. No run uses up the tries, which are
 // counted so that the loop ends.
-fn read_once(part: &mut [u8]) -> isize
-    ensures { Moved (length part.old) result }
+fn read_once<R: Read>(input: &mut R, part: &mut [u8]) -> isize
+    ensures moved { Moved (length part.old) result }
+    ensures bytes { TookInto (R.remaining input.old) (R.remaining input.new) result part.new }
 {
     let mut tries = 18446744073709551615u64;
     while tries > 0 {
-        let got = libc::read(0, part);
-        let error = os::errno();
+        let (got, error) = read_into(input, part);
         if !interrupted(got, error) {
             return got;
         }
@@ -49,25 +74,28 @@ fn after(got: isize, from: usize, size: usize) -> usize
 
 // One read into `text` from place `from` on: the place after the bytes that it put there. Where the read fails it is the end of `text`.
 // The bytes before stay.
-fn read_more(text: &mut [u8], from: usize) -> usize
+fn read_more<R: Read>(input: &mut R, text: &mut [u8], from: usize) -> usize
     requires { from ≤ length text.old }
     ensures lower_bound { (from ≤ result) × (result ≤ length text.old) }
     ensures text_unchanged { take from text.new ≡ take from text.old }
+    ensures bytes { from < length text.old → result < length text.old →
+        TookBetween (R.remaining input.old) (R.remaining input.new) from result text.new }
 {
     let size = text.len();
-    let got = read_once(&mut text[from..]);
+    let got = read_once(input, &mut text[from..]);
     after(got, from, size)
 }
 
-// Reads standard input to its end, or until `text` is full, and answers how many bytes it read. Where a read fails it answers the length
-// of `text`, which is more than a sheet may have.
-fn read_text(text: &mut [u8]) -> usize
+// Reads the input to its end, or until `text` is full, and answers how many bytes it read. Where a read fails it answers the length
+// of `text`, which is more than a sheet may have. Fewer bytes than `text` has room for are all that the input has.
+fn read_text<R: Read>(input: &mut R, text: &mut [u8]) -> usize
     requires { 65536 < length text.old }
-    ensures { IsPrefixLen result text.new }
+    ensures within { IsPrefixLen result text.new }
+    ensures bytes { IfSome (R.remaining input.old) (λ xs. result < length text.old → take result text.new ≡ xs) }
 {
     let mut done = 0;
     while done < text.len() {
-        let next = read_more(text, done);
+        let next = read_more(input, text, done);
         if next == done {
             return done;
         }
@@ -76,9 +104,9 @@ fn read_text(text: &mut [u8]) -> usize
     done
 }
 
-fn main() {
+fn main(rt: HostRuntime) -> io::Result<()> {
     let mut text = [0u8; 65537];
-    let count = read_text(&mut text);
+    let count = read_text(&mut rt.stdin(), &mut text);
     let line = judge::judged_line(&text[..count]);
-    io::write_all(1, &line);
+    rt.write_all(&line)
 }

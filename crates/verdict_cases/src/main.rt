@@ -1,11 +1,15 @@
 // Judges the sheets of a corpus: standard input has a line with the number of cases, then for each case a line with its number of bytes,
 // the bytes, and a line feed. Standard output gets the line of each verdict. The numbers stand in 16 columns, as on a sheet.
 #![tactic(auto)]
+
 ghost use Rattle.std.specs.Prelude.{◌≡◌, ◌≤◌, min, take, nat_abs};
 ghost use Rattle.fields.specs.Place.{number_at};
 ghost use Rattle.judge.specs.Judging.{judged_text, verdict_line};
 
+use cases::printing::print_bytes;
+use cases::reading::read_full;
 use fields::walk::number_size;
+use std::io::{Stdin, Stdout};
 
 // Most cases.
 const CASES: usize = 100000;
@@ -25,21 +29,21 @@ fn number_in(line: &[u8], most: usize) -> usize
 }
 
 // Reads a line of one number.
-fn read_number(most: usize) -> usize
+fn read_number(mut stdin: Stdin, most: usize) -> usize
     ensures { result ≤ most }
 {
     let mut line = [0u8; 17];
-    io::read_full(0, &mut line);
+    read_full(&mut stdin, &mut line);
     number_in(&line, most)
 }
 
 // Reads a case of `count` bytes and its line feed. It answers false where `text` has no room for it or the input ends before.
-fn read_case(text: &mut [u8], count: usize) -> bool {
+fn read_case(mut stdin: Stdin, text: &mut [u8], count: usize) -> bool {
     if text.len() <= count {
         return false;
     }
     let end = count + 1;
-    let got = io::read_full(0, &mut text[..end]);
+    let got = read_full(&mut stdin, &mut text[..end]);
     got == end
 }
 
@@ -54,22 +58,22 @@ fn case_line(text: &[u8], count: usize) -> [u8; 33]
 }
 
 // Reads a case and prints the line of its verdict.
-fn run_case(text: &mut [u8], count: usize) -> bool {
-    if !read_case(text, count) {
+fn run_case(stdin: Stdin, stdout: Stdout, text: &mut [u8], count: usize) -> bool {
+    if !read_case(stdin, text, count) {
         return false;
     }
     let line = case_line(text, count);
-    io::write_all(1, &line)
+    print_bytes(stdout, &line)
 }
 
 // Runs cases until one fails, and answers how many it ran.
-fn run_cases(text: &mut [u8], cases: usize) -> usize
+fn run_cases(stdin: Stdin, stdout: Stdout, text: &mut [u8], cases: usize) -> usize
     ensures { result ≤ cases }
 {
     let mut i = 0;
     while i < cases {
-        let count = read_number(BYTES);
-        if !run_case(text, count) {
+        let count = read_number(stdin, BYTES);
+        if !run_case(stdin, stdout, text, count) {
             return i;
         }
         i += 1;
@@ -77,8 +81,10 @@ fn run_cases(text: &mut [u8], cases: usize) -> usize
     i
 }
 
-fn main() {
+fn main(rt: HostRuntime) {
+    let stdin = rt.stdin();
+    let stdout = rt.stdout();
     let mut text = [0u8; 65538];
-    let cases = read_number(CASES);
-    run_cases(&mut text, cases);
+    let cases = read_number(stdin, CASES);
+    run_cases(stdin, stdout, &mut text, cases);
 }

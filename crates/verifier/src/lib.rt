@@ -1,5 +1,6 @@
 // The verifier: SPECIFICATION 6. It refuses a call, or judges it by checks 1 to 9.
 #![tactic(auto)]
+
 ghost use Rattle.std.specs.Prelude.{◌≡◌};
 ghost use Rattle.fold.specs.Arguments.{statement_of, draws_of, transcript_of};
 ghost use Rattle.fold.specs.Verification.{verification};

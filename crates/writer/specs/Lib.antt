@@ -2,6 +2,7 @@
 pub mod Writing
 -- What a call that is not refused knows
 pub mod Known
+
 -- Theorems
 -- Laws
 -- Closed cases

@@ -1,5 +1,6 @@
 // The writer of a sheet: SPECIFICATION 10. Every test comes before the first byte is written.
 #![tactic(auto)]
+
 ghost use Rattle.std.specs.Prelude.{◌≡◌};
 ghost use Rattle.writer.specs.Writing.{sheet_bytes, SheetWritten};
 

@@ -8,7 +8,7 @@ use Rattle.algebra.specs.Triangle.{start, pairs-count}
 use Rattle.fold.specs.declared.Verdict.TheVariants.{Accepted}
 use Rattle.fold.specs.declared.Answer.TheVariants.{Judged, Refused}
 use Rattle.fold.specs.Sizes.{pairs, function_size, t_size, garbage_size, rest_size, opening_size}
-use Rattle.fold.specs.Refusals.{whole_length_lem, constant_terms_length, projection_length}
+use Rattle.fold.specs.Refusals.{whole_length, constant_terms_length, projection_length}
 use Rattle.fold_values.specs.Cases.WholeCase.{whole-case}
 use Rattle.sheet.specs.Reading.{size, sizes_of}
 use Rattle.fields.specs.Field.{field_text, signed_text, columns, column_byte, minus_due}
@@ -22,13 +22,13 @@ use Rattle.judge.specs.Theorems.JudgeTheorem.{sheet_verdict, sheet_judged, sheet
 -- the lists of the sheet are those of the case
 whole-verdict : (sheet_verdict (sizes_of header) numbers ≡ Accepted 0) × (sheet_verdict (sizes_of (header_with 20)) numbers ≡ Accepted 7)
 unfolding size sizes_of list_at list_lengths pairs pairs-count start function_size t_size garbage_size rest_size opening_size
-    whole_length_lem constant_terms_length projection_length
+    whole_length constant_terms_length projection_length
 whole-verdict = (whole-case.accepted, whole-case.accepted_20)
 
 whole-narrow : (sheet_narrow (sizes_of header) numbers ≡ true) × (sheet_narrow (sizes_of (header_with 20)) numbers ≡ true)
     × (sheet_narrow (sizes_of (header_with 46)) wide_numbers ≡ false)
 unfolding size sizes_of list_at list_lengths pairs pairs-count start function_size t_size garbage_size rest_size opening_size
-    whole_length_lem constant_terms_length projection_length
+    whole_length constant_terms_length projection_length
 whole-narrow = (whole-case.digits-narrow, whole-case.digits-narrow, whole-case.digits-wide)
 
 whole_length_lem : (length (sheet_text header numbers) ≡ 1345) × (length (sheet_text (header_with 20) numbers) ≡ 1345)

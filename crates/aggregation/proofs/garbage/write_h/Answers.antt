@@ -19,12 +19,16 @@ write_digits-requires c =
     let z = c.args.sizes in
     let shaped = c.requires.aggregated.wholes.shaped in
     let count = c.pair_count-count.ensures in
-    let kept = c.write_half_sums.auto.out in record { degree = shaped.degree; base = c.requires.limits.base₁; t_nonzero = (
-          omega (arith, c.requires.limits.t₁-least),
-          c.requires.limits.t₁-most,
-          rw count (omega (arith, pairs-room shaped, kept)),
-          digits-length z.shape.d z.shape.r z.t1 count c.requires.hs_length,
-        ) }
+    let kept = c.write_half_sums.auto.out in record {
+      degree = shaped.degree;
+      base = c.requires.limits.base₁;
+      t_nonzero = (
+        omega (arith, c.requires.limits.t₁-least),
+        c.requires.limits.t₁-most,
+        rw count (omega (arith, pairs-room shaped, kept)),
+        digits-length z.shape.d z.shape.r z.t1 count c.requires.hs_length,
+      );
+    }
 
 pub returns : goal.returns
 returns c =

@@ -10,7 +10,7 @@ use Rattle.ring.specs.Laws.ElementPlaces.{row_fits, row_below}
 use Rattle.aggregation.proofs.products.write_part_products.Given as goal
 
 abbrev pub invariant-loop-j : goal.invariant-loop-j
-invariant-loop-j l =     Elements l.d l.at l.r (part_product l.d l.n l.phi l.witness) l.initial.out l.j l.out
+invariant-loop-j l = Elements l.d l.at l.r (part_product l.d l.n l.phi l.witness) l.initial.out l.j l.out
 
 abbrev pub decreases-loop-j : goal.decreases-loop-j
 decreases-loop-j l = l.r - l.j

@@ -39,12 +39,15 @@ pub write_part_products-requires : goal.write_part_products-requires
 write_part_products-requires c =
     let z = c.args.sizes.shape in
     let shaped = c.requires.aggregate_facts.wholes.shaped in
-    let kept = c.write_phi_part.auto.out in record { degree = shaped.degree; n_le_most_rank = (
+    let kept = c.write_phi_part.auto.out in record {
+      degree = shaped.degree;
+      n_le_most_rank = (
         shaped.rank-small,
         omega (arith, phi-room shaped, kept, c.loop-i.invariant.0),
         omega (arith, c.requires.witness_len.0),
         row_fits z.d z.r {i = c.loop-i.i} c.loop-i-test.true (rw c.loop-i.invariant.1.same c.requires.witness_len.1),
-      ) }
+      );
+    }
 
 pub overflow_add-i : goal.overflow_add-i
 overflow_add-i c = omega (arith, c.requires.aggregate_facts.wholes.shaped.parts-small, c.loop-i-test.true)

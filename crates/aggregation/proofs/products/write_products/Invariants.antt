@@ -15,7 +15,7 @@ use Rattle.ring.specs.Laws.Writers.{Blocks, blocks_start, blocks_over, blocks_en
 use Rattle.aggregation.proofs.products.write_products.Given as goal
 
 abbrev pub invariant-loop-i : goal.invariant-loop-i
-invariant-loop-i l =     (length l.phi ≡ 16384) × Blocks 0 l.parts (l.parts * l.d) (λ i. elements l.d l.parts (cross l.d l.rank
+invariant-loop-i l = (length l.phi ≡ 16384) × Blocks 0 l.parts (l.parts * l.d) (λ i. elements l.d l.parts (cross l.d l.rank
     (aggregate l.d l.rank l.parts l.sizes.k l.sizes.l l.sizes.w l.whole l.constant_terms l.projections l.psi l.omega l.alpha l.delta).φ l.witness i)) l.initial.out l.i (l.i * (l.parts * l.d)) l.out
 
 abbrev pub decreases-loop-i : goal.decreases-loop-i

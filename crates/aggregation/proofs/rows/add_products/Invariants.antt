@@ -9,7 +9,7 @@ use Rattle.aggregation.specs.Laws.RowLaws.{plus-product-end}
 use Rattle.aggregation.proofs.rows.add_products.Given as goal
 
 abbrev pub invariant-loop-k : goal.invariant-loop-k
-invariant-loop-k l =     Filling 5 5 (λ i. array l.d (plus_product l.d l.sums l.row (lift l.d l.y) i)) (replicate 64 (pos 0)) l.k l.out
+invariant-loop-k l = Filling 5 5 (λ i. array l.d (plus_product l.d l.sums l.row (lift l.d l.y) i)) (replicate 64 (pos 0)) l.k l.out
 
 abbrev pub decreases-loop-k : goal.decreases-loop-k
 decreases-loop-k l = 5 - l.k

@@ -13,8 +13,13 @@ use Rattle.checks.proofs.amortized.folded_summand.Goals as goal
 pub t_of-t-requires : goal.t_of-t-requires
 t_of-t-requires c =
     let f = c.requires.folded_facts.limits in
-    let k = c.requires.i_lt_r in record { degree = f.shaped.degree; base = f.base₁; t1_nonzero = (omega (arith, f.t₁-least), k.1); d_in_bounds = t-part-within c.args.tz c.args.sizes _ c.requires.folded_facts.o-length
-              c.args.i _ k.0 c.t_place-start.ensures }
+    let k = c.requires.i_lt_r in record {
+      degree = f.shaped.degree;
+      base = f.base₁;
+      t1_nonzero = (omega (arith, f.t₁-least), k.1);
+      d_in_bounds = t-part-within c.args.tz c.args.sizes _ c.requires.folded_facts.o-length
+          c.args.i _ k.0 c.t_place-start.ensures;
+    }
 
 pub from_slice-challenge-requires : goal.from_slice-challenge-requires
 from_slice-challenge-requires c =

@@ -24,12 +24,11 @@ overflow_add-q c =
     omega (arith, small, c.requires.garbage.parts)
 
 pub loop-i-preserved : goal.loop-i-preserved
-loop-i-preserved c =
-    (
-      summed_step c.loop-i.invariant.0 c.requires.garbage.degree c.loop-i-test.true
-          c.mixed_row-row.ensures c.sum-acc.ensures,
-      pair-next-row c.args.r c.loop-i.i c.loop-i.q c.loop-i-test.true c.loop-i.invariant.1,
-    )
+loop-i-preserved c = (
+  summed_step c.loop-i.invariant.0 c.requires.garbage.degree c.loop-i-test.true
+      c.mixed_row-row.ensures c.sum-acc.ensures,
+  pair-next-row c.args.r c.loop-i.i c.loop-i.q c.loop-i-test.true c.loop-i.invariant.1,
+)
 
 pub returns : goal.returns
 returns c = summed_end c.loop-i.invariant.0 c.loop-i-test.false ∙ ap (array c.args.d) (mixed-all _ _ _ _ _ _ _)

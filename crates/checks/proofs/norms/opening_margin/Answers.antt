@@ -21,11 +21,10 @@ overflow_mul-h_start c =
     omega (arith, mul-le-mul small c.requires.fits.shaped.degree.small)
 
 pub parts_margin-requires : goal.parts_margin-requires
-parts_margin-requires c =
-    (
-      rw (c.t_place.ensures, c.h_place.ensures) (mul-le-mul_right c.args.sizes.shape.d (t-before-h c.args.tz c.args.sizes)),
-      rw c.h_place.ensures (omega (arith, h-within c.args.tz c.args.sizes _ c.requires.opening)),
-    )
+parts_margin-requires c = (
+  rw (c.t_place.ensures, c.h_place.ensures) (mul-le-mul_right c.args.sizes.shape.d (t-before-h c.args.tz c.args.sizes)),
+  rw c.h_place.ensures (omega (arith, h-within c.args.tz c.args.sizes _ c.requires.opening)),
+)
 
 pub returns : goal.returns
 returns c =

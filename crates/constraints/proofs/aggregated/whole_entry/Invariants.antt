@@ -10,7 +10,7 @@ use Rattle.ring.specs.Laws.Loops.{Summed, summed_start, summed_end}
 use Rattle.constraints.proofs.aggregated.whole_entry.Given as goal
 
 abbrev pub invariant-loop-k : goal.invariant-loop-k
-invariant-loop-k l =     (l.at ≡ l.k * l.step) × Summed l.d l.kc (whole_summand l.d l.whole l.alpha l.step l.e) l.k l.sum.coefficients
+invariant-loop-k l = (l.at ≡ l.k * l.step) × Summed l.d l.kc (whole_summand l.d l.whole l.alpha l.step l.e) l.k l.sum.coefficients
 
 abbrev pub decreases-loop-k : goal.decreases-loop-k
 decreases-loop-k l = l.kc - l.k

@@ -11,7 +11,7 @@ use Rattle.constraints.specs.Laws.AggregatedLaws.{aggregate-row}
 use Rattle.constraints.proofs.phi.write_phi_part.Given as goal
 
 abbrev pub invariant-loop-y : goal.invariant-loop-y
-invariant-loop-y l =     Elements l.d 0 l.rank ((aggregate l.d l.sizes.shape.n l.sizes.shape.r l.sizes.k l.sizes.l l.sizes.w l.whole l.constant_terms l.projections l.psi l.omega l.alpha l.delta).φ l.i) l.initial.out l.y l.out
+invariant-loop-y l = Elements l.d 0 l.rank ((aggregate l.d l.sizes.shape.n l.sizes.shape.r l.sizes.k l.sizes.l l.sizes.w l.whole l.constant_terms l.projections l.psi l.omega l.alpha l.delta).φ l.i) l.initial.out l.y l.out
 
 abbrev pub decreases-loop-y : goal.decreases-loop-y
 decreases-loop-y l = l.rank - l.y

@@ -7,7 +7,7 @@ use Rattle.constraints.specs.Laws.ProjectedRowLaws.{turning_start, turning_end, 
 use Rattle.constraints.proofs.projected_rows.add_group.Given as goal
 
 abbrev pub invariant-loop-y : goal.invariant-loop-y
-invariant-loop-y l =     Turning l.shape.d (partial l.shape.d (l.shape.r * l.shape.n) l.w l.projections l.omega l.e (l.group * 4))
+invariant-loop-y l = Turning l.shape.d (partial l.shape.d (l.shape.r * l.shape.n) l.w l.projections l.omega l.e (l.group * 4))
     (partial l.shape.d (l.shape.r * l.shape.n) l.w l.projections l.omega l.e (l.group * 4 + 4)) (l.group * 4) 4 l.y l.acc
 
 abbrev pub decreases-loop-y : goal.decreases-loop-y

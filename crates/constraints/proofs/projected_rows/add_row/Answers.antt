@@ -41,8 +41,12 @@ overflow_mul-y c = omega (arith, c.requires.projection_facts.shaped.degree.small
 
 pub add_entry-requires : goal.add_entry-requires
 add_entry-requires c =
-    let facts = c.requires.projection_facts in record { x_bound = entry-one _ _ facts.tested c.x-1.given; five_room = turning_room c.loop-y.invariant c.loop-y-test.true facts.shaped.degree.small
-            (omega (arith, facts.row_count, c.requires.e_bound.1)); w_le_most_projections = (facts.row_count, c.requires.e_bound.1, facts.ω-length) }
+    let facts = c.requires.projection_facts in record {
+      x_bound = entry-one _ _ facts.tested c.x-1.given;
+      five_room = turning_room c.loop-y.invariant c.loop-y-test.true facts.shaped.degree.small
+          (omega (arith, facts.row_count, c.requires.e_bound.1));
+      w_le_most_projections = (facts.row_count, c.requires.e_bound.1, facts.ω-length);
+    }
 
 pub loop-y-preserved : goal.loop-y-preserved
 loop-y-preserved c = row_step _ _ _ _ _ _ c.loop-y.invariant c.loop-y-test.true c.x-1.given c.add_entry.ensures

@@ -10,7 +10,7 @@ use Rattle.ring.specs.Laws.Loops.{Summed, summed_start, summed_end}
 use Rattle.constraints.proofs.second.term_entry.Given as goal
 
 abbrev pub invariant-loop-j : goal.invariant-loop-j
-invariant-loop-j l =     (l.at ≡ l.j * l.step) × Summed l.d l.l (term_summand l.d l.constant_terms l.psi l.step l.first l.e) l.j l.sum.coefficients
+invariant-loop-j l = (l.at ≡ l.j * l.step) × Summed l.d l.l (term_summand l.d l.constant_terms l.psi l.step l.first l.e) l.j l.sum.coefficients
 
 abbrev pub decreases-loop-j : goal.decreases-loop-j
 decreases-loop-j l = l.l - l.j

@@ -14,12 +14,11 @@ pub digit_step-value-requires : goal.digit_step-value-requires
 digit_step-value-requires c = omega (arith, c.loop-k.invariant.1, value-below (drop c.args.at c.args.text.now) c.loop-k.k c.loop-k.invariant.0)
 
 pub loop-k-preserved : goal.loop-k-preserved
-loop-k-preserved c =
-    (
-      omega arith,
-      value-next c.args.text.now c.args.at c.loop-k.k (omega arith) c.loop-k.invariant.1
-          c.digit_step-value.ensures,
-    )
+loop-k-preserved c = (
+  omega arith,
+  value-next c.args.text.now c.args.at c.loop-k.k (omega arith) c.loop-k.invariant.1
+      c.digit_step-value.ensures,
+)
 
 pub returns : goal.returns
 returns c =

@@ -15,8 +15,7 @@ overflow_mul-result c =
     )
 
 pub returns : goal.returns
-returns c =
-    (
+returns c = (
   rw (c.matrix_count-a.ensures.0, c.whole_count-b.ensures.0) refl,
   omega (
     arith,

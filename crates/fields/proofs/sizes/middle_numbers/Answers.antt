@@ -9,8 +9,7 @@ pub overflow_mul-result : goal.overflow_mul-result
 overflow_mul-result c = omega (arith, mul-le-mul c.row_count-a.ensures.1 c.requires.shaped.degree.small)
 
 pub returns : goal.returns
-returns c =
-    (
+returns c = (
   rw c.row_count-a.ensures.0 refl,
   omega
       (arith, mul-le-mul c.row_count-a.ensures.1 c.requires.shaped.degree.small),

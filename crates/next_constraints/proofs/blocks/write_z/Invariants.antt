@@ -11,7 +11,7 @@ use Rattle.next_constraints.specs.Laws.BlockLaws.{ElementBlocks, blocks_start, b
 use Rattle.next_constraints.proofs.blocks.write_z.Given as goal
 
 abbrev pub invariant-loop-e : goal.invariant-loop-e
-invariant-loop-e l =     ElementBlocks l.d l.at l.tz l.n (λ e. numbers l.d (tab l.n (λ k. (R l.d).mul (power l.d l.b e) (el l.d l.xs (l.from + k))))) l.initial.out l.e l.place l.out
+invariant-loop-e l = ElementBlocks l.d l.at l.tz l.n (λ e. numbers l.d (tab l.n (λ k. (R l.d).mul (power l.d l.b e) (el l.d l.xs (l.from + k))))) l.initial.out l.e l.place l.out
 
 abbrev pub decreases-loop-e : goal.decreases-loop-e
 decreases-loop-e l = l.tz - l.e

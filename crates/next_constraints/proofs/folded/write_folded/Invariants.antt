@@ -12,7 +12,7 @@ use Rattle.next_constraints.specs.Laws.FoldedLaws.{Folding, folding_start, foldi
 use Rattle.next_constraints.proofs.folded.write_folded.Given as goal
 
 abbrev pub invariant-loop-i : goal.invariant-loop-i
-invariant-loop-i l =     (length l.phi ≡ 16384) × Folding l.d l.rank l.parts
+invariant-loop-i l = (length l.phi ≡ 16384) × Folding l.d l.rank l.parts
     (aggregate l.d l.rank l.parts l.sizes.k l.sizes.l l.sizes.w l.whole l.constant_terms l.projections l.psi l.omega l.alpha l.delta).φ l.c l.initial.out l.i l.out
 
 abbrev pub decreases-loop-i : goal.decreases-loop-i

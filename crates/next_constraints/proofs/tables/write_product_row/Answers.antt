@@ -18,10 +18,13 @@ overflow_add-place c = omega (arith, elements-below c.loop-k.invariant c.require
 
 pub minus_product-entry-requires : goal.minus_product-entry-requires
 minus_product-entry-requires c =
-    let d = c.args.d in record { degree = c.requires.degree; d_in_bounds = (
+    let d = c.args.d in record {
+      degree = c.requires.degree;
+      d_in_bounds = (
         element-within d {k = c.args.i} (omega arith) c.requires.i_le_r.1,
         element-within d {k = c.args.i + c.loop-k.k} (omega arith) c.requires.i_le_r.1,
-      ) }
+      );
+    }
 
 pub store-requires : goal.store-requires
 store-requires c = record { degree = c.requires.degree; d_in_bounds = elements-fit c.loop-k.invariant refl c.loop-k-test.true }

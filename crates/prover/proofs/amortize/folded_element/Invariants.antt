@@ -10,7 +10,7 @@ use Rattle.fold.specs.Messages.{z}
 use Rattle.prover.proofs.amortize.folded_element.Given as goal
 
 abbrev pub invariant-loop-i : goal.invariant-loop-i
-invariant-loop-i l =     Summed l.d l.r (λ i. (R l.d).mul (el l.d l.c i) (el l.d l.witness (i * l.n + l.k))) l.i l.sum.coefficients
+invariant-loop-i l = Summed l.d l.r (λ i. (R l.d).mul (el l.d l.c i) (el l.d l.witness (i * l.n + l.k))) l.i l.sum.coefficients
 
 abbrev pub decreases-loop-i : goal.decreases-loop-i
 decreases-loop-i l = l.r - l.i

@@ -27,11 +27,15 @@ slice_bounds-write_element_digits-end c = omega (arith, blocks_fit c.loop-e.inva
 
 pub write_element_digits-requires : goal.write_element_digits-requires
 write_element_digits-requires c =
-    record { degree = c.requires.degree; base = c.requires.base; t_nonzero = (
-          c.requires.t_nonzero.0,
-          element-within c.args.d c.loop-e-test.true c.requires.t_nonzero.2,
-          blocks_part c.loop-e.invariant c.loop-e-test.true,
-        ) }
+    record {
+      degree = c.requires.degree;
+      base = c.requires.base;
+      t_nonzero = (
+        c.requires.t_nonzero.0,
+        element-within c.args.d c.loop-e-test.true c.requires.t_nonzero.2,
+        blocks_part c.loop-e.invariant c.loop-e-test.true,
+      );
+    }
 
 pub loop-e-preserved : goal.loop-e-preserved
 loop-e-preserved c =

@@ -10,7 +10,7 @@ use Rattle.fold.proofs.Laws.WriterLaws.{length_digits}
 use Rattle.prover.proofs.garbage.write_digits.Given as goal
 
 abbrev pub invariant-loop-e : goal.invariant-loop-e
-invariant-loop-e l =     Blocks 0 l.count (l.t * l.d) (λ i. split l.base l.t (coeffs l.d (el l.d l.values i))) l.initial.out l.e l.at l.out
+invariant-loop-e l = Blocks 0 l.count (l.t * l.d) (λ i. split l.base l.t (coeffs l.d (el l.d l.values i))) l.initial.out l.e l.at l.out
 
 abbrev pub decreases-loop-e : goal.decreases-loop-e
 decreases-loop-e l = l.count - l.e

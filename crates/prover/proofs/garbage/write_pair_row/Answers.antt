@@ -22,11 +22,14 @@ overflow_mul-right c =
 
 pub inner-requires : goal.inner-requires
 inner-requires c =
-    let a = c.args in record { degree = c.requires.degree; n_bound = (
+    let a = c.args in record {
+      degree = c.requires.degree;
+      n_bound = (
         omega arith,
         row_fits a.d a.n {i = a.i} (omega arith) c.requires.n_le_most_rank.2,
         row_fits a.d a.n {i = a.i + c.loop-k.k} (omega arith) c.requires.n_le_most_rank.2,
-      ) }
+      );
+    }
 
 pub overflow_add-at : goal.overflow_add-at
 overflow_add-at c = omega (arith, elements-below c.loop-k.invariant c.requires.degree)

@@ -20,12 +20,11 @@ pub slice_bounds-project_row-end : goal.slice_bounds-project_row-end
 slice_bounds-project_row-end c = omega (arith, projecting-fit c.loop-j.invariant c.loop-j-test.true)
 
 pub project_row-product-requires : goal.project_row-product-requires
-project_row-product-requires c =
-    (
-      projection-entries-part c.loop-j.at (c.loop-j.at + length c.args.witness.now - c.loop-j.at) c.args.projections.now c.requires.tested,
-      projecting-part c.loop-j.invariant c.loop-j-test.true,
-      witness-short c.requires,
-    )
+project_row-product-requires c = (
+  projection-entries-part c.loop-j.at (c.loop-j.at + length c.args.witness.now - c.loop-j.at) c.args.projections.now c.requires.tested,
+  projecting-part c.loop-j.invariant c.loop-j-test.true,
+  witness-short c.requires,
+)
 
 pub loop-j-preserved : goal.loop-j-preserved
 loop-j-preserved c = projecting-turn c.loop-j.invariant c.loop-j-test.true c.project_row-product.ensures

@@ -15,20 +15,35 @@ low_narrow-requires c =
 pub low_narrow-requires-2 : goal.low_narrow-requires-2
 low_narrow-requires-2 c =
     let m = c.args.sizes in
-    let l = c.requires.verify_sized in record { degree = l.shaped.degree; t_nonzero = (omega (arith, l.t₁-least), l.t₁-most, omega (arith, l.κ-small)); base = l.base₁; d_in_bounds = rw c.t_place-t_place.ensures
-              (omega (arith, c.requires.opening_len, t_within m.shape.d m.shape.n m.shape.r c.args.tz m.kappa m.t1 m.t2)) }
+    let l = c.requires.verify_sized in record {
+      degree = l.shaped.degree;
+      t_nonzero = (omega (arith, l.t₁-least), l.t₁-most, omega (arith, l.κ-small));
+      base = l.base₁;
+      d_in_bounds = rw c.t_place-t_place.ensures
+          (omega (arith, c.requires.opening_len, t_within m.shape.d m.shape.n m.shape.r c.args.tz m.kappa m.t1 m.t2));
+    }
 
 pub low_narrow-requires-3 : goal.low_narrow-requires-3
 low_narrow-requires-3 c =
     let m = c.args.sizes in
-    let l = c.requires.verify_sized in record { degree = l.shaped.degree; t_nonzero = (omega (arith, l.t₂-least), l.t₂-most, omega arith); base = l.base₂; d_in_bounds = rw (c.g_place-g_place.ensures, c.pair_count-pairs.ensures)
-              (omega (arith, c.requires.opening_len, g_within m.shape.d m.shape.n m.shape.r c.args.tz m.kappa m.t1 m.t2)) }
+    let l = c.requires.verify_sized in record {
+      degree = l.shaped.degree;
+      t_nonzero = (omega (arith, l.t₂-least), l.t₂-most, omega arith);
+      base = l.base₂;
+      d_in_bounds = rw (c.g_place-g_place.ensures, c.pair_count-pairs.ensures)
+          (omega (arith, c.requires.opening_len, g_within m.shape.d m.shape.n m.shape.r c.args.tz m.kappa m.t1 m.t2));
+    }
 
 pub low_narrow-requires-4 : goal.low_narrow-requires-4
 low_narrow-requires-4 c =
     let m = c.args.sizes in
-    let l = c.requires.verify_sized in record { degree = l.shaped.degree; t_nonzero = (omega (arith, l.t₁-least), l.t₁-most, omega arith); base = l.base₁; d_in_bounds = rw (c.h_place-h_place.ensures, c.pair_count-pairs.ensures)
-              (omega (arith, c.requires.opening_len, h-within m.shape.d m.shape.n m.shape.r c.args.tz m.kappa m.t1 m.t2)) }
+    let l = c.requires.verify_sized in record {
+      degree = l.shaped.degree;
+      t_nonzero = (omega (arith, l.t₁-least), l.t₁-most, omega arith);
+      base = l.base₁;
+      d_in_bounds = rw (c.h_place-h_place.ensures, c.pair_count-pairs.ensures)
+          (omega (arith, c.requires.opening_len, h-within m.shape.d m.shape.n m.shape.r c.args.tz m.kappa m.t1 m.t2));
+    }
 
 pub returns : goal.returns
 unfolding narrow_digits

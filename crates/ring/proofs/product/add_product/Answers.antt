@@ -14,11 +14,14 @@ raised_weight-weight-requires c = (c.requires.degree.small, residues_small c.loa
 
 pub add_pair-requires : goal.add_pair-requires
 add_pair-requires c =
-    record { degree = c.requires.degree; room = (
+    record {
+      degree = c.requires.degree;
+      room = (
         c.requires.a_len.2,
         weight-bound _ _ c.raised_weight-weight.ensures,
         raised-narrow (short-below _ _ _ (sym c.is_short-small.ensures ∙ c.if-small.true)) c.raise.ensures,
-      ) }
+      );
+    }
 
 pub returns-then-small : goal.returns-then-small
 returns-then-small c =
@@ -30,9 +33,8 @@ returns-then-small c =
     )
 
 pub returns : goal.returns
-returns c =
-    (
-      c.load.ensures.size,
-      c.extend.ensures.size,
-      gained c.add_pair-2.ensures (column-value c.load.ensures c.extend.ensures),
-    )
+returns c = (
+  c.load.ensures.size,
+  c.extend.ensures.size,
+  gained c.add_pair-2.ensures (column-value c.load.ensures c.extend.ensures),
+)

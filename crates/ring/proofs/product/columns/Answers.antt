@@ -24,11 +24,10 @@ overflow_add-high2 c = running_high-fits c.loop-i.invariant.1 c.requires.0
 
 pub loop-i-preserved : goal.loop-i-preserved
 unfolding summand
-loop-i-preserved c =
-    (
-      running_step c.loop-i.invariant.0 c.requires.0 c.loop-i-test.true c.wrapping_add_u64-sum.ensures.value,
-      running_step c.loop-i.invariant.1 c.requires.0 c.loop-i-test.true c.wrapping_add_u64-sum2.ensures.value,
-    )
+loop-i-preserved c = (
+  running_step c.loop-i.invariant.0 c.requires.0 c.loop-i-test.true c.wrapping_add_u64-sum.ensures.value,
+  running_step c.loop-i.invariant.1 c.requires.0 c.loop-i-test.true c.wrapping_add_u64-sum2.ensures.value,
+)
 
 pub overflow_mul-first : goal.overflow_mul-first
 overflow_mul-first c = omega (arith, running_high c.loop-i.invariant.0 c.requires.0)

@@ -5,7 +5,7 @@ use Rattle.ring.specs.Laws.ColumnLaws.{running_high, running_high-fits, running_
 use Rattle.ring.proofs.product.columns.Given as goal
 
 abbrev pub invariant-loop-i : goal.invariant-loop-i
-invariant-loop-i l =     Running l.d (summand l.a l.e l.start) l.i l.sum l.high × Running l.d (summand l.a l.e l.other) l.i l.sum2 l.high2
+invariant-loop-i l = Running l.d (summand l.a l.e l.start) l.i l.sum l.high × Running l.d (summand l.a l.e l.other) l.i l.sum2 l.high2
 
 abbrev pub decreases-loop-i : goal.decreases-loop-i
 decreases-loop-i l = l.d - l.i

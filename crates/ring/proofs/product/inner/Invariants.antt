@@ -8,7 +8,7 @@ use Rattle.ring.specs.Laws.Loops.{Counted, counted_start, counted_step, counted-
 use Rattle.ring.proofs.product.inner.Given as goal
 
 abbrev pub invariant-loop-k : goal.invariant-loop-k
-invariant-loop-k l =     (length l.a ≡ 64) × (length l.e ≡ 129) × Counted l.n (λ k. Holds l.d (sum (R l.d) k (pair l.d l.u l.p l.v l.s)) k l.acc) l.k
+invariant-loop-k l = (length l.a ≡ 64) × (length l.e ≡ 129) × Counted l.n (λ k. Holds l.d (sum (R l.d) k (pair l.d l.u l.p l.v l.s)) k l.acc) l.k
 
 abbrev pub decreases-loop-k : goal.decreases-loop-k
 decreases-loop-k l = l.n - l.k

@@ -6,7 +6,7 @@ use Rattle.ring.specs.Laws.ShortLaws.{Sized, narrow-summand, sized-start, sized-
 use Rattle.ring.proofs.short.columns.Given as goal
 
 abbrev pub invariant-loop-i : goal.invariant-loop-i
-invariant-loop-i l =     Sized l.d l.c (summand l.a l.e l.start) l.i l.sum × Sized l.d l.c (summand l.a l.e l.other) l.i l.sum2
+invariant-loop-i l = Sized l.d l.c (summand l.a l.e l.start) l.i l.sum × Sized l.d l.c (summand l.a l.e l.other) l.i l.sum2
 
 abbrev pub decreases-loop-i : goal.decreases-loop-i
 decreases-loop-i l = l.d - l.i

@@ -21,8 +21,11 @@ projection_length-count-requires c = let b = c.requires.bounded in (b.shaped.deg
 
 pub all_within-requires : goal.all_within-requires
 all_within-requires c =
-    let lines = c.sections_of-q.ensures in record { d_nonzero = lines-positive c.requires.bounded lines; span = later-span c.requires lines _ _ (omega (arith, c.projections_from-from.ensures, c.projection_length-count.ensures, projections-end c.args.s))
-          c.place_after-start.ensures }
+    let lines = c.sections_of-q.ensures in record {
+      d_nonzero = lines-positive c.requires.bounded lines;
+      span = later-span c.requires lines _ _ (omega (arith, c.projections_from-from.ensures, c.projection_length-count.ensures, projections-end c.args.s))
+          c.place_after-start.ensures;
+    }
 
 pub returns : goal.returns
 unfolding projection_entries

@@ -1,0 +1,18 @@
+use mathlib.Core.Path.{◌≡◌, refl, ◌∙◌}
+use Prim.Native.Nat.{suc, ◌+◌, ◌-◌, ◌≤◌}
+use native.Mathlib.Nat.{mul-le-mul_right}
+use native.Mathlib.Omega.{arith}
+use Rattle.algebra.specs.Triangle.{start, pair}
+use Rattle.ring.specs.Element.{R, el, every, same}
+use Rattle.ring.specs.Laws.Loops.{Tested, tested-start, tested-step, tested-end}
+use Rattle.fold.specs.Sizes.{pairs}
+use Rattle.fold.specs.Laws.SizeBounds.{pairs-bound}
+use Rattle.bare.specs.Refusals.{unmixed}
+use Rattle.bare_refusals.specs.Laws.RowLaws.{row_within, row_next, zero_row}
+use Rattle.bare_refusals.proofs.unmixed.function_unmixed.Given as goal
+
+abbrev pub invariant-loop-i : goal.invariant-loop-i
+invariant-loop-i l = Tested l.r (λ i. every (l.r - suc i) (λ k. same l.d (el l.d l.xs (pair l.r i (suc i + k))) (R l.d).zero)) l.i l.all × (l.at ≡ start (λ k. l.r - k) l.i)
+
+abbrev pub decreases-loop-i : goal.decreases-loop-i
+decreases-loop-i l = l.r - l.i

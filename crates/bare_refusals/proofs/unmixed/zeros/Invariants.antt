@@ -1,0 +1,13 @@
+use mathlib.Core.Path.{ap₂, ◌∙◌}
+use Prim.Native.Nat.{◌+◌, ◌-◌}
+use native.Mathlib.Omega.{arith}
+use Rattle.ring.specs.Element.{R, el, same}
+use Rattle.ring.specs.Laws.ElementPlaces.{element-fits, place-below}
+use Rattle.ring.specs.Laws.Loops.{Tested, tested-start, tested-step, tested-end, held}
+use Rattle.bare_refusals.proofs.unmixed.zeros.Given as goal
+
+abbrev pub invariant-loop-k : goal.invariant-loop-k
+invariant-loop-k l = Tested l.count (λ k. same l.d (el l.d l.xs (l.place + k)) (R l.d).zero) l.k l.all
+
+abbrev pub decreases-loop-k : goal.decreases-loop-k
+decreases-loop-k l = l.count - l.k

@@ -1,0 +1,12 @@
+use Prim.Native.Nat.{◌-◌}
+use native.Mathlib.Omega.{arith}
+use Rattle.ring.specs.Element.{R, el}
+use Rattle.ring.specs.Laws.Loops.{Summed, summed_start, summed_step, summed_end}
+use Rattle.bare.specs.Opening.{t_at}
+use Rattle.bare_verifier.proofs.folded.folded_row.Given as goal
+
+abbrev pub invariant-loop-i : goal.invariant-loop-i
+invariant-loop-i l = Summed l.d l.r (λ i. (R l.d).mul (el l.d l.c i) (t_at l.d l.sizes.shape.n l.r l.sizes.kappa l.opening i l.k)) l.i l.acc.coefficients
+
+abbrev pub decreases-loop-i : goal.decreases-loop-i
+decreases-loop-i l = l.r - l.i

@@ -1,0 +1,31 @@
+-- `judge::line::verdict_line` meets its contract: its bytes are those of the two fields and the line feed.
+use mathlib.Core.Path.{◌≡◌, refl, sym}
+use native.Mathlib.Omega.{arith}
+use lib.ListN.{length}
+use borrow.Author.Rules.{rules}
+use Rattle.fields.specs.Place.{field_width}
+use Rattle.judge.specs.Laws.LineLaws.{line-written}
+use Rattle.judge.proofs.line.verdict_line.Goals as goal
+
+pub slice_bounds-write_laid-end : goal.slice_bounds-write_laid-end
+slice_bounds-write_laid-end c = refl
+
+pub write_laid-requires : goal.write_laid-requires
+unfolding field_width
+write_laid-requires c = omega arith
+
+pub slice_bounds-write_laid-end-2 : goal.slice_bounds-write_laid-end-2
+slice_bounds-write_laid-end-2 c =
+    let kept : length c.write_laid.new.text ≡ 33 = c.write_laid.auto.text in
+    sym kept
+
+pub write_laid-requires-2 : goal.write_laid-requires-2
+unfolding field_width
+write_laid-requires-2 c =
+    let kept : length c.write_laid.new.text ≡ 33 = c.write_laid.auto.text in
+    omega (arith, kept)
+
+pub returns : goal.returns
+returns c =
+    line-written c.args.answer _ refl c.kind.ensures c.number.ensures
+    c.write_laid.ensures c.write_laid-2.ensures

@@ -1,0 +1,17 @@
+use mathlib.Core.Path.{refl, ap, ◌∙◌}
+use Prim.Native.Nat.{◌-◌, ◌*◌, ◌≤◌}
+use native.Mathlib.Omega.{arith}
+use lib.ListN.{length}
+use Rattle.ring.specs.Element.{array}
+use Rattle.ring.specs.Laws.Writers.{Elements, elements-start, elements-below, elements-fit, elements-turn, elements-end}
+use Rattle.fold.specs.Messages.{elements}
+use Rattle.fold.proofs.Laws.WriterLaws.{length-elements}
+use Rattle.next_checks.specs.Spread.{chunk_entry}
+use Rattle.next_checks.specs.Laws.SpreadLaws.{chunk_kept}
+use Rattle.next_checks.proofs.spread.move_chunk.Given as goal
+
+abbrev pub invariant-loop-k : goal.invariant-loop-k
+invariant-loop-k l = Elements l.d l.at l.rank (chunk_entry l.d l.initial.out l.from l.size) l.initial.out l.k l.out
+
+abbrev pub decreases-loop-k : goal.decreases-loop-k
+decreases-loop-k l = l.rank - l.k
