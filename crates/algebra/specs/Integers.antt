@@ -1,5 +1,5 @@
 -- The integers as a commutative ring.
-use Rattle.std.specs.Prelude.{zero, ℤ, pos, neg_ℤ, ◌+ℤ◌, ◌*ℤ◌}
+use Rattle.std.specs.Prelude.{ℤ, pos, neg_ℤ, ◌+ℤ◌, ◌*ℤ◌}
 use Rattle.std.proofs.Math.IntN.{ℤ_set, +ℤ_assoc, +ℤ_comm, +ℤ_idr, +ℤ_invr, *ℤ_comm}
 use Rattle.integers.specs.Laws.Identities.{*ℤ_assoc, *ℤ_idr, *ℤ_distribˡ}
 use Rattle.algebra.specs.CommRing.{CommRing}

@@ -8,9 +8,5 @@ pub mod SumMaps
 pub mod VecLaws
 pub mod PolynomialLaws
 pub mod ConstantLaws
-pub mod Convolution
-pub mod ConjugationLaws
-pub mod ConjugationProduct
 pub mod DotProductLaws
-pub mod FoldLaws
 pub mod Tables

@@ -3,8 +3,11 @@ pub mod Words
 pub mod Centring
 pub mod ResidueSteps
 pub mod StraightLineLaws
+pub mod CentreSize
 pub mod DigitRule
+pub mod DigitRest
 pub mod DigitLaws
+pub mod QuotientSteps
 pub mod DigitSteps
 pub mod DigitBlockLaws
 pub mod DigitSums

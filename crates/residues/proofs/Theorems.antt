@@ -1,3 +1,4 @@
 pub mod LowDigit
 pub mod Length
+pub mod ChallengeRules
 pub mod Challenge

@@ -6,6 +6,3 @@ pub mod Range
 pub mod StraightLine
 -- What the code forms
 pub mod DigitBlocks
-
--- Theorems
--- Laws

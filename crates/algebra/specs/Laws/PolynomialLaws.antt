@@ -1,4 +1,5 @@
 -- Laws of the operations of 𝓚[X]/(X^d + 1): coefficient by coefficient, and the laws of a commutative ring.
+-- What X times a polynomial has at the constant term is in ../../proofs/Laws/TimesXLaws.antt.
 use Rattle.std.specs.Prelude.{◌≡◌}
 use Rattle.std.proofs.Math.Path.{refl, sym}
 use Rattle.std.proofs.Common.{ap, ◌∙◌, arith}
@@ -46,7 +47,7 @@ module _ (𝓚 : CommRing) where
   unfolding scale
   coeff-scale c u k = rw mul-zero at (at_map (◌⊗◌ c) 𝟘 u k)
 
-  coeff-shift-zero : {d : ℕ} (a : K) (u : Vec K d) → 0 < d → coeff 𝓚 (shift 𝓚 a u) 0 ≡ a
+  pub coeff-shift-zero : {d : ℕ} (a : K) (u : Vec K d) → 0 < d → coeff 𝓚 (shift 𝓚 a u) 0 ≡ a
   unfolding at shift
   coeff-shift-zero a nil h = absurd (omega arith)
   coeff-shift-zero a (cons b u) h = refl
@@ -57,13 +58,9 @@ module _ (𝓚 : CommRing) where
   coeff-shift-suc a (cons b u) zero h = coeff-shift-zero b u (omega arith)
   coeff-shift-suc a (cons b u) (suc k) h = coeff-shift-suc b u k (omega arith)
 
-  pub coeff-times_x-zero : {d : ℕ} (u : Vec K d) → 0 < d → coeff 𝓚 (times_x 𝓚 u) 0 ≡ ⊖ coeff 𝓚 u (d - 1)
-  unfolding times_x
-  coeff-times_x-zero {d} u h = coeff-shift-zero (⊖ coeff 𝓚 u (d - 1)) u h
-
   pub coeff-times_x-suc : {d : ℕ} (u : Vec K d) (k : ℕ) → suc k < d → coeff 𝓚 (times_x 𝓚 u) (suc k) ≡ coeff 𝓚 u k
   unfolding times_x
-  coeff-times_x-suc {d} u k h = coeff-shift-suc (⊖ coeff 𝓚 u (d - 1)) u k h
+  coeff-times_x-suc u k h = coeff-shift-suc _ u k h
 
   -- addition and scaling, by coefficients
   pub plus_assoc : {d : ℕ} (u v w : Vec K d) → plus 𝓚 (plus 𝓚 u v) w ≡ plus 𝓚 u (plus 𝓚 v w)
@@ -92,18 +89,20 @@ module _ (𝓚 : CommRing) where
 
   -- X · is a linear map
   times_x-plus : {d : ℕ} (u v : Vec K d) → times_x 𝓚 (plus 𝓚 u v) ≡ plus 𝓚 (times_x 𝓚 u) (times_x 𝓚 v)
+  unfolding times_x
   times_x-plus {d} u v = ext 𝟘 _ _ entry
     where
       entry : (k : ℕ) → k < d → coeff 𝓚 (times_x 𝓚 (plus 𝓚 u v)) k ≡ coeff 𝓚 (plus 𝓚 (times_x 𝓚 u) (times_x 𝓚 v)) k
-      entry zero h = simp (coeff-add, coeff-times_x-zero, neg_distrib)
-      entry (suc k) h = simp (coeff-add, coeff-times_x-suc)
+      entry zero h = simp (coeff-add, coeff-shift-zero, neg_distrib)
+      entry (suc k) h = simp (coeff-add, coeff-shift-suc)
 
   times_x-scale : {d : ℕ} (c : K) (u : Vec K d) → times_x 𝓚 (scale 𝓚 c u) ≡ scale 𝓚 c (times_x 𝓚 u)
+  unfolding times_x
   times_x-scale {d} c u = ext 𝟘 _ _ entry
     where
       entry : (k : ℕ) → k < d → coeff 𝓚 (times_x 𝓚 (scale 𝓚 c u)) k ≡ coeff 𝓚 (scale 𝓚 c (times_x 𝓚 u)) k
-      entry zero h = simp (coeff-scale, coeff-times_x-zero, mul-neg)
-      entry (suc k) h = simp (coeff-scale, coeff-times_x-suc)
+      entry zero h = simp (coeff-scale, coeff-shift-zero, mul-neg)
+      entry (suc k) h = simp (coeff-scale, coeff-shift-suc)
 
   -- a linear map that commutes with X
   pub record Linear {d : ℕ} (f : Vec K d → Vec K d) : Type 0 where
@@ -150,15 +149,15 @@ module _ (𝓚 : CommRing) where
 
   -- u · 1 = u, also for a polynomial u of lower degree
   coeff-times-one : {n d : ℕ} (u : Vec K n) → n ≤ d → (k : ℕ) → k < d → coeff 𝓚 (times 𝓚 u (constant 𝓚 d 𝟙)) k ≡ coeff 𝓚 u k
-  unfolding at times
+  unfolding at times times_x
   coeff-times-one {d = d} nil l k h = coeff-zero d k
   coeff-times-one {d = d} (cons a u) l zero h =
       let last : (coeff 𝓚) (times 𝓚 u (constant 𝓚 d 𝟙)) (d - 1) ≡ coeff 𝓚 u (d - 1) = coeff-times-one u (omega arith) (d - 1) (omega arith) in
       let past : (coeff 𝓚) u (d - 1) ≡ 𝟘 = at-past 𝟘 u (omega arith) in
-      simp (coeff-add, coeff-scale, coeff-constant, coeff-times_x-zero, last, past, neg-zero, mul-one, add-zero)
+      simp (coeff-add, coeff-scale, coeff-constant, coeff-shift-zero, last, past, neg-zero, mul-one, add-zero)
   coeff-times-one {d = d} (cons a u) l (suc k) h =
       let below : (coeff 𝓚) (times 𝓚 u (constant 𝓚 d 𝟙)) k ≡ coeff 𝓚 u k = coeff-times-one u (omega arith) k (omega arith) in
-      simp (coeff-add, coeff-scale, coeff-constant-suc, coeff-times_x-suc, below, mul-zero, zero-add)
+      simp (coeff-add, coeff-scale, coeff-constant-suc, coeff-shift-suc, below, mul-zero, zero-add)
 
   pub times-one : {d : ℕ} (u : Vec K d) → times 𝓚 u (constant 𝓚 d 𝟙) ≡ u
   times-one u = ext 𝟘 _ _ (coeff-times-one u (omega arith))

@@ -16,7 +16,7 @@ use Rattle.algebra.specs.Triangle.{rows}
 use Rattle.algebra.specs.Conjugation.{ct}
 use Rattle.algebra.specs.DotProduct.{inner, value}
 use Rattle.algebra.specs.Laws.DotProductLaws.{inner_cong}
-use Rattle.algebra.specs.Laws.FoldLaws.{folded_linear}
+use Rattle.algebra.proofs.Laws.FoldLaws.{folded_linear}
 use Rattle.residues.specs.Modulus.{Zq}
 use Rattle.ring.specs.Element.{R, el, same}
 use Rattle.ring.specs.Laws.ElementEquality.{true-every, same_iff}

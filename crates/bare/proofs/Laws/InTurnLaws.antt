@@ -17,7 +17,7 @@ use Rattle.algebra.specs.Laws.TriangleLaws.{rows-below, rows-square}
 use Rattle.algebra.specs.Laws.Solver.{◌:+◌, ◌:*◌, solve4}
 use Rattle.algebra.specs.DotProduct.{inner, folded}
 use Rattle.algebra.specs.Laws.DotProductLaws.{inner_comm}
-use Rattle.algebra.specs.Laws.FoldLaws.{folded_linear, folded-square}
+use Rattle.algebra.proofs.Laws.FoldLaws.{folded_linear, folded-square}
 use Rattle.bare.specs.Verdict.{in_turn}
 
 module _ (𝓡 : CommRing) where

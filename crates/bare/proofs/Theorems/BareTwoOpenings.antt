@@ -9,7 +9,7 @@ use Rattle.std.proofs.Math.Path.{ap, ap₂}
 use Rattle.integers.specs.Sums.{norm_sq}
 use Rattle.algebra.specs.CommRing.{sub}
 use Rattle.algebra.specs.Laws.SumLaws.{sum_cong}
-use Rattle.algebra.specs.Laws.FoldLaws.{sum_one_differs}
+use Rattle.algebra.proofs.Laws.FoldLaws.{sum_one_differs}
 use Rattle.ring.specs.Element.{R, el}
 use Rattle.fold.specs.Answers.{kind_of}
 use Rattle.fold.specs.Statement.{Draws}

@@ -18,7 +18,7 @@ use Rattle.algebra.specs.Triangle.{rows}
 use Rattle.algebra.specs.Polynomial.{coeff, constant}
 use Rattle.algebra.specs.Laws.ConstantLaws.{constant-add}
 use Rattle.algebra.specs.Conjugation.{conjugate, ct}
-use Rattle.algebra.specs.Laws.ConjugationLaws.{ct-add, ct-sum, ct-constant-mul, ct-conjugate}
+use Rattle.algebra.proofs.Laws.ConjugationLaws.{ct-add, ct-sum, ct-constant-mul, ct-conjugate}
 use Rattle.algebra.specs.DotProduct.{Function, inner, value, combination}
 use Rattle.algebra.specs.Laws.DotProductLaws.{value-plus, value-combination}
 use Rattle.residues.specs.Modulus.{q-positive, Zq, red, centred}

@@ -14,7 +14,7 @@ use Rattle.algebra.specs.Laws.TriangleLaws.{sum-start, below_cong, rows-below, r
 use Rattle.algebra.specs.Laws.Tables.{dot, dot-sum}
 use Rattle.algebra.specs.DotProduct.{inner, folded}
 use Rattle.algebra.specs.Laws.DotProductLaws.{inner_comm}
-use Rattle.algebra.specs.Laws.FoldLaws.{folded_linear}
+use Rattle.algebra.proofs.Laws.FoldLaws.{folded_linear}
 
 module _ (𝓡 : CommRing) where
   infixl 65 ◌⊕◌

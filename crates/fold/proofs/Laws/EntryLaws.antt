@@ -20,8 +20,8 @@ use Rattle.algebra.specs.Negacyclic.{Negacyclic}
 use Rattle.algebra.specs.Polynomial.{constant, zeros, times}
 use Rattle.algebra.specs.Laws.ConstantLaws.{constant-zero}
 use Rattle.algebra.specs.Conjugation.{conjugate}
-use Rattle.algebra.specs.Laws.ConjugationLaws.{conjugate-add}
-use Rattle.algebra.specs.Laws.ConjugationProduct.{conjugate-constant, conjugate-mul}
+use Rattle.algebra.proofs.Laws.ConjugationLaws.{conjugate-add}
+use Rattle.algebra.proofs.Laws.ConjugationProduct.{conjugate-constant, conjugate-mul}
 use Rattle.algebra.specs.DotProduct.{Function, inner, value}
 use Rattle.residues.specs.Modulus.{Zq, red}
 use Rattle.ring.specs.Element.{R, el, coeffs, number}

@@ -13,7 +13,8 @@ use Rattle.algebra.specs.Laws.TriangleLaws.{rows_cong}
 use Rattle.algebra.specs.Conjugation.{ct}
 use Rattle.algebra.specs.DotProduct.{value}
 use Rattle.algebra.specs.Laws.DotProductLaws.{inner_cong}
-use Rattle.algebra.specs.Laws.FoldLaws.{mixed_cong, folded_linear, folded_self, folded-garbage, value-garbage}
+use Rattle.algebra.proofs.Laws.MixedLaws.{mixed_cong}
+use Rattle.algebra.proofs.Laws.FoldLaws.{folded_linear, folded_self, folded-garbage, value-garbage}
 use Rattle.residues.specs.Modulus.{Zq}
 use Rattle.ring.specs.Element.{R, el, same}
 use Rattle.ring.specs.Laws.ElementEquality.{true-every, same_iff}

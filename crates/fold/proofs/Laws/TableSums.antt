@@ -20,7 +20,7 @@ use Rattle.algebra.specs.Laws.TriangleLaws.{rows_cong, rows-below, below_cong, b
 use Rattle.algebra.specs.Laws.Tables.{dot, dot-append, dot-tab, dot-flat, dot-flat-start, length-flat-start}
 use Rattle.algebra.specs.DotProduct.{inner, folded, mixed}
 use Rattle.algebra.specs.Laws.DotProductLaws.{inner_cong, inner-scale-left, inner-sum-left}
-use Rattle.algebra.specs.Laws.FoldLaws.{folded_linear}
+use Rattle.algebra.proofs.Laws.FoldLaws.{folded_linear}
 use Rattle.algebra.specs.Laws.Solver.{◌:*◌, solve3}
 use Rattle.fold.specs.Laws.ChunkLaws.{start-scale}
 

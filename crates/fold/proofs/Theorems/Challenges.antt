@@ -7,7 +7,8 @@ use Rattle.std.specs.Prelude.{◌≡◌, true, ◌↔◌, List, ℕ, ◌*◌, �
 use Rattle.std.proofs.Common.{arith, length-take, length-drop, length-take-le}
 use Rattle.integers.specs.Sums.{norm_sq}
 use Rattle.residues.specs.Range.{short_challenge}
-use Rattle.residues.proofs.Theorems.Challenge.{Counts, degree_64, smaller-degree, challenge-short}
+use Rattle.residues.proofs.Theorems.ChallengeRules.{Counts, degree_64, smaller-degree}
+use Rattle.residues.proofs.Theorems.Challenge.{challenge-short}
 use Rattle.ring.specs.Laws.ElementPlaces.{block-before}
 use Rattle.fold.specs.Refusals.{challenges}
 use Rattle.fold.specs.Laws.RefusalLaws.{challenges_iff}

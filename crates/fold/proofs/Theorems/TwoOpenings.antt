@@ -14,7 +14,7 @@ use Rattle.integers.specs.Sums.{total, norm_sq}
 use Rattle.algebra.specs.CommRing.{sub}
 use Rattle.algebra.specs.Laws.RingLaws.{sub_zero_iff}
 use Rattle.algebra.specs.Laws.SumLaws.{sum_cong}
-use Rattle.algebra.specs.Laws.FoldLaws.{sum_one_differs}
+use Rattle.algebra.proofs.Laws.FoldLaws.{sum_one_differs}
 use Rattle.ring.specs.Element.{R, el}
 use Rattle.fold.specs.Answers.{kind_of}
 use Rattle.fold.specs.Sizes.{t_size}

@@ -4,7 +4,6 @@
 --     leaves_even_lem           where z = k·b + e, e leaves an even quotient exactly if k is even
 --     centre-is             where z does not lie halfway, its centred remainder has the property
 --     low-is, low-only      the low digit has the property, and it alone
---     rest_from             what is left is k, where z = k·b + e, e is narrow, and k is even if e is a half
 use Rattle.std.specs.Prelude.{◌≡◌, Bool, cond, ℕ, ◌+◌, ◌*◌, ◌/◌, ◌%◌, ◌≤◌, ◌<◌, ℤ, negsuc, neg_ℤ, nat_abs, ◌+ℤ◌, ◌-ℤ◌, ◌*ℤ◌}
 use Rattle.std.proofs.Math.Path.{refl, sym, ap}
 use Rattle.std.proofs.Common.{◌∙◌}
@@ -21,7 +20,8 @@ use Rattle.integers.specs.Remainder.{emod, ediv, centre}
 use Rattle.integers.specs.Laws.RemainderLaws.{emod-eq, division_pn}
 use Rattle.integers.specs.Laws.CentreLaws.{centre_range, centre-emod}
 use Rattle.integers.specs.Laws.MachineDivision.{quot_z_exact}
-use Rattle.residues.specs.Digits.{halfway, leaves_even, even_half, low, LowDigit, rest}
+use Rattle.residues.specs.Digits.{halfway, leaves_even, even_half, low, LowDigit}
+use Rattle.residues.proofs.Laws.CentreSize.{centre-narrow}
 
 module _ (b : ℕ) (b>1 : 2 ≤ b) where
   above : 0 < b
@@ -109,17 +109,14 @@ module _ (b : ℕ) (b>1 : 2 ≤ b) where
               ∙ next-even k (sym (leaves_even_lem z k (pos (b / 2)) whole) ∙ e);
         }
 
-    centre-narrow : nat_abs (centre b z) * 2 ≤ b
-    centre-narrow = omega (arith, (centre_range b above z).low, (centre_range b above z).high, nat_abs_pn (centre b z), pn_min (centre b z))
-
     pub centre-is : (emod z b * 2 ≡ b → ⊥) → LowDigit b z (centre b z)
     centre-is h =
         let c = centre b z in
         let range = centre_range b above z in
-        let remainder = narrow-remainder c centre-narrow in
+        let remainder = narrow-remainder c (centre-narrow b b>1 z) in
         record {
           congruent = centre-emod b above z;
-          narrow = centre-narrow;
+          narrow = centre-narrow b b>1 z;
           even = λ t. absurd (h (omega (arith, t, range.high, centre-emod b above z, remainder.1 (omega (arith, t, range.high, nat_abs_pn c, pn_min c)), nat_abs_pn c, pn_min c)));
         }
 
@@ -170,16 +167,3 @@ module _ (b : ℕ) (b>1 : 2 ≤ b) where
         )
         cases (no h) (yes k) = absurd (opposites x y (omega arith) k)
         cases (yes h) (no k) = absurd (opposites y x (omega arith) h)
-
-    -- ---- what is left
-
-    pub rest_from : (k e : ℤ) → z ≡ k *ℤ pos b +ℤ e → nat_abs e * 2 ≤ b → (nat_abs e * 2 ≡ b → nat_abs k % 2 ≡ 0) → rest b z ≡ k
-    unfolding rest
-    rest_from k e whole narrow even =
-        let is : LowDigit b z e =
-        record {
-          congruent = sym (emod-eq b above z e k (omega (zarith, whole, add_pn (k *ℤ pos b) e, add_pn e (k *ℤ pos b))));
-          narrow = narrow;
-          even = λ h. leaves_even_lem z k e whole ∙ eq-eqb (nat_abs k % 2) 0 (even h);
-        } in
-        ap (λ (t : ℤ). quot_z (z -ℤ t) (pos b)) (low_only low-is is) ∙ quotient_exact z k e whole

@@ -7,32 +7,11 @@ use Rattle.std.specs.Int.{w32, w64}
 use Rattle.std.proofs.Math.Facts.{to_z_pos}
 use Rattle.integers.specs.Laws.Bridge.{P, N, pn_min, nat_abs_pn, bnd, abs_bnd, add_pn, neg_pn, sub_pn, mul_pn, mul-bnd, zarith}
 use Rattle.residues.specs.Digits.{Base, low, rest}
-use Rattle.residues.proofs.Laws.DigitRule.{rest_from}
+use Rattle.residues.proofs.Laws.DigitRest.{rest_from}
+use Rattle.residues.proofs.Laws.QuotientSteps.{bases_added, raised, upward, dividend, down, remainder}
 use Rattle.residues.proofs.Laws.DigitLaws.{low-bound, rest-low, rest-size}
 use Rattle.residues.proofs.Laws.Words.{held, wide}
 use Rattle.residues.proofs.Laws.Centring.{quot_z_fits, remainder-fits}
-
--- the constant of `quotient`
-abbrev bases_added : ℕ
-bases_added = 2147483648
-
--- the locals of `quotient`: the number that is divided
-abbrev raised : ℕ → ℤ → ℕ
-raised b x = nat_abs (x +ℤ pos (b * bases_added))
-
--- 1 where the remainder r is above half of b, or is half of it and k, the quotient rounded down, is odd; else 0
-abbrev upward : (b k r : ℕ) → ℕ
-upward b k r = (2 * r + k % 2 + (131071 - b)) / 131072
-
--- `raised`, `down` and `remainder` of `quotient` as the machine holds them
-abbrev dividend : ℕ → ℤ → ℤ
-dividend b x = held (held (to_z w32 (of_z w32 x)) +ℤ held (to_z w64 b *ℤ pos bases_added))
-
-abbrev down : ℕ → ℤ → ℕ
-down b x = nat_abs (held (quot_z (dividend b x) (to_z w64 b)))
-
-abbrev remainder : ℕ → ℤ → ℕ
-remainder b x = nat_abs (held (rem_z (dividend b x) (to_z w64 b)))
 
 module _ {b : ℕ} (base : Base b) where
   above : 0 < b

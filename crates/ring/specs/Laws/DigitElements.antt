@@ -7,7 +7,7 @@ use Rattle.algebra.specs.Sum.{sum}
 use Rattle.algebra.specs.Laws.SumLaws.{sum_cong}
 use Rattle.algebra.specs.Polynomial.{coeff}
 use Rattle.algebra.specs.Laws.ConstantLaws.{coeff-constant-mul}
-use Rattle.algebra.specs.Laws.Convolution.{coeff-sum}
+use Rattle.algebra.proofs.Laws.Convolution.{coeff-sum}
 use Rattle.integers.specs.Laws.FlatLaws.{block-fits}
 use Rattle.residues.specs.Modulus.{Zq, red, cent, centred}
 use Rattle.residues.proofs.Laws.ModulusLaws.{red-zero, red-add, red-mul, cent-red}

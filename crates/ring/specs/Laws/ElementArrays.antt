@@ -12,11 +12,12 @@ use Rattle.integers.specs.Laws.ListLaws.{tab_cong, tab_const, set-tab, upto-belo
 use Rattle.integers.specs.Laws.Identities.{neg_*ℤ, *ℤ_idl}
 use Rattle.algebra.specs.Polynomial.{coeff, constant}
 use Rattle.algebra.specs.Laws.PolynomialLaws.{coeff-zero, coeff-constant, coeff-constant-suc, coeff-add}
-use Rattle.algebra.specs.Laws.PolynomialLaws.{coeff-times_x-zero, coeff-times_x-suc}
+use Rattle.algebra.specs.Laws.PolynomialLaws.{coeff-times_x-suc}
+use Rattle.algebra.proofs.Laws.TimesXLaws.{coeff-times_x-zero}
 use Rattle.algebra.specs.Laws.ConstantLaws.{coeff-constant-mul}
 use Rattle.algebra.specs.Laws.RingLaws.{neg-zero}
 use Rattle.algebra.specs.Conjugation.{conjugate}
-use Rattle.algebra.specs.Laws.ConjugationLaws.{coeff-conjugate-zero, coeff-conjugate}
+use Rattle.algebra.proofs.Laws.ConjugationLaws.{coeff-conjugate-zero, coeff-conjugate}
 use Rattle.algebra.specs.Indeterminate.{indeterminate}
 use Rattle.residues.specs.Modulus.{Zq, red, cent, centred}
 use Rattle.residues.proofs.Laws.ModulusLaws.{red-zero, red-one, red-add, red-mul, red-neg, cent-red, centred_fixed}

@@ -9,7 +9,7 @@ use Rattle.algebra.specs.Sum.{sum}
 use Rattle.algebra.specs.Laws.SumLaws.{sum_cong, sum-one-more}
 use Rattle.algebra.specs.Polynomial.{coeff}
 use Rattle.algebra.specs.Laws.PolynomialLaws.{coeff-add, coeff-zero}
-use Rattle.algebra.specs.Laws.Convolution.{wrapped, wrapped_yes, wrapped-no, coeff-mul}
+use Rattle.algebra.proofs.Laws.Convolution.{wrapped, wrapped_yes, wrapped-no, coeff-mul}
 use Rattle.algebra.specs.Residue.{make, neg}
 use Rattle.algebra.specs.Laws.ResidueLaws.{make-val, make-add, make-mul, reduce-pos}
 use Rattle.residues.specs.Modulus.{q, q-positive, Zq, red, cent, centred}

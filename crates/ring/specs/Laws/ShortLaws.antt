@@ -13,7 +13,7 @@ use Rattle.algebra.specs.Laws.RingLaws.{zero-add}
 use Rattle.algebra.specs.Sum.{sum}
 use Rattle.algebra.specs.Laws.SumLaws.{sum_cong, sum-add, sum-mul}
 use Rattle.algebra.specs.Polynomial.{coeff}
-use Rattle.algebra.specs.Laws.Convolution.{wrapped, wrapped_yes, wrapped-no, coeff-mul}
+use Rattle.algebra.proofs.Laws.Convolution.{wrapped, wrapped_yes, wrapped-no, coeff-mul}
 use Rattle.algebra.specs.Residue.{make}
 use Rattle.algebra.specs.Laws.ResidueLaws.{make-eq, make-val, make-add, make-mul}
 use Rattle.residues.specs.Modulus.{q, q-positive, Zq, red}

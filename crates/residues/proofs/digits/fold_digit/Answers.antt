@@ -4,7 +4,6 @@ use mir.Syntax.{w32}
 use mir.Facts.{to_z-of_z}
 use Rattle.residues.proofs.Laws.Words.{widen, wide}
 use Rattle.residues.proofs.Laws.DigitSteps.{base-held, base-product-fits, horner-fits}
-use borrow.Author.Rules.{rules}
 use Rattle.residues.proofs.digits.fold_digit.Goals as goal
 
 pub overflow_cast-product : goal.overflow_cast-product

@@ -4,7 +4,6 @@ use mir.Val.{SFits}
 use mir.Facts.{to_z-of_z}
 use Rattle.residues.proofs.Laws.Words.{widen}
 use Rattle.residues.proofs.Laws.DigitSteps.{left-product-fits, digit-held, low_fits}
-use borrow.Author.Rules.{rules}
 use Rattle.residues.proofs.digits.low_digit.Goals as goal
 
 pub overflow_cast-left : goal.overflow_cast-left

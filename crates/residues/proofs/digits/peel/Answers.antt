@@ -1,6 +1,6 @@
 -- `residues::digits::peel` meets its contract. The loop's invariant: i numbers are done.
 use mathlib.Core.Path.{◌≡◌, ap, ◌∙◌}
-use Prim.Native.Nat.{◌+◌, ◌-◌, ◌≤◌}
+use Prim.Native.Nat.{◌+◌}
 use native.Mathlib.Omega.{arith}
 use lib.ListN.{get_or, length-set}
 use lib.IntN.{pos}
@@ -8,7 +8,6 @@ use mir.Syntax.{w32}
 use mir.Val.{to_z, of_z}
 use mir.Facts.{to_z-of_z}
 use Rattle.residues.specs.Digits.{low, rest}
-use Rattle.residues.specs.DigitBlocks.{Peeled}
 use Rattle.residues.proofs.Laws.DigitBlockLaws.{peel_start, peel_step}
 use Rattle.residues.proofs.digits.peel.Goals as goal
 

@@ -1,14 +1,5 @@
-use mathlib.Core.Path.{◌≡◌, ap, ◌∙◌}
-use Prim.Native.Nat.{◌+◌, ◌-◌, ◌≤◌}
-use native.Mathlib.Omega.{arith}
-use lib.ListN.{get_or, length-set}
-use lib.IntN.{pos}
-use mir.Syntax.{w32}
-use mir.Val.{to_z, of_z}
-use mir.Facts.{to_z-of_z}
-use Rattle.residues.specs.Digits.{low, rest}
+use Prim.Native.Nat.{◌-◌, ◌≤◌}
 use Rattle.residues.specs.DigitBlocks.{Peeled}
-use Rattle.residues.proofs.Laws.DigitBlockLaws.{peel_start, peel_step}
 use Rattle.residues.proofs.digits.peel.Given as goal
 
 abbrev pub invariant-loop-i : goal.invariant-loop-i

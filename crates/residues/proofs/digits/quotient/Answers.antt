@@ -4,7 +4,6 @@ use mir.Facts.{to_z-of_z}
 use Rattle.residues.proofs.Laws.Words.{widen, wide}
 use Rattle.residues.proofs.Laws.DigitSteps.{added-product-fits, added-held, sum_fits, down_fits, down-held, remainder-held, down-small, remainder-small, up_small}
 use Rattle.residues.proofs.Laws.DigitSteps.{rest-held, rest-fits}
-use borrow.Author.Rules.{rules}
 use Rattle.residues.proofs.digits.quotient.Goals as goal
 
 pub overflow_cast-raised : goal.overflow_cast-raised

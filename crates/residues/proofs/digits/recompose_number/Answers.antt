@@ -1,14 +1,10 @@
 -- `residues::digits::recompose_number` meets its contract. The loop's invariant: `acc` holds the value of the digits from `left` on.
-use mathlib.Core.Path.{◌≡◌, sym, ◌∙◌}
-use mathlib.Core.List.{List}
-use Prim.Native.Nat.{ℕ, ◌+◌, ◌*◌, ◌-◌, ◌≤◌}
+use mathlib.Core.Path.{sym, ◌∙◌}
+use Prim.Native.Nat.{◌*◌, ◌-◌, ◌≤◌}
 use native.Mathlib.Omega.{arith}
-use lib.ListN.{get_or}
-use lib.IntN.{ℤ, pos}
 use mir.Syntax.{w32}
 use mir.Facts.{to_z-of_z}
-use Rattle.residues.specs.Modulus.{centred}
-use Rattle.residues.proofs.Laws.DigitSums.{tail, tail-start, value_step, value_end, place-fits}
+use Rattle.residues.proofs.Laws.DigitSums.{tail-start, value_step, value_end, place-fits}
 use Rattle.residues.proofs.digits.recompose_number.Invariants.{digits_of}
 use Rattle.residues.proofs.digits.recompose_number.Goals as goal
 

@@ -2,7 +2,7 @@
 use mathlib.Core.Path.{◌≡◌, sym, ◌∙◌}
 use Prim.Native.Nat.{ℕ, ◌+◌, ◌*◌, ◌-◌, ◌<◌}
 use native.Mathlib.Omega.{arith}
-use Rattle.residues.proofs.Laws.DigitBlockLaws.{Splitting, split-start, split_step, split-end, digit-block-fits, last_fits}
+use Rattle.residues.proofs.Laws.DigitBlockLaws.{split-start, split_step, split-end, digit-block-fits, last_fits}
 use Rattle.residues.proofs.digits.split_digits.Goals as goal
 
 whole : (count width : ℕ) → 0 < count → (count - 1) * width + width ≡ count * width

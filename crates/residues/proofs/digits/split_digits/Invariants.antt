@@ -1,7 +1,5 @@
-use mathlib.Core.Path.{◌≡◌, sym, ◌∙◌}
-use Prim.Native.Nat.{◌+◌, ◌*◌, ◌-◌, ◌<◌}
-use native.Mathlib.Omega.{arith}
-use Rattle.residues.proofs.Laws.DigitBlockLaws.{Splitting, split-start, split_step, split-end, digit-block-fits, last_fits}
+use Prim.Native.Nat.{◌-◌, ◌<◌}
+use Rattle.residues.proofs.Laws.DigitBlockLaws.{Splitting}
 use Rattle.residues.proofs.digits.split_digits.Given as goal
 
 abbrev pub invariant-loop-k : goal.invariant-loop-k

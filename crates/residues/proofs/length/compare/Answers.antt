@@ -1,16 +1,15 @@
 -- `residues::length::compare` meets its contract. The loop's invariant: what is left and the squared length so far make up the bound.
 -- Assumes nothing.
 use mathlib.Core.Path.{◌≡◌, ap, ◌∙◌}
-use Prim.Native.Nat.{ℕ, ◌-◌, ◌*◌, ◌^◌, ◌<◌}
+use Prim.Native.Nat.{ℕ, ◌*◌, ◌^◌, ◌<◌}
 use native.Mathlib.Omega.{arith}
-use lib.ListN.{length}
 use lib.IntN.{ℤ, nat_abs}
 use lib.Signed.{mag}
 use mir.Syntax.{w32}
 use mir.Val.{to_z, of_z}
 use Rattle.integers.specs.Sums.{sq}
 use Rattle.residues.proofs.Laws.Words.{word}
-use Rattle.residues.proofs.Laws.LengthLaws.{Compared, compared_start, compared_step, compared_above, compared_end}
+use Rattle.residues.proofs.Laws.LengthLaws.{compared_start, compared_step, compared_above, compared_end}
 use Rattle.residues.proofs.length.compare.Goals as goal
 
 -- what `square` gives for an element of the slice

@@ -1,7 +1,6 @@
 -- `residues::length::lessen` meets its contract: a margin above stays above, and what is left of one within is compared. Assumes nothing.
 use mathlib.Core.Path.{◌≡◌, refl, ◌∙◌}
 use mathlib.Core.Bool.{false}
-use borrow.Author.Rules.{rules}
 use Rattle.residues.proofs.Laws.LengthLaws.{lessened-within, lessened-above}
 use Rattle.residues.specs.StraightLine.{straight}
 use Rattle.residues.proofs.length.lessen.Code.Mir as code

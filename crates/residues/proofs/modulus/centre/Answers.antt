@@ -2,7 +2,6 @@
 use mathlib.Core.Path.{◌≡◌}
 use mathlib.Core.Bool.{true}
 use native.Mathlib.Omega.{arith}
-use borrow.Author.Rules.{rules}
 use mir.Facts.{to_z-of_z}
 use Rattle.residues.specs.Modulus.{q, centred}
 use Rattle.residues.proofs.Laws.Centring.{quot_z_fits, shifted_fits, centre-fits, centre-fits-wide, remainder-held, shifted-held, low_held}

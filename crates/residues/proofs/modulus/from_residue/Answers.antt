@@ -1,26 +1,16 @@
 -- `residues::modulus::from_residue` meets its contract: the remainder has the same centred number, and one q at most is taken from it.
 use mathlib.Core.Path.{◌≡◌, ◌∙◌}
-use mathlib.Core.Bool.{true}
 use Prim.Native.Nat.{ℕ, ◌%◌, ◌<◌}
 use native.Mathlib.Omega.{arith}
-use borrow.Author.Rules.{rules}
 use mir.Facts.{to_z-of_z}
 use Rattle.residues.proofs.Laws.ModulusLaws.{centred-mod, centred-fits}
 use Rattle.residues.proofs.Laws.ResidueSteps.{carry_fits, upper_fits, upper-held, multiple_fits, lowered-held, lowered-fits, lowered-centred}
-use Rattle.residues.proofs.Laws.StraightLineLaws.{after-remainder-straight}
-use Rattle.residues.specs.StraightLine.{straight, AfterRemainder, returned, added, subtracted, multiplied, divided, made_signed, first}
-use Rattle.residues.proofs.modulus.from_residue.Code.Mir as code
 use Rattle.residues.proofs.modulus.from_residue.Goals as goal
+-- SPECIFICATION 2.11
+pub mod Straight
 
 below : (x : ℕ) → x % 4294967197 < 4294967197
 below x = omega arith
-
--- ---- SPECIFICATION 2.11
-pub from-residue-after-remainder : AfterRemainder (code.function).body
-from-residue-after-remainder = first (made_signed (added (divided (multiplied (subtracted (made_signed returned))))))
-
-pub from-residue-straight : straight (code.function).body ≡ true
-from-residue-straight = after-remainder-straight from-residue-after-remainder
 
 pub overflow_add-upper : goal.overflow_add-upper
 overflow_add-upper c = carry_fits _ (below c.args.x)

@@ -1,5 +1,4 @@
 -- `residues::modulus::multiply` meets its contract: the product of two 32-bit numbers fits 64 bits.
-use borrow.Author.Rules.{rules}
 use mathlib.Core.Path.{◌∙◌}
 use mir.Syntax.{w32}
 use mir.Facts.{to_z-of_z}

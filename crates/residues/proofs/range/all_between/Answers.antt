@@ -1,14 +1,12 @@
 -- `residues::range::all_between` meets its contract. The loop's invariant: `all` is the answer for the first i numbers.
 use mathlib.Core.Path.{ap, ◌∙◌}
-use Prim.Native.Nat.{◌-◌}
-use native.Mathlib.Omega.{arith}
-use lib.ListN.{length, get_or}
+use lib.ListN.{get_or}
 use lib.IntN.{pos}
 use mir.Syntax.{w32}
 use mir.Val.{to_z, of_z}
 use mir.Facts.{to_z-of_z}
 use Rattle.residues.specs.Range.{between}
-use Rattle.residues.proofs.Laws.RangeLaws.{Tested, tested-start, tested-step, tested-end}
+use Rattle.residues.proofs.Laws.RangeLaws.{tested-start, tested-step, tested-end}
 use Rattle.residues.proofs.Laws.Words.{word}
 use Rattle.residues.proofs.range.all_between.Goals as goal
 

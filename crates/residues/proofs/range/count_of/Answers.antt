@@ -1,12 +1,11 @@
 -- `residues::range::count_of` meets its contract. The loop's invariant: `count` of the first i numbers have the absolute value a. Assumes nothing.
 use mathlib.Core.Path.{ap, ◌∙◌}
-use Prim.Native.Nat.{◌-◌}
 use native.Mathlib.Omega.{arith}
 use lib.Dec.{eqb}
-use lib.ListN.{length, get_or}
+use lib.ListN.{get_or}
 use lib.IntN.{ℤ, pos, nat_abs}
 use Rattle.residues.proofs.Laws.Words.{word}
-use Rattle.residues.proofs.Laws.CountLaws.{one_if, Tally, tally_start, tally_step, tally_end}
+use Rattle.residues.proofs.Laws.CountLaws.{one_if, tally_start, tally_step, tally_end}
 use Rattle.residues.proofs.range.count_of.Goals as goal
 
 pub loop-i-init : goal.loop-i-init

@@ -1,11 +1,6 @@
-use mathlib.Core.Path.{ap, ◌∙◌}
 use Prim.Native.Nat.{◌-◌}
-use native.Mathlib.Omega.{arith}
-use lib.Dec.{eqb}
-use lib.ListN.{length, get_or}
-use lib.IntN.{ℤ, pos, nat_abs}
-use Rattle.residues.proofs.Laws.Words.{word}
-use Rattle.residues.proofs.Laws.CountLaws.{one_if, Tally, tally_start, tally_step, tally_end}
+use lib.ListN.{length}
+use Rattle.residues.proofs.Laws.CountLaws.{Tally}
 use Rattle.residues.proofs.range.count_of.Given as goal
 
 abbrev pub invariant-loop-i : goal.invariant-loop-i

@@ -1,6 +1,5 @@
 -- `residues::range::is_challenge` meets its contract: the rule by the slice's length. Assumes nothing.
 use mathlib.Core.Path.{sym, ◌∙◌}
-use borrow.Author.Rules.{rules}
 use Rattle.residues.proofs.Laws.RangeLaws.{challenge_64, challenge-other}
 use Rattle.residues.proofs.range.is_challenge.Goals as goal
 

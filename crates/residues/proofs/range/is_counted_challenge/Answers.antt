@@ -1,5 +1,4 @@
 -- `residues::range::is_counted_challenge` meets its contract. Assumes nothing.
-use borrow.Author.Rules.{rules}
 use Rattle.residues.proofs.Laws.RangeLaws.{counted-tests}
 use Rattle.residues.proofs.range.is_counted_challenge.Goals as goal
 

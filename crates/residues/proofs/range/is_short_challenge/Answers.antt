@@ -1,6 +1,5 @@
 -- `residues::range::is_short_challenge` meets its contract: both tests of the rule, the second as the margin below 71. Assumes nothing.
 use mathlib.Core.Path.{◌∙◌}
-use borrow.Author.Rules.{rules}
 use Rattle.residues.proofs.Laws.RangeLaws.{short-tests, between-bound}
 use Rattle.residues.proofs.range.is_short_challenge.Goals as goal
 

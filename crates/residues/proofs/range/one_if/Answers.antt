@@ -1,6 +1,5 @@
 -- `residues::range::one_if` meets its contract. Assumes nothing.
 use mathlib.Core.Path.{sym, ap, ◌∙◌}
-use borrow.Author.Rules.{rules}
 use borrow.Author.Tests.{eq-eqb, ne_eqb}
 use lib.IntN.{nat_abs}
 use mir.Facts.{to_z-of_z}

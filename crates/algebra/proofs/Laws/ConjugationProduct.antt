@@ -8,10 +8,11 @@ use Rattle.algebra.specs.Vec.{Vec}
 use Rattle.algebra.specs.Laws.VecLaws.{ext}
 use Rattle.algebra.specs.Laws.PolynomialLaws.{Linear, Linear-times}
 use Rattle.algebra.specs.Polynomial.{coeff, constant, scale, times_x, times}
-use Rattle.algebra.specs.Laws.PolynomialLaws.{coeff-constant-suc, coeff-scale, coeff-times_x-zero, coeff-times_x-suc}
+use Rattle.algebra.specs.Laws.PolynomialLaws.{coeff-constant-suc, coeff-scale, coeff-times_x-suc}
+use Rattle.algebra.proofs.Laws.TimesXLaws.{coeff-times_x-zero}
 use Rattle.algebra.specs.Laws.PolynomialLaws.{times-plus, times-scale, times-times_x, times-one, times_comm}
 use Rattle.algebra.specs.Conjugation.{conjugate}
-use Rattle.algebra.specs.Laws.ConjugationLaws.{coeff-conjugate-zero, coeff-conjugate, conjugate-add, conjugate-conjugate}
+use Rattle.algebra.proofs.Laws.ConjugationLaws.{coeff-conjugate-zero, coeff-conjugate, conjugate-add, conjugate-conjugate}
 
 module _ (𝓚 : CommRing) where
   infix 75 ⊖◌

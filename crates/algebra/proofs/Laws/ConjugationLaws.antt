@@ -11,7 +11,7 @@ use Rattle.algebra.specs.Laws.VecLaws.{at-build, ext}
 use Rattle.algebra.specs.Negacyclic.{Negacyclic}
 use Rattle.algebra.specs.Polynomial.{coeff, constant, plus, times}
 use Rattle.algebra.specs.Laws.PolynomialLaws.{times_comm, coeff-add}
-use Rattle.algebra.specs.Laws.Convolution.{wrapped, wrapped_yes, wrapped-no, coeff-mul, coeff-sum}
+use Rattle.algebra.proofs.Laws.Convolution.{wrapped, wrapped_yes, wrapped-no, coeff-mul, coeff-sum}
 use Rattle.algebra.specs.Laws.ConstantLaws.{coeff-constant-mul}
 use Rattle.algebra.specs.Conjugation.{reflected, conjugate, ct}
 

@@ -15,7 +15,8 @@ use Rattle.algebra.specs.Vec.{Vec, nil, cons, at}
 use Rattle.algebra.specs.Laws.VecLaws.{ext}
 use Rattle.algebra.specs.Negacyclic.{Negacyclic}
 use Rattle.algebra.specs.Polynomial.{coeff, constant, negate, times_x, times}
-use Rattle.algebra.specs.Laws.PolynomialLaws.{coeff-zero, coeff-add, coeff-neg, coeff-scale, coeff-times_x-zero, coeff-times_x-suc}
+use Rattle.algebra.specs.Laws.PolynomialLaws.{coeff-zero, coeff-add, coeff-neg, coeff-scale, coeff-times_x-suc}
+use Rattle.algebra.proofs.Laws.TimesXLaws.{coeff-times_x-zero}
 use Rattle.algebra.specs.Laws.PolynomialLaws.{times-times_x, times-one, times_comm}
 use Rattle.algebra.specs.Indeterminate.{indeterminate}
 

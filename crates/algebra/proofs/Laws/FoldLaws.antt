@@ -4,9 +4,9 @@
 --     value-garbage      check 8
 --     sum_one_differs    two combinations whose challenges differ at one place, as two openings give them
 -- Checks 7 and 8 take the ring's 1/2 as `half`, with 2 · half = 1.
-use Rattle.std.specs.Prelude.{ℕ, ◌≤◌, ◌<◌, ◌≡◌, refl, ◌≢◌}
+use Rattle.std.specs.Prelude.{ℕ, ◌<◌, ◌≡◌, refl, ◌≢◌}
 use Rattle.std.proofs.Math.Path.{sym, ap, ap₂}
-use Rattle.std.proofs.Common.{◌∙◌, arith}
+use Rattle.std.proofs.Common.{◌∙◌}
 use Rattle.algebra.specs.CommRing.{CommRing}
 use Rattle.algebra.specs.Laws.RingLaws.{add-mul, one-mul, zero-mul}
 use Rattle.algebra.specs.Sum.{sum}
@@ -25,15 +25,6 @@ module _ (𝓡 : CommRing) where
   open 𝓡 use {add_comm, add-neg, mul_assoc, mul_comm}
 
   -- ---- quadratic forms in the challenges
-
-  pub mixed_cong : (r : ℕ) (g g' : ℕ → ℕ → C) (c c' : ℕ → C)
-      → ((i j : ℕ) → i ≤ j → j < r → g i j ≡ g' i j) → ((i : ℕ) → i < r → c i ≡ c' i) → mixed 𝓡 r g c ≡ mixed 𝓡 r g' c'
-  unfolding mixed
-  mixed_cong r g g' c c' e h =
-      ap₂ ◌⊕◌
-      (sum_cong 𝓡 r _ _ (λ i l. ap₂ ◌⊗◌ (e i i (omega arith) l) (ap₂ ◌⊗◌ (h i l) (h i l))))
-      (ap (λ x. (𝟙 ⊕ 𝟙) ⊗ x)
-      (below_cong 𝓡 r _ _ (λ i j d l. ap₂ ◌⊗◌ (e i j (omega arith) l) (ap₂ ◌⊗◌ (h i (omega arith)) (h j l)))))
 
   -- a full square is such a form in the mean of its two halves
   pub mixed-square : (r : ℕ) (f g : ℕ → ℕ → C) (c : ℕ → C)
