@@ -1,5 +1,4 @@
 -- `judge::judge_into` meets its contract: the reader's promise, and what the verifier makes of it. Assumes nothing.
-use borrow.Author.Rules.{rules}
 use Rattle.judge.specs.Laws.ReadLaws.{read-bounded, read-judged}
 use Rattle.judge.proofs.judge_into.Goals as goal
 

@@ -1,6 +1,5 @@
 -- `judge::judge_read` meets its contract: by cases on what was read. Assumes nothing.
 use mathlib.Core.Path.{refl, ◌∙◌}
-use borrow.Author.Rules.{rules}
 use Rattle.judge.proofs.judge_read.Goals as goal
 
 pub judge_sheet_numbers-requires : goal.judge_sheet_numbers-requires

@@ -1,5 +1,4 @@
 -- `judge::judge_sheet` meets its contract: the slice that is lent is answered as one of the sizes' length. Assumes nothing.
-use borrow.Author.Rules.{rules}
 use mathlib.Core.Path.{sym, ◌∙◌}
 use native.Mathlib.Omega.{arith}
 use lib.Seq.{length-take-le}

@@ -1,7 +1,6 @@
 -- `judge::judged_line` meets its contract. Assumes nothing.
 use mathlib.Core.Path.{ap, ◌∙◌}
 use Rattle.judge.specs.Judging.{verdict_line}
-use borrow.Author.Rules.{rules}
 use Rattle.judge.proofs.judged_line.Goals as goal
 
 pub returns : goal.returns

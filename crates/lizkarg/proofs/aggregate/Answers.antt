@@ -1,4 +1,3 @@
-use borrow.Author.Rules.{rules}
 use Rattle.lizkarg.specs.Laws.CallLaws.{aggregate-refused, aggregate-facts, aggregate-written}
 use Rattle.lizkarg.proofs.aggregate.Goals as goal
 

@@ -1,5 +1,4 @@
 -- `lizkarg::amortize` meets its contract: refused, or the digits of z are written. Assumes nothing.
-use borrow.Author.Rules.{rules}
 use Rattle.fold.proofs.Laws.DigitCounts.{digits-few}
 use Rattle.lizkarg.specs.Laws.CallLaws.{amortize-refused, amortize-facts, amortize-written}
 use Rattle.lizkarg.proofs.amortize.Goals as goal

@@ -1,6 +1,5 @@
 -- `lizkarg::bare_commit` meets its contract: refused, or t is written. Assumes nothing.
 use mathlib.Core.Path.{sym, ◌∙◌}
-use borrow.Author.Rules.{rules}
 use Rattle.bare.specs.Known.BareFacts.{bare_commit_facts}
 use Rattle.lizkarg.specs.Laws.CallLaws.{refused, kept, answers, writes}
 use Rattle.lizkarg.proofs.bare_commit.Goals as goal

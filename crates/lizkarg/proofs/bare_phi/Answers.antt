@@ -1,6 +1,5 @@
 -- `lizkarg::bare_phi` meets its contract: refused, or φ is written. Assumes nothing.
 use mathlib.Core.Path.{sym, ◌∙◌}
-use borrow.Author.Rules.{rules}
 use Rattle.bare.specs.Known.BareFacts.{bare_phi-facts}
 use Rattle.lizkarg.specs.Laws.CallLaws.{refused, kept, answers, writes}
 use Rattle.lizkarg.proofs.bare_phi.Goals as goal

@@ -1,6 +1,5 @@
 -- `lizkarg::bare_turn` meets its contract: refused, or the four elements are written. Assumes nothing.
 use mathlib.Core.Path.{sym, ◌∙◌}
-use borrow.Author.Rules.{rules}
 use Rattle.bare.specs.Known.BareFacts.{bare_turn_facts}
 use Rattle.lizkarg.specs.Laws.CallLaws.{refused, kept, answers, writes}
 use Rattle.lizkarg.proofs.bare_turn.Goals as goal

@@ -1,4 +1,3 @@
-use borrow.Author.Rules.{rules}
 use Rattle.lizkarg.specs.Laws.CallLaws.{commit-refused, commit-t, commit-g, commit-u, commit-written}
 use Rattle.lizkarg.proofs.commit.Goals as goal
 

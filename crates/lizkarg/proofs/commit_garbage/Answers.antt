@@ -1,4 +1,3 @@
-use borrow.Author.Rules.{rules}
 use Rattle.lizkarg.specs.Laws.CallLaws.{garbage-refused, garbage-h, garbage-u, garbage-written}
 use Rattle.lizkarg.proofs.commit_garbage.Goals as goal
 

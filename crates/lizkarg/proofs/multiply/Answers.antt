@@ -1,5 +1,4 @@
 -- `lizkarg::multiply` meets its contract: refused by a number, or the product. Assumes nothing.
-use borrow.Author.Rules.{rules}
 use Rattle.refusals.specs.Laws.ProductLaws.{product-degree}
 use Rattle.lizkarg.specs.Laws.CallLaws.{product-refused, product-written}
 use Rattle.lizkarg.proofs.multiply.Goals as goal

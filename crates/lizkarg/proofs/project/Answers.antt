@@ -1,4 +1,3 @@
-use borrow.Author.Rules.{rules}
 use Rattle.lizkarg.specs.Laws.CallLaws.{project-refused, project-facts, project-written}
 use Rattle.lizkarg.proofs.project.Goals as goal
 

@@ -2,7 +2,6 @@
 use Rattle.fold.specs.Arguments.{count_of, based_sizes}
 use Rattle.fold.proofs.Laws.DigitCounts.{digits-few}
 use Rattle.next_instance.specs.Laws.CallLaws.{next-refused, call_facts, next-judged, next-written}
-use borrow.Author.Rules.{rules}
 use Rattle.next_instance.proofs.next_instance.Goals as goal
 
 pub next_refusal-refusal-requires : goal.next_refusal-refusal-requires

@@ -1,5 +1,4 @@
 -- `refusals::product_refusal` meets its contract: rows 1 and 8 in order. Assumes nothing.
-use borrow.Author.Rules.{rules}
 use Rattle.refusals.specs.Laws.ProductLaws.{product-tests}
 use Rattle.refusals.proofs.product_refusal.Goals as goal
 

@@ -1,7 +1,6 @@
 -- `writer::sheet_bytes` meets its contract.
 use mathlib.Core.List.{[]}
 use Rattle.writer.proofs.Laws.RefusalLaws.{good_sizes, bytes_refused, bytes_good}
-use borrow.Author.Rules.{rules}
 use Rattle.writer.proofs.sheet_bytes.Goals as goal
 
 pub returns-then-header-gt0 : goal.returns-then-header-gt0

@@ -1,7 +1,6 @@
 -- `writer::write_sheet` meets its contract.
 use Rattle.writer.proofs.Laws.RefusalLaws.{write_refused, written-counted, written-room, write_done}
 use Rattle.writer.proofs.Laws.LineLaws.{header-fits, body-fits, both-written}
-use borrow.Author.Rules.{rules}
 use Rattle.writer.proofs.write_sheet.Goals as goal
 
 pub returns-then-refusal-gt0 : goal.returns-then-refusal-gt0

@@ -1,5 +1,4 @@
 -- `aggregation::garbage::write_h` meets its contract: the products <φ_i, s_j>, then the h_ij, then their digits.
-use borrow.Author.Rules.{rules}
 use native.Mathlib.Omega.{arith}
 use Rattle.aggregation.specs.Laws.ValueLaws.{pairs-room}
 use Rattle.aggregation.specs.Laws.GarbageLaws.{square-room, digits-length, h-written}

@@ -1,10 +1,8 @@
 -- `aggregation::garbage::write_half_row` meets its contract. The loop's invariant: the h of the first k parts from i on are written.
 use mathlib.Core.Path.{refl}
-use Prim.Native.Nat.{◌+◌, ◌-◌}
 use native.Mathlib.Omega.{arith}
 use Rattle.fold.specs.Messages.{elements}
-use Rattle.ring.specs.Laws.Writers.{Elements, elements-start, elements-below, elements-fit, elements-turn, elements-end}
-use Rattle.aggregation.specs.Garbage.{halved}
+use Rattle.ring.specs.Laws.Writers.{elements-start, elements-below, elements-fit, elements-turn, elements-end}
 use Rattle.aggregation.proofs.garbage.write_half_row.Goals as goal
 
 pub loop-k-init : goal.loop-k-init

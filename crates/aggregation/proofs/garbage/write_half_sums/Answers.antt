@@ -1,8 +1,6 @@
 -- `aggregation::garbage::write_half_sums` meets its contract. The loop's invariant: the first i rows are written.
-use Prim.Native.Nat.{◌-◌}
 use native.Mathlib.Omega.{arith}
-use Rattle.fold.proofs.Laws.WriterLaws.{Rows, rows_start, rows_fit, rows-below, rows-turn, rows_end}
-use Rattle.aggregation.specs.Garbage.{halved}
+use Rattle.fold.proofs.Laws.WriterLaws.{rows_start, rows_fit, rows-below, rows-turn, rows_end}
 use Rattle.aggregation.proofs.garbage.write_half_sums.Goals as goal
 
 pub loop-i-init : goal.loop-i-init

@@ -1,6 +1,5 @@
 use Prim.Native.Nat.{◌-◌}
-use native.Mathlib.Omega.{arith}
-use Rattle.fold.proofs.Laws.WriterLaws.{Rows, rows_start, rows_fit, rows-below, rows-turn, rows_end}
+use Rattle.fold.proofs.Laws.WriterLaws.{Rows}
 use Rattle.aggregation.specs.Garbage.{halved}
 use Rattle.aggregation.proofs.garbage.write_half_sums.Given as goal
 

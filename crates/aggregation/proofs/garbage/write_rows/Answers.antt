@@ -1,11 +1,9 @@
 -- `aggregation::garbage::write_rows` meets its contract. The loop's invariant: the first k rows are written.
 use mathlib.Core.Path.{sym}
-use Prim.Native.Nat.{◌-◌}
 use native.Mathlib.Nat.{zero-add}
 use native.Mathlib.Omega.{arith}
-use Rattle.ring.specs.Element.{el}
-use Rattle.fold.specs.Messages.{elements, times}
-use Rattle.ring.specs.Laws.Writers.{Elements, elements_start₀, elements-fit, elements-turn, elements-all}
+use Rattle.fold.specs.Messages.{elements}
+use Rattle.ring.specs.Laws.Writers.{elements_start₀, elements-fit, elements-turn, elements-all}
 use Rattle.aggregation.specs.Laws.GarbageLaws.{row-end}
 use Rattle.ring.specs.Laws.ElementPlaces.{row_fits, row_below}
 use Rattle.aggregation.proofs.garbage.write_rows.Goals as goal

@@ -1,12 +1,7 @@
-use mathlib.Core.Path.{sym}
 use Prim.Native.Nat.{◌-◌}
-use native.Mathlib.Nat.{zero-add}
-use native.Mathlib.Omega.{arith}
 use Rattle.ring.specs.Element.{el}
-use Rattle.fold.specs.Messages.{elements, times}
-use Rattle.ring.specs.Laws.Writers.{Elements, elements_start₀, elements-fit, elements-turn, elements-all}
-use Rattle.aggregation.specs.Laws.GarbageLaws.{row-end}
-use Rattle.ring.specs.Laws.ElementPlaces.{row_fits, row_below}
+use Rattle.fold.specs.Messages.{times}
+use Rattle.ring.specs.Laws.Writers.{Elements}
 use Rattle.aggregation.proofs.garbage.write_rows.Given as goal
 
 abbrev pub invariant-loop-k : goal.invariant-loop-k

@@ -1,5 +1,4 @@
 -- `aggregation::garbage::write_u2` meets its contract.
-use borrow.Author.Rules.{rules}
 use native.Mathlib.Omega.{arith}
 use Rattle.fold.specs.Laws.SizeBounds.{garbage_size-bound}
 use Rattle.aggregation.specs.Laws.GarbageLaws.{outer-end}

@@ -1,11 +1,9 @@
 -- `aggregation::products::write_part_products` meets its contract. The loop's invariant: the products with the first j parts are written.
 use mathlib.Core.Path.{refl}
-use Prim.Native.Nat.{◌-◌}
 use native.Mathlib.Nat.{zero-add}
 use native.Mathlib.Omega.{arith}
 use Rattle.fold.specs.Messages.{elements}
-use Rattle.ring.specs.Laws.Writers.{Elements, elements-start, elements-below, elements-fit, elements-turn, elements-end}
-use Rattle.aggregation.specs.Garbage.{part_product}
+use Rattle.ring.specs.Laws.Writers.{elements-start, elements-below, elements-fit, elements-turn, elements-end}
 use Rattle.aggregation.specs.Laws.GarbageLaws.{part-product-end}
 use Rattle.ring.specs.Laws.ElementPlaces.{row_fits, row_below}
 use Rattle.aggregation.proofs.products.write_part_products.Goals as goal

@@ -1,17 +1,9 @@
-use mathlib.Core.Path.{◌≡◌, ◌∙◌}
-use borrow.Author.Rules.{rules}
-use Prim.Native.Nat.{◌+◌, ◌-◌, ◌*◌}
-use native.Mathlib.Nat.{zero-mul, mul_assoc, mul-le-mul}
-use native.Mathlib.Omega.{arith}
-use lib.ListN.{length, length-replicate}
-use lib.IntN.{pos}
-use Rattle.aggregation.specs.Garbage.{cross, square_elements}
-use Rattle.aggregation.specs.Laws.GarbageLaws.{row_written}
-use Rattle.constraints.specs.Laws.SizeLaws.{phi-room}
+use mathlib.Core.Path.{◌≡◌}
+use Prim.Native.Nat.{◌-◌, ◌*◌}
+use lib.ListN.{length}
+use Rattle.aggregation.specs.Garbage.{cross}
 use Rattle.fold.specs.Messages.{elements, aggregate}
-use Rattle.fold.proofs.Laws.WriterLaws.{length-elements}
-use Rattle.ring.specs.Laws.ElementPlaces.{block-before, row_fits}
-use Rattle.ring.specs.Laws.Writers.{Blocks, blocks_start, blocks_over, blocks_end}
+use Rattle.ring.specs.Laws.Writers.{Blocks}
 use Rattle.aggregation.proofs.products.write_products.Given as goal
 
 abbrev pub invariant-loop-i : goal.invariant-loop-i

@@ -1,11 +1,6 @@
 -- `aggregation::rows::add_products` meets its contract. The loop has written the first k entries.
-use Prim.Native.Nat.{◌-◌}
 use native.Mathlib.Omega.{arith}
-use lib.ListN.{replicate}
-use lib.IntN.{pos}
-use Rattle.ring.specs.Element.{lift, array}
-use Rattle.ring.specs.Laws.Loops.{Filling, filling_start, filling_step, filling_all}
-use Rattle.aggregation.specs.Rows.{plus_product}
+use Rattle.ring.specs.Laws.Loops.{filling_start, filling_step, filling_all}
 use Rattle.aggregation.specs.Laws.RowLaws.{plus-product-end}
 use Rattle.aggregation.proofs.rows.add_products.Goals as goal
 

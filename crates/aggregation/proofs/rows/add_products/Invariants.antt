@@ -1,11 +1,9 @@
 use Prim.Native.Nat.{◌-◌}
-use native.Mathlib.Omega.{arith}
 use lib.ListN.{replicate}
 use lib.IntN.{pos}
 use Rattle.ring.specs.Element.{lift, array}
-use Rattle.ring.specs.Laws.Loops.{Filling, filling_start, filling_step, filling_all}
+use Rattle.ring.specs.Laws.Loops.{Filling}
 use Rattle.aggregation.specs.Rows.{plus_product}
-use Rattle.aggregation.specs.Laws.RowLaws.{plus-product-end}
 use Rattle.aggregation.proofs.rows.add_products.Given as goal
 
 abbrev pub invariant-loop-k : goal.invariant-loop-k

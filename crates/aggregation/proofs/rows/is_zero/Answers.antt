@@ -1,11 +1,10 @@
 -- `aggregation::rows::is_zero` meets its contract. The loop has tested the first k entries.
 use mathlib.Core.Path.{ap, ◌∙◌}
 use mathlib.Core.List.{[]}
-use Prim.Native.Nat.{◌-◌}
 use native.Mathlib.Omega.{arith}
 use lib.ListN.{get_or}
-use Rattle.ring.specs.Element.{R, lift, same}
-use Rattle.ring.specs.Laws.Loops.{Tested, tested-start, tested-step, tested-end, held}
+use Rattle.ring.specs.Element.{lift, same}
+use Rattle.ring.specs.Laws.Loops.{tested-start, tested-step, tested-end, held}
 use Rattle.aggregation.proofs.rows.is_zero.Goals as goal
 
 pub loop-k-init : goal.loop-k-init

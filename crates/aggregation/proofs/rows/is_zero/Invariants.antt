@@ -1,10 +1,8 @@
-use mathlib.Core.Path.{ap, ◌∙◌}
 use mathlib.Core.List.{[]}
 use Prim.Native.Nat.{◌-◌}
-use native.Mathlib.Omega.{arith}
 use lib.ListN.{get_or}
 use Rattle.ring.specs.Element.{R, lift, same}
-use Rattle.ring.specs.Laws.Loops.{Tested, tested-start, tested-step, tested-end, held}
+use Rattle.ring.specs.Laws.Loops.{Tested}
 use Rattle.aggregation.proofs.rows.is_zero.Given as goal
 
 abbrev pub invariant-loop-k : goal.invariant-loop-k

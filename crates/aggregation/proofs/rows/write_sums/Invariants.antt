@@ -1,9 +1,5 @@
-use mathlib.Core.Path.{sym}
 use Prim.Native.Nat.{◌-◌}
-use native.Mathlib.Nat.{zero-add}
-use native.Mathlib.Omega.{arith}
-use Rattle.fold.specs.Messages.{elements}
-use Rattle.ring.specs.Laws.Writers.{Elements, elements_start₀, elements-fit, elements-turn, elements-all}
+use Rattle.ring.specs.Laws.Writers.{Elements}
 use Rattle.aggregation.specs.Rows.{added}
 use Rattle.aggregation.proofs.rows.write_sums.Given as goal
 

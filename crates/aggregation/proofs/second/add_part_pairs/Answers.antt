@@ -1,16 +1,14 @@
 -- `aggregation::second::add_part_pairs` meets its contract. The loop has added the first k pairs of part i.
 use mathlib.Core.Path.{◌≡◌}
-use Prim.Native.Nat.{◌+◌, ◌-◌, ◌*◌, ◌<◌, ◌≤◌}
+use Prim.Native.Nat.{◌+◌, ◌*◌, ◌<◌, ◌≤◌}
 use native.Mathlib.Omega.{arith}
 use lib.ListN.{length}
 use Rattle.fold.specs.Laws.SizeBounds.{pairs-bound}
 use Rattle.ring.specs.Laws.ElementPlaces.{row_fits}
-use Rattle.aggregation.specs.Rows.{Sums}
 use Rattle.aggregation.specs.Laws.RowLaws.{canonical}
-use Rattle.aggregation.specs.Values.{pair_summand}
 use Rattle.aggregation.specs.Laws.ValueLaws.{pair-below, pairs-step}
 use Rattle.fold.specs.Sizes.{pairs}
-use Rattle.ring.specs.Laws.Loops.{Counted, counted_start, counted_step, counted-end}
+use Rattle.ring.specs.Laws.Loops.{counted_start, counted_step, counted-end}
 use Rattle.aggregation.proofs.second.add_part_pairs.Goals as goal
 
 pub loop-k-init : goal.loop-k-init

@@ -1,13 +1,8 @@
-use mathlib.Core.Path.{◌≡◌, sym}
+use mathlib.Core.Path.{◌≡◌}
 use Prim.Native.Nat.{◌-◌, ◌≤◌}
-use native.Mathlib.Omega.{arith}
 use Rattle.algebra.specs.Triangle.{pair}
-use Rattle.algebra.specs.Laws.TriangleLaws.{pair-zero}
-use Rattle.fold.specs.Laws.SizeBounds.{pairs-bound}
 use Rattle.aggregation.specs.Rows.{Sums}
-use Rattle.aggregation.specs.Laws.RowLaws.{sums-start}
 use Rattle.aggregation.specs.Values.{pair_summand}
-use Rattle.aggregation.specs.Laws.ValueLaws.{pair-room, pair-after, pairs-all}
 use Rattle.aggregation.proofs.second.weigh_pairs.Given as goal
 
 abbrev pub invariant-loop-i : goal.invariant-loop-i

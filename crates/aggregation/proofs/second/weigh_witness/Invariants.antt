@@ -1,13 +1,7 @@
 use Prim.Native.Nat.{◌-◌}
-use native.Mathlib.Omega.{arith}
-use Rattle.ring.specs.Laws.ElementPlaces.{element-within}
-use Rattle.constraints.specs.Laws.SizeLaws.{witness_small}
-use Rattle.constraints.specs.Laws.AggregatedLaws.{second-row}
 use Rattle.aggregation.specs.Rows.{Sums}
-use Rattle.aggregation.specs.Laws.RowLaws.{sums-start}
 use Rattle.aggregation.specs.Values.{witness_summand}
-use Rattle.aggregation.specs.Laws.ValueLaws.{witness-step}
-use Rattle.ring.specs.Laws.Loops.{Counted, counted_start, counted_step, counted-end}
+use Rattle.ring.specs.Laws.Loops.{Counted}
 use Rattle.aggregation.proofs.second.weigh_witness.Given as goal
 
 abbrev pub invariant-loop-e : goal.invariant-loop-e

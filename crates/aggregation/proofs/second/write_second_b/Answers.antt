@@ -2,7 +2,6 @@
 use lib.ListN.{length-replicate}
 use lib.IntN.{pos}
 use Rattle.aggregation.specs.Laws.ValueLaws.{values-end}
-use borrow.Author.Rules.{rules}
 use Rattle.aggregation.proofs.second.write_second_b.Goals as goal
 
 pub write_omega_sums-requires : goal.write_omega_sums-requires

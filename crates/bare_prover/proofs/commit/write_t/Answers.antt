@@ -1,10 +1,9 @@
 -- `bare_prover::commit::write_t` meets its contract. The loop's invariant: t_i of the first i parts is written. Assumes nothing.
-use Prim.Native.Nat.{◌-◌, ◌*◌}
+use Prim.Native.Nat.{◌*◌}
 use native.Mathlib.Nat.{zero-mul, mul_assoc, mul-le-mul}
 use native.Mathlib.Omega.{arith}
 use Rattle.ring.specs.Laws.ElementPlaces.{block-before, row_fits}
-use Rattle.ring.specs.Laws.Writers.{Blocks, blocks_start, blocks_over, blocks_all}
-use Rattle.fold.specs.Messages.{elements, t}
+use Rattle.ring.specs.Laws.Writers.{blocks_start, blocks_over, blocks_all}
 use Rattle.fold.proofs.Laws.WriterLaws.{length-elements}
 use Rattle.prover.specs.Known.Facts.{PartFacts}
 use Rattle.bare.specs.Messages.{bare_t}

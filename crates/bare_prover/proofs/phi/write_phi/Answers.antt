@@ -1,13 +1,11 @@
 -- `bare_prover::phi::write_phi` meets its contract. The loop's invariant: φ_i of the first i parts is written. Assumes nothing.
 use mathlib.Core.Path.{refl, sym, ◌∙◌}
-use Prim.Native.Nat.{◌-◌, ◌*◌}
 use native.Mathlib.Nat.{mul-le-mul, le_refl}
 use native.Mathlib.Omega.{arith}
 use lib.ListN.{length-replicate}
 use lib.IntN.{pos}
 use Rattle.integers.specs.Laws.OverLaws.{over-all}
-use Rattle.ring.specs.Laws.Writers.{Blocks, blocks_start, blocks_fit, blocks_part, blocks_turn, blocks_all}
-use Rattle.fold.specs.Messages.{elements, aggregate}
+use Rattle.ring.specs.Laws.Writers.{blocks_start, blocks_fit, blocks_part, blocks_turn, blocks_all}
 use Rattle.fold.proofs.Laws.WriterLaws.{length-elements}
 use Rattle.bare.specs.Messages.{bare_phi}
 use Rattle.bare_prover.proofs.phi.write_phi.Goals as goal

@@ -1,14 +1,6 @@
-use mathlib.Core.Path.{refl, sym, ◌∙◌}
 use Prim.Native.Nat.{◌-◌, ◌*◌}
-use native.Mathlib.Nat.{mul-le-mul, le_refl}
-use native.Mathlib.Omega.{arith}
-use lib.ListN.{length-replicate}
-use lib.IntN.{pos}
-use Rattle.integers.specs.Laws.OverLaws.{over-all}
-use Rattle.ring.specs.Laws.Writers.{Blocks, blocks_start, blocks_fit, blocks_part, blocks_turn, blocks_all}
+use Rattle.ring.specs.Laws.Writers.{Blocks}
 use Rattle.fold.specs.Messages.{elements, aggregate}
-use Rattle.fold.proofs.Laws.WriterLaws.{length-elements}
-use Rattle.bare.specs.Messages.{bare_phi}
 use Rattle.bare_prover.proofs.phi.write_phi.Given as goal
 
 abbrev pub invariant-loop-i : goal.invariant-loop-i

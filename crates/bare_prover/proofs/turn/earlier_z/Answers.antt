@@ -1,8 +1,5 @@
 -- `bare_prover::turn::earlier_z` meets its contract. The accumulator holds the summands so far. Assumes nothing.
-use Prim.Native.Nat.{◌-◌}
-use native.Mathlib.Omega.{arith}
-use Rattle.ring.specs.Laws.Loops.{Summed, summed_start, summed_step, summed_end}
-use Rattle.bare_prover.specs.Summands.{earlier_summand}
+use Rattle.ring.specs.Laws.Loops.{summed_start, summed_step, summed_end}
 use Rattle.bare_prover.proofs.turn.earlier_z.Goals as goal
 
 pub loop-j-init : goal.loop-j-init

@@ -1,6 +1,5 @@
 use Prim.Native.Nat.{◌-◌}
-use native.Mathlib.Omega.{arith}
-use Rattle.ring.specs.Laws.Loops.{Summed, summed_start, summed_step, summed_end}
+use Rattle.ring.specs.Laws.Loops.{Summed}
 use Rattle.bare_prover.specs.Summands.{earlier_summand}
 use Rattle.bare_prover.proofs.turn.earlier_z.Given as goal
 

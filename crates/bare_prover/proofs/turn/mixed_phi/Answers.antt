@@ -1,7 +1,5 @@
 -- `bare_prover::turn::mixed_phi` meets its contract. The accumulator holds the summands so far. Assumes nothing.
-use Prim.Native.Nat.{◌-◌}
-use native.Mathlib.Omega.{arith}
-use Rattle.ring.specs.Laws.Loops.{Summed, summed_start, summed_step, summed_end}
+use Rattle.ring.specs.Laws.Loops.{summed_start, summed_step, summed_end}
 use Rattle.bare.specs.Messages.{mixedΦ}
 use Rattle.bare_prover.specs.Summands.{crossed_summand}
 use Rattle.bare_prover.proofs.turn.mixed_phi.Goals as goal

@@ -1,7 +1,5 @@
 use Prim.Native.Nat.{◌-◌}
-use native.Mathlib.Omega.{arith}
-use Rattle.ring.specs.Laws.Loops.{Summed, summed_start, summed_step, summed_end}
-use Rattle.bare.specs.Messages.{mixedΦ}
+use Rattle.ring.specs.Laws.Loops.{Summed}
 use Rattle.bare_prover.specs.Summands.{crossed_summand}
 use Rattle.bare_prover.proofs.turn.mixed_phi.Given as goal
 

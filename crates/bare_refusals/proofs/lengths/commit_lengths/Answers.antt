@@ -1,6 +1,5 @@
 -- `bare_refusals::lengths::commit_lengths` meets its contract: each list. Assumes nothing.
 use mathlib.Core.Path.{refl}
-use borrow.Author.Rules.{rules}
 use Rattle.limits.specs.Laws.RowLaws.{end, ◌&◌}
 use Rattle.limits.specs.Laws.StageLaws.{joined-tests}
 use Rattle.bare_refusals.proofs.lengths.commit_lengths.Goals as goal

@@ -2,7 +2,6 @@
 use mathlib.Core.Path.{refl}
 use native.Mathlib.Nat.{mul-le-mul}
 use native.Mathlib.Omega.{arith}
-use borrow.Author.Rules.{rules}
 use Rattle.bare.specs.Opening.{bare_size}
 use Rattle.limits.specs.Laws.RowLaws.{end, ◌&◌}
 use Rattle.limits.specs.Laws.StageLaws.{joined-tests}

@@ -2,7 +2,6 @@
 use mathlib.Core.Path.{refl, sym, ap, ◌∙◌}
 use Prim.Native.Nat.{ℕ, ◌+◌, ◌*◌}
 use native.Mathlib.Omega.{arith}
-use borrow.Author.Rules.{rules}
 use Rattle.fold.specs.Statement.{whole_at, term_at}
 use Rattle.fold.specs.Refusals.{whole_length, constant_terms_length}
 use Rattle.limits.specs.Laws.RowLaws.{end, ◌&◌}

@@ -1,13 +1,13 @@
 -- `bare_refusals::unmixed::each_unmixed` meets its contract. The constraints so far are tested, and the next one starts at `at`. Assumes nothing.
 use mathlib.Core.Path.{◌≡◌, ap, ◌∙◌}
 use mathlib.Core.List.{List}
-use Prim.Native.Nat.{ℕ, ◌+◌, ◌-◌, ◌*◌, ◌≤◌}
+use Prim.Native.Nat.{ℕ, ◌+◌, ◌*◌, ◌≤◌}
 use native.Mathlib.Nat.{le_refl}
 use native.Mathlib.Omega.{arith}
 use lib.ListN.{length, drop, length-drop}
 use lib.IntN.{ℤ}
 use Rattle.integers.specs.Laws.ListLaws.{rest_all}
-use Rattle.ring.specs.Laws.Loops.{Tested, tested-start, tested-step, tested-end}
+use Rattle.ring.specs.Laws.Loops.{tested-start, tested-step, tested-end}
 use Rattle.bare.specs.Refusals.{unmixed}
 use Rattle.bare_refusals.specs.Laws.RowLaws.{constraint-within}
 use Rattle.bare_refusals.proofs.unmixed.each_unmixed.Goals as goal

@@ -1,14 +1,8 @@
-use mathlib.Core.Path.{◌≡◌, ap, ◌∙◌}
-use mathlib.Core.List.{List}
-use Prim.Native.Nat.{ℕ, ◌+◌, ◌-◌, ◌*◌, ◌≤◌}
-use native.Mathlib.Nat.{le_refl}
-use native.Mathlib.Omega.{arith}
-use lib.ListN.{length, drop, length-drop}
-use lib.IntN.{ℤ}
-use Rattle.integers.specs.Laws.ListLaws.{rest_all}
-use Rattle.ring.specs.Laws.Loops.{Tested, tested-start, tested-step, tested-end}
+use mathlib.Core.Path.{◌≡◌}
+use Prim.Native.Nat.{◌-◌, ◌*◌}
+use lib.ListN.{drop}
+use Rattle.ring.specs.Laws.Loops.{Tested}
 use Rattle.bare.specs.Refusals.{unmixed}
-use Rattle.bare_refusals.specs.Laws.RowLaws.{constraint-within}
 use Rattle.bare_refusals.proofs.unmixed.each_unmixed.Given as goal
 
 abbrev pub invariant-loop-k : goal.invariant-loop-k

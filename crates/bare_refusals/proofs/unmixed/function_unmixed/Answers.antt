@@ -1,11 +1,10 @@
 -- `bare_refusals::unmixed::function_unmixed` meets its contract. The rows so far are tested, and the next one starts at `at`. Assumes nothing.
-use mathlib.Core.Path.{◌≡◌, refl, ◌∙◌}
-use Prim.Native.Nat.{suc, ◌+◌, ◌-◌, ◌≤◌}
+use mathlib.Core.Path.{refl, ◌∙◌}
+use Prim.Native.Nat.{◌+◌, ◌-◌, ◌≤◌}
 use native.Mathlib.Nat.{mul-le-mul_right}
 use native.Mathlib.Omega.{arith}
-use Rattle.algebra.specs.Triangle.{start, pair}
-use Rattle.ring.specs.Element.{R, el, every, same}
-use Rattle.ring.specs.Laws.Loops.{Tested, tested-start, tested-step, tested-end}
+use Rattle.algebra.specs.Triangle.{start}
+use Rattle.ring.specs.Laws.Loops.{tested-start, tested-step, tested-end}
 use Rattle.fold.specs.Sizes.{pairs}
 use Rattle.fold.specs.Laws.SizeBounds.{pairs-bound}
 use Rattle.bare.specs.Refusals.{unmixed}

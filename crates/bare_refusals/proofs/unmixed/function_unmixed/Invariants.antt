@@ -1,14 +1,8 @@
-use mathlib.Core.Path.{◌≡◌, refl, ◌∙◌}
-use Prim.Native.Nat.{suc, ◌+◌, ◌-◌, ◌≤◌}
-use native.Mathlib.Nat.{mul-le-mul_right}
-use native.Mathlib.Omega.{arith}
+use mathlib.Core.Path.{◌≡◌}
+use Prim.Native.Nat.{suc, ◌+◌, ◌-◌}
 use Rattle.algebra.specs.Triangle.{start, pair}
 use Rattle.ring.specs.Element.{R, el, every, same}
-use Rattle.ring.specs.Laws.Loops.{Tested, tested-start, tested-step, tested-end}
-use Rattle.fold.specs.Sizes.{pairs}
-use Rattle.fold.specs.Laws.SizeBounds.{pairs-bound}
-use Rattle.bare.specs.Refusals.{unmixed}
-use Rattle.bare_refusals.specs.Laws.RowLaws.{row_within, row_next, zero_row}
+use Rattle.ring.specs.Laws.Loops.{Tested}
 use Rattle.bare_refusals.proofs.unmixed.function_unmixed.Given as goal
 
 abbrev pub invariant-loop-i : goal.invariant-loop-i

@@ -1,10 +1,10 @@
 -- `bare_refusals::unmixed::zeros` meets its contract. The elements so far are tested. Assumes nothing.
 use mathlib.Core.Path.{ap₂, ◌∙◌}
-use Prim.Native.Nat.{◌+◌, ◌-◌}
+use Prim.Native.Nat.{◌+◌}
 use native.Mathlib.Omega.{arith}
-use Rattle.ring.specs.Element.{R, el, same}
+use Rattle.ring.specs.Element.{same}
 use Rattle.ring.specs.Laws.ElementPlaces.{element-fits, place-below}
-use Rattle.ring.specs.Laws.Loops.{Tested, tested-start, tested-step, tested-end, held}
+use Rattle.ring.specs.Laws.Loops.{tested-start, tested-step, tested-end, held}
 use Rattle.bare_refusals.proofs.unmixed.zeros.Goals as goal
 
 pub loop-k-init : goal.loop-k-init

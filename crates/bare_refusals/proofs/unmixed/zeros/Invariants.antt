@@ -1,9 +1,6 @@
-use mathlib.Core.Path.{ap₂, ◌∙◌}
 use Prim.Native.Nat.{◌+◌, ◌-◌}
-use native.Mathlib.Omega.{arith}
 use Rattle.ring.specs.Element.{R, el, same}
-use Rattle.ring.specs.Laws.ElementPlaces.{element-fits, place-below}
-use Rattle.ring.specs.Laws.Loops.{Tested, tested-start, tested-step, tested-end, held}
+use Rattle.ring.specs.Laws.Loops.{Tested}
 use Rattle.bare_refusals.proofs.unmixed.zeros.Given as goal
 
 abbrev pub invariant-loop-k : goal.invariant-loop-k

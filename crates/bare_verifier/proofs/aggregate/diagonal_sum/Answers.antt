@@ -1,11 +1,7 @@
 -- `bare_verifier::aggregate::diagonal_sum` meets its contract. The accumulator holds the summands so far, and q is the number of the next pair (i, i). Assumes nothing.
-use mathlib.Core.Path.{◌≡◌}
-use Prim.Native.Nat.{◌-◌}
 use native.Mathlib.Omega.{arith}
-use Rattle.algebra.specs.Triangle.{pair}
-use Rattle.ring.specs.Laws.Loops.{Summed, summed_start, summed_step, summed_end}
+use Rattle.ring.specs.Laws.Loops.{summed_start, summed_step, summed_end}
 use Rattle.fold.specs.Laws.SizeBounds.{pairs-bound}
-use Rattle.bare_verifier.specs.Summands.{diagonal_summand}
 use Rattle.bare_verifier.specs.Laws.CheckLaws.{diagonal_first, diagonal_next, diagonal_below}
 use Rattle.bare_verifier.proofs.aggregate.diagonal_sum.Goals as goal
 

@@ -1,11 +1,8 @@
 use mathlib.Core.Path.{◌≡◌}
 use Prim.Native.Nat.{◌-◌}
-use native.Mathlib.Omega.{arith}
 use Rattle.algebra.specs.Triangle.{pair}
-use Rattle.ring.specs.Laws.Loops.{Summed, summed_start, summed_step, summed_end}
-use Rattle.fold.specs.Laws.SizeBounds.{pairs-bound}
+use Rattle.ring.specs.Laws.Loops.{Summed}
 use Rattle.bare_verifier.specs.Summands.{diagonal_summand}
-use Rattle.bare_verifier.specs.Laws.CheckLaws.{diagonal_first, diagonal_next, diagonal_below}
 use Rattle.bare_verifier.proofs.aggregate.diagonal_sum.Given as goal
 
 abbrev pub invariant-loop-i : goal.invariant-loop-i

@@ -1,12 +1,6 @@
 -- `bare_verifier::folded::amortized` meets its contract. The rows so far are tested. Assumes nothing.
-use Prim.Native.Nat.{◌-◌}
-use native.Mathlib.Omega.{arith}
-use Rattle.algebra.specs.Sum.{sum}
-use Rattle.ring.specs.Element.{R, el, same}
-use Rattle.ring.specs.Laws.Loops.{Tested, tested-start, tested-step, tested-end}
-use Rattle.fold.specs.Messages.{times}
+use Rattle.ring.specs.Laws.Loops.{tested-start, tested-step, tested-end}
 use Rattle.fold.specs.Verdict.{check₅}
-use Rattle.bare.specs.Opening.{t_at, z_at}
 use Rattle.bare_verifier.proofs.folded.amortized.Goals as goal
 
 pub loop-k-init : goal.loop-k-init

@@ -1,10 +1,8 @@
 use Prim.Native.Nat.{◌-◌}
-use native.Mathlib.Omega.{arith}
 use Rattle.algebra.specs.Sum.{sum}
 use Rattle.ring.specs.Element.{R, el, same}
-use Rattle.ring.specs.Laws.Loops.{Tested, tested-start, tested-step, tested-end}
+use Rattle.ring.specs.Laws.Loops.{Tested}
 use Rattle.fold.specs.Messages.{times}
-use Rattle.fold.specs.Verdict.{check₅}
 use Rattle.bare.specs.Opening.{t_at, z_at}
 use Rattle.bare_verifier.proofs.folded.amortized.Given as goal
 

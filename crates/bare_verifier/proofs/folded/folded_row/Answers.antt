@@ -1,9 +1,5 @@
 -- `bare_verifier::folded::folded_row` meets its contract. The accumulator holds the summands so far. Assumes nothing.
-use Prim.Native.Nat.{◌-◌}
-use native.Mathlib.Omega.{arith}
-use Rattle.ring.specs.Element.{R, el}
-use Rattle.ring.specs.Laws.Loops.{Summed, summed_start, summed_step, summed_end}
-use Rattle.bare.specs.Opening.{t_at}
+use Rattle.ring.specs.Laws.Loops.{summed_start, summed_step, summed_end}
 use Rattle.bare_verifier.proofs.folded.folded_row.Goals as goal
 
 pub loop-i-init : goal.loop-i-init

@@ -1,7 +1,6 @@
 use Prim.Native.Nat.{◌-◌}
-use native.Mathlib.Omega.{arith}
 use Rattle.ring.specs.Element.{R, el}
-use Rattle.ring.specs.Laws.Loops.{Summed, summed_start, summed_step, summed_end}
+use Rattle.ring.specs.Laws.Loops.{Summed}
 use Rattle.bare.specs.Opening.{t_at}
 use Rattle.bare_verifier.proofs.folded.folded_row.Given as goal
 

@@ -2,7 +2,6 @@
 use mathlib.Core.Path.{ap₂, ◌∙◌}
 use native.Mathlib.Omega.{arith}
 use native.Mathlib.Nat.{mul-le-mul}
-use borrow.Author.Rules.{rules}
 use Rattle.algebra.specs.DotProduct.{inner}
 use Rattle.ring.specs.Element.{same}
 use Rattle.ring.specs.Laws.ElementPlaces.{block-before, row_fits}

@@ -1,7 +1,6 @@
 -- `bare_verifier::folded::z_garbage` meets its contract. Assumes nothing.
 use mathlib.Core.Path.{ap₂, ◌∙◌}
 use native.Mathlib.Omega.{arith}
-use borrow.Author.Rules.{rules}
 use Rattle.algebra.specs.DotProduct.{inner}
 use Rattle.ring.specs.Element.{same}
 use Rattle.ring.specs.Laws.Loops.{held}

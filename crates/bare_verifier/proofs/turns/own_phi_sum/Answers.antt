@@ -1,8 +1,6 @@
 -- `bare_verifier::turns::own_phi_sum` meets its contract. The accumulator holds the summands so far. Assumes nothing.
-use Prim.Native.Nat.{◌-◌}
 use native.Mathlib.Omega.{arith}
-use Rattle.ring.specs.Laws.Loops.{Summed, summed_start, summed_step, summed_end}
-use Rattle.bare.specs.Opening.{turn_at}
+use Rattle.ring.specs.Laws.Loops.{summed_start, summed_step, summed_end}
 use Rattle.bare_verifier.proofs.turns.own_phi_sum.Goals as goal
 
 pub loop-i-init : goal.loop-i-init

@@ -2,7 +2,6 @@
 use mathlib.Core.Path.{ap, ◌∙◌}
 use Prim.Native.Nat.{ℕ, ◌+◌, ◌*◌}
 use native.Mathlib.Omega.{arith}
-use borrow.Author.Rules.{rules}
 use Rattle.ring.specs.Element.{el, array}
 use Rattle.ring.specs.Laws.ElementPlaces.{element-below}
 use Rattle.bare.specs.Opening.{turn_at}

@@ -1,7 +1,5 @@
 -- `bare_verifier::turns::turn_sum` meets its contract. The accumulator holds the summands so far. Assumes nothing.
-use Prim.Native.Nat.{◌-◌}
-use native.Mathlib.Omega.{arith}
-use Rattle.ring.specs.Laws.Loops.{Summed, summed_start, summed_step, summed_end}
+use Rattle.ring.specs.Laws.Loops.{summed_start, summed_step, summed_end}
 use Rattle.bare.specs.Verdict.{in_turn}
 use Rattle.bare_verifier.specs.Summands.{turn_summand}
 use Rattle.bare_verifier.proofs.turns.turn_sum.Goals as goal

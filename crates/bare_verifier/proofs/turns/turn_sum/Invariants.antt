@@ -1,7 +1,5 @@
 use Prim.Native.Nat.{◌-◌}
-use native.Mathlib.Omega.{arith}
-use Rattle.ring.specs.Laws.Loops.{Summed, summed_start, summed_step, summed_end}
-use Rattle.bare.specs.Verdict.{in_turn}
+use Rattle.ring.specs.Laws.Loops.{Summed}
 use Rattle.bare_verifier.specs.Summands.{turn_summand}
 use Rattle.bare_verifier.proofs.turns.turn_sum.Given as goal
 

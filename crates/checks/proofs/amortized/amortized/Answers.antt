@@ -1,12 +1,6 @@
 -- `checks::amortized::amortized` meets its contract. The rows so far hold.
-use Prim.Native.Nat.{◌-◌}
-use native.Mathlib.Omega.{arith}
-use Rattle.algebra.specs.Sum.{sum}
-use Rattle.ring.specs.Element.{R, el, same}
-use Rattle.fold.specs.Messages.{times}
 use Rattle.fold.specs.Verdict.{check₅}
-use Rattle.checks.specs.Known.Facts.{t_value}
-use Rattle.ring.specs.Laws.Loops.{Tested, tested-start, tested-step, tested-end}
+use Rattle.ring.specs.Laws.Loops.{tested-start, tested-step, tested-end}
 use Rattle.checks.proofs.amortized.amortized.Goals as goal
 
 pub loop-k-init : goal.loop-k-init

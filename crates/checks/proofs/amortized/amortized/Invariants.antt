@@ -1,11 +1,9 @@
 use Prim.Native.Nat.{◌-◌}
-use native.Mathlib.Omega.{arith}
 use Rattle.algebra.specs.Sum.{sum}
 use Rattle.ring.specs.Element.{R, el, same}
 use Rattle.fold.specs.Messages.{times}
-use Rattle.fold.specs.Verdict.{check₅}
 use Rattle.checks.specs.Known.Facts.{t_value}
-use Rattle.ring.specs.Laws.Loops.{Tested, tested-start, tested-step, tested-end}
+use Rattle.ring.specs.Laws.Loops.{Tested}
 use Rattle.checks.proofs.amortized.amortized.Given as goal
 
 abbrev pub invariant-loop-k : goal.invariant-loop-k

@@ -3,7 +3,6 @@ use mathlib.Core.Path.{refl}
 use native.Mathlib.Omega.{arith}
 use Rattle.checks.specs.Laws.PlaceLaws.{row_fits}
 use Rattle.checks.specs.Laws.Rows.{amortized-row}
-use borrow.Author.Rules.{rules}
 use Rattle.checks.proofs.amortized.amortized_row.Goals as goal
 
 pub row_times-left-requires : goal.row_times-left-requires

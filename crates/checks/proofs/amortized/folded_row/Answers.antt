@@ -1,9 +1,5 @@
 -- `checks::amortized::folded_row` meets its contract. The accumulator holds the sum of the summands so far.
-use Prim.Native.Nat.{◌-◌}
-use native.Mathlib.Omega.{arith}
-use Rattle.ring.specs.Element.{R, el}
-use Rattle.checks.specs.Known.Facts.{t_value}
-use Rattle.ring.specs.Laws.Loops.{Summed, summed_start, summed_step, summed_end}
+use Rattle.ring.specs.Laws.Loops.{summed_start, summed_step, summed_end}
 use Rattle.checks.proofs.amortized.folded_row.Goals as goal
 
 pub loop-i-init : goal.loop-i-init

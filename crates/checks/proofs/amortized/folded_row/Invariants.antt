@@ -1,8 +1,7 @@
 use Prim.Native.Nat.{◌-◌}
-use native.Mathlib.Omega.{arith}
 use Rattle.ring.specs.Element.{R, el}
 use Rattle.checks.specs.Known.Facts.{t_value}
-use Rattle.ring.specs.Laws.Loops.{Summed, summed_start, summed_step, summed_end}
+use Rattle.ring.specs.Laws.Loops.{Summed}
 use Rattle.checks.proofs.amortized.folded_row.Given as goal
 
 abbrev pub invariant-loop-i : goal.invariant-loop-i

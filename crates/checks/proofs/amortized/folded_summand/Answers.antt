@@ -7,7 +7,6 @@ use Rattle.fold.specs.Opening.{block, t_of}
 use Rattle.checks.specs.Laws.PlaceLaws.{element-fits}
 use Rattle.checks.specs.Laws.SizeLaws.{t-part-within}
 use Rattle.checks.specs.Laws.Rows.{folded-summand}
-use borrow.Author.Rules.{rules}
 use Rattle.checks.proofs.amortized.folded_summand.Goals as goal
 
 pub t_of-t-requires : goal.t_of-t-requires

@@ -1,13 +1,12 @@
 -- `checks::amortized::mixed_row` meets its contract. The accumulator holds the sum of the summands so far.
 use mathlib.Core.Path.{◌≡◌, ap, ◌∙◌}
-use Prim.Native.Nat.{◌+◌, ◌-◌, ◌<◌}
+use Prim.Native.Nat.{◌+◌, ◌<◌}
 use native.Mathlib.Omega.{arith}
 use Rattle.algebra.specs.Triangle.{pair}
 use Rattle.ring.specs.Element.{array}
-use Rattle.checks.specs.Mixed.{mixed_summand}
 use Rattle.checks.specs.Laws.PlaceLaws.{element-fits}
 use Rattle.checks.specs.Laws.MixedLaws.{garbage-fits, mixed-row, mixed-summand, pair_along, pair_small}
-use Rattle.ring.specs.Laws.Loops.{Summed, summed_start, summed_step, summed_end}
+use Rattle.ring.specs.Laws.Loops.{summed_start, summed_step, summed_end}
 use Rattle.checks.proofs.amortized.mixed_row.Goals as goal
 
 pub loop-k-init : goal.loop-k-init

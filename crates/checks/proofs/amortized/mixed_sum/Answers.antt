@@ -1,12 +1,9 @@
 -- `checks::amortized::mixed_sum` meets its contract. The accumulator holds the rows so far, and q is the number of the next row's first pair.
-use mathlib.Core.Path.{◌≡◌, ap, ◌∙◌}
-use Prim.Native.Nat.{◌-◌}
+use mathlib.Core.Path.{ap, ◌∙◌}
 use native.Mathlib.Omega.{arith}
-use Rattle.algebra.specs.Triangle.{pair}
 use Rattle.ring.specs.Element.{array}
-use Rattle.checks.specs.Mixed.{mixed_row}
 use Rattle.checks.specs.Laws.MixedLaws.{mixed-all, pair-first, pair-next-row, pair_small}
-use Rattle.ring.specs.Laws.Loops.{Summed, summed_start, summed_step, summed_end}
+use Rattle.ring.specs.Laws.Loops.{summed_start, summed_step, summed_end}
 use Rattle.checks.proofs.amortized.mixed_sum.Goals as goal
 
 pub loop-i-init : goal.loop-i-init

@@ -1,11 +1,8 @@
-use mathlib.Core.Path.{◌≡◌, ap, ◌∙◌}
+use mathlib.Core.Path.{◌≡◌}
 use Prim.Native.Nat.{◌-◌}
-use native.Mathlib.Omega.{arith}
 use Rattle.algebra.specs.Triangle.{pair}
-use Rattle.ring.specs.Element.{array}
 use Rattle.checks.specs.Mixed.{mixed_row}
-use Rattle.checks.specs.Laws.MixedLaws.{mixed-all, pair-first, pair-next-row, pair_small}
-use Rattle.ring.specs.Laws.Loops.{Summed, summed_start, summed_step, summed_end}
+use Rattle.ring.specs.Laws.Loops.{Summed}
 use Rattle.checks.proofs.amortized.mixed_sum.Given as goal
 
 abbrev pub invariant-loop-i : goal.invariant-loop-i

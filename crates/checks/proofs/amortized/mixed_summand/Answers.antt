@@ -4,7 +4,6 @@ use native.Mathlib.Nat.{mul-le-mul_right}
 use native.Mathlib.Omega.{arith}
 use Rattle.ring.specs.Laws.ElementPlaces.{element-below}
 use Rattle.checks.specs.Laws.MixedLaws.{mixed-once, mixed-twice}
-use borrow.Author.Rules.{rules}
 use Rattle.checks.proofs.amortized.mixed_summand.Goals as goal
 
 pub from_slice-left-requires : goal.from_slice-left-requires

@@ -6,7 +6,6 @@ use Rattle.ring.specs.Element.{R, el, array}
 use Rattle.fold.specs.Opening.{block, garbage_of}
 use Rattle.checks.specs.Laws.MixedLaws.{g-garbage}
 use Rattle.checks.specs.Laws.Rows.{self_product}
-use borrow.Author.Rules.{rules}
 use Rattle.checks.proofs.amortized.self_product.Goals as goal
 
 pub mixed_sum-right-requires : goal.mixed_sum-right-requires

@@ -1,14 +1,12 @@
 -- `checks::linear::linear_sum` meets its contract. The accumulator holds the sum of the summands so far.
 use mathlib.Core.Path.{◌≡◌, sym, ◌∙◌}
-use Prim.Native.Nat.{◌-◌, ◌<◌}
+use Prim.Native.Nat.{◌<◌}
 use native.Mathlib.Omega.{arith}
 use lib.ListN.{length, length-replicate}
 use lib.IntN.{pos}
-use Rattle.fold.specs.Messages.{aggregate}
 use Rattle.constraints.specs.Laws.SizeLaws.{phi-room}
-use Rattle.checks.specs.Relation.{linear_summand}
 use Rattle.checks.specs.Laws.RelationLaws.{linear_written}
-use Rattle.ring.specs.Laws.Loops.{Summed, summed_start, summed_step, summed_end}
+use Rattle.ring.specs.Laws.Loops.{summed_start, summed_step, summed_end}
 use Rattle.checks.proofs.linear.linear_sum.Goals as goal
 
 pub write_omega_sums-requires : goal.write_omega_sums-requires

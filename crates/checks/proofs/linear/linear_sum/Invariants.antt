@@ -1,13 +1,9 @@
-use mathlib.Core.Path.{◌≡◌, sym, ◌∙◌}
-use Prim.Native.Nat.{◌-◌, ◌<◌}
-use native.Mathlib.Omega.{arith}
-use lib.ListN.{length, length-replicate}
-use lib.IntN.{pos}
+use mathlib.Core.Path.{◌≡◌}
+use Prim.Native.Nat.{◌-◌}
+use lib.ListN.{length}
 use Rattle.fold.specs.Messages.{aggregate}
-use Rattle.constraints.specs.Laws.SizeLaws.{phi-room}
 use Rattle.checks.specs.Relation.{linear_summand}
-use Rattle.checks.specs.Laws.RelationLaws.{linear_written}
-use Rattle.ring.specs.Laws.Loops.{Summed, summed_start, summed_step, summed_end}
+use Rattle.ring.specs.Laws.Loops.{Summed}
 use Rattle.checks.proofs.linear.linear_sum.Given as goal
 
 abbrev pub invariant-loop-i : goal.invariant-loop-i

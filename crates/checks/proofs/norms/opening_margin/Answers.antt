@@ -7,7 +7,6 @@ use Rattle.residues.specs.Length.{remaining}
 use Rattle.fold.proofs.Laws.PlaceBounds.{t-place-bound, h-place-bound}
 use Rattle.checks.specs.Laws.SizeLaws.{h-within, t-before-h}
 use Rattle.checks.specs.Laws.NormLaws.{lengths_of_opening}
-use borrow.Author.Rules.{rules}
 use Rattle.checks.proofs.norms.opening_margin.Goals as goal
 
 pub overflow_mul-t_start : goal.overflow_mul-t_start

@@ -4,7 +4,6 @@ use native.Mathlib.Omega.{arith}
 use lib.Seq.{length-take-le}
 use Rattle.checks.specs.Norms.{three_lengths}
 use Rattle.checks.specs.Laws.NormLaws.{three-lengths}
-use borrow.Author.Rules.{rules}
 use Rattle.checks.proofs.norms.parts_margin.Goals as goal
 
 pub slice_bounds-compare-end : goal.slice_bounds-compare-end

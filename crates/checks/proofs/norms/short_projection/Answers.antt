@@ -3,7 +3,6 @@ use native.Mathlib.Nat.{mul-le-mul}
 use native.Mathlib.Omega.{arith}
 use mathlib.Core.Path.{refl}
 use Rattle.checks.specs.Laws.NormLaws.{check_one}
-use borrow.Author.Rules.{rules}
 use Rattle.checks.proofs.norms.short_projection.Goals as goal
 
 pub overflow_mul-budget : goal.overflow_mul-budget

@@ -1,11 +1,6 @@
 -- `checks::outer::first_outer` meets its contract. The rows so far hold.
-use Prim.Native.Nat.{◌-◌}
-use native.Mathlib.Omega.{arith}
-use Rattle.ring.specs.Element.{el, same}
-use Rattle.fold.specs.Messages.{outer₁}
 use Rattle.fold.specs.Verdict.{check₃}
-use Rattle.checks.specs.Known.Facts.{t_block_of, g_block_of}
-use Rattle.ring.specs.Laws.Loops.{Tested, tested-start, tested-step, tested-end}
+use Rattle.ring.specs.Laws.Loops.{tested-start, tested-step, tested-end}
 use Rattle.checks.proofs.outer.first_outer.Goals as goal
 
 pub loop-k-init : goal.loop-k-init

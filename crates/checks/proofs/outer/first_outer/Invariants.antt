@@ -1,10 +1,8 @@
 use Prim.Native.Nat.{◌-◌}
-use native.Mathlib.Omega.{arith}
 use Rattle.ring.specs.Element.{el, same}
 use Rattle.fold.specs.Messages.{outer₁}
-use Rattle.fold.specs.Verdict.{check₃}
 use Rattle.checks.specs.Known.Facts.{t_block_of, g_block_of}
-use Rattle.ring.specs.Laws.Loops.{Tested, tested-start, tested-step, tested-end}
+use Rattle.ring.specs.Laws.Loops.{Tested}
 use Rattle.checks.proofs.outer.first_outer.Given as goal
 
 abbrev pub invariant-loop-k : goal.invariant-loop-k

@@ -5,7 +5,6 @@ use Rattle.checks.specs.Laws.PlaceLaws.{row_fits, part-fits, element-fits}
 use Rattle.fold.proofs.Laws.PlaceBounds.{t-size-bound, g-size-bound}
 use Rattle.checks.specs.Laws.SizeLaws.{t_within, g_within}
 use Rattle.checks.specs.Laws.Rows.{first-row}
-use borrow.Author.Rules.{rules}
 use Rattle.checks.proofs.outer.first_row.Goals as goal
 
 pub row_times-t_part-requires : goal.row_times-t_part-requires

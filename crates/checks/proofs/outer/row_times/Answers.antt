@@ -5,7 +5,6 @@ use native.Mathlib.Omega.{arith}
 use Rattle.ring.specs.Element.{array}
 use Rattle.ring.specs.Laws.ElementPlaces.{place-below}
 use Rattle.checks.specs.Laws.PlaceLaws.{row-times}
-use borrow.Author.Rules.{rules}
 use Rattle.checks.proofs.outer.row_times.Goals as goal
 
 pub overflow_mul-row : goal.overflow_mul-row

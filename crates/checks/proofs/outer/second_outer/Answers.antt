@@ -1,11 +1,6 @@
 -- `checks::outer::second_outer` meets its contract. The rows so far hold.
-use Prim.Native.Nat.{◌-◌}
-use native.Mathlib.Omega.{arith}
-use Rattle.ring.specs.Element.{el, same}
-use Rattle.fold.specs.Messages.{outer₂}
 use Rattle.fold.specs.Verdict.{check₄}
-use Rattle.checks.specs.Known.Facts.{h_block_of}
-use Rattle.ring.specs.Laws.Loops.{Tested, tested-start, tested-step, tested-end}
+use Rattle.ring.specs.Laws.Loops.{tested-start, tested-step, tested-end}
 use Rattle.checks.proofs.outer.second_outer.Goals as goal
 
 pub loop-k-init : goal.loop-k-init

@@ -5,7 +5,6 @@ use Rattle.checks.specs.Laws.PlaceLaws.{row_fits, part-fits, element-fits}
 use Rattle.fold.proofs.Laws.PlaceBounds.{h-size-bound}
 use Rattle.checks.specs.Laws.SizeLaws.{h-within}
 use Rattle.checks.specs.Laws.Rows.{second-row}
-use borrow.Author.Rules.{rules}
 use Rattle.checks.proofs.outer.second_row.Goals as goal
 
 pub row_times-row-requires : goal.row_times-row-requires

@@ -1,12 +1,9 @@
 -- `checks::recomposed::write_z` meets its contract. The first k elements are written.
 use mathlib.Core.Path.{sym, ap, ◌∙◌}
-use Prim.Native.Nat.{◌-◌}
 use native.Mathlib.Nat.{zero-add}
-use native.Mathlib.Omega.{arith}
-use Rattle.ring.specs.Element.{el, array}
-use Rattle.fold.specs.Opening.{z_of}
+use Rattle.ring.specs.Element.{array}
 use Rattle.fold.specs.Messages.{elements}
-use Rattle.ring.specs.Laws.Writers.{Elements, elements_start₀, elements-fit, elements-turn, elements_end₀}
+use Rattle.ring.specs.Laws.Writers.{elements_start₀, elements-fit, elements-turn, elements_end₀}
 use Rattle.checks.specs.Laws.PlaceLaws.{z-recomposed, z-digit-fits}
 use Rattle.checks.proofs.recomposed.write_z.Goals as goal
 

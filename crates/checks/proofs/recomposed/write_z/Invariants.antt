@@ -1,12 +1,7 @@
-use mathlib.Core.Path.{sym, ap, ◌∙◌}
 use Prim.Native.Nat.{◌-◌}
-use native.Mathlib.Nat.{zero-add}
-use native.Mathlib.Omega.{arith}
-use Rattle.ring.specs.Element.{el, array}
+use Rattle.ring.specs.Element.{el}
 use Rattle.fold.specs.Opening.{z_of}
-use Rattle.fold.specs.Messages.{elements}
-use Rattle.ring.specs.Laws.Writers.{Elements, elements_start₀, elements-fit, elements-turn, elements_end₀}
-use Rattle.checks.specs.Laws.PlaceLaws.{z-recomposed, z-digit-fits}
+use Rattle.ring.specs.Laws.Writers.{Elements}
 use Rattle.checks.proofs.recomposed.write_z.Given as goal
 
 abbrev pub invariant-loop-k : goal.invariant-loop-k

@@ -1,14 +1,12 @@
 -- `checks::relation::diagonal_sum` meets its contract. The accumulator holds the summands so far, and q is the number of the next pair (i, i).
-use mathlib.Core.Path.{◌≡◌, ap, ◌∙◌}
-use Prim.Native.Nat.{◌-◌}
+use mathlib.Core.Path.{ap, ◌∙◌}
 use native.Mathlib.Omega.{arith}
 use native.Mathlib.Nat.{le_refl}
-use Rattle.algebra.specs.Triangle.{pair}
 use Rattle.ring.specs.Element.{array}
-use Rattle.fold.specs.Opening.{block, garbage_of}
+use Rattle.fold.specs.Opening.{block}
 use Rattle.checks.specs.Laws.PlaceLaws.{garbage-at}
 use Rattle.checks.specs.Laws.MixedLaws.{garbage-fits, pair-first, pair-next-row, pair_small}
-use Rattle.ring.specs.Laws.Loops.{Summed, summed_start, summed_step, summed_end}
+use Rattle.ring.specs.Laws.Loops.{summed_start, summed_step, summed_end}
 use Rattle.checks.proofs.relation.diagonal_sum.Goals as goal
 
 pub loop-i-init : goal.loop-i-init

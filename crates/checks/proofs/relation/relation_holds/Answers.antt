@@ -1,7 +1,6 @@
 -- `checks::relation::relation_holds` meets its contract.
 use Rattle.checks.specs.Laws.MixedLaws.{g-garbage, h-garbage}
 use Rattle.checks.specs.Laws.RelationLaws.{check_eight}
-use borrow.Author.Rules.{rules}
 use Rattle.checks.proofs.relation.relation_holds.Goals as goal
 
 pub relation_sum-g_sum-requires : goal.relation_sum-g_sum-requires

@@ -1,11 +1,10 @@
 -- `checks::relation::relation_sum` meets its contract. The accumulator holds the sum of the summands so far.
 use mathlib.Core.Path.{ap, ◌∙◌}
-use Prim.Native.Nat.{ℕ, ◌-◌}
-use native.Mathlib.Omega.{arith}
+use Prim.Native.Nat.{ℕ}
 use Rattle.algebra.specs.Sum.{sum}
 use Rattle.ring.specs.Element.{R, array}
 use Rattle.checks.specs.Relation.{relation_summand}
-use Rattle.ring.specs.Laws.Loops.{Summed, summed_start, summed_step, summed_end}
+use Rattle.ring.specs.Laws.Loops.{summed_start, summed_step, summed_end}
 use Rattle.checks.proofs.relation.relation_sum.Goals as goal
 
 pub pair_count-count-requires : goal.pair_count-count-requires

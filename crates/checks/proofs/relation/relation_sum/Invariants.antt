@@ -1,10 +1,6 @@
-use mathlib.Core.Path.{ap, ◌∙◌}
-use Prim.Native.Nat.{ℕ, ◌-◌}
-use native.Mathlib.Omega.{arith}
-use Rattle.algebra.specs.Sum.{sum}
-use Rattle.ring.specs.Element.{R, array}
+use Prim.Native.Nat.{◌-◌}
 use Rattle.checks.specs.Relation.{relation_summand}
-use Rattle.ring.specs.Laws.Loops.{Summed, summed_start, summed_step, summed_end}
+use Rattle.ring.specs.Laws.Loops.{Summed}
 use Rattle.checks.proofs.relation.relation_sum.Given as goal
 
 abbrev pub invariant-loop-q : goal.invariant-loop-q

@@ -1,7 +1,6 @@
 -- `checks::relation::relation_summand` meets its contract.
 use Rattle.checks.specs.Laws.MixedLaws.{garbage-below}
 use Rattle.checks.specs.Laws.RelationLaws.{relation-summand}
-use borrow.Author.Rules.{rules}
 use Rattle.checks.proofs.relation.relation_summand.Goals as goal
 
 pub garbage_of-g-requires : goal.garbage_of-g-requires

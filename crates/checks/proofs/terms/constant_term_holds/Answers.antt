@@ -6,7 +6,6 @@ use native.Mathlib.Omega.{arith}
 use Rattle.checks.specs.Laws.PlaceLaws.{element-fits}
 use Rattle.checks.specs.Laws.SizeLaws.{function-size-bound}
 use Rattle.checks.specs.Laws.ConstantTermLaws.{term_holds_lem, weights-fit, constants-fit}
-use borrow.Author.Rules.{rules}
 use Rattle.checks.proofs.terms.constant_term_holds.Goals as goal
 
 pub overflow_mul-last : goal.overflow_mul-last

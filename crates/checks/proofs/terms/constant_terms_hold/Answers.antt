@@ -1,10 +1,7 @@
 -- `checks::terms::constant_terms_hold` meets its contract. The tests so far hold.
 use mathlib.Core.Path.{◌∙◌}
-use Prim.Native.Nat.{◌-◌}
-use native.Mathlib.Omega.{arith}
-use Rattle.checks.specs.ConstantTerms.{term_holds}
 use Rattle.checks.specs.Laws.ConstantTermLaws.{check_two}
-use Rattle.ring.specs.Laws.Loops.{Tested, tested-start, tested-step, tested-end}
+use Rattle.ring.specs.Laws.Loops.{tested-start, tested-step, tested-end}
 use Rattle.checks.proofs.terms.constant_terms_hold.Goals as goal
 
 pub loop-k-init : goal.loop-k-init

@@ -1,9 +1,6 @@
-use mathlib.Core.Path.{◌∙◌}
 use Prim.Native.Nat.{◌-◌}
-use native.Mathlib.Omega.{arith}
 use Rattle.checks.specs.ConstantTerms.{term_holds}
-use Rattle.checks.specs.Laws.ConstantTermLaws.{check_two}
-use Rattle.ring.specs.Laws.Loops.{Tested, tested-start, tested-step, tested-end}
+use Rattle.ring.specs.Laws.Loops.{Tested}
 use Rattle.checks.proofs.terms.constant_terms_hold.Given as goal
 
 abbrev pub invariant-loop-k : goal.invariant-loop-k

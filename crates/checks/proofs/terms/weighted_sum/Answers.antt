@@ -1,11 +1,9 @@
 -- `checks::terms::weighted_sum` meets its contract. The accumulator holds the sum of the products so far.
-use Prim.Native.Nat.{◌+◌, ◌-◌, ◌*◌, ◌<◌}
+use Prim.Native.Nat.{◌+◌, ◌*◌, ◌<◌}
 use native.Mathlib.Omega.{arith}
 use lib.ListN.{length}
 use mir.Facts.{to_z-of_z, of_z-to_z}
-use Rattle.checks.specs.ConstantTerms.{weighted}
-use Rattle.checks.specs.Laws.ConstantTermLaws.{Weighed, weighed-start, weighed-step, weighed-end, step_fits}
-use mir.Val.{of_z}
+use Rattle.checks.specs.Laws.ConstantTermLaws.{weighed-start, weighed-step, weighed-end, step_fits}
 use mir.Syntax.{w32}
 use Rattle.checks.proofs.terms.weighted_sum.Goals as goal
 

@@ -1,8 +1,6 @@
-use Prim.Native.Nat.{◌+◌, ◌-◌, ◌*◌, ◌<◌}
-use native.Mathlib.Omega.{arith}
-use lib.ListN.{length}
+use Prim.Native.Nat.{◌-◌}
 use Rattle.checks.specs.ConstantTerms.{weighted}
-use Rattle.checks.specs.Laws.ConstantTermLaws.{Weighed, weighed-start, weighed-step, weighed-end, step_fits}
+use Rattle.checks.specs.Laws.ConstantTermLaws.{Weighed}
 use mir.Val.{of_z}
 use mir.Syntax.{w32}
 use Rattle.checks.proofs.terms.weighted_sum.Given as goal

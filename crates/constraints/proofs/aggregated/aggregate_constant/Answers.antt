@@ -1,7 +1,6 @@
 -- `constraints::aggregated::aggregate_constant` meets its contract.
 use native.Mathlib.Omega.{arith}
 use Rattle.constraints.specs.Laws.AggregatedLaws.{constant-end}
-use borrow.Author.Rules.{rules}
 use Rattle.constraints.proofs.aggregated.aggregate_constant.Goals as goal
 
 pub function_size-place-requires : goal.function_size-place-requires

@@ -1,12 +1,11 @@
 -- `constraints::aggregated::weighted_row` meets its contract. The loop has added the first k of the five summands.
 use mathlib.Core.Path.{ap, ◌∙◌}
 use mathlib.Core.List.{[]}
-use Prim.Native.Nat.{◌-◌}
 use native.Mathlib.Omega.{arith}
 use lib.ListN.{get_or}
-use Rattle.ring.specs.Element.{R, lift, el, array}
+use Rattle.ring.specs.Element.{R, lift, array}
 use Rattle.constraints.specs.Laws.AggregatedLaws.{δ-place}
-use Rattle.ring.specs.Laws.Loops.{Summed, summed_start, summed_step, summed_end, held}
+use Rattle.ring.specs.Laws.Loops.{summed_start, summed_step, summed_end, held}
 use Rattle.constraints.proofs.aggregated.weighted_row.Goals as goal
 
 pub loop-k-init : goal.loop-k-init

@@ -1,11 +1,8 @@
-use mathlib.Core.Path.{ap, ◌∙◌}
 use mathlib.Core.List.{[]}
 use Prim.Native.Nat.{◌-◌}
-use native.Mathlib.Omega.{arith}
 use lib.ListN.{get_or}
-use Rattle.ring.specs.Element.{R, lift, el, array}
-use Rattle.constraints.specs.Laws.AggregatedLaws.{δ-place}
-use Rattle.ring.specs.Laws.Loops.{Summed, summed_start, summed_step, summed_end, held}
+use Rattle.ring.specs.Element.{R, lift, el}
+use Rattle.ring.specs.Laws.Loops.{Summed}
 use Rattle.constraints.proofs.aggregated.weighted_row.Given as goal
 
 abbrev pub invariant-loop-k : goal.invariant-loop-k

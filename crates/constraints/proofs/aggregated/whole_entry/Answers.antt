@@ -1,13 +1,12 @@
 -- `constraints::aggregated::whole_entry` meets its contract. The loop has added k constraints, and `at` is where the next one starts.
-use mathlib.Core.Path.{◌≡◌}
-use Prim.Native.Nat.{◌+◌, ◌-◌, ◌*◌, ◌≤◌}
+use Prim.Native.Nat.{◌+◌, ◌*◌, ◌≤◌}
 use lib.ListN.{length}
 use native.Mathlib.Nat.{le_refl}
 use native.Mathlib.Omega.{arith}
 use Rattle.fold.specs.Limits.{most_constraints}
-use Rattle.constraints.specs.Laws.Terms.{whole_summand, whole-step, whole-end, whole-size-small, whole-step-small}
+use Rattle.constraints.specs.Laws.Terms.{whole-step, whole-end, whole-size-small, whole-step-small}
 use Rattle.constraints.specs.Laws.Terms.{whole-inside, whole-place, α-place, rest-room}
-use Rattle.ring.specs.Laws.Loops.{Summed, summed_start, summed_end}
+use Rattle.ring.specs.Laws.Loops.{summed_start, summed_end}
 use Rattle.constraints.proofs.aggregated.whole_entry.Goals as goal
 
 pub function_size-size-requires : goal.function_size-size-requires

@@ -1,12 +1,7 @@
 use mathlib.Core.Path.{◌≡◌}
-use Prim.Native.Nat.{◌+◌, ◌-◌, ◌*◌, ◌≤◌}
-use lib.ListN.{length}
-use native.Mathlib.Nat.{le_refl}
-use native.Mathlib.Omega.{arith}
-use Rattle.fold.specs.Limits.{most_constraints}
-use Rattle.constraints.specs.Laws.Terms.{whole_summand, whole-step, whole-end, whole-size-small, whole-step-small}
-use Rattle.constraints.specs.Laws.Terms.{whole-inside, whole-place, α-place, rest-room}
-use Rattle.ring.specs.Laws.Loops.{Summed, summed_start, summed_end}
+use Prim.Native.Nat.{◌-◌, ◌*◌}
+use Rattle.constraints.specs.Laws.Terms.{whole_summand}
+use Rattle.ring.specs.Laws.Loops.{Summed}
 use Rattle.constraints.proofs.aggregated.whole_entry.Given as goal
 
 abbrev pub invariant-loop-k : goal.invariant-loop-k

@@ -1,12 +1,12 @@
 -- `constraints::phi::write_phi_part` meets its contract. The loop's invariant: the first y elements are written.
 use mathlib.Core.Path.{refl, sym}
-use Prim.Native.Nat.{◌+◌, ◌-◌, ◌*◌, ◌<◌}
+use Prim.Native.Nat.{◌+◌, ◌*◌, ◌<◌}
 use native.Mathlib.Nat.{zero-add}
 use native.Mathlib.Omega.{arith}
 use Rattle.integers.specs.Laws.FlatLaws.{block-fits}
 use Rattle.ring.specs.Laws.ElementPlaces.{block-before}
-use Rattle.fold.specs.Messages.{elements, aggregate}
-use Rattle.ring.specs.Laws.Writers.{Elements, elements_start₀, elements-fit, elements-turn, elements_end₀}
+use Rattle.fold.specs.Messages.{elements}
+use Rattle.ring.specs.Laws.Writers.{elements_start₀, elements-fit, elements-turn, elements_end₀}
 use Rattle.constraints.specs.Laws.SizeLaws.{witness_small}
 use Rattle.constraints.specs.Laws.AggregatedLaws.{aggregate-row}
 use Rattle.constraints.proofs.phi.write_phi_part.Goals as goal

@@ -1,13 +1,6 @@
-use mathlib.Core.Path.{refl, sym}
-use Prim.Native.Nat.{◌+◌, ◌-◌, ◌*◌, ◌<◌}
-use native.Mathlib.Nat.{zero-add}
-use native.Mathlib.Omega.{arith}
-use Rattle.integers.specs.Laws.FlatLaws.{block-fits}
-use Rattle.ring.specs.Laws.ElementPlaces.{block-before}
-use Rattle.fold.specs.Messages.{elements, aggregate}
-use Rattle.ring.specs.Laws.Writers.{Elements, elements_start₀, elements-fit, elements-turn, elements_end₀}
-use Rattle.constraints.specs.Laws.SizeLaws.{witness_small}
-use Rattle.constraints.specs.Laws.AggregatedLaws.{aggregate-row}
+use Prim.Native.Nat.{◌-◌}
+use Rattle.fold.specs.Messages.{aggregate}
+use Rattle.ring.specs.Laws.Writers.{Elements}
 use Rattle.constraints.proofs.phi.write_phi_part.Given as goal
 
 abbrev pub invariant-loop-y : goal.invariant-loop-y

@@ -1,16 +1,11 @@
 -- `constraints::projected_rows::add_entry` meets its contract. The loop has added the entry for the first k functions.
 use mathlib.Core.Path.{◌∙◌}
-use Prim.Native.Nat.{◌+◌, ◌-◌, ◌*◌, ◌<◌, ◌≤◌}
+use Prim.Native.Nat.{◌+◌, ◌*◌, ◌<◌, ◌≤◌}
 use native.Mathlib.Omega.{arith}
-use lib.ListN.{get_or}
-use lib.IntN.{pos, ◌*ℤ◌}
-use mir.Syntax.{w32}
-use mir.Val.{to_z}
 use mir.Facts.{to_z-of_z}
-use Rattle.constraints.specs.Accumulator.{AddedFive}
 use Rattle.constraints.specs.Laws.AccumulatorLaws.{five-start, five-room, five-step, held_number, held-room, entry-summand}
 use Rattle.constraints.specs.Laws.ProjectedRowLaws.{weight-place}
-use Rattle.ring.specs.Laws.Loops.{Counted, counted_start, counted_step, counted-end}
+use Rattle.ring.specs.Laws.Loops.{counted_start, counted_step, counted-end}
 use Rattle.constraints.proofs.projected_rows.add_entry.Goals as goal
 
 pub loop-k-init : goal.loop-k-init

@@ -1,15 +1,8 @@
-use mathlib.Core.Path.{◌∙◌}
-use Prim.Native.Nat.{◌+◌, ◌-◌, ◌*◌, ◌<◌, ◌≤◌}
-use native.Mathlib.Omega.{arith}
+use Prim.Native.Nat.{◌+◌, ◌-◌, ◌*◌}
 use lib.ListN.{get_or}
 use lib.IntN.{pos, ◌*ℤ◌}
-use mir.Syntax.{w32}
-use mir.Val.{to_z}
-use mir.Facts.{to_z-of_z}
 use Rattle.constraints.specs.Accumulator.{AddedFive}
-use Rattle.constraints.specs.Laws.AccumulatorLaws.{five-start, five-room, five-step, held_number, held-room, entry-summand}
-use Rattle.constraints.specs.Laws.ProjectedRowLaws.{weight-place}
-use Rattle.ring.specs.Laws.Loops.{Counted, counted_start, counted_step, counted-end}
+use Rattle.ring.specs.Laws.Loops.{Counted}
 use Rattle.constraints.proofs.projected_rows.add_entry.Given as goal
 
 abbrev pub invariant-loop-k : goal.invariant-loop-k

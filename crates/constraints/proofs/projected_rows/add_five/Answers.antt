@@ -1,11 +1,10 @@
 -- `constraints::projected_rows::add_five` meets its contract. The loop has added the first k numbers.
-use Prim.Native.Nat.{◌+◌, ◌-◌}
+use Prim.Native.Nat.{◌+◌}
 use native.Mathlib.Omega.{arith}
 use lib.ListN.{get_or}
 use lib.IntN.{pos}
-use Rattle.constraints.specs.Accumulator.{AddedFive}
 use Rattle.constraints.specs.Laws.AccumulatorLaws.{five-start, five-room, five-step, held_number, held-room}
-use Rattle.ring.specs.Laws.Loops.{Counted, counted_start, counted_step, counted-end}
+use Rattle.ring.specs.Laws.Loops.{counted_start, counted_step, counted-end}
 use Rattle.constraints.proofs.projected_rows.add_five.Goals as goal
 
 pub loop-k-init : goal.loop-k-init

@@ -1,10 +1,8 @@
 use Prim.Native.Nat.{◌+◌, ◌-◌}
-use native.Mathlib.Omega.{arith}
 use lib.ListN.{get_or}
 use lib.IntN.{pos}
 use Rattle.constraints.specs.Accumulator.{AddedFive}
-use Rattle.constraints.specs.Laws.AccumulatorLaws.{five-start, five-room, five-step, held_number, held-room}
-use Rattle.ring.specs.Laws.Loops.{Counted, counted_start, counted_step, counted-end}
+use Rattle.ring.specs.Laws.Loops.{Counted}
 use Rattle.constraints.proofs.projected_rows.add_five.Given as goal
 
 abbrev pub invariant-loop-k : goal.invariant-loop-k

@@ -1,9 +1,8 @@
 -- `constraints::projected_rows::add_group` meets its contract. The loop has added the four rows to the first y coefficients.
-use Prim.Native.Nat.{◌+◌, ◌-◌, ◌*◌, ◌<◌}
+use Prim.Native.Nat.{◌+◌, ◌*◌, ◌<◌}
 use native.Mathlib.Omega.{arith}
 use lib.ListN.{get_or}
-use Rattle.constraints.specs.Laws.AccumulatorLaws.{Turning, turning_room}
-use Rattle.constraints.specs.ProjectedRows.{partial}
+use Rattle.constraints.specs.Laws.AccumulatorLaws.{turning_room}
 use Rattle.constraints.specs.Laws.ProjectedRowLaws.{turning_start, turning_end, group-step, table-place}
 use Rattle.constraints.proofs.projected_rows.add_group.Goals as goal
 

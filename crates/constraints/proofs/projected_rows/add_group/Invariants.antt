@@ -1,9 +1,6 @@
-use Prim.Native.Nat.{◌+◌, ◌-◌, ◌*◌, ◌<◌}
-use native.Mathlib.Omega.{arith}
-use lib.ListN.{get_or}
-use Rattle.constraints.specs.Laws.AccumulatorLaws.{Turning, turning_room}
+use Prim.Native.Nat.{◌+◌, ◌-◌, ◌*◌}
+use Rattle.constraints.specs.Laws.AccumulatorLaws.{Turning}
 use Rattle.constraints.specs.ProjectedRows.{partial}
-use Rattle.constraints.specs.Laws.ProjectedRowLaws.{turning_start, turning_end, group-step, table-place}
 use Rattle.constraints.proofs.projected_rows.add_group.Given as goal
 
 abbrev pub invariant-loop-y : goal.invariant-loop-y

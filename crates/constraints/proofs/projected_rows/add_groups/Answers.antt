@@ -1,8 +1,7 @@
 -- `constraints::projected_rows::add_groups` meets its contract. The loop has added the first groups.
 use mathlib.Core.Path.{◌≡◌}
-use Prim.Native.Nat.{◌+◌, ◌-◌, ◌*◌, ◌/◌, ◌≤◌}
+use Prim.Native.Nat.{◌+◌, ◌*◌, ◌/◌}
 use native.Mathlib.Omega.{arith}
-use Rattle.constraints.specs.ProjectedRows.{Summed}
 use Rattle.constraints.proofs.projected_rows.add_groups.Goals as goal
 
 pub loop-group-init : goal.loop-group-init

@@ -1,8 +1,6 @@
 -- `constraints::projected_rows::add_rest` meets its contract. The loop has added the first j rows.
 use mathlib.Core.Path.{◌≡◌}
-use Prim.Native.Nat.{◌-◌, ◌*◌, ◌≤◌}
 use native.Mathlib.Omega.{arith}
-use Rattle.constraints.specs.ProjectedRows.{Summed}
 use Rattle.constraints.proofs.projected_rows.add_rest.Goals as goal
 
 pub loop-j-init : goal.loop-j-init

@@ -1,6 +1,4 @@
-use mathlib.Core.Path.{◌≡◌}
 use Prim.Native.Nat.{◌-◌, ◌*◌, ◌≤◌}
-use native.Mathlib.Omega.{arith}
 use Rattle.constraints.specs.ProjectedRows.{Summed}
 use Rattle.constraints.proofs.projected_rows.add_rest.Given as goal
 

@@ -1,10 +1,8 @@
 -- `constraints::projected_rows::add_row` meets its contract. The loop has added the row to the first y coefficients.
-use Prim.Native.Nat.{◌+◌, ◌-◌, ◌*◌}
 use native.Mathlib.Omega.{arith}
 use Rattle.constraints.specs.Laws.SizeLaws.{witness_small}
 use Rattle.constraints.specs.Laws.RowGroupLaws.{entry-one}
-use Rattle.constraints.specs.Laws.AccumulatorLaws.{Turning, turning_room}
-use Rattle.constraints.specs.ProjectedRows.{partial}
+use Rattle.constraints.specs.Laws.AccumulatorLaws.{turning_room}
 use Rattle.constraints.specs.Laws.ProjectedRowLaws.{turning_start, turning_end, row_step, element-small, element_place}
 use Rattle.constraints.proofs.projected_rows.add_row.Goals as goal
 

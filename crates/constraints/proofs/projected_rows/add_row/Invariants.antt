@@ -1,10 +1,6 @@
 use Prim.Native.Nat.{◌+◌, ◌-◌, ◌*◌}
-use native.Mathlib.Omega.{arith}
-use Rattle.constraints.specs.Laws.SizeLaws.{witness_small}
-use Rattle.constraints.specs.Laws.RowGroupLaws.{entry-one}
-use Rattle.constraints.specs.Laws.AccumulatorLaws.{Turning, turning_room}
+use Rattle.constraints.specs.Laws.AccumulatorLaws.{Turning}
 use Rattle.constraints.specs.ProjectedRows.{partial}
-use Rattle.constraints.specs.Laws.ProjectedRowLaws.{turning_start, turning_end, row_step, element-small, element_place}
 use Rattle.constraints.proofs.projected_rows.add_row.Given as goal
 
 abbrev pub invariant-loop-y : goal.invariant-loop-y

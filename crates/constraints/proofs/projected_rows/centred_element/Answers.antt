@@ -1,11 +1,10 @@
 -- `constraints::projected_rows::centred_element` meets its contract. The first y numbers are in place, zeros follow.
-use Prim.Native.Nat.{◌+◌, ◌-◌, ◌*◌}
+use Prim.Native.Nat.{◌+◌, ◌*◌}
 use native.Mathlib.Omega.{arith}
 use lib.ListN.{get_or}
 use lib.IntN.{pos}
-use Rattle.residues.specs.Modulus.{centred}
 use Rattle.constraints.specs.Laws.AccumulatorLaws.{stored-centre}
-use Rattle.ring.specs.Laws.Loops.{Filling, filling_start, filling_step, filling_end}
+use Rattle.ring.specs.Laws.Loops.{filling_start, filling_step, filling_end}
 use Rattle.constraints.proofs.projected_rows.centred_element.Goals as goal
 
 pub loop-y-init : goal.loop-y-init

@@ -1,10 +1,8 @@
 use Prim.Native.Nat.{◌+◌, ◌-◌, ◌*◌}
-use native.Mathlib.Omega.{arith}
 use lib.ListN.{get_or}
 use lib.IntN.{pos}
 use Rattle.residues.specs.Modulus.{centred}
-use Rattle.constraints.specs.Laws.AccumulatorLaws.{stored-centre}
-use Rattle.ring.specs.Laws.Loops.{Filling, filling_start, filling_step, filling_end}
+use Rattle.ring.specs.Laws.Loops.{Filling}
 use Rattle.constraints.proofs.projected_rows.centred_element.Given as goal
 
 abbrev pub invariant-loop-y : goal.invariant-loop-y

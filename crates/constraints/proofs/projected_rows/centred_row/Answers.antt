@@ -1,11 +1,6 @@
 -- `constraints::projected_rows::centred_row` meets its contract. The first k elements are in place, zeros follow.
-use Prim.Native.Nat.{◌+◌, ◌-◌, ◌*◌}
 use native.Mathlib.Omega.{arith}
-use lib.ListN.{get_or, replicate}
-use lib.IntN.{pos}
-use Rattle.integers.specs.Lists.{tab, upto}
-use Rattle.residues.specs.Modulus.{centred}
-use Rattle.ring.specs.Laws.Loops.{Filling, filling_start, filling_step, filling_all}
+use Rattle.ring.specs.Laws.Loops.{filling_start, filling_step, filling_all}
 use Rattle.constraints.proofs.projected_rows.centred_row.Goals as goal
 
 pub loop-k-init : goal.loop-k-init

@@ -1,10 +1,9 @@
 use Prim.Native.Nat.{◌+◌, ◌-◌, ◌*◌}
-use native.Mathlib.Omega.{arith}
 use lib.ListN.{get_or, replicate}
 use lib.IntN.{pos}
 use Rattle.integers.specs.Lists.{tab, upto}
 use Rattle.residues.specs.Modulus.{centred}
-use Rattle.ring.specs.Laws.Loops.{Filling, filling_start, filling_step, filling_all}
+use Rattle.ring.specs.Laws.Loops.{Filling}
 use Rattle.constraints.proofs.projected_rows.centred_row.Given as goal
 
 abbrev pub invariant-loop-k : goal.invariant-loop-k

@@ -3,7 +3,6 @@ use Prim.Native.Nat.{ℕ}
 use mathlib.Core.Path.{◌∙◌}
 use lib.ListN.{length-replicate}
 use Rattle.constraints.specs.Laws.ProjectedRowLaws.{summed_start, row-end}
-use borrow.Author.Rules.{rules}
 use Rattle.constraints.proofs.projected_rows.projection_row.Goals as goal
 
 pub group_codes-requires : goal.group_codes-requires

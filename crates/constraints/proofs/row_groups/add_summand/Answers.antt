@@ -1,7 +1,6 @@
 -- `constraints::row_groups::add_summand` meets its contract.
 use native.Mathlib.Omega.{arith}
 use mir.Facts.{to_z-of_z}
-use borrow.Author.Rules.{rules}
 use Rattle.constraints.specs.Laws.RowGroupLaws.{summand_of}
 use Rattle.constraints.proofs.row_groups.add_summand.Goals as goal
 

@@ -1,7 +1,6 @@
 -- `constraints::row_groups::code` meets its contract, by the digits.
 use native.Mathlib.Omega.{arith}
 use Rattle.constraints.specs.Laws.RowGroupLaws.{coded_by}
-use borrow.Author.Rules.{rules}
 use mir.Facts.{to_z-of_z}
 use Rattle.constraints.proofs.row_groups.code.Goals as goal
 

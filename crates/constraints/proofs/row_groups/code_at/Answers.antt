@@ -1,7 +1,6 @@
 -- `constraints::row_groups::code_at` meets its contract: entries that were tested are at most 1.
 use Rattle.residues.proofs.Laws.Words.{word}
 use Rattle.constraints.specs.Laws.RowGroupLaws.{entry-one}
-use borrow.Author.Rules.{rules}
 use Rattle.constraints.proofs.row_groups.code_at.Goals as goal
 
 pub code-requires : goal.code-requires

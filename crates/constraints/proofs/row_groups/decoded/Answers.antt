@@ -1,7 +1,6 @@
 -- `constraints::row_groups::decoded` meets its contract: the digit is below 3.
 use Prim.Native.Nat.{◌%◌, ◌^◌, ◌<◌}
 use native.Mathlib.Omega.{arith}
-use borrow.Author.Rules.{rules}
 use mir.Syntax.{w64}
 use mir.Facts.{to_z-of_z, to_z_pos}
 use Rattle.residues.proofs.Laws.Words.{widen}

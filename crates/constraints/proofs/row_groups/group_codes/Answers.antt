@@ -1,9 +1,8 @@
 -- `constraints::row_groups::group_codes` meets its contract. The loop has written the codes of the first groups.
 use mathlib.Core.Path.{◌≡◌}
-use Prim.Native.Nat.{◌-◌, ◌*◌, ◌/◌, ◌≤◌}
+use Prim.Native.Nat.{◌/◌}
 use native.Mathlib.Omega.{arith}
 use Rattle.constraints.specs.Laws.SizeLaws.{witness_small}
-use Rattle.constraints.specs.RowGroups.{CodesOf}
 use Rattle.constraints.specs.Laws.RowGroupLaws.{groups_start, groups_step}
 use Rattle.constraints.specs.Laws.ProjectedRowLaws.{step_small, element-small, group-row, group-place}
 use Rattle.constraints.proofs.row_groups.group_codes.Goals as goal

@@ -1,10 +1,5 @@
-use mathlib.Core.Path.{◌≡◌}
-use Prim.Native.Nat.{◌-◌, ◌*◌, ◌/◌, ◌≤◌}
-use native.Mathlib.Omega.{arith}
-use Rattle.constraints.specs.Laws.SizeLaws.{witness_small}
+use Prim.Native.Nat.{◌-◌, ◌*◌, ◌≤◌}
 use Rattle.constraints.specs.RowGroups.{CodesOf}
-use Rattle.constraints.specs.Laws.RowGroupLaws.{groups_start, groups_step}
-use Rattle.constraints.specs.Laws.ProjectedRowLaws.{step_small, element-small, group-row, group-place}
 use Rattle.constraints.proofs.row_groups.group_codes.Given as goal
 
 abbrev pub invariant-loop-g : goal.invariant-loop-g

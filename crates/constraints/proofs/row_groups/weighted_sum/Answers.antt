@@ -1,9 +1,7 @@
 -- `constraints::row_groups::weighted_sum` meets its contract.
-use borrow.Author.Rules.{rules}
 use native.Mathlib.Omega.{arith}
 use mir.Facts.{to_z-of_z}
 use Rattle.constraints.specs.Laws.RowGroupLaws.{four_summands}
-use mir.Syntax.{w32}
 use mir.Syntax.{w64}
 use Rattle.constraints.proofs.row_groups.weighted_sum.Goals as goal
 

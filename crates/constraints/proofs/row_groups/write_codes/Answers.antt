@@ -1,8 +1,6 @@
 -- `constraints::row_groups::write_codes` meets its contract. The loop has written the first y codes.
 use mathlib.Core.Path.{◌≡◌}
-use Prim.Native.Nat.{◌-◌, ◌≤◌}
 use native.Mathlib.Omega.{arith}
-use Rattle.constraints.specs.RowGroups.{Codes}
 use Rattle.constraints.specs.Laws.RowGroupLaws.{codes_start, codes_step}
 use Rattle.constraints.proofs.row_groups.write_codes.Goals as goal
 

@@ -1,8 +1,5 @@
-use mathlib.Core.Path.{◌≡◌}
 use Prim.Native.Nat.{◌-◌, ◌≤◌}
-use native.Mathlib.Omega.{arith}
 use Rattle.constraints.specs.RowGroups.{Codes}
-use Rattle.constraints.specs.Laws.RowGroupLaws.{codes_start, codes_step}
 use Rattle.constraints.proofs.row_groups.write_codes.Given as goal
 
 abbrev pub invariant-loop-y : goal.invariant-loop-y

@@ -1,7 +1,6 @@
 -- `constraints::row_groups::write_omega_sums` meets its contract. The loop has written the first i numbers of the table.
-use Prim.Native.Nat.{◌-◌}
 use native.Mathlib.Omega.{arith}
-use Rattle.constraints.specs.Laws.RowGroupLaws.{Tabled, tabled_start, tabled_step, tabled_end, weights-place}
+use Rattle.constraints.specs.Laws.RowGroupLaws.{tabled_start, tabled_step, tabled_end, weights-place}
 use Rattle.constraints.proofs.row_groups.write_omega_sums.Goals as goal
 
 pub overflow_mul-count : goal.overflow_mul-count

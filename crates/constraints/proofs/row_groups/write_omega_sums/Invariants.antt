@@ -1,6 +1,5 @@
 use Prim.Native.Nat.{◌-◌}
-use native.Mathlib.Omega.{arith}
-use Rattle.constraints.specs.Laws.RowGroupLaws.{Tabled, tabled_start, tabled_step, tabled_end, weights-place}
+use Rattle.constraints.specs.Laws.RowGroupLaws.{Tabled}
 use Rattle.constraints.proofs.row_groups.write_omega_sums.Given as goal
 
 abbrev pub invariant-loop-i : goal.invariant-loop-i

@@ -1,11 +1,7 @@
 -- `constraints::second::second_row_a` meets its contract: the projection rows have no a. The loop has written the first k entries.
-use Prim.Native.Nat.{◌-◌}
 use native.Mathlib.Omega.{arith}
-use lib.ListN.{replicate}
-use lib.IntN.{pos}
-use Rattle.ring.specs.Element.{array}
 use Rattle.fold.specs.Entries.{second_a}
-use Rattle.ring.specs.Laws.Loops.{Filling, filling_start, filling_step, filling_all}
+use Rattle.ring.specs.Laws.Loops.{filling_start, filling_step, filling_all}
 use Rattle.constraints.specs.Laws.SizeLaws.{function-parts}
 use Rattle.constraints.proofs.second.second_row_a.Goals as goal
 

@@ -1,11 +1,9 @@
 use Prim.Native.Nat.{◌-◌}
-use native.Mathlib.Omega.{arith}
 use lib.ListN.{replicate}
 use lib.IntN.{pos}
 use Rattle.ring.specs.Element.{array}
 use Rattle.fold.specs.Entries.{second_a}
-use Rattle.ring.specs.Laws.Loops.{Filling, filling_start, filling_step, filling_all}
-use Rattle.constraints.specs.Laws.SizeLaws.{function-parts}
+use Rattle.ring.specs.Laws.Loops.{Filling}
 use Rattle.constraints.proofs.second.second_row_a.Given as goal
 
 abbrev pub invariant-loop-k : goal.invariant-loop-k

@@ -1,11 +1,7 @@
 -- `constraints::second::second_row_phi` meets its contract. The loop has written the first k entries.
-use Prim.Native.Nat.{◌-◌}
 use native.Mathlib.Omega.{arith}
-use lib.ListN.{replicate}
-use lib.IntN.{pos}
-use Rattle.ring.specs.Element.{array}
 use Rattle.constraints.specs.Aggregated.{second_rowΦ}
-use Rattle.ring.specs.Laws.Loops.{Filling, filling_start, filling_step, filling_all}
+use Rattle.ring.specs.Laws.Loops.{filling_start, filling_step, filling_all}
 use Rattle.constraints.proofs.second.second_row_phi.Goals as goal
 
 pub loop-k-init : goal.loop-k-init

@@ -1,10 +1,9 @@
 use Prim.Native.Nat.{◌-◌}
-use native.Mathlib.Omega.{arith}
 use lib.ListN.{replicate}
 use lib.IntN.{pos}
 use Rattle.ring.specs.Element.{array}
 use Rattle.constraints.specs.Aggregated.{second_rowΦ}
-use Rattle.ring.specs.Laws.Loops.{Filling, filling_start, filling_step, filling_all}
+use Rattle.ring.specs.Laws.Loops.{Filling}
 use Rattle.constraints.proofs.second.second_row_phi.Given as goal
 
 abbrev pub invariant-loop-k : goal.invariant-loop-k

@@ -1,13 +1,12 @@
 -- `constraints::second::term_entry` meets its contract. The loop has added j constraints, and `at` is where the next one starts.
-use mathlib.Core.Path.{◌≡◌}
-use Prim.Native.Nat.{◌+◌, ◌-◌, ◌*◌, ◌≤◌}
+use Prim.Native.Nat.{◌+◌, ◌*◌, ◌≤◌}
 use lib.ListN.{length}
 use native.Mathlib.Omega.{arith}
 use native.Mathlib.Nat.{le_refl, mul-le-mul_right}
 use Rattle.fold.specs.Limits.{most_constraints}
-use Rattle.constraints.specs.Laws.Terms.{term_summand, term_step, term_end, term_step-small}
+use Rattle.constraints.specs.Laws.Terms.{term_step, term_end, term_step-small}
 use Rattle.constraints.specs.Laws.Terms.{term_inside, term_place, ψ-place, rest-room}
-use Rattle.ring.specs.Laws.Loops.{Summed, summed_start, summed_end}
+use Rattle.ring.specs.Laws.Loops.{summed_start, summed_end}
 use Rattle.constraints.proofs.second.term_entry.Goals as goal
 
 pub function_size-size-requires : goal.function_size-size-requires

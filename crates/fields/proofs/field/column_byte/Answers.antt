@@ -1,6 +1,5 @@
 use mathlib.Core.Path.{sym}
 use Rattle.fields.specs.Laws.FieldLaws.{byte_digit, byte_none}
-use borrow.Author.Rules.{rules}
 use Rattle.fields.proofs.field.column_byte.Goals as goal
 
 pub returns-then-m-gt0 : goal.returns-then-m-gt0

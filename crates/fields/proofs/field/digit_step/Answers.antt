@@ -1,7 +1,6 @@
 -- `fields::field::digit_step` meets its contract.
 use mathlib.Core.Path.{sym}
 use Rattle.fields.specs.Laws.ByteLaws.{other_step, high-step, digit-sum}
-use borrow.Author.Rules.{rules}
 use Rattle.fields.proofs.field.digit_step.Goals as goal
 
 pub returns-then-byte-lt48 : goal.returns-then-byte-lt48

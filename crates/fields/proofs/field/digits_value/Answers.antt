@@ -1,9 +1,7 @@
 -- `fields::field::digits_value` meets its contract. The loop's invariant: `value` is that of the digits among the first k bytes.
 use mathlib.Core.Path.{◌≡◌, refl, ◌∙◌}
-use Prim.Native.Nat.{◌-◌, ◌≤◌}
 use native.Mathlib.Omega.{arith}
-use lib.ListN.{take, drop}
-use Rattle.fields.specs.Fields.{value_from}
+use lib.ListN.{drop}
 use Rattle.fields.specs.Laws.FieldSteps.{value-start, value-next, value-below}
 use Rattle.fields.proofs.field.digits_value.Goals as goal
 

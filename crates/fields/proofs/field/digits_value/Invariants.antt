@@ -1,9 +1,7 @@
-use mathlib.Core.Path.{◌≡◌, refl, ◌∙◌}
+use mathlib.Core.Path.{◌≡◌}
 use Prim.Native.Nat.{◌-◌, ◌≤◌}
-use native.Mathlib.Omega.{arith}
 use lib.ListN.{take, drop}
 use Rattle.fields.specs.Fields.{value_from}
-use Rattle.fields.specs.Laws.FieldSteps.{value-start, value-next, value-below}
 use Rattle.fields.proofs.field.digits_value.Given as goal
 
 abbrev pub invariant-loop-k : goal.invariant-loop-k

@@ -1,6 +1,5 @@
 -- `fields::field::is_field_of` meets its contract. The loop's invariant: the bytes from `left` on agree, so the others decide.
-use native.Mathlib.Omega.{arith}
-use Rattle.fields.specs.Laws.FieldSteps.{Matching, matching_start, matching_not, matching_step, matching_other, matching_end}
+use Rattle.fields.specs.Laws.FieldSteps.{matching_start, matching_not, matching_step, matching_other, matching_end}
 use Rattle.fields.proofs.field.is_field_of.Goals as goal
 
 pub returns-then-text-at : goal.returns-then-text-at

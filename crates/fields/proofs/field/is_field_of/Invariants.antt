@@ -1,5 +1,4 @@
-use native.Mathlib.Omega.{arith}
-use Rattle.fields.specs.Laws.FieldSteps.{Matching, matching_start, matching_not, matching_step, matching_other, matching_end}
+use Rattle.fields.specs.Laws.FieldSteps.{Matching}
 use Rattle.fields.proofs.field.is_field_of.Given as goal
 
 abbrev pub invariant-loop-left : goal.invariant-loop-left

@@ -1,6 +1,5 @@
 -- `fields::field::opposite` meets its contract.
 use Rattle.fields.specs.Laws.FieldsLaws.{opposite-fits, opposite-is}
-use borrow.Author.Rules.{rules}
 use Rattle.fields.proofs.field.opposite.Goals as goal
 
 pub overflow_sub-result : goal.overflow_sub-result

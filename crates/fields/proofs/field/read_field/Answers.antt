@@ -4,7 +4,6 @@ use native.Mathlib.Omega.{arith}
 use lib.ListN.{drop}
 use mir.Facts.{to_z-of_z}
 use Rattle.fields.specs.Laws.FieldsLaws.{field_short, value-fits, field_plain, field_minus, field_neither}
-use borrow.Author.Rules.{rules}
 use mir.Syntax.{w64}
 use Rattle.fields.proofs.field.read_field.Goals as goal
 

@@ -3,7 +3,6 @@ use mathlib.Core.Path.{refl}
 use native.Mathlib.Nat.{mod-lt}
 use native.Mathlib.Omega.{arith}
 use Rattle.fields.specs.Sections.{ends_element}
-use borrow.Author.Rules.{rules}
 use Rattle.fields.proofs.sizes.ends_element.Goals as goal
 
 pub overflow_add-result : goal.overflow_add-result

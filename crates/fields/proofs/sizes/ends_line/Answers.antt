@@ -1,6 +1,5 @@
 -- `fields::sizes::ends_line` meets its contract.
 use Rattle.fields.specs.Laws.SectionLaws.{line-head, line-terms, line-middle, line-ones, line-tail}
-use borrow.Author.Rules.{rules}
 use Rattle.fields.proofs.sizes.ends_line.Goals as goal
 
 pub returns-then-i-s : goal.returns-then-i-s

@@ -2,7 +2,6 @@
 use native.Mathlib.Nat.{mod-lt}
 use native.Mathlib.Omega.{arith}
 use Rattle.fields.specs.Laws.SectionLaws.{ends_alone, ends_other}
-use borrow.Author.Rules.{rules}
 use Rattle.fields.proofs.sizes.ends_term.Goals as goal
 
 pub overflow_add-p : goal.overflow_add-p

@@ -3,7 +3,6 @@ use mathlib.Core.Path.{refl}
 use native.Mathlib.Nat.{mul-le-mul}
 use native.Mathlib.Omega.{arith}
 use Rattle.fields.specs.Laws.SectionLaws.{sum-le}
-use borrow.Author.Rules.{rules}
 use Rattle.fields.proofs.sizes.head_numbers.Goals as goal
 
 pub overflow_mul-result : goal.overflow_mul-result

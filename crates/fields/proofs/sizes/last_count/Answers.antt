@@ -4,7 +4,6 @@ use Prim.Native.Nat.{◌≤◌}
 use native.Mathlib.Omega.{arith}
 use Rattle.fields.specs.Sections.{last_count}
 use Rattle.fields.specs.Laws.SectionLaws.{opening-few}
-use borrow.Author.Rules.{rules}
 use Rattle.fields.proofs.sizes.last_count.Goals as goal
 
 pub overflow_add-result : goal.overflow_add-result

@@ -4,7 +4,6 @@ use Prim.Native.Nat.{◌+◌, ◌*◌, ◌≤◌}
 use native.Mathlib.Omega.{arith}
 use Rattle.fields.specs.Sections.{matrix_count}
 use Rattle.fields.specs.Laws.SectionLaws.{matrices_few}
-use borrow.Author.Rules.{rules}
 use Rattle.fields.proofs.sizes.matrix_count.Goals as goal
 
 pub overflow_mul-a : goal.overflow_mul-a

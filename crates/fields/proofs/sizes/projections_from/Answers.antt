@@ -2,7 +2,6 @@
 use native.Mathlib.Nat.{mul-le-mul}
 use native.Mathlib.Omega.{arith}
 use Rattle.fields.specs.Laws.SectionLaws.{projections-is}
-use borrow.Author.Rules.{rules}
 use Rattle.fields.proofs.sizes.projections_from.Goals as goal
 
 pub overflow_mul-own : goal.overflow_mul-own

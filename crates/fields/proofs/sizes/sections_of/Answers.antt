@@ -3,7 +3,6 @@ use mathlib.Core.Path.{refl}
 use native.Mathlib.Nat.{mul-le-mul}
 use native.Mathlib.Omega.{arith}
 use Rattle.fields.specs.Sections.{ones_count, sections_of}
-use borrow.Author.Rules.{rules}
 use Rattle.fields.proofs.sizes.sections_of.Goals as goal
 
 pub overflow_mul-terms : goal.overflow_mul-terms

@@ -4,7 +4,6 @@ use native.Mathlib.Nat.{mul-le-mul}
 use native.Mathlib.Omega.{arith}
 use Rattle.fields.specs.Sections.{term_size}
 use Rattle.fields.specs.Laws.SectionLaws.{le-one, function-few}
-use borrow.Author.Rules.{rules}
 use Rattle.fields.proofs.sizes.term_size.Goals as goal
 
 pub overflow_mul-result : goal.overflow_mul-result

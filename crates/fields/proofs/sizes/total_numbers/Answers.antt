@@ -2,7 +2,6 @@
 use native.Mathlib.Nat.{mul-le-mul}
 use native.Mathlib.Omega.{arith}
 use Rattle.fields.specs.Laws.SectionLaws.{total-is}
-use borrow.Author.Rules.{rules}
 use Rattle.fields.proofs.sizes.total_numbers.Goals as goal
 
 pub overflow_mul-tail : goal.overflow_mul-tail

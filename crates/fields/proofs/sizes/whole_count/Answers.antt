@@ -4,7 +4,6 @@ use native.Mathlib.Nat.{mul-le-mul}
 use native.Mathlib.Omega.{arith}
 use Rattle.fields.specs.Sections.{whole_count}
 use Rattle.fields.specs.Laws.SectionLaws.{le-one, function-few}
-use borrow.Author.Rules.{rules}
 use Rattle.fields.proofs.sizes.whole_count.Goals as goal
 
 pub overflow_add-result : goal.overflow_add-result

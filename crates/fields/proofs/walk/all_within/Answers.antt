@@ -1,8 +1,6 @@
 -- `fields::walk::all_within` meets its contract.
-use Prim.Native.Nat.{◌-◌}
 use native.Mathlib.Omega.{arith}
-use Rattle.fields.specs.Sections.{ends_line}
-use Rattle.fields.specs.Laws.WalkLaws.{walked_index, walked_fits, Ranged, ranged_start, ranged_false, ranged_step, ranged_end}
+use Rattle.fields.specs.Laws.WalkLaws.{walked_index, walked_fits, ranged_start, ranged_false, ranged_step, ranged_end}
 use Rattle.fields.proofs.walk.all_within.Goals as goal
 
 pub loop-j-init : goal.loop-j-init

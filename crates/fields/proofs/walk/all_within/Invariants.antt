@@ -1,7 +1,6 @@
 use Prim.Native.Nat.{◌-◌}
-use native.Mathlib.Omega.{arith}
 use Rattle.fields.specs.Sections.{ends_line}
-use Rattle.fields.specs.Laws.WalkLaws.{walked_index, walked_fits, Ranged, ranged_start, ranged_false, ranged_step, ranged_end}
+use Rattle.fields.specs.Laws.WalkLaws.{Ranged}
 use Rattle.fields.proofs.walk.all_within.Given as goal
 
 abbrev pub invariant-loop-j : goal.invariant-loop-j

@@ -1,8 +1,6 @@
 -- `fields::walk::are_challenges` meets its contract.
-use Prim.Native.Nat.{◌-◌}
 use native.Mathlib.Omega.{arith}
-use Rattle.fields.specs.Sections.{ends_line}
-use Rattle.fields.specs.Laws.ChallengeLaws.{Challenged, challenged_start, challenged_span, challenged_range, challenged_index}
+use Rattle.fields.specs.Laws.ChallengeLaws.{challenged_start, challenged_span, challenged_range, challenged_index}
 use Rattle.fields.specs.Laws.ChallengeLaws.{challenged_false, challenged_step, challenged_end}
 use Rattle.fields.proofs.walk.are_challenges.Goals as goal
 

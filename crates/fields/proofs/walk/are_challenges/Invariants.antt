@@ -1,8 +1,6 @@
 use Prim.Native.Nat.{◌-◌}
-use native.Mathlib.Omega.{arith}
 use Rattle.fields.specs.Sections.{ends_line}
-use Rattle.fields.specs.Laws.ChallengeLaws.{Challenged, challenged_start, challenged_span, challenged_range, challenged_index}
-use Rattle.fields.specs.Laws.ChallengeLaws.{challenged_false, challenged_step, challenged_end}
+use Rattle.fields.specs.Laws.ChallengeLaws.{Challenged}
 use Rattle.fields.proofs.walk.are_challenges.Given as goal
 
 abbrev pub invariant-loop-e : goal.invariant-loop-e

@@ -3,7 +3,6 @@ use mathlib.Core.Path.{refl, ap, ◌∙◌}
 use Rattle.residues.specs.Range.{challenge}
 use Rattle.fields.specs.Sections.{ends_line}
 use Rattle.fields.specs.Laws.ChallengeLaws.{filled-length, filled-part}
-use borrow.Author.Rules.{rules}
 use Rattle.fields.proofs.walk.challenge_at.Goals as goal
 
 pub slice_bounds-is_challenge-end : goal.slice_bounds-is_challenge-end

@@ -1,11 +1,6 @@
 use Prim.Native.Nat.{◌-◌}
-use native.Mathlib.Omega.{arith}
-use mathlib.Core.Path.{◌∙◌}
-use mir.Facts.{to_z-of_z}
 use Rattle.fields.specs.Sections.{ends_line}
-use Rattle.fields.specs.Laws.WalkLaws.{walked_index, walked_fits, Filled, filled-start, filled-small, filled-step, filled-end}
-use mir.Syntax.{w32}
-use mir.Syntax.{w64}
+use Rattle.fields.specs.Laws.WalkLaws.{Filled}
 use Rattle.fields.proofs.walk.fill.Given as goal
 
 abbrev pub invariant-loop-j : goal.invariant-loop-j

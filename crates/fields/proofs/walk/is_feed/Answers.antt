@@ -1,6 +1,5 @@
 -- `fields::walk::is_feed` meets its contract.
 use Rattle.fields.specs.Laws.PlaceLaws.{feed_outside}
-use borrow.Author.Rules.{rules}
 use Rattle.fields.proofs.walk.is_feed.Goals as goal
 
 pub returns : goal.returns

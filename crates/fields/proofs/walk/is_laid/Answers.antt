@@ -1,7 +1,6 @@
 -- `fields::walk::is_laid` meets its contract.
 use native.Mathlib.Omega.{arith}
 use Rattle.fields.specs.Laws.PlaceLaws.{number-inside, laid_none, laid-feed, laid-inner}
-use borrow.Author.Rules.{rules}
 use Rattle.fields.proofs.walk.is_laid.Goals as goal
 
 pub returns-then-not-number : goal.returns-then-not-number

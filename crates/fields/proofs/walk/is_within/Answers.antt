@@ -1,6 +1,5 @@
 -- `fields::walk::is_within` meets its contract.
 use mathlib.Core.Path.{refl}
-use borrow.Author.Rules.{rules}
 use Rattle.fields.proofs.walk.is_within.Goals as goal
 
 pub returns : goal.returns

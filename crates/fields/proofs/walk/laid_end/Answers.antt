@@ -1,8 +1,6 @@
 -- `fields::walk::laid_end` meets its contract.
-use Prim.Native.Nat.{◌-◌}
 use native.Mathlib.Omega.{arith}
-use Rattle.fields.specs.Sections.{ends_line}
-use Rattle.fields.specs.Laws.PlaceLaws.{Laid, laid-start, laid-step, laid-fits, laid_broken, laid_end}
+use Rattle.fields.specs.Laws.PlaceLaws.{laid-start, laid-step, laid-fits, laid_broken, laid_end}
 use Rattle.fields.proofs.walk.laid_end.Goals as goal
 
 pub loop-i-init : goal.loop-i-init

@@ -1,7 +1,6 @@
 use Prim.Native.Nat.{◌-◌}
-use native.Mathlib.Omega.{arith}
 use Rattle.fields.specs.Sections.{ends_line}
-use Rattle.fields.specs.Laws.PlaceLaws.{Laid, laid-start, laid-step, laid-fits, laid_broken, laid_end}
+use Rattle.fields.specs.Laws.PlaceLaws.{Laid}
 use Rattle.fields.proofs.walk.laid_end.Given as goal
 
 abbrev pub invariant-loop-i : goal.invariant-loop-i

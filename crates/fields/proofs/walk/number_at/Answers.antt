@@ -3,7 +3,6 @@ use mathlib.Core.Path.{ap, ◌∙◌}
 use mir.Facts.{to_z-of_z}
 use Rattle.fields.specs.Fields.{number_in}
 use Rattle.fields.specs.Place.{number_at}
-use borrow.Author.Rules.{rules}
 use mir.Syntax.{w64}
 use Rattle.fields.proofs.walk.number_at.Goals as goal
 

@@ -3,7 +3,6 @@ use mathlib.Core.Path.{ap, ◌∙◌}
 use lib.IntN.{nat_abs}
 use mir.Facts.{to_z-of_z}
 use Rattle.fields.specs.Laws.NumberLaws.{number_small}
-use borrow.Author.Rules.{rules}
 use mir.Syntax.{w64}
 use Rattle.fields.proofs.walk.number_size.Goals as goal
 

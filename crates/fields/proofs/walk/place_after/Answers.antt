@@ -1,8 +1,6 @@
 -- `fields::walk::place_after` meets its contract.
-use Prim.Native.Nat.{◌-◌}
 use native.Mathlib.Omega.{arith}
-use Rattle.fields.specs.Sections.{ends_line}
-use Rattle.fields.specs.Laws.WalkLaws.{Walked, walked_start, walked_index, walked_fits, walked_step, walked_end}
+use Rattle.fields.specs.Laws.WalkLaws.{walked_start, walked_index, walked_fits, walked_step, walked_end}
 use Rattle.fields.proofs.walk.place_after.Goals as goal
 
 pub loop-j-init : goal.loop-j-init

@@ -1,7 +1,6 @@
 use Prim.Native.Nat.{◌-◌}
-use native.Mathlib.Omega.{arith}
 use Rattle.fields.specs.Sections.{ends_line}
-use Rattle.fields.specs.Laws.WalkLaws.{Walked, walked_start, walked_index, walked_fits, walked_step, walked_end}
+use Rattle.fields.specs.Laws.WalkLaws.{Walked}
 use Rattle.fields.proofs.walk.place_after.Given as goal
 
 abbrev pub invariant-loop-j : goal.invariant-loop-j

@@ -1,7 +1,6 @@
 -- `fields::write::write_blanks` meets its contract.
-use Prim.Native.Nat.{◌-◌}
 use native.Mathlib.Omega.{arith}
-use Rattle.fields.specs.Laws.WriteLaws.{Blanked, blanked_start, blanked_step, blanked_end}
+use Rattle.fields.specs.Laws.WriteLaws.{blanked_start, blanked_step, blanked_end}
 use Rattle.fields.proofs.write.write_blanks.Goals as goal
 
 pub loop-k-init : goal.loop-k-init

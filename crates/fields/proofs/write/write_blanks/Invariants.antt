@@ -1,6 +1,5 @@
 use Prim.Native.Nat.{◌-◌}
-use native.Mathlib.Omega.{arith}
-use Rattle.fields.specs.Laws.WriteLaws.{Blanked, blanked_start, blanked_step, blanked_end}
+use Rattle.fields.specs.Laws.WriteLaws.{Blanked}
 use Rattle.fields.proofs.write.write_blanks.Given as goal
 
 abbrev pub invariant-loop-k : goal.invariant-loop-k

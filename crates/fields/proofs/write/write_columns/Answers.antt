@@ -2,7 +2,7 @@
 use mathlib.Core.Path.{◌∙◌}
 use native.Mathlib.Omega.{arith}
 use lib.ListN.{length-set}
-use Rattle.fields.specs.Laws.WriteLaws.{Columns, columns-start, columns-step, columns-sign, columns-end}
+use Rattle.fields.specs.Laws.WriteLaws.{columns-start, columns-step, columns-sign, columns-end}
 use Rattle.fields.proofs.write.write_columns.Goals as goal
 
 pub loop-left-init : goal.loop-left-init

@@ -1,7 +1,4 @@
-use mathlib.Core.Path.{◌∙◌}
-use native.Mathlib.Omega.{arith}
-use lib.ListN.{length-set}
-use Rattle.fields.specs.Laws.WriteLaws.{Columns, columns-start, columns-step, columns-sign, columns-end}
+use Rattle.fields.specs.Laws.WriteLaws.{Columns}
 use Rattle.fields.proofs.write.write_columns.Given as goal
 
 abbrev pub invariant-loop-left : goal.invariant-loop-left

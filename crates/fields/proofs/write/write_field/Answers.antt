@@ -2,7 +2,6 @@
 use mathlib.Core.Path.{◌∙◌}
 use lib.ListN.{length-set}
 use Rattle.fields.specs.Laws.WriteLaws.{blank-front, same-room, field_written}
-use borrow.Author.Rules.{rules}
 use Rattle.fields.proofs.write.write_field.Goals as goal
 
 pub write_columns-requires : goal.write_columns-requires

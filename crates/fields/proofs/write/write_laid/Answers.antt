@@ -1,6 +1,5 @@
 -- `fields::write::write_laid` meets its contract.
 use Rattle.fields.specs.Laws.WriteLaws.{laid-inner, laid-last, laid-room, laid-inside}
-use borrow.Author.Rules.{rules}
 use Rattle.fields.proofs.write.write_laid.Goals as goal
 
 pub write_field-requires : goal.write_field-requires

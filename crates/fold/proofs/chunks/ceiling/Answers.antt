@@ -1,7 +1,6 @@
 -- `fold::chunks::ceiling` meets its contract. Assumes nothing.
 use mathlib.Core.Path.{refl}
 use Rattle.fold.specs.Sizes.{ceiling}
-use borrow.Author.Rules.{rules}
 use Rattle.fold.proofs.chunks.ceiling.Goals as goal
 
 pub returns : goal.returns

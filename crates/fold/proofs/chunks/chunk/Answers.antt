@@ -2,7 +2,6 @@
 use native.Mathlib.Omega.{arith}
 use Rattle.fold.specs.Laws.SizeBounds.{product-fits}
 use Rattle.fold.specs.Known.CutSizes.{ceiling-bound, chunk-empty, chunk-short, chunk_full}
-use borrow.Author.Rules.{rules}
 use Rattle.fold.proofs.chunks.chunk.Goals as goal
 
 pub overflow_mul-before : goal.overflow_mul-before

@@ -1,7 +1,6 @@
 -- `fold::chunks::chunk_start` meets its contract. The loop's invariant: `at` is the start of part k. Assumes nothing.
-use Prim.Native.Nat.{◌-◌}
 use native.Mathlib.Omega.{arith}
-use Rattle.fold.specs.Known.CutSizes.{Begun, begun-start, begun-step, begun-end, width_small}
+use Rattle.fold.specs.Known.CutSizes.{begun-start, begun-step, begun-end, width_small}
 use Rattle.fold.proofs.chunks.chunk_start.Goals as goal
 
 pub loop-k-init : goal.loop-k-init

@@ -1,6 +1,5 @@
 use Prim.Native.Nat.{◌-◌}
-use native.Mathlib.Omega.{arith}
-use Rattle.fold.specs.Known.CutSizes.{Begun, begun-start, begun-step, begun-end, width_small}
+use Rattle.fold.specs.Known.CutSizes.{Begun}
 use Rattle.fold.proofs.chunks.chunk_start.Given as goal
 
 abbrev pub invariant-loop-k : goal.invariant-loop-k

@@ -3,7 +3,6 @@ use native.Mathlib.Omega.{arith}
 use native.Mathlib.Nat.{mod-lt}
 use Rattle.fold.specs.Laws.SizeBounds.{product-fits}
 use Rattle.fold.specs.Known.CutSizes.{width-first, width-later}
-use borrow.Author.Rules.{rules}
 use Rattle.fold.proofs.chunks.chunk_width.Goals as goal
 
 pub overflow_mul-of_z : goal.overflow_mul-of_z

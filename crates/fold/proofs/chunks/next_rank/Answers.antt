@@ -1,6 +1,5 @@
 -- `fold::chunks::next_rank` meets its contract: the larger of two. Assumes nothing.
 use Rattle.fold.specs.Known.CutSizes.{rank-first, rank-second}
-use borrow.Author.Rules.{rules}
 use Rattle.fold.proofs.chunks.next_rank.Goals as goal
 
 pub returns-then-of_z-of_rest : goal.returns-then-of_z-of_rest

@@ -3,7 +3,6 @@ use mathlib.Core.Path.{refl}
 use native.Mathlib.Omega.{arith}
 use Rattle.fold.specs.Sizes.{rest_size}
 use Rattle.fold.specs.Known.CutSizes.{rest_size-bound}
-use borrow.Author.Rules.{rules}
 use Rattle.fold.proofs.chunks.rest_size.Goals as goal
 
 pub overflow_add-result : goal.overflow_add-result

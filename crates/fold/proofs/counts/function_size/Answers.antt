@@ -1,5 +1,4 @@
 -- `fold::counts::function_size` meets its contract: at most 136 pairs and 16 * 256 elements. Assumes nothing.
-use borrow.Author.Rules.{rules}
 use native.Mathlib.Omega.{arith}
 use mathlib.Core.Path.{ap}
 use Prim.Native.Nat.{◌+◌, ◌*◌}

@@ -1,5 +1,4 @@
 -- `fold::counts::garbage_size` meets its contract: at most 136 pairs of 8 digits. Assumes nothing.
-use borrow.Author.Rules.{rules}
 use mathlib.Core.Path.{ap}
 use Prim.Native.Nat.{◌*◌, ◌≤◌}
 use Rattle.fold.specs.Sizes.{garbage_size}

@@ -1,6 +1,5 @@
 -- `fold::counts::opening_size` meets its contract: the digits of z, then t, g and h. Assumes nothing.
 use mathlib.Core.Path.{refl}
-use borrow.Author.Rules.{rules}
 use native.Mathlib.Omega.{arith}
 use Rattle.fold.specs.Sizes.{opening_size, rest_size}
 use Rattle.fold.specs.Laws.SizeBounds.{product-fits, opening_size-bound}

@@ -4,7 +4,6 @@ use Prim.Native.Nat.{ℕ, ◌+◌}
 use native.Mathlib.Omega.{arith}
 use Rattle.fold.specs.Opening.{g_place}
 use Rattle.fold.proofs.Laws.PlaceBounds.{t-size-bound, t-place-bound}
-use borrow.Author.Rules.{rules}
 use Rattle.fold.proofs.places.g_place.Goals as goal
 
 pub overflow_add-result : goal.overflow_add-result

@@ -4,7 +4,6 @@ use Prim.Native.Nat.{ℕ, ◌+◌}
 use native.Mathlib.Omega.{arith}
 use Rattle.fold.specs.Opening.{h_place}
 use Rattle.fold.proofs.Laws.PlaceBounds.{g-size-bound, g-place-bound}
-use borrow.Author.Rules.{rules}
 use Rattle.fold.proofs.places.h_place.Goals as goal
 
 pub overflow_add-result : goal.overflow_add-result

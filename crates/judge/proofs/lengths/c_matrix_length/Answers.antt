@@ -2,7 +2,6 @@
 use mathlib.Core.Path.{refl, ◌∙◌}
 use native.Mathlib.Omega.{arith}
 use Rattle.limits.specs.Laws.SizeLaws.{garbage-within}
-use borrow.Author.Rules.{rules}
 use Rattle.judge.proofs.lengths.c_matrix_length.Goals as goal
 
 pub flat_length-requires : goal.flat_length-requires

@@ -2,7 +2,6 @@
 use mathlib.Core.Path.{refl, ◌∙◌}
 use native.Mathlib.Omega.{arith}
 use Rattle.limits.specs.Laws.SizeLaws.{opening-within}
-use borrow.Author.Rules.{rules}
 use Rattle.judge.proofs.lengths.opening_length.Goals as goal
 
 pub list_length-requires : goal.list_length-requires

@@ -2,7 +2,6 @@
 use mathlib.Core.Path.{◌≡◌, refl, sym}
 use native.Mathlib.Omega.{arith}
 use lib.ListN.{length}
-use borrow.Author.Rules.{rules}
 use Rattle.fields.specs.Place.{field_width}
 use Rattle.judge.specs.Laws.LineLaws.{line-written}
 use Rattle.judge.proofs.line.verdict_line.Goals as goal

@@ -4,7 +4,6 @@ use native.Mathlib.Nat.{le_of_eq}
 use native.Mathlib.Omega.{arith}
 use lib.ListN.{drop, length-drop, drop_of_length-le}
 use lib.Seq.{take_all}
-use borrow.Author.Rules.{rules}
 use Rattle.judge.proofs.lists.rest.Goals as goal
 
 pub returns-then-xs-m : goal.returns-then-xs-m

@@ -1,6 +1,5 @@
 -- `judge::numbers::judge_constraints` meets its contract. Assumes nothing.
 use Rattle.judge.specs.Laws.StageLaws.{cut, constraint_stage_lem}
-use borrow.Author.Rules.{rules}
 use Rattle.judge.proofs.numbers.judge_constraints.Goals as goal
 
 pub returns : goal.returns

@@ -2,7 +2,6 @@
 use Prim.Native.Nat.{◌*◌}
 use Rattle.fold.specs.Sizes.{z_count, opening_size}
 use Rattle.judge.specs.Laws.StageLaws.{cut, cut-last, last_stage_lem}
-use borrow.Author.Rules.{rules}
 use Rattle.judge.proofs.numbers.judge_last.Goals as goal
 
 pub returns : goal.returns

@@ -1,7 +1,6 @@
 -- `judge::numbers::judge_numbers` meets its contract. Assumes nothing.
 use mathlib.Core.Path.{refl}
 use Rattle.judge.specs.Laws.StageLaws.{cut, number_stage_lem}
-use borrow.Author.Rules.{rules}
 use Rattle.judge.proofs.numbers.judge_numbers.Goals as goal
 
 pub returns : goal.returns

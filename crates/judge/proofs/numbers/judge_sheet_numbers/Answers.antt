@@ -2,7 +2,6 @@
 use Prim.Native.Nat.{◌*◌}
 use Rattle.fold.specs.Sizes.{t_size}
 use Rattle.judge.specs.Laws.StageLaws.{cut, matrix_stage_lem}
-use borrow.Author.Rules.{rules}
 use Rattle.judge.proofs.numbers.judge_sheet_numbers.Goals as goal
 
 pub returns : goal.returns

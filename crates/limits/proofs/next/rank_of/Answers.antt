@@ -1,5 +1,4 @@
 -- `limits::next::rank_of` meets its contract. Assumes nothing.
-use borrow.Author.Rules.{rules}
 use Rattle.limits.proofs.next.rank_of.Goals as goal
 
 pub next_rank-requires : goal.next_rank-requires

@@ -1,8 +1,6 @@
 -- `limits::part::part_number` meets its contract. The loop's invariant: `left` of the part number after ν is taken off e times. Assumes nothing.
-use Prim.Native.Nat.{◌-◌}
 use native.Mathlib.Omega.{arith}
-use Rattle.limits.specs.Laws.CountLaws.{TakenOff, part-zero, taken_start, taken_step, part_of_z, part_of_rest}
-use borrow.Author.Rules.{rules}
+use Rattle.limits.specs.Laws.CountLaws.{part-zero, taken_start, taken_step, part_of_z, part_of_rest}
 use Rattle.limits.proofs.part.part_number.Goals as goal
 
 pub returns-then-part-eq0 : goal.returns-then-part-eq0

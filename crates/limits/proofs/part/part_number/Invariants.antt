@@ -1,7 +1,5 @@
 use Prim.Native.Nat.{◌-◌}
-use native.Mathlib.Omega.{arith}
-use Rattle.limits.specs.Laws.CountLaws.{TakenOff, part-zero, taken_start, taken_step, part_of_z, part_of_rest}
-use borrow.Author.Rules.{rules}
+use Rattle.limits.specs.Laws.CountLaws.{TakenOff}
 use Rattle.limits.proofs.part.part_number.Given as goal
 
 abbrev pub invariant-loop-e : goal.invariant-loop-e

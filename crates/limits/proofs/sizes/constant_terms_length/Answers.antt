@@ -1,5 +1,4 @@
 -- `limits::sizes::constant_terms_length` meets its contract: constraints of at most 4232 elements and a number. Assumes nothing.
-use borrow.Author.Rules.{rules}
 use native.Mathlib.Omega.{arith}
 use mathlib.Core.Path.{ap}
 use Prim.Native.Nat.{◌+◌, ◌*◌, ◌≤◌}

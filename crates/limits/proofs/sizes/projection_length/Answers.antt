@@ -1,5 +1,4 @@
 -- `limits::sizes::projection_length` meets its contract: rows of at most 16 * 256 elements. Assumes nothing.
-use borrow.Author.Rules.{rules}
 use mathlib.Core.Path.{ap}
 use Prim.Native.Nat.{◌*◌, ◌≤◌}
 use Rattle.fold.specs.Limits.{most_parts, most_projections, most_rank}

@@ -1,5 +1,4 @@
 -- `limits::sizes::whole_length` meets its contract: constraints of at most 4233 elements. Assumes nothing.
-use borrow.Author.Rules.{rules}
 use native.Mathlib.Omega.{arith}
 use mathlib.Core.Path.{ap}
 use Prim.Native.Nat.{◌+◌, ◌*◌, ◌≤◌}

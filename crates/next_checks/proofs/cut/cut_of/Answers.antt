@@ -6,7 +6,6 @@ use Rattle.fold.specs.Laws.SizeBounds.{product-bound}
 use Rattle.fold.proofs.Laws.PlaceBounds.{t-size-bound, g-size-bound}
 use Rattle.fold.specs.Known.CutSizes.{cut-sizes}
 use Rattle.next_checks.specs.Laws.CutLaws.{rest-small, room_of}
-use borrow.Author.Rules.{rules}
 use Rattle.next_checks.proofs.cut.cut_of.Goals as goal
 
 pub next_rank-rank-requires : goal.next_rank-rank-requires

@@ -3,7 +3,6 @@ use Prim.Native.Nat.{◌+◌}
 use native.Mathlib.Omega.{arith}
 use Rattle.ring.specs.Laws.ElementPlaces.{place-below, element-fits}
 use Rattle.next_checks.specs.Laws.SpreadLaws.{entry-inside, entry_padding}
-use borrow.Author.Rules.{rules}
 use Rattle.next_checks.proofs.spread.chunk_entry.Goals as goal
 
 pub overflow_add-from : goal.overflow_add-from

@@ -10,7 +10,6 @@ use Rattle.fold.specs.Messages.{elements}
 use Rattle.next_checks.specs.Spread.{spread_entry}
 use Rattle.next_checks.specs.Laws.CutLaws.{end_below, pairs-room}
 use Rattle.next_checks.specs.Laws.SpreadLaws.{length_spread}
-use borrow.Author.Rules.{rules}
 use Rattle.next_checks.proofs.spread.finish.Goals as goal
 
 pub overflow_add-at : goal.overflow_add-at

@@ -1,10 +1,10 @@
 -- `next_checks::spread::move_chunk` meets its contract. The loop's invariant: the first k elements are moved.
 use mathlib.Core.Path.{refl, ap, ◌∙◌}
-use Prim.Native.Nat.{◌-◌, ◌*◌, ◌≤◌}
+use Prim.Native.Nat.{◌*◌, ◌≤◌}
 use native.Mathlib.Omega.{arith}
 use lib.ListN.{length}
 use Rattle.ring.specs.Element.{array}
-use Rattle.ring.specs.Laws.Writers.{Elements, elements-start, elements-below, elements-fit, elements-turn, elements-end}
+use Rattle.ring.specs.Laws.Writers.{elements-start, elements-below, elements-fit, elements-turn, elements-end}
 use Rattle.fold.specs.Messages.{elements}
 use Rattle.fold.proofs.Laws.WriterLaws.{length-elements}
 use Rattle.next_checks.specs.Spread.{chunk_entry}

@@ -1,13 +1,6 @@
-use mathlib.Core.Path.{refl, ap, ◌∙◌}
-use Prim.Native.Nat.{◌-◌, ◌*◌, ◌≤◌}
-use native.Mathlib.Omega.{arith}
-use lib.ListN.{length}
-use Rattle.ring.specs.Element.{array}
-use Rattle.ring.specs.Laws.Writers.{Elements, elements-start, elements-below, elements-fit, elements-turn, elements-end}
-use Rattle.fold.specs.Messages.{elements}
-use Rattle.fold.proofs.Laws.WriterLaws.{length-elements}
+use Prim.Native.Nat.{◌-◌}
+use Rattle.ring.specs.Laws.Writers.{Elements}
 use Rattle.next_checks.specs.Spread.{chunk_entry}
-use Rattle.next_checks.specs.Laws.SpreadLaws.{chunk_kept}
 use Rattle.next_checks.proofs.spread.move_chunk.Given as goal
 
 abbrev pub invariant-loop-k : goal.invariant-loop-k

@@ -1,9 +1,8 @@
 -- `next_checks::spread::spread` meets its contract. The loop's invariant: the chunks of the first s parts are moved.
-use Prim.Native.Nat.{◌-◌}
 use native.Mathlib.Omega.{arith}
 use Rattle.ring.specs.Laws.ElementPlaces.{place-below}
 use Rattle.next_checks.specs.Laws.CutLaws.{cut-sizes, parts-few, short, chunk-within, part-within, pairs-room}
-use Rattle.next_checks.specs.Laws.SpreadLaws.{Spreading, spreading_start, spreading_order, spreading_chunk, spreading_part, spreading_below, spreading_turn, spreading_end}
+use Rattle.next_checks.specs.Laws.SpreadLaws.{spreading_start, spreading_order, spreading_chunk, spreading_part, spreading_below, spreading_turn, spreading_end}
 use Rattle.next_checks.proofs.spread.spread.Goals as goal
 
 pub overflow_add-start : goal.overflow_add-start

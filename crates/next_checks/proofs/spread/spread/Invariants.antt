@@ -1,8 +1,5 @@
 use Prim.Native.Nat.{◌-◌}
-use native.Mathlib.Omega.{arith}
-use Rattle.ring.specs.Laws.ElementPlaces.{place-below}
-use Rattle.next_checks.specs.Laws.CutLaws.{cut-sizes, parts-few, short, chunk-within, part-within, pairs-room}
-use Rattle.next_checks.specs.Laws.SpreadLaws.{Spreading, spreading_start, spreading_order, spreading_chunk, spreading_part, spreading_below, spreading_turn, spreading_end}
+use Rattle.next_checks.specs.Laws.SpreadLaws.{Spreading}
 use Rattle.next_checks.proofs.spread.spread.Given as goal
 
 abbrev pub invariant-loop-s : goal.invariant-loop-s

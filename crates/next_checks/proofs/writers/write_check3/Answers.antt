@@ -14,7 +14,6 @@ use Rattle.next_checks.specs.Checks as spec
 use Rattle.next_checks.specs.Laws.CutLaws.{t_block, g-block, t-columns, g-columns, block-fits, t-below, g-below}
 use Rattle.next_constraints.specs.Laws.BlockLaws.{numbers-zeros}
 use Rattle.next_checks.specs.Laws.Forming.{cleared_pieces, replaced, piece_sizes, cleared, put-t, put-g, formed-no-a}
-use borrow.Author.Rules.{rules}
 use Rattle.next_checks.proofs.writers.write_check3.Goals as goal
 
 pub overflow_add-at : goal.overflow_add-at

@@ -14,7 +14,6 @@ use Rattle.next_checks.specs.Checks as spec
 use Rattle.next_checks.specs.Laws.CutLaws.{h-block, h-columns, h-end, block-fits, h-below}
 use Rattle.next_constraints.specs.Laws.BlockLaws.{numbers-zeros}
 use Rattle.next_checks.specs.Laws.Forming.{cleared_pieces, replaced, piece_sizes, cleared, put-h, formed-no-a}
-use borrow.Author.Rules.{rules}
 use Rattle.next_checks.proofs.writers.write_check4.Goals as goal
 
 pub overflow_sub-cut : goal.overflow_sub-cut

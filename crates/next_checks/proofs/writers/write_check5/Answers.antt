@@ -10,7 +10,6 @@ use Rattle.next_checks.specs.Checks as spec
 use Rattle.next_checks.specs.Laws.CutLaws.{t_block, block-fits, z-below, t-below, z_asked}
 use Rattle.next_constraints.specs.Laws.BlockLaws.{numbers-zeros, length-z, length-t}
 use Rattle.next_checks.specs.Laws.Forming.{cleared_pieces, replaced, piece_sizes, cleared, put-z, put-t, formed-no-a}
-use borrow.Author.Rules.{rules}
 use Rattle.next_checks.proofs.writers.write_check5.Goals as goal
 
 pub overflow_mul-k : goal.overflow_mul-k

@@ -8,7 +8,6 @@ use Rattle.next_checks.specs.Checks as spec
 use Rattle.next_checks.specs.Laws.CutLaws.{z-parts, parts-few, g-below, g_asked}
 use Rattle.next_constraints.specs.Laws.BlockLaws.{numbers-zeros, length-garbage}
 use Rattle.next_checks.specs.Laws.Forming.{cleared_pieces, replaced, piece_sizes, cleared, put_a, put-g, same_size, lent-over, lent_length, a-room, length-a, formed}
-use borrow.Author.Rules.{rules}
 use Rattle.next_checks.proofs.writers.write_check6.Goals as goal
 
 pub overflow_mul-end : goal.overflow_mul-end

@@ -5,7 +5,6 @@ use Rattle.next_checks.specs.Checks as spec
 use Rattle.next_checks.specs.Laws.CutLaws.{z-below, h-below, z_asked, h_asked}
 use Rattle.next_constraints.specs.Laws.BlockLaws.{numbers-zeros, length-z, length-garbage}
 use Rattle.next_checks.specs.Laws.Forming.{cleared_pieces, replaced, piece_sizes, cleared, put-z, put-h, formed-no-a}
-use borrow.Author.Rules.{rules}
 use Rattle.next_checks.proofs.writers.write_check7.Goals as goal
 
 pub overflow_add-at : goal.overflow_add-at

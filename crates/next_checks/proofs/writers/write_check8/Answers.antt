@@ -5,7 +5,6 @@ use Rattle.next_checks.specs.Checks as spec
 use Rattle.next_checks.specs.Laws.CutLaws.{g-below, h-below, g_asked, h_asked}
 use Rattle.next_constraints.specs.Laws.BlockLaws.{numbers-zeros, length-garbage}
 use Rattle.next_checks.specs.Laws.Forming.{cleared_pieces, replaced, piece_sizes, cleared, put-g, put-h, formed-no-a}
-use borrow.Author.Rules.{rules}
 use Rattle.next_checks.proofs.writers.write_check8.Goals as goal
 
 pub overflow_add-at : goal.overflow_add-at

@@ -1,6 +1,5 @@
 -- `next_constraints::blocks::digit_entry` meets its contract.
 use Rattle.next_constraints.specs.Laws.Powers.{digit-here, digit_elsewhere}
-use borrow.Author.Rules.{rules}
 use Rattle.next_constraints.proofs.blocks.digit_entry.Goals as goal
 
 pub returns-then-j-digits : goal.returns-then-j-digits

@@ -1,13 +1,8 @@
 -- `next_constraints::blocks::power` meets its contract. The loop has formed base^i.
-use mathlib.Core.Path.{◌≡◌}
-use Prim.Native.Nat.{◌-◌, ◌^◌, ◌≤◌}
 use native.Mathlib.Omega.{arith}
-use lib.IntN.{pos}
 use mir.Syntax.{w32}
-use mir.Val.{of_z}
 use mir.Syntax.{w32}
 use mir.Facts.{to_z-of_z, of_z-to_z}
-use Rattle.residues.specs.Modulus.{centred}
 use Rattle.next_constraints.specs.Laws.Powers.{power-start, power-turn, power-end}
 use Rattle.next_constraints.proofs.blocks.power.Goals as goal
 

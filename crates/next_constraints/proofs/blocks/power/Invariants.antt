@@ -1,11 +1,9 @@
 use mathlib.Core.Path.{◌≡◌}
 use Prim.Native.Nat.{◌-◌, ◌^◌, ◌≤◌}
-use native.Mathlib.Omega.{arith}
 use lib.IntN.{pos}
 use mir.Syntax.{w32}
 use mir.Val.{of_z}
 use Rattle.residues.specs.Modulus.{centred}
-use Rattle.next_constraints.specs.Laws.Powers.{power-start, power-turn, power-end}
 use Rattle.next_constraints.proofs.blocks.power.Given as goal
 
 abbrev pub invariant-loop-i : goal.invariant-loop-i

@@ -1,10 +1,8 @@
 -- `next_constraints::blocks::write_digit` meets its contract. The loop's invariant: the first j rows are written.
 use mathlib.Core.Path.{refl}
-use Prim.Native.Nat.{◌-◌}
 use native.Mathlib.Omega.{arith}
-use Rattle.ring.specs.Laws.Writers.{Elements, elements-start, elements-below, elements-fit, elements-turn, elements-end}
+use Rattle.ring.specs.Laws.Writers.{elements-start, elements-below, elements-fit, elements-turn, elements-end}
 use Rattle.fold.specs.Messages.{elements}
-use Rattle.next_constraints.specs.Blocks.{digit_row}
 use Rattle.next_constraints.proofs.blocks.write_digit.Goals as goal
 
 pub loop-j-init : goal.loop-j-init

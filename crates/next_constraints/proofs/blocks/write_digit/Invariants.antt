@@ -1,8 +1,5 @@
-use mathlib.Core.Path.{refl}
 use Prim.Native.Nat.{◌-◌}
-use native.Mathlib.Omega.{arith}
-use Rattle.ring.specs.Laws.Writers.{Elements, elements-start, elements-below, elements-fit, elements-turn, elements-end}
-use Rattle.fold.specs.Messages.{elements}
+use Rattle.ring.specs.Laws.Writers.{Elements}
 use Rattle.next_constraints.specs.Blocks.{digit_row}
 use Rattle.next_constraints.proofs.blocks.write_digit.Given as goal
 

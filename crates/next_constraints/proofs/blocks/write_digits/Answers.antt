@@ -1,11 +1,10 @@
 -- `next_constraints::blocks::write_digits` meets its contract. The loop's invariant: the first e digits are written.
 use mathlib.Core.Path.{sym, ap, ◌∙◌}
-use Prim.Native.Nat.{◌-◌}
 use native.Mathlib.Omega.{arith}
 use Rattle.integers.specs.Lists.{tab}
 use Rattle.integers.specs.Over.{over}
-use Rattle.next_constraints.specs.Blocks.{numbers, digit_row}
-use Rattle.next_constraints.specs.Laws.BlockLaws.{ElementBlocks, blocks_start, blocks_fit, blocks_below, blocks_turn, blocks_end, numbers-tab, numbers-flat, length-row}
+use Rattle.next_constraints.specs.Blocks.{digit_row}
+use Rattle.next_constraints.specs.Laws.BlockLaws.{blocks_start, blocks_fit, blocks_below, blocks_turn, blocks_end, numbers-tab, numbers-flat, length-row}
 use Rattle.next_constraints.proofs.blocks.write_digits.Goals as goal
 
 pub loop-e-init : goal.loop-e-init

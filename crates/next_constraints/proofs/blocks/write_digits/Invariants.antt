@@ -1,10 +1,7 @@
-use mathlib.Core.Path.{sym, ap, ◌∙◌}
 use Prim.Native.Nat.{◌-◌}
-use native.Mathlib.Omega.{arith}
 use Rattle.integers.specs.Lists.{tab}
-use Rattle.integers.specs.Over.{over}
 use Rattle.next_constraints.specs.Blocks.{numbers, digit_row}
-use Rattle.next_constraints.specs.Laws.BlockLaws.{ElementBlocks, blocks_start, blocks_fit, blocks_below, blocks_turn, blocks_end, numbers-tab, numbers-flat, length-row}
+use Rattle.next_constraints.specs.Laws.BlockLaws.{ElementBlocks}
 use Rattle.next_constraints.proofs.blocks.write_digits.Given as goal
 
 abbrev pub invariant-loop-e : goal.invariant-loop-e

@@ -8,7 +8,6 @@ use Rattle.fold.specs.NextInstance.{t_table}
 use Rattle.next_constraints.specs.declared.blocks.Digits.{Digits}
 use Rattle.next_constraints.specs.Blocks.{numbers, digit_row}
 use Rattle.next_constraints.specs.Laws.BlockLaws.{garbage-parts}
-use borrow.Author.Rules.{rules}
 use Rattle.next_constraints.proofs.blocks.write_garbage.Goals as goal
 
 pub write_parts-requires : goal.write_parts-requires

@@ -6,7 +6,6 @@ use Rattle.integers.specs.Over.{over}
 use Rattle.ring.specs.Element.{el}
 use Rattle.ring.specs.Laws.ElementPlaces.{place-below}
 use Rattle.next_constraints.specs.Laws.BlockLaws.{row-once}
-use borrow.Author.Rules.{rules}
 use Rattle.next_constraints.proofs.blocks.write_matrix_row.Goals as goal
 
 pub overflow_mul-from : goal.overflow_mul-from

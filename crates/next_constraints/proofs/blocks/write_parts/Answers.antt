@@ -1,6 +1,6 @@
 -- `next_constraints::blocks::write_parts` meets its contract. The loop's invariant: the digits of the first i elements are written.
 use mathlib.Core.Path.{sym, ap, ◌∙◌}
-use Prim.Native.Nat.{◌-◌, ◌*◌}
+use Prim.Native.Nat.{◌*◌}
 use native.Mathlib.Omega.{arith}
 use Rattle.integers.specs.Lists.{tab}
 use Rattle.integers.specs.Over.{over}
@@ -8,8 +8,8 @@ use Rattle.integers.specs.Flat.{flat}
 use Rattle.ring.specs.Laws.ElementPlaces.{element-within}
 use Rattle.fold.specs.NextInstance.{t_table}
 use Rattle.fold.proofs.Laws.TableSums.{length_digits}
-use Rattle.next_constraints.specs.Blocks.{numbers, digit_row}
-use Rattle.next_constraints.specs.Laws.BlockLaws.{ElementBlocks, blocks_start, blocks_fit, blocks_below, blocks_turn, blocks_end, numbers-flat, length-numbers}
+use Rattle.next_constraints.specs.Blocks.{digit_row}
+use Rattle.next_constraints.specs.Laws.BlockLaws.{blocks_start, blocks_fit, blocks_below, blocks_turn, blocks_end, numbers-flat, length-numbers}
 use Rattle.next_constraints.proofs.blocks.write_parts.Goals as goal
 
 pub loop-i-init : goal.loop-i-init

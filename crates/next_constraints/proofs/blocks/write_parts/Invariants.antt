@@ -1,14 +1,8 @@
-use mathlib.Core.Path.{sym, ap, ◌∙◌}
 use Prim.Native.Nat.{◌-◌, ◌*◌}
-use native.Mathlib.Omega.{arith}
 use Rattle.integers.specs.Lists.{tab}
-use Rattle.integers.specs.Over.{over}
 use Rattle.integers.specs.Flat.{flat}
-use Rattle.ring.specs.Laws.ElementPlaces.{element-within}
-use Rattle.fold.specs.NextInstance.{t_table}
-use Rattle.fold.proofs.Laws.TableSums.{length_digits}
 use Rattle.next_constraints.specs.Blocks.{numbers, digit_row}
-use Rattle.next_constraints.specs.Laws.BlockLaws.{ElementBlocks, blocks_start, blocks_fit, blocks_below, blocks_turn, blocks_end, numbers-flat, length-numbers}
+use Rattle.next_constraints.specs.Laws.BlockLaws.{ElementBlocks}
 use Rattle.next_constraints.proofs.blocks.write_parts.Given as goal
 
 abbrev pub invariant-loop-i : goal.invariant-loop-i

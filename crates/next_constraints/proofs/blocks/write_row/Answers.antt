@@ -1,6 +1,6 @@
 -- `next_constraints::blocks::write_row` meets its contract. The loop's invariant: the first k elements are written.
 use mathlib.Core.Path.{refl, ap, ◌∙◌}
-use Prim.Native.Nat.{◌+◌, ◌-◌, ◌*◌}
+use Prim.Native.Nat.{◌+◌, ◌*◌}
 use native.Mathlib.Omega.{arith}
 use mir.Syntax.{w32}
 use mir.Val.{to_z, of_z}
@@ -9,7 +9,7 @@ use Rattle.integers.specs.Over.{over}
 use Rattle.ring.specs.Element.{R, el, array, number}
 use Rattle.ring.specs.Laws.Loops.{held}
 use Rattle.ring.specs.Laws.ElementPlaces.{place-below, element-fits}
-use Rattle.ring.specs.Laws.Writers.{Elements, elements-start, elements-below, elements-fit, elements-turn, elements-end}
+use Rattle.ring.specs.Laws.Writers.{elements-start, elements-below, elements-fit, elements-turn, elements-end}
 use Rattle.fold.specs.Messages.{elements}
 use Rattle.next_constraints.proofs.blocks.write_row.Goals as goal
 

@@ -1,15 +1,6 @@
-use mathlib.Core.Path.{refl, ap, ◌∙◌}
-use Prim.Native.Nat.{◌+◌, ◌-◌, ◌*◌}
-use native.Mathlib.Omega.{arith}
-use mir.Syntax.{w32}
-use mir.Val.{to_z, of_z}
-use mir.Facts.{to_z-of_z}
-use Rattle.integers.specs.Over.{over}
-use Rattle.ring.specs.Element.{R, el, array, number}
-use Rattle.ring.specs.Laws.Loops.{held}
-use Rattle.ring.specs.Laws.ElementPlaces.{place-below, element-fits}
-use Rattle.ring.specs.Laws.Writers.{Elements, elements-start, elements-below, elements-fit, elements-turn, elements-end}
-use Rattle.fold.specs.Messages.{elements}
+use Prim.Native.Nat.{◌+◌, ◌-◌}
+use Rattle.ring.specs.Element.{R, el, number}
+use Rattle.ring.specs.Laws.Writers.{Elements}
 use Rattle.next_constraints.proofs.blocks.write_row.Given as goal
 
 abbrev pub invariant-loop-k : goal.invariant-loop-k

@@ -1,14 +1,13 @@
 -- `next_constraints::blocks::write_z` meets its contract. The loop's invariant: the first e digits are written.
 use mathlib.Core.Path.{sym, ap, ◌∙◌}
-use Prim.Native.Nat.{◌+◌, ◌-◌}
+use Prim.Native.Nat.{◌+◌}
 use native.Mathlib.Omega.{arith}
 use Rattle.integers.specs.Lists.{tab}
 use Rattle.integers.specs.Over.{over}
 use Rattle.ring.specs.Element.{R, el}
 use Rattle.fold.specs.NextInstance.{power, z_table}
-use Rattle.next_constraints.specs.Blocks.{numbers}
 use Rattle.next_constraints.specs.Laws.Powers.{weighted-row}
-use Rattle.next_constraints.specs.Laws.BlockLaws.{ElementBlocks, blocks_start, blocks_fit, blocks_below, blocks_turn, blocks_end, numbers-flat, length-row}
+use Rattle.next_constraints.specs.Laws.BlockLaws.{blocks_start, blocks_fit, blocks_below, blocks_turn, blocks_end, numbers-flat, length-row}
 use Rattle.next_constraints.proofs.blocks.write_z.Goals as goal
 
 pub loop-e-init : goal.loop-e-init

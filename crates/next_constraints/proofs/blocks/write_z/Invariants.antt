@@ -1,13 +1,9 @@
-use mathlib.Core.Path.{sym, ap, ◌∙◌}
 use Prim.Native.Nat.{◌+◌, ◌-◌}
-use native.Mathlib.Omega.{arith}
 use Rattle.integers.specs.Lists.{tab}
-use Rattle.integers.specs.Over.{over}
 use Rattle.ring.specs.Element.{R, el}
-use Rattle.fold.specs.NextInstance.{power, z_table}
+use Rattle.fold.specs.NextInstance.{power}
 use Rattle.next_constraints.specs.Blocks.{numbers}
-use Rattle.next_constraints.specs.Laws.Powers.{weighted-row}
-use Rattle.next_constraints.specs.Laws.BlockLaws.{ElementBlocks, blocks_start, blocks_fit, blocks_below, blocks_turn, blocks_end, numbers-flat, length-row}
+use Rattle.next_constraints.specs.Laws.BlockLaws.{ElementBlocks}
 use Rattle.next_constraints.proofs.blocks.write_z.Given as goal
 
 abbrev pub invariant-loop-e : goal.invariant-loop-e

@@ -1,9 +1,7 @@
 -- `next_constraints::blocks::write_zeros` meets its contract. The loop's invariant: the first k zeros are written.
 use mathlib.Core.Path.{refl}
-use Prim.Native.Nat.{◌-◌}
 use native.Mathlib.Omega.{arith}
-use Rattle.ring.specs.Element.{R}
-use Rattle.ring.specs.Laws.Writers.{Elements, elements-start, elements-below, elements-fit, elements-turn, elements-end}
+use Rattle.ring.specs.Laws.Writers.{elements-start, elements-below, elements-fit, elements-turn, elements-end}
 use Rattle.fold.specs.Messages.{elements}
 use Rattle.next_constraints.proofs.blocks.write_zeros.Goals as goal
 

@@ -1,9 +1,6 @@
-use mathlib.Core.Path.{refl}
 use Prim.Native.Nat.{◌-◌}
-use native.Mathlib.Omega.{arith}
 use Rattle.ring.specs.Element.{R}
-use Rattle.ring.specs.Laws.Writers.{Elements, elements-start, elements-below, elements-fit, elements-turn, elements-end}
-use Rattle.fold.specs.Messages.{elements}
+use Rattle.ring.specs.Laws.Writers.{Elements}
 use Rattle.next_constraints.proofs.blocks.write_zeros.Given as goal
 
 abbrev pub invariant-loop-k : goal.invariant-loop-k

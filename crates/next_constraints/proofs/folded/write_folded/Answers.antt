@@ -1,15 +1,13 @@
 -- `next_constraints::folded::write_folded` meets its contract. The loop has added the first i parts.
-use borrow.Author.Rules.{rules}
-use mathlib.Core.Path.{◌≡◌, ◌∙◌}
-use Prim.Native.Nat.{◌-◌, ◌<◌}
+use mathlib.Core.Path.{◌∙◌}
+use Prim.Native.Nat.{◌<◌}
 use native.Mathlib.Nat.{zero-add, zero-mul}
 use native.Mathlib.Omega.{arith}
-use lib.ListN.{length, length-replicate}
+use lib.ListN.{length-replicate}
 use lib.IntN.{pos}
-use Rattle.fold.specs.Messages.{aggregate}
 use Rattle.constraints.specs.Laws.SizeLaws.{phi-room}
 use Rattle.ring.specs.Laws.ElementPlaces.{element-within}
-use Rattle.next_constraints.specs.Laws.FoldedLaws.{Folding, folding_start, folding_step, folding_end}
+use Rattle.next_constraints.specs.Laws.FoldedLaws.{folding_start, folding_step, folding_end}
 use Rattle.next_constraints.proofs.folded.write_folded.Goals as goal
 
 pub write_omega_sums-requires : goal.write_omega_sums-requires

@@ -1,14 +1,8 @@
-use borrow.Author.Rules.{rules}
-use mathlib.Core.Path.{◌≡◌, ◌∙◌}
-use Prim.Native.Nat.{◌-◌, ◌<◌}
-use native.Mathlib.Nat.{zero-add, zero-mul}
-use native.Mathlib.Omega.{arith}
-use lib.ListN.{length, length-replicate}
-use lib.IntN.{pos}
+use mathlib.Core.Path.{◌≡◌}
+use Prim.Native.Nat.{◌-◌}
+use lib.ListN.{length}
 use Rattle.fold.specs.Messages.{aggregate}
-use Rattle.constraints.specs.Laws.SizeLaws.{phi-room}
-use Rattle.ring.specs.Laws.ElementPlaces.{element-within}
-use Rattle.next_constraints.specs.Laws.FoldedLaws.{Folding, folding_start, folding_step, folding_end}
+use Rattle.next_constraints.specs.Laws.FoldedLaws.{Folding}
 use Rattle.next_constraints.proofs.folded.write_folded.Given as goal
 
 abbrev pub invariant-loop-i : goal.invariant-loop-i

@@ -1,5 +1,4 @@
 -- `next_constraints::lists::write_tables` meets its contract: each list is written by one call.
-use borrow.Author.Rules.{rules}
 use Rattle.next_constraints.specs.Laws.TableLaws.{tables_of}
 use Rattle.next_constraints.proofs.lists.write_tables.Goals as goal
 

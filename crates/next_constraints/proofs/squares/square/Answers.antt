@@ -1,7 +1,6 @@
 -- `next_constraints::squares::square` meets its contract.
 use Rattle.next_constraints.specs.Laws.Squares.{holds_as}
 use Rattle.next_constraints.specs.Laws.Squares.{square-first, square-second, square-apart, square-end}
-use borrow.Author.Rules.{rules}
 use Rattle.next_constraints.proofs.squares.square.Goals as goal
 
 pub returns-then-both-s : goal.returns-then-both-s

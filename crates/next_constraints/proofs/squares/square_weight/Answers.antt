@@ -2,7 +2,6 @@
 use native.Mathlib.Omega.{arith}
 use native.Mathlib.Nat.{div-le_self}
 use Rattle.next_constraints.specs.Laws.Squares.{weight-once, weight-twice}
-use borrow.Author.Rules.{rules}
 use Rattle.next_constraints.proofs.squares.square_weight.Goals as goal
 
 pub overflow_add-e : goal.overflow_add-e

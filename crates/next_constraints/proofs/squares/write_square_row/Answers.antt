@@ -1,10 +1,8 @@
 -- `next_constraints::squares::write_square_row` meets its contract. The loop's invariant: the pairs with the first k parts from s on are written.
 use mathlib.Core.Path.{refl}
-use Prim.Native.Nat.{◌+◌, ◌-◌}
 use native.Mathlib.Omega.{arith}
-use Rattle.ring.specs.Laws.Writers.{Elements, elements-start, elements-below, elements-fit, elements-turn, elements-end}
+use Rattle.ring.specs.Laws.Writers.{elements-start, elements-below, elements-fit, elements-turn, elements-end}
 use Rattle.fold.specs.Messages.{elements}
-use Rattle.fold.specs.NextInstance.{squares}
 use Rattle.next_constraints.proofs.squares.write_square_row.Goals as goal
 
 pub loop-k-init : goal.loop-k-init

@@ -1,8 +1,6 @@
 -- `next_constraints::squares::write_squares` meets its contract. The loop's invariant: the rows of the first s parts are written.
-use Prim.Native.Nat.{◌-◌}
 use native.Mathlib.Omega.{arith}
-use Rattle.fold.specs.NextInstance.{squares}
-use Rattle.fold.proofs.Laws.WriterLaws.{Rows, rows_start, rows_fit, rows-below, rows-turn, rows_end}
+use Rattle.fold.proofs.Laws.WriterLaws.{rows_start, rows_fit, rows-below, rows-turn, rows_end}
 use Rattle.next_constraints.proofs.squares.write_squares.Goals as goal
 
 pub loop-s-init : goal.loop-s-init

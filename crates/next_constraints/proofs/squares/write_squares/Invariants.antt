@@ -1,7 +1,6 @@
 use Prim.Native.Nat.{◌-◌}
-use native.Mathlib.Omega.{arith}
 use Rattle.fold.specs.NextInstance.{squares}
-use Rattle.fold.proofs.Laws.WriterLaws.{Rows, rows_start, rows_fit, rows-below, rows-turn, rows_end}
+use Rattle.fold.proofs.Laws.WriterLaws.{Rows}
 use Rattle.next_constraints.proofs.squares.write_squares.Given as goal
 
 abbrev pub invariant-loop-s : goal.invariant-loop-s

@@ -1,6 +1,5 @@
 -- `next_constraints::tables::diagonal_entry` meets its contract.
 use mathlib.Core.Path.{ap, ◌∙◌}
-use borrow.Author.Rules.{rules}
 use Rattle.ring.specs.Element.{R, array}
 use Rattle.next_constraints.specs.Laws.TableLaws.{cond-equal, cond-apart}
 use Rattle.next_constraints.proofs.tables.diagonal_entry.Goals as goal

@@ -1,5 +1,4 @@
 -- `next_constraints::tables::minus_product` meets its contract.
-use borrow.Author.Rules.{rules}
 use Rattle.next_constraints.specs.Laws.TableLaws.{product-end}
 use Rattle.next_constraints.proofs.tables.minus_product.Goals as goal
 

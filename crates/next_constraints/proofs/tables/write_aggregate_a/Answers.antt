@@ -1,11 +1,9 @@
 -- `next_constraints::tables::write_aggregate_a` meets its contract. The loop's invariant: the first e entries are written.
 use mathlib.Core.Path.{sym}
-use Prim.Native.Nat.{◌-◌}
 use native.Mathlib.Nat.{zero-add}
 use native.Mathlib.Omega.{arith}
-use Rattle.fold.specs.Entries.{aggregate_a}
 use Rattle.fold.specs.Messages.{elements}
-use Rattle.ring.specs.Laws.Writers.{Elements, elements_start₀, elements-fit, elements-turn, elements_end₀}
+use Rattle.ring.specs.Laws.Writers.{elements_start₀, elements-fit, elements-turn, elements_end₀}
 use Rattle.fold.specs.Laws.SizeBounds.{pairs-bound}
 use Rattle.next_constraints.proofs.tables.write_aggregate_a.Goals as goal
 

@@ -1,11 +1,6 @@
-use mathlib.Core.Path.{sym}
 use Prim.Native.Nat.{◌-◌}
-use native.Mathlib.Nat.{zero-add}
-use native.Mathlib.Omega.{arith}
 use Rattle.fold.specs.Entries.{aggregate_a}
-use Rattle.fold.specs.Messages.{elements}
-use Rattle.ring.specs.Laws.Writers.{Elements, elements_start₀, elements-fit, elements-turn, elements_end₀}
-use Rattle.fold.specs.Laws.SizeBounds.{pairs-bound}
+use Rattle.ring.specs.Laws.Writers.{Elements}
 use Rattle.next_constraints.proofs.tables.write_aggregate_a.Given as goal
 
 abbrev pub invariant-loop-e : goal.invariant-loop-e

@@ -1,10 +1,6 @@
 -- `next_constraints::tables::write_diagonal` meets its contract. The loop's invariant: the first i rows are written.
-use mathlib.Core.Bool.{cond}
-use Prim.Native.Nat.{◌-◌}
 use native.Mathlib.Omega.{arith}
-use lib.Dec.{eqb}
-use Rattle.ring.specs.Element.{R}
-use Rattle.fold.proofs.Laws.WriterLaws.{Rows, rows_start, rows_fit, rows-below, rows-turn, rows_end}
+use Rattle.fold.proofs.Laws.WriterLaws.{rows_start, rows_fit, rows-below, rows-turn, rows_end}
 use Rattle.next_constraints.proofs.tables.write_diagonal.Goals as goal
 
 pub loop-i-init : goal.loop-i-init

@@ -1,9 +1,8 @@
 use mathlib.Core.Bool.{cond}
 use Prim.Native.Nat.{◌-◌}
-use native.Mathlib.Omega.{arith}
 use lib.Dec.{eqb}
 use Rattle.ring.specs.Element.{R}
-use Rattle.fold.proofs.Laws.WriterLaws.{Rows, rows_start, rows_fit, rows-below, rows-turn, rows_end}
+use Rattle.fold.proofs.Laws.WriterLaws.{Rows}
 use Rattle.next_constraints.proofs.tables.write_diagonal.Given as goal
 
 abbrev pub invariant-loop-i : goal.invariant-loop-i

@@ -1,12 +1,8 @@
 -- `next_constraints::tables::write_diagonal_row` meets its contract. The loop's invariant: the first k entries of row i are written.
 use mathlib.Core.Path.{refl}
-use mathlib.Core.Bool.{cond}
-use Prim.Native.Nat.{◌+◌, ◌-◌}
 use native.Mathlib.Omega.{arith}
-use lib.Dec.{eqb}
-use Rattle.ring.specs.Element.{R}
 use Rattle.fold.specs.Messages.{elements}
-use Rattle.ring.specs.Laws.Writers.{Elements, elements-start, elements-below, elements-fit, elements-turn, elements-end}
+use Rattle.ring.specs.Laws.Writers.{elements-start, elements-below, elements-fit, elements-turn, elements-end}
 use Rattle.next_constraints.proofs.tables.write_diagonal_row.Goals as goal
 
 pub loop-k-init : goal.loop-k-init

@@ -1,11 +1,8 @@
-use mathlib.Core.Path.{refl}
 use mathlib.Core.Bool.{cond}
 use Prim.Native.Nat.{◌+◌, ◌-◌}
-use native.Mathlib.Omega.{arith}
 use lib.Dec.{eqb}
 use Rattle.ring.specs.Element.{R}
-use Rattle.fold.specs.Messages.{elements}
-use Rattle.ring.specs.Laws.Writers.{Elements, elements-start, elements-below, elements-fit, elements-turn, elements-end}
+use Rattle.ring.specs.Laws.Writers.{Elements}
 use Rattle.next_constraints.proofs.tables.write_diagonal_row.Given as goal
 
 abbrev pub invariant-loop-k : goal.invariant-loop-k

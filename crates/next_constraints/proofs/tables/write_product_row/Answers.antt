@@ -1,12 +1,10 @@
 -- `next_constraints::tables::write_product_row` meets its contract. The loop's invariant: the first k products of row i
 -- are written.
 use mathlib.Core.Path.{refl}
-use Prim.Native.Nat.{◌+◌, ◌-◌}
+use Prim.Native.Nat.{◌+◌}
 use native.Mathlib.Omega.{arith}
-use Rattle.ring.specs.Element.{R, el}
-use Rattle.fold.specs.NextInstance.{product}
 use Rattle.fold.specs.Messages.{elements}
-use Rattle.ring.specs.Laws.Writers.{Elements, elements-start, elements-below, elements-fit, elements-turn, elements-end}
+use Rattle.ring.specs.Laws.Writers.{elements-start, elements-below, elements-fit, elements-turn, elements-end}
 use Rattle.ring.specs.Laws.ElementPlaces.{element-within}
 use Rattle.next_constraints.proofs.tables.write_product_row.Goals as goal
 

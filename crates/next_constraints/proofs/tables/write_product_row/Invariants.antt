@@ -1,11 +1,7 @@
-use mathlib.Core.Path.{refl}
 use Prim.Native.Nat.{◌+◌, ◌-◌}
-use native.Mathlib.Omega.{arith}
 use Rattle.ring.specs.Element.{R, el}
 use Rattle.fold.specs.NextInstance.{product}
-use Rattle.fold.specs.Messages.{elements}
-use Rattle.ring.specs.Laws.Writers.{Elements, elements-start, elements-below, elements-fit, elements-turn, elements-end}
-use Rattle.ring.specs.Laws.ElementPlaces.{element-within}
+use Rattle.ring.specs.Laws.Writers.{Elements}
 use Rattle.next_constraints.proofs.tables.write_product_row.Given as goal
 
 abbrev pub invariant-loop-k : goal.invariant-loop-k

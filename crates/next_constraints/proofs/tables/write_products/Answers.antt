@@ -1,9 +1,6 @@
 -- `next_constraints::tables::write_products` meets its contract. The loop's invariant: the first i rows are written.
-use Prim.Native.Nat.{◌-◌}
 use native.Mathlib.Omega.{arith}
-use Rattle.ring.specs.Element.{R, el}
-use Rattle.fold.specs.NextInstance.{product}
-use Rattle.fold.proofs.Laws.WriterLaws.{Rows, rows_start, rows_fit, rows-below, rows-turn, rows_end}
+use Rattle.fold.proofs.Laws.WriterLaws.{rows_start, rows_fit, rows-below, rows-turn, rows_end}
 use Rattle.next_constraints.proofs.tables.write_products.Goals as goal
 
 pub loop-i-init : goal.loop-i-init

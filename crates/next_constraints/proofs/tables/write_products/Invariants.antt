@@ -1,8 +1,7 @@
 use Prim.Native.Nat.{◌-◌}
-use native.Mathlib.Omega.{arith}
 use Rattle.ring.specs.Element.{R, el}
 use Rattle.fold.specs.NextInstance.{product}
-use Rattle.fold.proofs.Laws.WriterLaws.{Rows, rows_start, rows_fit, rows-below, rows-turn, rows_end}
+use Rattle.fold.proofs.Laws.WriterLaws.{Rows}
 use Rattle.next_constraints.proofs.tables.write_products.Given as goal
 
 abbrev pub invariant-loop-i : goal.invariant-loop-i

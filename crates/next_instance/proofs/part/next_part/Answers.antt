@@ -1,6 +1,4 @@
 -- `next_instance::part::next_part` meets its contract: the numbers at the part's place. Assumes nothing.
-use native.Mathlib.Omega.{arith}
-use borrow.Author.Rules.{rules}
 use Rattle.next_instance.specs.Laws.PartLaws.{placed_part}
 use Rattle.next_instance.proofs.part.next_part.Goals as goal
 

@@ -8,7 +8,6 @@ use Rattle.ring.specs.Laws.Loops.{held}
 use Rattle.next_checks.specs.Laws.CutLaws.{size_small}
 use Rattle.next_checks.specs.Laws.CheckLaws.{minus-held}
 use Rattle.next_instance.specs.Laws.Instance.{table-room, minus-room, all_room, groups_small, canonical, groups_written, same-instance, out-room}
-use borrow.Author.Rules.{rules}
 use Rattle.next_instance.proofs.writer.write_instance.Goals as goal
 
 pub overflow_add-size : goal.overflow_add-size

@@ -6,7 +6,6 @@ use Rattle.ring.specs.Laws.ElementPlaces.{place-below}
 use Rattle.next_checks.specs.Checks.{check6, check7, check8}
 use Rattle.next_checks.specs.Laws.CutLaws.{size_small}
 use Rattle.next_instance.specs.Laws.Instance.{middle-written}
-use borrow.Author.Rules.{rules}
 use Rattle.next_instance.proofs.writer.write_middle.Goals as goal
 
 pub overflow_add-size : goal.overflow_add-size

@@ -1,9 +1,8 @@
 -- `next_instance::writer::write_rows5` meets its contract. The loop's invariant: the first k rows are written.
-use Prim.Native.Nat.{◌+◌, ◌-◌}
 use native.Mathlib.Omega.{arith}
-use Rattle.next_checks.specs.Checks.{laid, check5}
+use Rattle.next_checks.specs.Checks.{check5}
 use Rattle.next_checks.specs.Laws.CutLaws.{size_small}
-use Rattle.next_constraints.specs.Laws.BlockLaws.{ElementBlocks, blocks_start, blocks_fit, blocks_below, blocks_turn, blocks_end}
+use Rattle.next_constraints.specs.Laws.BlockLaws.{blocks_start, blocks_fit, blocks_below, blocks_turn, blocks_end}
 use Rattle.next_instance.specs.Laws.Instance.{length-laid}
 use Rattle.next_instance.proofs.writer.write_rows5.Goals as goal
 

@@ -1,9 +1,6 @@
 use Prim.Native.Nat.{◌+◌, ◌-◌}
-use native.Mathlib.Omega.{arith}
 use Rattle.next_checks.specs.Checks.{laid, check5}
-use Rattle.next_checks.specs.Laws.CutLaws.{size_small}
-use Rattle.next_constraints.specs.Laws.BlockLaws.{ElementBlocks, blocks_start, blocks_fit, blocks_below, blocks_turn, blocks_end}
-use Rattle.next_instance.specs.Laws.Instance.{length-laid}
+use Rattle.next_constraints.specs.Laws.BlockLaws.{ElementBlocks}
 use Rattle.next_instance.proofs.writer.write_rows5.Given as goal
 
 abbrev pub invariant-loop-k : goal.invariant-loop-k

@@ -1,11 +1,10 @@
 -- `prover::amortize::folded_element` meets its contract. The loop's invariant: the sum is that over the first i parts.
-use Prim.Native.Nat.{◌+◌, ◌-◌, ◌*◌, ◌≤◌}
+use Prim.Native.Nat.{◌+◌, ◌*◌, ◌≤◌}
 use native.Mathlib.Omega.{arith}
 use lib.ListN.{length}
 use Rattle.algebra.specs.DotProduct.{folded}
-use Rattle.ring.specs.Element.{R, el}
 use Rattle.ring.specs.Laws.ElementPlaces.{element-within, element-fits, row_fits, row_below}
-use Rattle.ring.specs.Laws.Loops.{Summed, summed_start, summed_step, summed_end, held-product}
+use Rattle.ring.specs.Laws.Loops.{summed_start, summed_step, summed_end, held-product}
 use Rattle.fold.specs.Statement.{part}
 use Rattle.fold.specs.Messages.{z}
 use Rattle.prover.proofs.amortize.folded_element.Goals as goal

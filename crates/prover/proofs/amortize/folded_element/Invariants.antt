@@ -1,12 +1,6 @@
-use Prim.Native.Nat.{◌+◌, ◌-◌, ◌*◌, ◌≤◌}
-use native.Mathlib.Omega.{arith}
-use lib.ListN.{length}
-use Rattle.algebra.specs.DotProduct.{folded}
+use Prim.Native.Nat.{◌+◌, ◌-◌, ◌*◌}
 use Rattle.ring.specs.Element.{R, el}
-use Rattle.ring.specs.Laws.ElementPlaces.{element-within, element-fits, row_fits, row_below}
-use Rattle.ring.specs.Laws.Loops.{Summed, summed_start, summed_step, summed_end, held-product}
-use Rattle.fold.specs.Statement.{part}
-use Rattle.fold.specs.Messages.{z}
+use Rattle.ring.specs.Laws.Loops.{Summed}
 use Rattle.prover.proofs.amortize.folded_element.Given as goal
 
 abbrev pub invariant-loop-i : goal.invariant-loop-i

@@ -1,9 +1,8 @@
 -- `prover::amortize::write_folded` meets its contract. The loop's invariant: the first k elements of z are written.
 use mathlib.Core.Path.{refl}
-use Prim.Native.Nat.{◌-◌}
 use native.Mathlib.Omega.{arith}
-use Rattle.fold.specs.Messages.{elements, z}
-use Rattle.ring.specs.Laws.Writers.{Elements, elements-start, elements-below, elements-fit, elements-turn, elements-end}
+use Rattle.fold.specs.Messages.{elements}
+use Rattle.ring.specs.Laws.Writers.{elements-start, elements-below, elements-fit, elements-turn, elements-end}
 use Rattle.prover.proofs.amortize.write_folded.Goals as goal
 
 pub loop-k-init : goal.loop-k-init

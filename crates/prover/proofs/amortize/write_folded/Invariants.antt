@@ -1,8 +1,6 @@
-use mathlib.Core.Path.{refl}
 use Prim.Native.Nat.{◌-◌}
-use native.Mathlib.Omega.{arith}
-use Rattle.fold.specs.Messages.{elements, z}
-use Rattle.ring.specs.Laws.Writers.{Elements, elements-start, elements-below, elements-fit, elements-turn, elements-end}
+use Rattle.fold.specs.Messages.{z}
+use Rattle.ring.specs.Laws.Writers.{Elements}
 use Rattle.prover.proofs.amortize.write_folded.Given as goal
 
 abbrev pub invariant-loop-k : goal.invariant-loop-k

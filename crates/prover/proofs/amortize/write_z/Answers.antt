@@ -1,5 +1,4 @@
 -- `prover::amortize::write_z` meets its contract: z stands in the last place of the slice before it is split.
-use borrow.Author.Rules.{rules}
 use native.Mathlib.Omega.{arith}
 use native.Mathlib.Nat.{le_refl}
 use Rattle.fold.specs.Laws.SizeBounds.{product-fits}

@@ -1,5 +1,4 @@
 -- `prover::commit::outer_row` meets its contract: a row is the sum of two inner products.
-use borrow.Author.Rules.{rules}
 use Prim.Native.Nat.{◌+◌, ◌*◌}
 use native.Mathlib.Omega.{arith}
 use Rattle.ring.specs.Laws.ElementPlaces.{place-below}

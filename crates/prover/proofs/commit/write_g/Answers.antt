@@ -1,5 +1,4 @@
 -- `prover::commit::write_g` meets its contract: the products of pairs, and then their digits.
-use borrow.Author.Rules.{rules}
 use native.Mathlib.Nat.{mul-le-mul}
 use native.Mathlib.Omega.{arith}
 use Rattle.fold.specs.Laws.SizeBounds.{pairs-bound}

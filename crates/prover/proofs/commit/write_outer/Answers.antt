@@ -1,11 +1,9 @@
 -- `prover::commit::write_outer` meets its contract. The loop's invariant: the first k rows are written.
 use mathlib.Core.Path.{sym}
-use Prim.Native.Nat.{◌-◌}
 use native.Mathlib.Nat.{zero-add}
 use native.Mathlib.Omega.{arith}
 use Rattle.fold.specs.Messages.{elements}
-use Rattle.ring.specs.Laws.Writers.{Elements, elements_start₀, elements-fit, elements-turn, elements-all}
-use Rattle.prover.specs.Outputs.{outer}
+use Rattle.ring.specs.Laws.Writers.{elements_start₀, elements-fit, elements-turn, elements-all}
 use Rattle.ring.specs.Laws.ElementPlaces.{row_fits}
 use Rattle.prover.proofs.commit.write_outer.Goals as goal
 

@@ -1,11 +1,6 @@
-use mathlib.Core.Path.{sym}
 use Prim.Native.Nat.{◌-◌}
-use native.Mathlib.Nat.{zero-add}
-use native.Mathlib.Omega.{arith}
-use Rattle.fold.specs.Messages.{elements}
-use Rattle.ring.specs.Laws.Writers.{Elements, elements_start₀, elements-fit, elements-turn, elements-all}
+use Rattle.ring.specs.Laws.Writers.{Elements}
 use Rattle.prover.specs.Outputs.{outer}
-use Rattle.ring.specs.Laws.ElementPlaces.{row_fits}
 use Rattle.prover.proofs.commit.write_outer.Given as goal
 
 abbrev pub invariant-loop-k : goal.invariant-loop-k

@@ -1,11 +1,11 @@
 -- `prover::commit::write_products` meets its contract. The loop's invariant: the first k elements of t_i are written.
 use mathlib.Core.Path.{refl}
-use Prim.Native.Nat.{◌+◌, ◌-◌, ◌*◌}
+use Prim.Native.Nat.{◌+◌, ◌*◌}
 use native.Mathlib.Omega.{arith}
 use Rattle.algebra.specs.DotProduct.{inner}
 use Rattle.fold.specs.Statement.{part}
 use Rattle.fold.specs.Messages.{elements, t, times}
-use Rattle.ring.specs.Laws.Writers.{Elements, elements-start, elements-below, elements-fit, elements-turn, elements-end}
+use Rattle.ring.specs.Laws.Writers.{elements-start, elements-below, elements-fit, elements-turn, elements-end}
 use Rattle.ring.specs.Laws.ElementPlaces.{place-below, row_fits, row_below}
 use Rattle.prover.proofs.commit.write_products.Goals as goal
 

@@ -1,11 +1,6 @@
-use mathlib.Core.Path.{refl}
-use Prim.Native.Nat.{◌+◌, ◌-◌, ◌*◌}
-use native.Mathlib.Omega.{arith}
-use Rattle.algebra.specs.DotProduct.{inner}
-use Rattle.fold.specs.Statement.{part}
-use Rattle.fold.specs.Messages.{elements, t, times}
-use Rattle.ring.specs.Laws.Writers.{Elements, elements-start, elements-below, elements-fit, elements-turn, elements-end}
-use Rattle.ring.specs.Laws.ElementPlaces.{place-below, row_fits, row_below}
+use Prim.Native.Nat.{◌-◌}
+use Rattle.fold.specs.Messages.{t}
+use Rattle.ring.specs.Laws.Writers.{Elements}
 use Rattle.prover.proofs.commit.write_products.Given as goal
 
 abbrev pub invariant-loop-k : goal.invariant-loop-k

@@ -1,12 +1,10 @@
 -- `prover::commit::write_t` meets its contract. The loop's invariant: the blocks of the first i parts are written.
 use mathlib.Core.Path.{refl}
-use Prim.Native.Nat.{◌-◌, ◌*◌}
 use native.Mathlib.Nat.{mul-le-mul}
 use native.Mathlib.Omega.{arith}
-use Rattle.residues.specs.Digits.{split}
-use Rattle.fold.specs.Messages.{elements, t, t_digits}
+use Rattle.fold.specs.Messages.{t_digits}
 use Rattle.ring.specs.Laws.ElementPlaces.{row_fits}
-use Rattle.ring.specs.Laws.Writers.{Blocks, blocks_start, blocks_fit, blocks_part, blocks_turn, blocks_all}
+use Rattle.ring.specs.Laws.Writers.{blocks_start, blocks_fit, blocks_part, blocks_turn, blocks_all}
 use Rattle.fold.proofs.Laws.WriterLaws.{length-element-digits}
 use Rattle.prover.specs.Known.Facts.{PartFacts, t-length}
 use Rattle.prover.proofs.commit.write_t.Goals as goal

@@ -1,13 +1,7 @@
-use mathlib.Core.Path.{refl}
 use Prim.Native.Nat.{◌-◌, ◌*◌}
-use native.Mathlib.Nat.{mul-le-mul}
-use native.Mathlib.Omega.{arith}
 use Rattle.residues.specs.Digits.{split}
-use Rattle.fold.specs.Messages.{elements, t, t_digits}
-use Rattle.ring.specs.Laws.ElementPlaces.{row_fits}
-use Rattle.ring.specs.Laws.Writers.{Blocks, blocks_start, blocks_fit, blocks_part, blocks_turn, blocks_all}
-use Rattle.fold.proofs.Laws.WriterLaws.{length-element-digits}
-use Rattle.prover.specs.Known.Facts.{PartFacts, t-length}
+use Rattle.fold.specs.Messages.{elements, t}
+use Rattle.ring.specs.Laws.Writers.{Blocks}
 use Rattle.prover.proofs.commit.write_t.Given as goal
 
 abbrev pub invariant-loop-i : goal.invariant-loop-i

@@ -1,5 +1,4 @@
 -- `prover::commit::write_t_part` meets its contract: t_i stands in the last part of the block before it is split.
-use borrow.Author.Rules.{rules}
 use Prim.Native.Nat.{◌-◌, ◌*◌, ◌+◌}
 use native.Mathlib.Omega.{arith}
 use Rattle.fold.proofs.Laws.WriterLaws.{split-elements}

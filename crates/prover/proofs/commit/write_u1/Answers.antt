@@ -1,5 +1,4 @@
 -- `prover::commit::write_u1` meets its contract: the outer commitment at the sizes of t and g.
-use borrow.Author.Rules.{rules}
 use native.Mathlib.Omega.{arith}
 use Rattle.fold.specs.Laws.SizeBounds.{t_size-bound, garbage_size-bound}
 use Rattle.fold.specs.Messages.{u₁, outer₁}

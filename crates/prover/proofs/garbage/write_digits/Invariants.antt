@@ -1,12 +1,7 @@
-use mathlib.Core.Path.{refl}
 use Prim.Native.Nat.{◌-◌, ◌*◌}
-use native.Mathlib.Nat.{mul-le-mul}
-use native.Mathlib.Omega.{arith}
 use Rattle.ring.specs.Element.{el, coeffs}
 use Rattle.residues.specs.Digits.{split}
-use Rattle.ring.specs.Laws.ElementPlaces.{element-within}
-use Rattle.ring.specs.Laws.Writers.{Blocks, blocks_start, blocks_fit, blocks_part, blocks_turn, blocks_all}
-use Rattle.fold.proofs.Laws.WriterLaws.{length_digits}
+use Rattle.ring.specs.Laws.Writers.{Blocks}
 use Rattle.prover.proofs.garbage.write_digits.Given as goal
 
 abbrev pub invariant-loop-e : goal.invariant-loop-e

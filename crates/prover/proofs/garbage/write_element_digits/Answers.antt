@@ -1,5 +1,4 @@
 -- `prover::garbage::write_element_digits` meets its contract: the element stands in the last part of the block before it is split.
-use borrow.Author.Rules.{rules}
 use native.Mathlib.Omega.{arith}
 use Rattle.fold.proofs.Laws.WriterLaws.{split-element}
 use Rattle.residues.proofs.Laws.DigitBlockLaws.{last_fits}

@@ -1,5 +1,4 @@
 -- `prover::garbage::write_garbage_digits` meets its contract: the pairs stand one after the other.
-use borrow.Author.Rules.{rules}
 use mathlib.Core.Path.{◌∙◌}
 use native.Mathlib.Omega.{arith}
 use Rattle.fold.specs.Sizes.{garbage_size}

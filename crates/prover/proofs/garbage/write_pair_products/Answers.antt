@@ -1,8 +1,6 @@
 -- `prover::garbage::write_pair_products` meets its contract. The loop's invariant: the first i rows are written.
-use Prim.Native.Nat.{◌-◌}
 use native.Mathlib.Omega.{arith}
-use Rattle.fold.specs.Messages.{g}
-use Rattle.fold.proofs.Laws.WriterLaws.{Rows, rows_start, rows_fit, rows-below, rows-turn, rows_end}
+use Rattle.fold.proofs.Laws.WriterLaws.{rows_start, rows_fit, rows-below, rows-turn, rows_end}
 use Rattle.prover.proofs.garbage.write_pair_products.Goals as goal
 
 pub loop-i-init : goal.loop-i-init

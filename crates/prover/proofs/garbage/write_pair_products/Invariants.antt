@@ -1,7 +1,6 @@
 use Prim.Native.Nat.{◌-◌}
-use native.Mathlib.Omega.{arith}
 use Rattle.fold.specs.Messages.{g}
-use Rattle.fold.proofs.Laws.WriterLaws.{Rows, rows_start, rows_fit, rows-below, rows-turn, rows_end}
+use Rattle.fold.proofs.Laws.WriterLaws.{Rows}
 use Rattle.prover.proofs.garbage.write_pair_products.Given as goal
 
 abbrev pub invariant-loop-i : goal.invariant-loop-i

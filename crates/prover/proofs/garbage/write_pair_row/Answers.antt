@@ -1,11 +1,11 @@
 -- `prover::garbage::write_pair_row` meets its contract. The loop's invariant: the products with the first k parts from i on are written.
 use mathlib.Core.Path.{refl}
-use Prim.Native.Nat.{◌+◌, ◌-◌}
+use Prim.Native.Nat.{◌+◌}
 use native.Mathlib.Omega.{arith}
 use Rattle.algebra.specs.DotProduct.{inner}
 use Rattle.fold.specs.Statement.{part}
 use Rattle.fold.specs.Messages.{elements, g}
-use Rattle.ring.specs.Laws.Writers.{Elements, elements-start, elements-below, elements-fit, elements-turn, elements-end}
+use Rattle.ring.specs.Laws.Writers.{elements-start, elements-below, elements-fit, elements-turn, elements-end}
 use Rattle.ring.specs.Laws.ElementPlaces.{row_fits, row_below}
 use Rattle.prover.proofs.garbage.write_pair_row.Goals as goal
 

@@ -1,12 +1,8 @@
 -- `prover::project::project_row` meets its contract. The loop's invariant: the accumulator is the sum of the first y summands, at most
 -- y * 2^31.
 use mathlib.Core.Path.{◌∙◌}
-use Prim.Native.Nat.{◌-◌}
-use native.Mathlib.Omega.{arith}
-use lib.ListN.{length}
 use mir.Facts.{to_z-of_z, of_z-to_z}
-use Rattle.prover.specs.Laws.ProjectedLaws.{entry-small, Dotted, dotted_start, dotted_small, dotted_turn, dotted_end}
-use mir.Val.{of_z}
+use Rattle.prover.specs.Laws.ProjectedLaws.{entry-small, dotted_start, dotted_small, dotted_turn, dotted_end}
 use mir.Syntax.{w32}
 use mir.Syntax.{w64}
 use Rattle.prover.proofs.project.project_row.Goals as goal

@@ -1,11 +1,7 @@
-use mathlib.Core.Path.{◌∙◌}
 use Prim.Native.Nat.{◌-◌}
-use native.Mathlib.Omega.{arith}
 use lib.ListN.{length}
-use mir.Facts.{to_z-of_z}
-use Rattle.prover.specs.Laws.ProjectedLaws.{entry-small, Dotted, dotted_start, dotted_small, dotted_turn, dotted_end}
+use Rattle.prover.specs.Laws.ProjectedLaws.{Dotted}
 use mir.Val.{of_z}
-use mir.Syntax.{w32}
 use mir.Syntax.{w64}
 use Rattle.prover.proofs.project.project_row.Given as goal
 

@@ -4,7 +4,7 @@ use native.Mathlib.Omega.{arith}
 use lib.ListN.{length}
 use Rattle.residues.proofs.Laws.RangeLaws.{projection-entries-part}
 use Rattle.prover.specs.Known.Facts.{projections-length, witness-short}
-use Rattle.prover.specs.Laws.ProjectedLaws.{Projecting, projecting-start, projecting-fit, projecting-part, projecting-turn, projecting-end}
+use Rattle.prover.specs.Laws.ProjectedLaws.{projecting-start, projecting-fit, projecting-part, projecting-turn, projecting-end}
 use Rattle.prover.proofs.project.write_p.Goals as goal
 
 pub loop-j-init : goal.loop-j-init

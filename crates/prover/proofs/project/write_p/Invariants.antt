@@ -1,9 +1,5 @@
-use Prim.Native.Nat.{◌+◌, ◌-◌}
-use native.Mathlib.Omega.{arith}
-use lib.ListN.{length}
-use Rattle.residues.proofs.Laws.RangeLaws.{projection-entries-part}
-use Rattle.prover.specs.Known.Facts.{projections-length, witness-short}
-use Rattle.prover.specs.Laws.ProjectedLaws.{Projecting, projecting-start, projecting-fit, projecting-part, projecting-turn, projecting-end}
+use Prim.Native.Nat.{◌-◌}
+use Rattle.prover.specs.Laws.ProjectedLaws.{Projecting}
 use Rattle.prover.proofs.project.write_p.Given as goal
 
 abbrev pub invariant-loop-j : goal.invariant-loop-j

@@ -1,6 +1,5 @@
 -- `refusals::lengths::commit_lengths` meets its contract: each list of message 1. Assumes nothing.
 use mathlib.Core.Path.{refl}
-use borrow.Author.Rules.{rules}
 use native.Mathlib.Omega.{arith}
 use Rattle.limits.specs.Laws.SizeLaws.{garbage-within, t_within}
 use Rattle.limits.specs.Laws.RowLaws.{end, ◌&◌}

@@ -1,6 +1,5 @@
 -- `refusals::lengths::garbage_lengths` meets its contract: the other lists of message 4. Assumes nothing.
 use mathlib.Core.Path.{refl}
-use borrow.Author.Rules.{rules}
 use native.Mathlib.Omega.{arith}
 use Rattle.limits.specs.Laws.SizeLaws.{garbage-within}
 use Rattle.limits.specs.Laws.RowLaws.{end, ◌&◌}

@@ -1,5 +1,4 @@
 -- `refusals::lengths::list_fits` meets its contract: the length asked for is that of `list_length`. Assumes nothing.
-use borrow.Author.Rules.{rules}
 use Rattle.refusals.proofs.lengths.list_fits.Goals as goal
 
 pub returns : goal.returns

@@ -1,5 +1,4 @@
 -- `refusals::lengths::matrix_fits` meets its contract: the length asked for is that of `flat_length`. Assumes nothing.
-use borrow.Author.Rules.{rules}
 use Rattle.refusals.proofs.lengths.matrix_fits.Goals as goal
 
 pub returns : goal.returns

@@ -1,6 +1,5 @@
 -- `refusals::lengths::message_lengths` meets its contract: each message. Assumes nothing.
 use mathlib.Core.Path.{refl}
-use borrow.Author.Rules.{rules}
 use Rattle.limits.specs.Laws.RowLaws.{end, ◌&◌}
 use Rattle.limits.specs.Laws.StageLaws.{joined-tests}
 use Rattle.refusals.proofs.lengths.message_lengths.Goals as goal

@@ -1,5 +1,4 @@
 -- `refusals::lengths::opening_fits` meets its contract: the elements of an opening, each of d numbers. Assumes nothing.
-use borrow.Author.Rules.{rules}
 use Rattle.limits.specs.Laws.SizeLaws.{opening-within}
 use Rattle.refusals.proofs.lengths.opening_fits.Goals as goal
 

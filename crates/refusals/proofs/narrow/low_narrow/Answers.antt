@@ -9,7 +9,7 @@ use lib.Seq.{drop-drop}
 use lib.IntN.{ℤ}
 use Rattle.residues.specs.Range.{all_narrow}
 use Rattle.ring.specs.Laws.ElementPlaces.{block-before}
-use Rattle.ring.specs.Laws.Loops.{Tested, tested-start, tested-step, tested-end}
+use Rattle.ring.specs.Laws.Loops.{tested-start, tested-step, tested-end}
 use Rattle.fold.specs.Refusals.{low_narrow}
 use Rattle.refusals.proofs.narrow.low_narrow.Goals as goal
 

@@ -1,15 +1,7 @@
-use mathlib.Core.Path.{◌≡◌, sym, ap, ◌∙◌}
-use mathlib.Core.List.{List}
-use Prim.Native.Nat.{ℕ, ◌+◌, ◌-◌, ◌*◌, ◌<◌, ◌≤◌}
-use native.Mathlib.Nat.{mul-le-mul, mul-le-mul_right}
-use native.Mathlib.Omega.{arith}
-use lib.ListN.{length, take, drop}
-use lib.Seq.{drop-drop}
-use lib.IntN.{ℤ}
+use Prim.Native.Nat.{◌-◌, ◌*◌}
+use lib.ListN.{take, drop}
 use Rattle.residues.specs.Range.{all_narrow}
-use Rattle.ring.specs.Laws.ElementPlaces.{block-before}
-use Rattle.ring.specs.Laws.Loops.{Tested, tested-start, tested-step, tested-end}
-use Rattle.fold.specs.Refusals.{low_narrow}
+use Rattle.ring.specs.Laws.Loops.{Tested}
 use Rattle.refusals.proofs.narrow.low_narrow.Given as goal
 
 abbrev pub invariant-loop-i : goal.invariant-loop-i

@@ -1,7 +1,6 @@
 -- `refusals::narrow::narrow_digits` meets its contract: the test of the digits of z, t, g and h, each at its place. Assumes nothing.
 use native.Mathlib.Nat.{zero-mul}
 use native.Mathlib.Omega.{arith}
-use borrow.Author.Rules.{rules}
 use Rattle.fold.specs.Refusals.{narrow_digits}
 use Rattle.limits.specs.Laws.RowLaws.{end, ◌&◌, joined-row}
 use Rattle.refusals.specs.Laws.DigitPlaces.{z-within, t_within, g_within, h-within}

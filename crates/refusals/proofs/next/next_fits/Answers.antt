@@ -5,7 +5,6 @@ use Rattle.fold.specs.Limits.{most_chunks, most_commitment_rank}
 use Rattle.fold.specs.Sizes.{function_size}
 use Rattle.fold.specs.Refusals.{whole_length}
 use Rattle.fold.specs.Laws.SizeBounds.{product-fits, product-bound, pairs-bound}
-use borrow.Author.Rules.{rules}
 use Rattle.refusals.proofs.next.next_fits.Goals as goal
 
 pub overflow_mul-function : goal.overflow_mul-function

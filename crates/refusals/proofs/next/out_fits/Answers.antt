@@ -3,7 +3,6 @@ use mathlib.Core.Path.{refl}
 use native.Mathlib.Omega.{arith}
 use Rattle.fold.specs.Sizes.{next_parts, next_count}
 use Rattle.fold.specs.Known.CutSizes.{cut-sizes, next_rank-bound}
-use borrow.Author.Rules.{rules}
 use Rattle.refusals.proofs.next.out_fits.Goals as goal
 
 pub next_fits-requires : goal.next_fits-requires

@@ -1,8 +1,7 @@
 -- `refusals::ranges::challenges` meets its contract. The loop's invariant: `all` says that the first i elements keep the rule. Assumes nothing.
-use Prim.Native.Nat.{◌-◌}
 use native.Mathlib.Omega.{arith}
 use Rattle.ring.specs.Laws.ElementPlaces.{block-before}
-use Rattle.refusals.specs.Laws.ListLaws.{Kept, kept-start, kept_step, kept-end}
+use Rattle.refusals.specs.Laws.ListLaws.{kept-start, kept_step, kept-end}
 use Rattle.refusals.proofs.ranges.challenges.Goals as goal
 
 pub loop-i-init : goal.loop-i-init

@@ -1,7 +1,5 @@
 use Prim.Native.Nat.{◌-◌}
-use native.Mathlib.Omega.{arith}
-use Rattle.ring.specs.Laws.ElementPlaces.{block-before}
-use Rattle.refusals.specs.Laws.ListLaws.{Kept, kept-start, kept_step, kept-end}
+use Rattle.refusals.specs.Laws.ListLaws.{Kept}
 use Rattle.refusals.proofs.ranges.challenges.Given as goal
 
 abbrev pub invariant-loop-i : goal.invariant-loop-i

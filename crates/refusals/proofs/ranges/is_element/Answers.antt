@@ -1,5 +1,4 @@
 -- `refusals::ranges::is_element` meets its contract. Assumes nothing.
-use borrow.Author.Rules.{rules}
 use Rattle.refusals.specs.Laws.ProductLaws.{element-tests}
 use Rattle.refusals.proofs.ranges.is_element.Goals as goal
 

@@ -1,6 +1,5 @@
 -- `refusals::ranges::vanishes_from` meets its contract. Assumes nothing.
 use mathlib.Core.Path.{◌∙◌}
-use borrow.Author.Rules.{rules}
 use Rattle.residues.proofs.Laws.RangeLaws.{between-zero}
 use Rattle.refusals.specs.Laws.ProductLaws.{none_from, rest_from}
 use Rattle.refusals.proofs.ranges.vanishes_from.Goals as goal

@@ -1,9 +1,8 @@
 -- `ring::coefficients::added` meets its contract. The loop's invariant: the first k numbers of the sum are in place, zeros follow.
-use Rattle.std.proofs.Common.{◌-◌, List, get_or, ℤ, pos, ◌+ℤ◌, sym, ◌∙◌, arith}
-use Rattle.residues.specs.Modulus.{centred}
+use Rattle.std.proofs.Common.{List, get_or, ℤ, pos, sym, ◌∙◌, arith}
 use Rattle.ring.specs.Laws.ElementSteps.{stored-sum}
 use Rattle.ring.specs.Laws.ElementArrays.{array-add}
-use Rattle.ring.specs.Laws.Loops.{Filling, filling_start, filling_step, filling_end}
+use Rattle.ring.specs.Laws.Loops.{filling_start, filling_step, filling_end}
 use Rattle.ring.proofs.coefficients.added.Goals as goal
 
 pub loop-k-init : goal.loop-k-init

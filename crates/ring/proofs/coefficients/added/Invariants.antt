@@ -1,8 +1,6 @@
-use Rattle.std.proofs.Common.{◌-◌, List, get_or, ℤ, pos, ◌+ℤ◌, sym, ◌∙◌, arith}
+use Rattle.std.proofs.Common.{◌-◌, get_or, pos, ◌+ℤ◌}
 use Rattle.residues.specs.Modulus.{centred}
-use Rattle.ring.specs.Laws.ElementSteps.{stored-sum}
-use Rattle.ring.specs.Laws.ElementArrays.{array-add}
-use Rattle.ring.specs.Laws.Loops.{Filling, filling_start, filling_step, filling_end}
+use Rattle.ring.specs.Laws.Loops.{Filling}
 use Rattle.ring.proofs.coefficients.added.Given as goal
 
 abbrev pub invariant-loop-k : goal.invariant-loop-k

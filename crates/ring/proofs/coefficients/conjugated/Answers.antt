@@ -1,8 +1,8 @@
 -- `ring::coefficients::conjugated` meets its contract. The loop's invariant: the first k numbers of σ(a) are in place, zeros follow.
-use Rattle.std.proofs.Common.{◌-◌, ◌<◌, get_or, pos, negsuc, sym, ◌∙◌, arith}
+use Rattle.std.proofs.Common.{◌-◌, get_or, pos, negsuc, sym, ◌∙◌, arith}
 use Rattle.ring.specs.Laws.ElementSteps.{stored-number, stored-product}
-use Rattle.ring.specs.Laws.ElementArrays.{turned, turned_zero, turned-suc, array-conjugate}
-use Rattle.ring.specs.Laws.Loops.{Filling, filling_start, filling_step, filling_end}
+use Rattle.ring.specs.Laws.ElementArrays.{turned_zero, turned-suc, array-conjugate}
+use Rattle.ring.specs.Laws.Loops.{filling_start, filling_step, filling_end}
 use Rattle.ring.proofs.coefficients.conjugated.Goals as goal
 
 pub loop-k-init : goal.loop-k-init

@@ -1,7 +1,6 @@
-use Rattle.std.proofs.Common.{◌-◌, ◌<◌, get_or, pos, negsuc, sym, ◌∙◌, arith}
-use Rattle.ring.specs.Laws.ElementSteps.{stored-number, stored-product}
-use Rattle.ring.specs.Laws.ElementArrays.{turned, turned_zero, turned-suc, array-conjugate}
-use Rattle.ring.specs.Laws.Loops.{Filling, filling_start, filling_step, filling_end}
+use Rattle.std.proofs.Common.{◌-◌, ◌<◌, pos}
+use Rattle.ring.specs.Laws.ElementArrays.{turned}
+use Rattle.ring.specs.Laws.Loops.{Filling}
 use Rattle.ring.proofs.coefficients.conjugated.Given as goal
 
 abbrev pub invariant-loop-k : goal.invariant-loop-k

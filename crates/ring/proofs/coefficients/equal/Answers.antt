@@ -1,10 +1,10 @@
 -- `ring::coefficients::equal` meets its contract. The loop's invariant: `all` says that the first k numbers are congruent, one by one.
-use Rattle.std.proofs.Common.{◌-◌, eqb, get_or, pos, sym, ap, ◌∙◌, ap₂, arith}
+use Rattle.std.proofs.Common.{eqb, sym, ap, ◌∙◌, ap₂, arith}
 use Rattle.integers.specs.Remainder.{emod}
 use Rattle.residues.specs.Modulus.{q}
 use Rattle.ring.specs.Laws.ElementSteps.{bits32-small}
 use Rattle.ring.specs.Laws.ElementEquality.{same-lift}
-use Rattle.ring.specs.Laws.Loops.{Tested, tested-start, tested-step, tested-end}
+use Rattle.ring.specs.Laws.Loops.{tested-start, tested-step, tested-end}
 use Rattle.ring.proofs.coefficients.equal.Goals as goal
 
 pub loop-k-init : goal.loop-k-init

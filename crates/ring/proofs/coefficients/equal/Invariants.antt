@@ -1,9 +1,7 @@
-use Rattle.std.proofs.Common.{◌-◌, eqb, get_or, pos, sym, ap, ◌∙◌, ap₂, arith}
+use Rattle.std.proofs.Common.{◌-◌, eqb, get_or, pos}
 use Rattle.integers.specs.Remainder.{emod}
 use Rattle.residues.specs.Modulus.{q}
-use Rattle.ring.specs.Laws.ElementSteps.{bits32-small}
-use Rattle.ring.specs.Laws.ElementEquality.{same-lift}
-use Rattle.ring.specs.Laws.Loops.{Tested, tested-start, tested-step, tested-end}
+use Rattle.ring.specs.Laws.Loops.{Tested}
 use Rattle.ring.proofs.coefficients.equal.Given as goal
 
 abbrev pub invariant-loop-k : goal.invariant-loop-k

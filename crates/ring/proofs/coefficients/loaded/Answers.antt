@@ -1,9 +1,8 @@
 -- `ring::coefficients::loaded` meets its contract. The loop's invariant: the first k numbers of the element are in place, zeros follow.
-use Rattle.std.proofs.Common.{◌+◌, ◌-◌, ◌*◌, get_or, pos, sym, ◌∙◌, arith}
-use Rattle.residues.specs.Modulus.{centred}
+use Rattle.std.proofs.Common.{sym, ◌∙◌, arith}
 use Rattle.ring.specs.Laws.ElementSteps.{stored-number}
 use Rattle.ring.specs.Laws.ElementArrays.{array-el}
-use Rattle.ring.specs.Laws.Loops.{Filling, filling_start, filling_step, filling_end}
+use Rattle.ring.specs.Laws.Loops.{filling_start, filling_step, filling_end}
 use Rattle.ring.proofs.coefficients.loaded.Goals as goal
 
 pub loop-k-init : goal.loop-k-init

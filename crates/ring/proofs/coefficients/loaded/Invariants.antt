@@ -1,8 +1,6 @@
-use Rattle.std.proofs.Common.{◌+◌, ◌-◌, ◌*◌, get_or, pos, sym, ◌∙◌, arith}
+use Rattle.std.proofs.Common.{◌+◌, ◌-◌, ◌*◌, get_or, pos}
 use Rattle.residues.specs.Modulus.{centred}
-use Rattle.ring.specs.Laws.ElementSteps.{stored-number}
-use Rattle.ring.specs.Laws.ElementArrays.{array-el}
-use Rattle.ring.specs.Laws.Loops.{Filling, filling_start, filling_step, filling_end}
+use Rattle.ring.specs.Laws.Loops.{Filling}
 use Rattle.ring.proofs.coefficients.loaded.Given as goal
 
 abbrev pub invariant-loop-k : goal.invariant-loop-k

@@ -1,10 +1,8 @@
 -- `ring::coefficients::recomposed` meets its contract. The loop's invariant: `sum` is recomposed from the digits from e up.
-use Rattle.std.proofs.Common.{◌≡◌, ℕ, ◌+◌, ◌-◌, ◌*◌, ◌<◌, ◌≤◌, length, sym, refl, ap, ◌∙◌, arith, w32, to_z}
-use mir.Val.{of_z}
+use Rattle.std.proofs.Common.{◌≡◌, ℕ, ◌+◌, ◌-◌, ◌*◌, ◌<◌, ◌≤◌, length, sym, refl, ap, ◌∙◌, arith, w32}
 use mir.Facts.{to_z_pos}
 use Rattle.integers.specs.Laws.Bridge.{zarith}
 use Rattle.ring.specs.Element.{R, el, array}
-use Rattle.ring.specs.Joined.{joined}
 use Rattle.ring.specs.Laws.ElementPlaces.{element-below, digit-fits}
 use Rattle.ring.specs.Laws.Recomposition.{horner-start, horner-turn, horner-end}
 use Rattle.ring.proofs.coefficients.recomposed.Goals as goal

@@ -1,11 +1,6 @@
-use Rattle.std.proofs.Common.{◌≡◌, ℕ, ◌+◌, ◌-◌, ◌*◌, ◌<◌, ◌≤◌, length, sym, refl, ap, ◌∙◌, arith, w32, to_z}
-use mir.Val.{of_z}
-use mir.Facts.{to_z_pos}
-use Rattle.integers.specs.Laws.Bridge.{zarith}
-use Rattle.ring.specs.Element.{R, el, array}
+use Rattle.std.proofs.Common.{◌≡◌, ◌+◌, ◌-◌, ◌*◌, ◌<◌, w32, to_z}
+use Rattle.ring.specs.Element.{el, array}
 use Rattle.ring.specs.Joined.{joined}
-use Rattle.ring.specs.Laws.ElementPlaces.{element-below, digit-fits}
-use Rattle.ring.specs.Laws.Recomposition.{horner-start, horner-turn, horner-end}
 use Rattle.ring.proofs.coefficients.recomposed.Given as goal
 
 abbrev pub invariant-loop-e : goal.invariant-loop-e

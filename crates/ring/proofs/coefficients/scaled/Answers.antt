@@ -1,10 +1,10 @@
 -- `ring::coefficients::scaled` meets its contract. The loop's invariant: the first k numbers of the multiple are in place, zeros follow.
-use Rattle.std.proofs.Common.{◌-◌, get_or, pos, ◌*ℤ◌, sym, ap, ◌∙◌, arith, to_z-of_z, w32, to_z}
+use Rattle.std.proofs.Common.{get_or, pos, ◌*ℤ◌, sym, ap, ◌∙◌, arith, to_z-of_z}
 use Rattle.integers.specs.Lists.{tab, upto}
 use Rattle.residues.specs.Modulus.{centred}
 use Rattle.ring.specs.Laws.ElementSteps.{bits32, stored-product}
 use Rattle.ring.specs.Laws.ElementArrays.{array-scale}
-use Rattle.ring.specs.Laws.Loops.{Filling, filling_start, filling_step, filling_end}
+use Rattle.ring.specs.Laws.Loops.{filling_start, filling_step, filling_end}
 use Rattle.ring.proofs.coefficients.scaled.Goals as goal
 
 pub loop-k-init : goal.loop-k-init

@@ -1,9 +1,6 @@
-use Rattle.std.proofs.Common.{◌-◌, get_or, pos, ◌*ℤ◌, sym, ap, ◌∙◌, arith, to_z-of_z, w32, to_z}
-use Rattle.integers.specs.Lists.{tab, upto}
+use Rattle.std.proofs.Common.{◌-◌, get_or, pos, ◌*ℤ◌}
 use Rattle.residues.specs.Modulus.{centred}
-use Rattle.ring.specs.Laws.ElementSteps.{bits32, stored-product}
-use Rattle.ring.specs.Laws.ElementArrays.{array-scale}
-use Rattle.ring.specs.Laws.Loops.{Filling, filling_start, filling_step, filling_end}
+use Rattle.ring.specs.Laws.Loops.{Filling}
 use Rattle.ring.proofs.coefficients.scaled.Given as goal
 
 abbrev pub invariant-loop-k : goal.invariant-loop-k

@@ -1,10 +1,9 @@
 -- `ring::coefficients::stored` meets its contract. The loop's invariant: the first k numbers are written, and nothing else is changed.
-use Rattle.std.proofs.Common.{◌≡◌, ◌-◌, ◌*◌, length, get_or, pos, sym, refl, ◌∙◌, arith, length-set}
+use Rattle.std.proofs.Common.{◌≡◌, ◌*◌, length, sym, refl, ◌∙◌, arith, length-set}
 use Rattle.integers.specs.Lists.{tab}
 use Rattle.ring.specs.Laws.ElementSteps.{stored_next, take-numbers}
-use Rattle.integers.specs.Over.{over}
 use Rattle.integers.specs.Laws.OverLaws.{over-nil}
-use Rattle.ring.specs.Laws.Loops.{Counted, counted_start, counted_step, counted-end}
+use Rattle.ring.specs.Laws.Loops.{counted_start, counted_step, counted-end}
 use Rattle.ring.proofs.coefficients.stored.Goals as goal
 
 pub loop-k-init : goal.loop-k-init

@@ -1,9 +1,7 @@
-use Rattle.std.proofs.Common.{◌≡◌, ◌-◌, ◌*◌, length, get_or, pos, sym, refl, ◌∙◌, arith, length-set}
+use Rattle.std.proofs.Common.{◌≡◌, ◌-◌, ◌*◌, length, get_or, pos}
 use Rattle.integers.specs.Lists.{tab}
-use Rattle.ring.specs.Laws.ElementSteps.{stored_next, take-numbers}
 use Rattle.integers.specs.Over.{over}
-use Rattle.integers.specs.Laws.OverLaws.{over-nil}
-use Rattle.ring.specs.Laws.Loops.{Counted, counted_start, counted_step, counted-end}
+use Rattle.ring.specs.Laws.Loops.{Counted}
 use Rattle.ring.proofs.coefficients.stored.Given as goal
 
 abbrev pub invariant-loop-k : goal.invariant-loop-k

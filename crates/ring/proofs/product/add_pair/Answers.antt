@@ -1,7 +1,6 @@
 -- `ring::product::add_pair` meets its contract. The loop has added the first k columns of each half.
-use Rattle.std.proofs.Common.{◌-◌, arith}
-use Rattle.ring.specs.Product.{column}
-use Rattle.ring.specs.Laws.ProductArrays.{Adding, adding_start, adding_step, adding_end, first_fits, second_fits, column-most}
+use Rattle.std.proofs.Common.{arith}
+use Rattle.ring.specs.Laws.ProductArrays.{adding_start, adding_step, adding_end, first_fits, second_fits, column-most}
 use Rattle.ring.proofs.product.add_pair.Goals as goal
 
 pub loop-k-init : goal.loop-k-init

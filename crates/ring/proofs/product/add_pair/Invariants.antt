@@ -1,6 +1,6 @@
-use Rattle.std.proofs.Common.{◌-◌, arith}
+use Rattle.std.proofs.Common.{◌-◌}
 use Rattle.ring.specs.Product.{column}
-use Rattle.ring.specs.Laws.ProductArrays.{Adding, adding_start, adding_step, adding_end, first_fits, second_fits, column-most}
+use Rattle.ring.specs.Laws.ProductArrays.{Adding}
 use Rattle.ring.proofs.product.add_pair.Given as goal
 
 abbrev pub invariant-loop-k : goal.invariant-loop-k

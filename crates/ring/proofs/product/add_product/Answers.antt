@@ -1,5 +1,5 @@
 -- `ring::product::add_product` meets its contract: whichever way is taken, the columns that are added are the product's coefficients.
-use Rattle.std.proofs.Common.{sym, ◌∙◌, rules}
+use Rattle.std.proofs.Common.{sym, ◌∙◌}
 use Rattle.ring.specs.Laws.ProductLaws.{column-value, gained, residues_small}
 use Rattle.ring.specs.Laws.ShortOperand.{raised-narrow, short-below}
 use Rattle.ring.specs.Laws.ShortLaws.{short-value, weight-bound}

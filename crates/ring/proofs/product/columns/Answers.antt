@@ -1,7 +1,7 @@
 -- `ring::product::columns` meets its contract. For each column the loop keeps the sum modulo 2^64 and the sum of the upper halves.
-use Rattle.std.proofs.Common.{◌-◌, arith}
+use Rattle.std.proofs.Common.{arith}
 use Rattle.ring.specs.Product.{summand, column}
-use Rattle.ring.specs.Laws.ColumnLaws.{Running, product-fits, summand-small, running_start, running_step, running_end}
+use Rattle.ring.specs.Laws.ColumnLaws.{product-fits, summand-small, running_start, running_step, running_end}
 use Rattle.ring.specs.Laws.ColumnLaws.{running_high, running_high-fits, running_end-fits}
 use Rattle.ring.proofs.product.columns.Goals as goal
 

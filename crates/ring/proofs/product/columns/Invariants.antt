@@ -1,7 +1,6 @@
-use Rattle.std.proofs.Common.{◌-◌, arith}
-use Rattle.ring.specs.Product.{summand, column}
-use Rattle.ring.specs.Laws.ColumnLaws.{Running, product-fits, summand-small, running_start, running_step, running_end}
-use Rattle.ring.specs.Laws.ColumnLaws.{running_high, running_high-fits, running_end-fits}
+use Rattle.std.proofs.Common.{◌-◌}
+use Rattle.ring.specs.Product.{summand}
+use Rattle.ring.specs.Laws.ColumnLaws.{Running}
 use Rattle.ring.proofs.product.columns.Given as goal
 
 abbrev pub invariant-loop-i : goal.invariant-loop-i

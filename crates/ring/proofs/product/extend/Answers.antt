@@ -1,9 +1,7 @@
 -- `ring::product::extend` meets its contract. The loop has filled i places from place 1 on and their negatives.
-use Rattle.std.proofs.Common.{◌-◌, refl, arith}
-use Rattle.ring.specs.Element.{el}
-use Rattle.ring.specs.Product.{Extended}
+use Rattle.std.proofs.Common.{refl, arith}
 use Rattle.ring.specs.Laws.ProductArrays.{residue_el, residue_small, extended_start, extended_step}
-use Rattle.ring.specs.Laws.Loops.{Counted, counted_start, counted_step, counted-end}
+use Rattle.ring.specs.Laws.Loops.{counted_start, counted_step, counted-end}
 use Rattle.ring.proofs.product.extend.Goals as goal
 
 pub overflow_sub-last : goal.overflow_sub-last

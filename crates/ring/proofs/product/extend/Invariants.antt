@@ -1,8 +1,7 @@
-use Rattle.std.proofs.Common.{◌-◌, refl, arith}
+use Rattle.std.proofs.Common.{◌-◌}
 use Rattle.ring.specs.Element.{el}
 use Rattle.ring.specs.Product.{Extended}
-use Rattle.ring.specs.Laws.ProductArrays.{residue_el, residue_small, extended_start, extended_step}
-use Rattle.ring.specs.Laws.Loops.{Counted, counted_start, counted_step, counted-end}
+use Rattle.ring.specs.Laws.Loops.{Counted}
 use Rattle.ring.proofs.product.extend.Given as goal
 
 abbrev pub invariant-loop-i : goal.invariant-loop-i

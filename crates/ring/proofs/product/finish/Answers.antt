@@ -1,7 +1,6 @@
 -- `ring::product::finish` meets its contract. The loop has filled the first k places.
-use Rattle.std.proofs.Common.{◌-◌, get_or, pos, ◌∙◌, arith, to_z-of_z}
-use Rattle.residues.specs.Modulus.{centred}
-use Rattle.ring.specs.Laws.Loops.{Filling, filling_start, filling_step, filling_end}
+use Rattle.std.proofs.Common.{◌∙◌, arith, to_z-of_z}
+use Rattle.ring.specs.Laws.Loops.{filling_start, filling_step, filling_end}
 use mir.Syntax.{w32}
 use Rattle.ring.proofs.product.finish.Goals as goal
 

@@ -1,7 +1,6 @@
-use Rattle.std.proofs.Common.{◌-◌, get_or, pos, ◌∙◌, arith, to_z-of_z}
+use Rattle.std.proofs.Common.{◌-◌, get_or, pos}
 use Rattle.residues.specs.Modulus.{centred}
-use Rattle.ring.specs.Laws.Loops.{Filling, filling_start, filling_step, filling_end}
-use mir.Syntax.{w32}
+use Rattle.ring.specs.Laws.Loops.{Filling}
 use Rattle.ring.proofs.product.finish.Given as goal
 
 abbrev pub invariant-loop-k : goal.invariant-loop-k

@@ -1,11 +1,8 @@
 -- `ring::product::inner` meets its contract. The accumulator holds the sum of the products of the first k pairs.
-use Rattle.std.proofs.Common.{◌≡◌, ◌+◌, ◌-◌, length, refl, ◌∙◌, arith}
-use Rattle.algebra.specs.Sum.{sum}
-use Rattle.ring.specs.Element.{R}
-use Rattle.ring.specs.Product.{Holds}
+use Rattle.std.proofs.Common.{◌+◌, refl, ◌∙◌, arith}
 use Rattle.ring.specs.Laws.ElementPlaces.{place-below, element-fits}
-use Rattle.ring.specs.Laws.ProductLaws.{pair, pairs_start, pairs-step, holds-room, holds-end}
-use Rattle.ring.specs.Laws.Loops.{Counted, counted_start, counted_step, counted-end}
+use Rattle.ring.specs.Laws.ProductLaws.{pairs_start, pairs-step, holds-room, holds-end}
+use Rattle.ring.specs.Laws.Loops.{counted_start, counted_step, counted-end}
 use Rattle.ring.proofs.product.inner.Goals as goal
 
 pub loop-k-init : goal.loop-k-init

@@ -1,10 +1,9 @@
-use Rattle.std.proofs.Common.{◌≡◌, ◌+◌, ◌-◌, length, refl, ◌∙◌, arith}
+use Rattle.std.proofs.Common.{◌≡◌, ◌-◌, length}
 use Rattle.algebra.specs.Sum.{sum}
 use Rattle.ring.specs.Element.{R}
 use Rattle.ring.specs.Product.{Holds}
-use Rattle.ring.specs.Laws.ElementPlaces.{place-below, element-fits}
-use Rattle.ring.specs.Laws.ProductLaws.{pair, pairs_start, pairs-step, holds-room, holds-end}
-use Rattle.ring.specs.Laws.Loops.{Counted, counted_start, counted_step, counted-end}
+use Rattle.ring.specs.Laws.ProductLaws.{pair}
+use Rattle.ring.specs.Laws.Loops.{Counted}
 use Rattle.ring.proofs.product.inner.Given as goal
 
 abbrev pub invariant-loop-k : goal.invariant-loop-k

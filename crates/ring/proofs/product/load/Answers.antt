@@ -1,9 +1,7 @@
 -- `ring::product::load` meets its contract. The loop has filled the first i places.
-use Rattle.std.proofs.Common.{◌-◌, refl, arith}
-use Rattle.ring.specs.Element.{el}
-use Rattle.ring.specs.Product.{Residues}
+use Rattle.std.proofs.Common.{refl}
 use Rattle.ring.specs.Laws.ProductArrays.{residue_el, residues_start, residues_step}
-use Rattle.ring.specs.Laws.Loops.{Counted, counted_start, counted_step, counted-end}
+use Rattle.ring.specs.Laws.Loops.{counted_start, counted_step, counted-end}
 use Rattle.ring.proofs.product.load.Goals as goal
 
 pub loop-i-init : goal.loop-i-init

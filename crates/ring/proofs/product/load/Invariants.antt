@@ -1,8 +1,7 @@
-use Rattle.std.proofs.Common.{◌-◌, refl, arith}
+use Rattle.std.proofs.Common.{◌-◌}
 use Rattle.ring.specs.Element.{el}
 use Rattle.ring.specs.Product.{Residues}
-use Rattle.ring.specs.Laws.ProductArrays.{residue_el, residues_start, residues_step}
-use Rattle.ring.specs.Laws.Loops.{Counted, counted_start, counted_step, counted-end}
+use Rattle.ring.specs.Laws.Loops.{Counted}
 use Rattle.ring.proofs.product.load.Given as goal
 
 abbrev pub invariant-loop-i : goal.invariant-loop-i

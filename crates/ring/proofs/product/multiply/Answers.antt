@@ -1,5 +1,5 @@
 -- `ring::product::multiply` meets its contract: a product is an inner product of one pair.
-use Rattle.std.proofs.Common.{ap, ◌∙◌, rules}
+use Rattle.std.proofs.Common.{ap, ◌∙◌}
 use Rattle.ring.specs.Element.{array}
 use Rattle.ring.specs.Laws.ProductLaws.{one-pair}
 use Rattle.ring.proofs.product.multiply.Goals as goal

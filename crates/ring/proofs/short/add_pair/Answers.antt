@@ -1,8 +1,7 @@
 -- `ring::short::add_pair` meets its contract. The loop has added the first k columns of each half.
-use Rattle.std.proofs.Common.{◌-◌, arith}
-use Rattle.ring.specs.Short.{short_column}
+use Rattle.std.proofs.Common.{arith}
 use Rattle.ring.specs.Laws.ShortLaws.{short-most}
-use Rattle.ring.specs.Laws.ProductArrays.{Adding, adding_start, adding_step, adding_end, first_fits, second_fits}
+use Rattle.ring.specs.Laws.ProductArrays.{adding_start, adding_step, adding_end, first_fits, second_fits}
 use Rattle.ring.proofs.short.add_pair.Goals as goal
 
 pub loop-k-init : goal.loop-k-init

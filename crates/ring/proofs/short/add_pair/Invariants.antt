@@ -1,7 +1,6 @@
-use Rattle.std.proofs.Common.{◌-◌, arith}
+use Rattle.std.proofs.Common.{◌-◌}
 use Rattle.ring.specs.Short.{short_column}
-use Rattle.ring.specs.Laws.ShortLaws.{short-most}
-use Rattle.ring.specs.Laws.ProductArrays.{Adding, adding_start, adding_step, adding_end, first_fits, second_fits}
+use Rattle.ring.specs.Laws.ProductArrays.{Adding}
 use Rattle.ring.proofs.short.add_pair.Given as goal
 
 abbrev pub invariant-loop-k : goal.invariant-loop-k

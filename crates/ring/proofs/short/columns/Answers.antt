@@ -1,9 +1,9 @@
 -- `ring::short::columns` meets its contract. For each column the loop keeps c and the sum of the products so far.
-use Rattle.std.proofs.Common.{◌-◌, arith}
+use Rattle.std.proofs.Common.{arith}
 use Rattle.ring.specs.Product.{summand}
 use Rattle.ring.specs.Laws.ColumnLaws.{product-fits}
 use Rattle.ring.specs.Short.{short_column}
-use Rattle.ring.specs.Laws.ShortLaws.{Sized, narrow-summand, sized-start, sized-step, sized-most, sized-fits, sized-end}
+use Rattle.ring.specs.Laws.ShortLaws.{narrow-summand, sized-start, sized-step, sized-most, sized-fits, sized-end}
 use Rattle.ring.proofs.short.columns.Goals as goal
 
 pub loop-i-init : goal.loop-i-init

@@ -1,8 +1,6 @@
-use Rattle.std.proofs.Common.{◌-◌, arith}
+use Rattle.std.proofs.Common.{◌-◌}
 use Rattle.ring.specs.Product.{summand}
-use Rattle.ring.specs.Laws.ColumnLaws.{product-fits}
-use Rattle.ring.specs.Short.{short_column}
-use Rattle.ring.specs.Laws.ShortLaws.{Sized, narrow-summand, sized-start, sized-step, sized-most, sized-fits, sized-end}
+use Rattle.ring.specs.Laws.ShortLaws.{Sized}
 use Rattle.ring.proofs.short.columns.Given as goal
 
 abbrev pub invariant-loop-i : goal.invariant-loop-i

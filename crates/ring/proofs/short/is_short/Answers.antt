@@ -1,7 +1,7 @@
 -- `ring::short::is_short` meets its contract. The loop keeps what the numbers so far hold of 2^22.
-use Rattle.std.proofs.Common.{◌+◌, ◌-◌, ◌*◌, get_or, pos, nat_abs, ap, ◌∙◌, arith}
+use Rattle.std.proofs.Common.{◌+◌, ◌*◌, get_or, pos, nat_abs, ap, ◌∙◌, arith}
 use Rattle.residues.proofs.Laws.Words.{word}
-use Rattle.ring.specs.Laws.ShortOperand.{Counting, counting_start, counting_step, counting_end, magnitude_small}
+use Rattle.ring.specs.Laws.ShortOperand.{counting_start, counting_step, counting_end, magnitude_small}
 use Rattle.ring.proofs.short.is_short.Goals as goal
 
 pub loop-i-init : goal.loop-i-init

@@ -1,6 +1,5 @@
-use Rattle.std.proofs.Common.{◌+◌, ◌-◌, ◌*◌, get_or, pos, nat_abs, ap, ◌∙◌, arith}
-use Rattle.residues.proofs.Laws.Words.{word}
-use Rattle.ring.specs.Laws.ShortOperand.{Counting, counting_start, counting_step, counting_end, magnitude_small}
+use Rattle.std.proofs.Common.{◌-◌}
+use Rattle.ring.specs.Laws.ShortOperand.{Counting}
 use Rattle.ring.proofs.short.is_short.Given as goal
 
 abbrev pub invariant-loop-i : goal.invariant-loop-i

@@ -1,9 +1,9 @@
 -- `ring::short::raise` meets its contract. The loop has filled i places from place 1 on and their negatives.
 use Rattle.std.proofs.Common.{ℕ, ◌+◌, ◌-◌, ◌*◌, get_or, pos, refl, ap, ◌∙◌, arith}
 use Rattle.residues.proofs.Laws.Words.{word}
-use Rattle.ring.specs.Short.{lifted, Raised}
+use Rattle.ring.specs.Short.{lifted}
 use Rattle.ring.specs.Laws.ShortOperand.{raised-start, raised-step, raised-limit, short-at}
-use Rattle.ring.specs.Laws.Loops.{Counted, counted_start, counted_step, counted-end}
+use Rattle.ring.specs.Laws.Loops.{counted_start, counted_step, counted-end}
 use Rattle.ring.proofs.short.raise.Goals as goal
 
 pub overflow_sub-last : goal.overflow_sub-last

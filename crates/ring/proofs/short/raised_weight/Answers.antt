@@ -1,6 +1,6 @@
 -- `ring::short::raised_weight` meets its contract. The loop keeps the sum of the residues so far.
-use Rattle.std.proofs.Common.{◌-◌, arith}
-use Rattle.ring.specs.Laws.ShortLaws.{Totalling, totalling_start, totalling_step, totalling_end}
+use Rattle.std.proofs.Common.{arith}
+use Rattle.ring.specs.Laws.ShortLaws.{totalling_start, totalling_step, totalling_end}
 use Rattle.ring.proofs.short.raised_weight.Goals as goal
 
 pub loop-i-init : goal.loop-i-init

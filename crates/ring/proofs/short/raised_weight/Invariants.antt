@@ -1,5 +1,5 @@
-use Rattle.std.proofs.Common.{◌-◌, arith}
-use Rattle.ring.specs.Laws.ShortLaws.{Totalling, totalling_start, totalling_step, totalling_end}
+use Rattle.std.proofs.Common.{◌-◌}
+use Rattle.ring.specs.Laws.ShortLaws.{Totalling}
 use Rattle.ring.proofs.short.raised_weight.Given as goal
 
 abbrev pub invariant-loop-i : goal.invariant-loop-i

@@ -2,7 +2,6 @@
 use mathlib.Core.Path.{ap, ◌∙◌}
 use mir.Facts.{to_z-of_z}
 use Rattle.sheet.specs.Reading.{size}
-use borrow.Author.Rules.{rules}
 use mir.Syntax.{w64}
 use Rattle.sheet.proofs.header.bound_at.Goals as goal
 

@@ -1,6 +1,5 @@
 -- `sheet::header::has_end` meets its contract.
 use mathlib.Core.Path.{refl}
-use borrow.Author.Rules.{rules}
 use Rattle.sheet.proofs.header.has_end.Goals as goal
 
 pub returns-in-At : goal.returns-in-At

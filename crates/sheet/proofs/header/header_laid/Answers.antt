@@ -3,7 +3,6 @@ use mathlib.Core.Path.{ap, ◌∙◌}
 use Rattle.sheet.specs.Known.Reading.{has_end}
 use Rattle.sheet.specs.Reading.{header_laid}
 use Rattle.sheet.specs.Laws.HeaderLaws.{has-end-is}
-use borrow.Author.Rules.{rules}
 use Rattle.sheet.proofs.header.header_laid.Goals as goal
 
 pub returns : goal.returns

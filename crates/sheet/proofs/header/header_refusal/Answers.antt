@@ -3,7 +3,6 @@ use mathlib.Core.Path.{ap, ◌∙◌}
 use Rattle.fold.specs.Answers.{first_failing}
 use Rattle.limits.specs.Laws.StageLaws.{single}
 use Rattle.sheet.specs.Laws.HeaderLaws.{header-sizes}
-use borrow.Author.Rules.{rules}
 use Rattle.sheet.proofs.header.header_refusal.Goals as goal
 
 pub returns : goal.returns

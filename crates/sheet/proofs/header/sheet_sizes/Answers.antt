@@ -2,7 +2,6 @@
 use mathlib.Core.Path.{refl}
 use Rattle.integers.specs.Lists.{tab}
 use Rattle.sheet.specs.Reading.{header_numbers, sizes_of}
-use borrow.Author.Rules.{rules}
 use Rattle.sheet.proofs.header.sheet_sizes.Goals as goal
 
 pub returns : goal.returns

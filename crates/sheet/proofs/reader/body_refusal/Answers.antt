@@ -1,7 +1,6 @@
 -- `sheet::reader::body_refusal` meets its contract.
 use native.Mathlib.Omega.{arith}
 use Rattle.sheet.specs.Laws.ReadingLaws.{lines-positive, twelve, seven, later, laid-inside}
-use borrow.Author.Rules.{rules}
 use Rattle.sheet.proofs.reader.body_refusal.Goals as goal
 
 pub sections_of-q-requires : goal.sections_of-q-requires

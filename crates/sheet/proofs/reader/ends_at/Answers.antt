@@ -1,6 +1,5 @@
 -- `sheet::reader::ends_at` meets its contract.
 use mathlib.Core.Path.{refl}
-use borrow.Author.Rules.{rules}
 use Rattle.sheet.proofs.reader.ends_at.Goals as goal
 
 pub returns-in-At : goal.returns-in-At

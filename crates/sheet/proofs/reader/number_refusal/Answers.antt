@@ -2,7 +2,6 @@
 use Rattle.sheet.specs.Laws.ReadingLaws.{eight, nine_ten}
 use mathlib.Core.Path.{sym, ◌∙◌}
 use borrow.Author.Tests.{not-false}
-use borrow.Author.Rules.{rules}
 use Rattle.sheet.proofs.reader.number_refusal.Goals as goal
 
 pub numbers_ok-requires : goal.numbers_ok-requires

@@ -1,6 +1,5 @@
 -- `sheet::reader::read_sheet` meets its contract.
 use Rattle.sheet.specs.Laws.AnswerLaws.{read-refused, read_sheet, sheet_inside, sheet_coefficients, sheet_fits}
-use borrow.Author.Rules.{rules}
 use Rattle.sheet.proofs.reader.read_sheet.Goals as goal
 
 pub returns-then-refusal-gt0 : goal.returns-then-refusal-gt0

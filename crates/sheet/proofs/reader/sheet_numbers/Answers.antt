@@ -1,6 +1,5 @@
 -- `sheet::reader::sheet_numbers` meets its contract.
 use Rattle.sheet.specs.Laws.AnswerLaws.{good_header, count-refused, count_good}
-use borrow.Author.Rules.{rules}
 use Rattle.sheet.proofs.reader.sheet_numbers.Goals as goal
 
 pub returns-then-header-gt0 : goal.returns-then-header-gt0

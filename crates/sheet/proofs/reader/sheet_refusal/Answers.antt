@@ -1,6 +1,5 @@
 -- `sheet::reader::sheet_refusal` meets its contract.
 use Rattle.sheet.specs.Laws.AnswerLaws.{refused-header, good_header, rest_refusal}
-use borrow.Author.Rules.{rules}
 use Rattle.sheet.proofs.reader.sheet_refusal.Goals as goal
 
 pub returns-then-header-gt0 : goal.returns-then-header-gt0

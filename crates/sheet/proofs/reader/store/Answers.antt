@@ -4,7 +4,6 @@ use native.Mathlib.Omega.{arith}
 use Rattle.residues.specs.Range.{coefficients}
 use Rattle.sheet.specs.Laws.ReadingLaws.{lines-positive, front-span, all-numbers}
 use Rattle.sheet.specs.Laws.AnswerLaws.{stored}
-use borrow.Author.Rules.{rules}
 use Rattle.sheet.proofs.reader.store.Goals as goal
 
 pub sections_of-q-requires : goal.sections_of-q-requires

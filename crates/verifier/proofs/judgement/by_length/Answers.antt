@@ -1,6 +1,5 @@
 -- `verifier::judgement::by_length` meets its contract, by the margin's variant.
 use Rattle.verifier.specs.Laws.JudgementLaws.{within_says, above_says}
-use borrow.Author.Rules.{rules}
 use Rattle.verifier.proofs.judgement.by_length.Goals as goal
 
 pub returns-in_default : goal.returns-in_default

@@ -4,7 +4,6 @@ use Prim.Native.Nat.{◌+◌, ◌*◌, ◌≤◌}
 use native.Mathlib.Omega.{arith}
 use Rattle.writer.specs.Writing.{element_lines}
 use Rattle.writer.proofs.Laws.LengthLaws.{lines-most}
-use borrow.Author.Rules.{rules}
 use Rattle.writer.proofs.bytes.element_lines.Goals as goal
 
 pub overflow_mul-terms : goal.overflow_mul-terms

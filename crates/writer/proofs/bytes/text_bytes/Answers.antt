@@ -5,7 +5,6 @@ use native.Mathlib.Omega.{arith}
 use Rattle.fields.specs.Field.{header_bytes}
 use Rattle.writer.specs.Writing.{text_bytes}
 use Rattle.writer.proofs.Laws.LengthLaws.{bytes_most}
-use borrow.Author.Rules.{rules}
 use Rattle.writer.proofs.bytes.text_bytes.Goals as goal
 
 pub overflow_mul-result : goal.overflow_mul-result

@@ -1,7 +1,6 @@
 -- `writer::header::write_header` meets its contract.
-use Prim.Native.Nat.{◌-◌}
 use native.Mathlib.Omega.{arith}
-use Rattle.writer.proofs.Laws.LineLaws.{HeaderWritten, header-start, header-room, header-step, header-done}
+use Rattle.writer.proofs.Laws.LineLaws.{header-start, header-room, header-step, header-done}
 use Rattle.writer.proofs.header.write_header.Goals as goal
 
 pub loop-k-init : goal.loop-k-init

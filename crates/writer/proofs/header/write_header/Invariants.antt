@@ -1,6 +1,5 @@
 use Prim.Native.Nat.{◌-◌}
-use native.Mathlib.Omega.{arith}
-use Rattle.writer.proofs.Laws.LineLaws.{HeaderWritten, header-start, header-room, header-step, header-done}
+use Rattle.writer.proofs.Laws.LineLaws.{HeaderWritten}
 use Rattle.writer.proofs.header.write_header.Given as goal
 
 abbrev pub invariant-loop-k : goal.invariant-loop-k

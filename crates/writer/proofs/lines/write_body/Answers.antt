@@ -4,7 +4,6 @@ use Rattle.integers.specs.Over.{over}
 use Rattle.fields.specs.Field.{header_bytes}
 use Rattle.sheet.specs.Laws.ReadingLaws.{lines-positive}
 use Rattle.writer.proofs.Laws.LineLaws.{body-lines}
-use borrow.Author.Rules.{rules}
 use Rattle.writer.proofs.lines.write_body.Goals as goal
 
 pub write_lines-requires : goal.write_lines-requires

@@ -1,14 +1,11 @@
 -- `writer::lines::write_lines` meets its contract.
 use mathlib.Core.Path.{ap, ◌∙◌}
-use Prim.Native.Nat.{◌-◌}
 use native.Mathlib.Omega.{arith}
 use lib.IntN.{ℤ, pos, nat_abs}
 use lib.Signed.{lt_z}
-use lib.ListN.{length, get_or}
+use lib.ListN.{get_or}
 use Rattle.residues.proofs.Laws.Words.{word}
-use Rattle.fields.specs.Sections.{ends_line}
-use borrow.Author.Rules.{rules}
-use Rattle.writer.proofs.Laws.LineLaws.{BodyWritten, body-start, body-room, body-step, body-done}
+use Rattle.writer.proofs.Laws.LineLaws.{body-start, body-room, body-step, body-done}
 use Rattle.writer.proofs.lines.write_lines.Goals as goal
 
 pub loop-i-init : goal.loop-i-init

@@ -6,7 +6,6 @@ use lib.ListN.{length}
 use Rattle.residues.specs.Range.{projection_entries}
 use Rattle.fold.specs.Refusals.{challenges}
 use Rattle.writer.proofs.Laws.RefusalLaws.{rows_inside, challenges-inside, rows_are, challenges_are, numbers_refusal}
-use borrow.Author.Rules.{rules}
 use Rattle.writer.proofs.refusal.number_refusal.Goals as goal
 
 pub overflow_add-rows_end : goal.overflow_add-rows_end

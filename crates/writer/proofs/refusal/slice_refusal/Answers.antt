@@ -1,6 +1,5 @@
 -- `writer::refusal::slice_refusal` meets its contract.
 use Rattle.writer.proofs.Laws.RefusalLaws.{other-count, right-count}
-use borrow.Author.Rules.{rules}
 use Rattle.writer.proofs.refusal.slice_refusal.Goals as goal
 
 pub returns-then-numbers-total_numbers : goal.returns-then-numbers-total_numbers

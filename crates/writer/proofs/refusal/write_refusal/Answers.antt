@@ -1,6 +1,5 @@
 -- `writer::refusal::write_refusal` meets its contract.
 use Rattle.writer.proofs.Laws.RefusalLaws.{good_sizes, refused-header, refused_slice, last_refusal}
-use borrow.Author.Rules.{rules}
 use Rattle.writer.proofs.refusal.write_refusal.Goals as goal
 
 pub returns-then-header-gt0 : goal.returns-then-header-gt0

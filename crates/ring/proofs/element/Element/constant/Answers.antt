@@ -1,5 +1,5 @@
 -- `ring::element::Element::constant` meets its contract.
-use Rattle.std.proofs.Common.{set, replicate, pos, sym, ap, ◌∙◌, rules}
+use Rattle.std.proofs.Common.{set, replicate, pos, sym, ap, ◌∙◌}
 use Rattle.ring.specs.Laws.ElementSteps.{stored-number}
 use Rattle.ring.specs.Laws.ElementArrays.{array-number}
 use Rattle.ring.proofs.element.Element.constant.Goals as goal

@@ -1,5 +1,5 @@
 -- `ring::element::Element::constant_term` meets its contract.
-use Rattle.std.proofs.Common.{get_or, pos, rules}
+use Rattle.std.proofs.Common.{get_or, pos}
 use Rattle.ring.specs.Laws.ElementSteps.{stored-number}
 use Rattle.ring.proofs.element.Element.constant_term.Goals as goal
 

@@ -1,5 +1,5 @@
 -- `ring::element::Element::difference` meets its contract: the opposite is added.
-use Rattle.std.proofs.Common.{ap, ◌∙◌, rules}
+use Rattle.std.proofs.Common.{ap, ◌∙◌}
 use Rattle.ring.specs.Element.{R, lift, array}
 use Rattle.ring.specs.Laws.ElementLaws.{lift-array}
 use Rattle.ring.specs.Laws.Numbers.{minus_one}

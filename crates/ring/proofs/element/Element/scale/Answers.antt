@@ -1,5 +1,5 @@
 -- `ring::element::Element::scale` meets its contract.
-use Rattle.std.proofs.Common.{to_z-of_z, rules}
+use Rattle.std.proofs.Common.{to_z-of_z}
 use Rattle.ring.proofs.element.Element.scale.Goals as goal
 
 pub returns : goal.returns
