@@ -160,9 +160,9 @@ pub fn aggregate_holds(
 ) -> bool
     requires diagonal_facts { DiagonalFacts sizes whole.now constant_terms.now psi.now alpha.now delta.now c.now opening.now }
     requires second_b_len { length second_b.now ≡ 5 * sizes.shape.d }
-    ensures { (projections omega : List ℤ) → result ≡ aggregate_holds sizes.shape.d sizes.shape.r
+    ensures { (projections ω : List ℤ) → result ≡ aggregate_holds sizes.shape.d sizes.shape.r
         (aggregate sizes.shape.d sizes.shape.n sizes.shape.r sizes.k sizes.l sizes.w whole.now constant_terms.now
-        projections psi.now omega alpha.now delta.now).a
+        projections psi.now ω alpha.now delta.now).a
         (aggregate_constant sizes.shape.d sizes.shape.n sizes.shape.r sizes.k whole.now alpha.now delta.now second_b.now)
         (own_zat sizes.shape.d sizes.shape.n sizes.shape.r sizes.kappa opening.now)
         (ownΦat sizes.shape.d sizes.shape.n sizes.shape.r sizes.kappa opening.now) }

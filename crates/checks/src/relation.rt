@@ -130,9 +130,9 @@ pub fn relation_holds(
 ) -> bool
     requires tz_bound { tz ≤ 2 }
     requires relation_facts { RelationFacts tz sizes whole.now constant_terms.now psi.now alpha.now delta.now second_b.now opening.now }
-    ensures { (w : ℕ) (projections omega : List ℤ) → result ≡ check₈ sizes.shape.d sizes.shape.r
+    ensures { (w : ℕ) (projections ω : List ℤ) → result ≡ check₈ sizes.shape.d sizes.shape.r
         (aggregate sizes.shape.d sizes.shape.n sizes.shape.r sizes.k sizes.l w whole.now constant_terms.now projections
-        psi.now omega alpha.now delta.now).a
+        psi.now ω alpha.now delta.now).a
         (aggregate_constant sizes.shape.d sizes.shape.n sizes.shape.r sizes.k whole.now alpha.now
         delta.now second_b.now) (g_value tz sizes opening.now) (h_value tz sizes opening.now) }
 {

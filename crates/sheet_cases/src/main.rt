@@ -1,7 +1,7 @@
 // Reads the sheets of a corpus through the calls for C, and then writes sheets. Standard input has a line with the number of cases, then for each
 // case a line with its number of bytes, the bytes, and a line feed; these numbers stand in 16 columns, as on a sheet. Standard output gets five
 // lines for each case: how many numbers the sheet holds; three times what the reader answers, with a slice of one number less than that, of as
-// many, and of one more; and what the judge answers. The cases of the writer follow: src/writer.rt.
+// many, and of one more; and what the judge answers. The cases of the writer follow: src/writer_cases.rt.
 #![tactic(auto)]
 
 ghost use Rattle.std.specs.Prelude.{◌≡◌, ◌≤◌, min, ◌-◌, take, nat_abs};
@@ -14,7 +14,7 @@ use cases::sums::print_shown;
 use fields::walk::number_size;
 use std::io::{Stdin, Stdout};
 
-mod writer;
+mod writer_cases;
 
 // Most cases.
 const CASES: usize = 1000;
@@ -186,5 +186,5 @@ fn main(rt: HostRuntime) {
     let cases = read_number(stdin, CASES);
     run_cases(stdin, stdout, &mut text, cases);
     let written = read_number(stdin, CASES);
-    writer::run_writer(stdin, stdout, &mut text, written);
+    writer_cases::run_writer(stdin, stdout, &mut text, written);
 }

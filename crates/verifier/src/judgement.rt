@@ -109,8 +109,8 @@ fn last_verdict(
 ) -> Verdict
     requires tz_bound { tz ≤ 2 }
     requires relation_facts { RelationFacts tz sizes whole.now constant_terms.now psi.now alpha.now delta.now second_b.now opening.now }
-    ensures { (projections omega : List ℤ) → result ≡ judged (first_failing (last_checks_of tz sizes whole.now constant_terms.now projections
-        psi.now omega second_b.now alpha.now delta.now opening.now))
+    ensures { (projections ω : List ℤ) → result ≡ judged (first_failing (last_checks_of tz sizes whole.now constant_terms.now projections
+        psi.now ω second_b.now alpha.now delta.now opening.now))
         (margin_of tz sizes opening.now) }
 {
     let eight = relation::relation_holds(

@@ -1,7 +1,7 @@
 use mathlib.Core.Path.{◌≡◌}
 use Prim.Native.Nat.{◌-◌}
 use lib.ListN.{length}
-use Rattle.sheet_cases.proofs.writer.refill.Given as goal
+use Rattle.sheet_cases.proofs.writer_cases.refill.Given as goal
 
 abbrev pub invariant-loop-i : goal.invariant-loop-i
 invariant-loop-i l = length l.buffer ≡ length l.initial.buffer

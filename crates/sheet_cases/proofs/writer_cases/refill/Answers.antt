@@ -1,8 +1,8 @@
--- `sheet_cases::writer::refill` is safe. Assumes nothing.
+-- `sheet_cases::writer_cases::refill` is safe. Assumes nothing.
 use mathlib.Core.Path.{refl, ◌∙◌}
 use native.Mathlib.Omega.{arith}
 use lib.ListN.{length-set}
-use Rattle.sheet_cases.proofs.writer.refill.Goals as goal
+use Rattle.sheet_cases.proofs.writer_cases.refill.Goals as goal
 
 pub loop-i-init : goal.loop-i-init
 loop-i-init c = refl

@@ -1,7 +1,7 @@
 use mathlib.Core.Path.{◌≡◌}
 use Prim.Native.Nat.{◌-◌}
 use lib.ListN.{length}
-use Rattle.sheet_cases.proofs.writer.numbers_on.Given as goal
+use Rattle.sheet_cases.proofs.writer_cases.numbers_on.Given as goal
 
 abbrev pub invariant-loop-i : goal.invariant-loop-i
 invariant-loop-i l = length l.numbers ≡ length l.initial.numbers

@@ -1,7 +1,7 @@
--- `sheet_cases::writer::byte_sum` meets its contract. Assumes nothing.
+-- `sheet_cases::writer_cases::byte_sum` meets its contract. Assumes nothing.
 use native.Mathlib.Omega.{arith}
 use Rattle.integers.specs.Laws.RemainderLaws.{emod-lt}
-use Rattle.sheet_cases.proofs.writer.byte_sum.Goals as goal
+use Rattle.sheet_cases.proofs.writer_cases.byte_sum.Goals as goal
 
 pub loop-i-init : goal.loop-i-init
 loop-i-init c = (omega arith, omega arith)

@@ -1,8 +1,8 @@
--- `sheet_cases::writer::run_sized` is safe: both slices have room. Assumes nothing.
+-- `sheet_cases::writer_cases::run_sized` is safe: both slices have room. Assumes nothing.
 use mathlib.Core.Path.{sym}
 use native.Mathlib.Omega.{arith}
 use lib.Seq.{length-take-le}
-use Rattle.sheet_cases.proofs.writer.run_sized.Goals as goal
+use Rattle.sheet_cases.proofs.writer_cases.run_sized.Goals as goal
 
 pub slice_bounds-run_write-end-2 : goal.slice_bounds-run_write-end-2
 slice_bounds-run_write-end-2 c =

@@ -1,7 +1,7 @@
--- crates/sheet_cases/proofs/writer/run_cases/Invariants.antt
+-- crates/sheet_cases/proofs/writer_cases/run_cases/Invariants.antt
 -- The text, the numbers and the buffer keep their lengths.
 use Rattle.std.proofs.Common.{◌≡◌, ◌≤◌, ◌-◌, length}
-use Rattle.sheet_cases.proofs.writer.run_cases.Given as goal
+use Rattle.sheet_cases.proofs.writer_cases.run_cases.Given as goal
 
 abbrev pub invariant-loop-i : goal.invariant-loop-i
 invariant-loop-i l = (l.i ≤ l.cases) × (length l.text ≡ length l.fn.text) × (length l.numbers ≡ length l.fn.numbers) × (length l.buffer ≡ length l.fn.buffer)
