@@ -155,7 +155,7 @@ def apply(text, spelled, fields, mark):
     return '\n'.join(out)
 
 
-def main():
+def main(lemmas):
     root = pathlib.Path('.')
     names, fields = declared(root)
     spelled = plan(names)
@@ -173,7 +173,7 @@ def main():
     for f in sorted(list(root.glob('crates/*/specs/**/*.antt')) + list(root.glob('crates/*/proofs/**/*.antt'))
                     + list(root.glob('crates/*/src/**/*.rt'))):
         text = f.read_text()
-        local = {**spelled, **LEMMAS.get(f.as_posix(), {})}
+        local = {**spelled, **lemmas.get(f.as_posix(), {})}
         new = apply(text, local, fields, '//' if f.suffix == '.rt' else '--')
         if new != text:
             f.write_text(new)
@@ -183,6 +183,6 @@ def main():
 
 if __name__ == '__main__':
     # twice: what the first run respelled tells which dashes of longer names stay
-    main()
+    main(LEMMAS)
     if '--plan' not in sys.argv:
-        main()
+        main({})
