@@ -45,7 +45,9 @@ def file_faults(page):
     for path in set(re.findall(r"(?<![\w/.$-])((?:%s)/[\w./*-]*[\w*])" % "|".join(FOLDERS + (OF_CRATE,)), words)):
         if not placeholder(path) and not is_there(page, path):
             yield f"{page}: {path} is not there"
-    for name in set(re.findall(r"(?<![\w/.*-])([A-Za-z][\w-]*\.(?:antt|rt|md|py|rs|c|h|svg|sheet))(?![\w/])", words)):
+    # in a statement a dot stands before a field
+    outside_blocks = re.sub(r"```.*?```", "", words, flags=re.DOTALL)
+    for name in set(re.findall(r"(?<![\w/.*-])([A-Za-z][\w-]*\.(?:antt|rt|md|py|rs|c|h|svg|sheet))(?![\w/])", outside_blocks)):
         if not placeholder(name) and name not in NAMES:
             yield f"{page}: no file has the name {name}"
     for target in re.findall(r"\]\(([^)#\s]+)[^)]*\)", words):
@@ -60,6 +62,7 @@ def source_words():
     for name in FILES:
         if not name.endswith((".md", ".svg", ".sheet", "stdin", "stdout")):
             words.update(re.split(r"[\s(){}\[\],;.:\"'`|=<>&!*/]+", text(name)))
+            words.update(re.findall(r"[\w-]+'+", text(name)))
             words.update(re.findall(r"[A-Za-z_]\w*", text(name)))
     return words
 
@@ -67,9 +70,9 @@ def source_words():
 def name_faults(page, words):
     outside_blocks = re.sub(r"```.*?```", "", text(page), flags=re.DOTALL)
     for quoted in set(re.findall(r"`([^`\n]+)`", outside_blocks)):
-        if not re.fullmatch(r"[\w·′″ᵒ₀-₉-]+(::[\w]+)*(\(\w*\))?", quoted) or quoted in FOREIGN | NAMES or re.fullmatch(r"[\d-]+|[A-Z_]+", quoted):
+        if not re.fullmatch(r"[\w'ᵒ₀-₉-]+(::[\w]+)*(\(\w*\))?", quoted) or quoted in FOREIGN | NAMES or re.fullmatch(r"[\d-]+|[A-Z_]+", quoted):
             continue
-        for word in re.findall(r"[\w·′″ᵒ₀-₉-]+", re.sub(r"\(\w*\)", "", quoted)):
+        for word in re.findall(r"[\w'ᵒ₀-₉-]+", re.sub(r"\(\w*\)", "", quoted)):
             if word not in words and not (word.startswith("_") and any(known.endswith(word) for known in words)):
                 yield f"{page}: `{quoted}` is no name of the sources"
 
