@@ -27,7 +27,7 @@ SIZES = Sizes(
 PLACES = {"z": 13, "t": 22, "g": 58, "h": 87}
 
 # The definitions' name of the constant-term constraints.
-CONSTANT_TERMS = "constantTerms"
+CONSTANT_TERMS = "constant_terms"
 
 # The lists that are given, as SecondCaseNumbers names them.
 GIVEN = {
@@ -36,7 +36,7 @@ GIVEN = {
 }
 
 # The constraints of the next instance, in order.
-NEXT = "next-5-1 next-5-2 next-6 next-7 next-8 next-3-1 next-3-2 next-3-3 next-4-1 next-4-2".split()
+NEXT = "next_5_1 next_5_2 next_6 next_7 next_8 next_3_1 next_3_2 next_3_3 next_4_1 next_4_2".split()
 
 
 # antt text
@@ -44,12 +44,9 @@ NEXT = "next-5-1 next-5-2 next-6 next-7 next-8 next-3-1 next-3-2 next-3-3 next-4
 HEADER = """\
 -- Written by tools/reference/second_case.py, the second implementation: a statement, a witness that meets it, draws, and the numbers
 -- that the second implementation computes from them. SecondCase proves that they are the definitions'.
-use mathlib.Core.List.{List, [], _∷_}
-use Prim.Native.Nat.{ℕ}
-use lib.ListN.{set}
-use lib.IntN.{ℤ}
-use Rattle·integers.specs.Literals.{+_, -_, _zeros∷_}
-use Rattle·fold.specs.Statement.{Statement, Draws}
+use Rattle.std.specs.Prelude.{List, [], ◌∷◌, ℕ, set, ℤ}
+use Rattle.integers.specs.Literals.{+◌, -◌, ◌zeros∷◌}
+use Rattle.fold.specs.Statement.{Statement, Draws}
 """
 
 RECORDS = """\
@@ -154,17 +151,17 @@ def files():
     texts += [list_definition(name, x[GIVEN[name]]) for name in GIVEN]
     texts += [RECORDS.format(**s._asdict(), terms=CONSTANT_TERMS)]
     texts += ["-- the honest messages and opening\n" + list_definition("u₁", y["u1"])]
-    texts += [list_definition("p", y["p"]), list_definition("b″", y["second_b"]), list_definition("u₂", y["u2"])]
+    texts += [list_definition("p", y["p"]), list_definition("b''", y["second_b"]), list_definition("u₂", y["u2"])]
     texts += [list_definition("opening", y["opening"])]
     texts += [definition("least-bound", "ℕ", [str(s.beta_squared)], "the least bounds with which it is accepted")]
-    texts += [definition("squared-length", "ℕ", [str(s.target_beta_squared)])]
+    texts += [definition("squared_length", "ℕ", [str(s.target_beta_squared)])]
     texts += ["-- one number greater by one: in b'' a constant term or another coefficient; in the opening one of z, t, g or h"]
-    texts[-1] += "\n" + changed_definition("b″-changed-0", "b″", y["second_b"], 0)
-    texts += [changed_definition("b″-changed-1", "b″", y["second_b"], 1)]
-    texts += [changed_definition(f"{block}-changed", "opening", y["opening"], place) for block, place in PLACES.items()]
+    texts[-1] += "\n" + changed_definition("b''_changed_0", "b''", y["second_b"], 0)
+    texts += [changed_definition("b''_changed_1", "b''", y["second_b"], 1)]
+    texts += [changed_definition(f"{block}_changed", "opening", y["opening"], place) for block, place in PLACES.items()]
     u1, u2 = with_commitments(s, changed["g"])["u1"], with_commitments(s, changed["h"])["u2"]
-    texts += [list_definition("u₁-of-g-changed", u1, "the commitments to the changed g and h")]
-    texts += [list_definition("u₂-of-h-changed", u2)]
+    texts += [list_definition("u₁_of_g_changed", u1, "the commitments to the changed g and h")]
+    texts += [list_definition("u₂_of_h_changed", u2)]
     texts += [f"-- the next instance for ν = {s.nu}, μ = {s.mu}, and the padded opening"]
     texts[-1] += "\n" + list_definition(NEXT[0], constraints[0])
     texts += [list_definition(*each) for each in zip(NEXT[1:], constraints[1:], strict=True)]
