@@ -21,7 +21,7 @@ FILES = [name for name in FILES if name and (HERE / name).is_file()]
 NAMES = {Path(name).name for name in FILES}
 PAGES = [name for name in FILES if name.endswith(".md")]
 # commands and words of the kit or of the system; names that stand for others
-FOREIGN = {"rt", "cargo", "rustfmt", "clippy", "parallel", "nonnull", "dereferenceable", "io::read_full"}
+FOREIGN = {"rt", "cargo", "rustfmt", "clippy", "parallel", "nonnull", "dereferenceable"}
 PLACEHOLDER = re.compile(r"[A-Z]+(\.\w+)?")
 
 
