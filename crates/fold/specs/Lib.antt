@@ -25,6 +25,5 @@ pub mod Refusals
 pub mod Arguments
 -- What a call that is not refused knows
 pub mod Known
--- Theorems
 -- Laws
 pub mod Laws

@@ -1,5 +1,5 @@
 -- The constraint of each check, by the lists that its writer is lent, and how it is laid out. `minus` holds minus the challenges; `products`,
--- `aggregatedA` and `diagonal` hold an element for each pair (i, j).
+-- `aggregated_a` and `diagonal` hold an element for each pair (i, j).
 --     laid                   a constraint laid out on the parts of a cut
 --     check5 .. check4       the constraints, of openings whose z has tz digits
 use Rattle.std.specs.Prelude.{List, ◌++◌, ℕ, ◌+◌, ◌*◌, ℤ}

@@ -8,7 +8,7 @@
 --     bare_number           the number of an answer of kind 0 is that margin: in C too; it is at most 999999999999999
 --     bare_first_fails      14.7: "the first that fails is named": failed k exactly when check k is the first of the seven whose test fails
 --     chain_end             14.11: the padded opening of an accepted fold, and the next instance that the call wrote, as witness and statement of a bare run
--- The cases of 14.9 are `BareHonestVerdict`, crates/bare/specs/Theorems/BareHonestRuns.antt; those of 14.10 `BareShortPreimage`, BareTwoOpenings.antt there.
+-- The cases of 14.9 are `BareHonestVerdict`, crates/bare/proofs/Theorems/BareHonestRuns.antt; those of 14.10 `BareShortPreimage`, BareTwoOpenings.antt there.
 -- That no call refuses what it is lent for an honest run: BareTaken.antt there; row 14: MixedProducts.antt.
 use Rattle.std.specs.Prelude.{◌≡◌, refl, ◌↔◌, ◌≢◌, List, [], ℕ, suc, ◌+◌, ◌*◌, ◌-◌, ◌≤◌, ◌<◌, take, ℤ}
 use Rattle.std.proofs.Common.{sym, ap, ◌∙◌}
@@ -118,7 +118,7 @@ module _ (𝓢 : BareStatement) (𝓓 : Draws) (𝓣 : BareTranscript) (o : List
 
 -- a fold whose next instance was written and whose opening was accepted: "its padded parts meet all constraints of the next instance", so that a bare run with
 -- them, of the statement that was written, is judged by its lengths alone. Row 14 is tested by `bare_phi` and `bare_verify`; where the fold has one z digit it never refuses
--- (`next_not_14`, `next_phi_not_14`, MixedProducts.antt), and beside it only what is lent anew can be refused (`chain_taken`, crates/bare/specs/Theorems/ChainEnds.antt)
+-- (`next_not_14`, `next_phi_not_14`, MixedProducts.antt), and beside it only what is lent anew can be refused (`chain_taken`, crates/bare/proofs/Theorems/ChainEnds.antt)
 module _ (𝓢 : Statement) (𝓓 : Draws) (𝓣 : Transcript) (ν μ : ℕ) (out out' o : List ℤ) (called : NextCalled 𝓢 𝓓 𝓣 ν μ out Written out')
     (folded : Answer) (folded-is : folded ≡ verification 𝓢 𝓓 𝓣 o) (accepted : kind_of folded ≡ 0) where
   pub chain_end : (sizes : BareSizes) (A projections ψ ω α δ c : List ℤ)

@@ -2,7 +2,7 @@
 -- α, δ and c come in, none of them refused, the verdict on the honest messages and opening is failed 1 exactly when 2·|p|² is above w·β²; otherwise
 -- failed 9 exactly when the squared length of all its digits is above the target bound; otherwise accepted, with the target bound minus that length
 -- as margin."
--- For what the five calls wrote and `verify` answers on it, by their promises alone; the cases: HonestVerdict, crates/fold/specs/Theorems/HonestRuns.antt.
+-- For what the five calls wrote and `verify` answers on it, by their promises alone; the cases: HonestVerdict, crates/fold/proofs/Theorems/HonestRuns.antt.
 -- `honest_judged`: whatever the witness, `verify` refuses none of it.
 use Rattle.std.specs.Prelude.{◌≡◌, List, ℤ}
 use Rattle.fold.specs.declared.Answer.{Answer}

@@ -1,10 +1,10 @@
 -- SPECIFICATION 7, row 14: "some constraint has a nonzero a_ij with i < j (bare level only)". For the calls that take constraints, from their promises
 -- alone: `bare_verify`, whose promise is `answer ≡ bare_verification ..`, and `bare_phi`, whose promise is `BarePhiFormed`. `Mixed`
--- (crates/bare/specs/Laws/UnmixedLaws.antt) says it by constraint and index, of both kinds; `MixedNumbers` there by numbers (7.l).
---     verify_refused_14, phi-refused-14    refused by 14 exactly when "some constraint has a nonzero a_ij with i < j", where the tests of all lower rows hold
+-- (crates/bare/proofs/Laws/UnmixedLaws.antt) says it by constraint and index, of both kinds; `MixedNumbers` there by numbers (7.l).
+--     verify_refused_14, phi_refused_14    refused by 14 exactly when "some constraint has a nonzero a_ij with i < j", where the tests of all lower rows hold
 --     verify-mixed-numbers                 the same by numbers: "nonzero says that some of its d numbers is not 0" (7.l)
 --     accepted-unmixed                     an accepted bare opening is of a statement without mixed products
---     next_not_14, next-phi-not-14         the next instance of a fold with one z digit, as it was written, is never refused by 14, "whatever the draws" (14.11)
+--     next_not_14, next_phi_not_14         the next instance of a fold with one z digit, as it was written, is never refused by 14, "whatever the draws" (14.11)
 use Rattle.std.specs.Prelude.{◌≡◌, true, false, ◌↔◌, ◌≢◌, List, [], ℕ, ◌<◌, ℤ}
 use Rattle.std.proofs.Common.{sym, ap, ◌∙◌, arith}
 use Rattle.fold.specs.declared.Answer.{Answer}

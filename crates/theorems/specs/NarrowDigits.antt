@@ -1,6 +1,6 @@
 -- SPECIFICATION 7.i: "each low digit x of the opening, of a base B, has 2·|x| ≤ B." Row 15: "the absolute value of a low digit is more than half its
 -- base (verifier only)". For the answers of `verify`, whose promise is `answer ≡ verification ..`, and of `judge_sheet`, whose promise is
--- `answer ≡ judged_text text`. `NarrowOpening` and `WideOpening` (crates/fold/specs/Theorems/NarrowDigits.antt) say it by digit.
+-- `answer ≡ judged_text text`. `NarrowOpening` and `WideOpening` (crates/fold/proofs/Theorems/NarrowDigits.antt) say it by digit.
 --     refused_15         refused by 15, where the tests of all lower rows hold, "exactly when the absolute value of a low digit is more than half its base"
 --     accepted-narrow    an accepted opening has narrow low digits
 --     sheet_refused_15   a sheet is refused by 15 exactly when its opening has a wide low digit

@@ -4,7 +4,7 @@
 -- `NextCalled`; that of `verify` is `answer ≡ verification ..`, accepted where its kind is 0. The next instance is the relation whose constraints are the numbers that the call
 -- wrote: `relation_of out'`, with K' = κ+κ1+κ2+3, L' = 0 and the bound β'². `next_witness o` is the padded opening.
 --     accepted-exactly        an opening that gets past row 15: its answer is not refused 15
---     narrow-accepted         an opening with narrow low digits: row 15 by index is `NarrowOpening`, crates/fold/specs/Theorems/NarrowDigits.antt
+--     narrow-accepted         an opening with narrow low digits: row 15 by index is `NarrowOpening`, crates/fold/proofs/Theorems/NarrowDigits.antt
 --     solving_refused         an opening that, padded, solves the next instance and has a wide low digit is refused by 15
 --     solution_accepts        a solution with zero padding, "if its digits are narrow too"
 --     full_solution_accepts   the same of every solution, where the z chunks are full

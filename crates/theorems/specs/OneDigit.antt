@@ -2,9 +2,9 @@
 -- tested." The demands (the other files of this folder) hold for both. Where z has one digit, for the answers of `amortize`, `verify` and `next_instance`:
 --     amortize-no-base                  message 5 is not refused by 4
 --     amortize-whole                    what it writes is z itself
---     verify_any_base, next-any-base    the answer, and what is written, is that for every base that row 4 takes
+--     verify_any_base, next_any_base    the answer, and what is written, is that for every base that row 4 takes
 --     next-unmixed                      "the next instance of a fold with one z digit has no mixed products"
--- `Unmixed` (crates/fold/specs/Theorems/OneDigit.antt) says of a statement that no a_ij with i < j is other than zero.
+-- `Unmixed` (crates/fold/proofs/Theorems/OneDigit.antt) says of a statement that no a_ij with i < j is other than zero.
 use Rattle.std.specs.Prelude.{◌≡◌, refl, true, List, ℕ, ℤ, pos}
 use Rattle.std.proofs.Common.{sym, ◌∙◌, arith}
 use Rattle.fold.specs.declared.Answer.{Answer}

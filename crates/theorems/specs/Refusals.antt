@@ -2,7 +2,7 @@
 -- wrong length, a coefficient out of range, a projection entry other than -1, 0, 1, a challenge outside the rule, a next instance too large, a broken
 -- sheet, a buffer shorter than the text, a mixed product at the bare level, a low digit of more than half its base. All else is answered; every call ends and does nothing undefined."
 -- One theorem for each call, from its promise alone: it is refused by k exactly when the test of row k is the first of its tests that fails, and
--- then nothing lent has changed (`Refuses`, crates/fold/specs/Theorems/FirstRefusal.antt). That a call ends and does nothing undefined is part of its proof.
+-- then nothing lent has changed (`Refuses`, crates/fold/proofs/Theorems/FirstRefusal.antt). That a call ends and does nothing undefined is part of its proof.
 use Rattle.std.specs.Prelude.{◌≡◌, refl, ◌↔◌, List, [], ℕ, suc, length, ℤ}
 use Rattle.std.proofs.Common.{◌∙◌}
 use Rattle.fold.specs.declared.Answer.{Answer}

@@ -5,8 +5,8 @@
 --     written-answer    what `write_sheet` put down, of at most 65536 bytes, is answered so for the numbers that it was given
 --     text-refuses      a text of at most 65536 bytes is refused by the first of the reader's tests and row 15 that fails; a longer one by 12
 --     verify-refuses    `verify` refuses the numbers of a sheet as the reader does, by the first of rows 8 to 10 that fails, and after them by row 15
--- What the reader takes is `sheet_exactly` (crates/sheet/specs/Theorems/SheetTheorems.antt); that reader and writer undo each other is `Written-Read`
--- and `read-written` (crates/writer/specs/Theorems/WriterTheorems.antt); their refusals are `read-refuses` and `write_refuses` (Refusals.antt).
+-- What the reader takes is `sheet_exactly` (crates/sheet/specs/Theorems/SheetTheorems.antt); that reader and writer undo each other is `written_read`
+-- and `read-written` (crates/writer/proofs/Theorems/WriterTheorems.antt); their refusals are `read-refuses` and `write_refuses` (Refusals.antt).
 use Rattle.std.specs.Prelude.{◌≡◌, refl, true, false, List, ◌++◌, ℕ, ◌≤◌, ◌<◌, length, take, ℤ}
 use Rattle.std.proofs.Common.{sym, ap, ◌∙◌, arith}
 use Rattle.fold.specs.declared.Answer.{Answer}

@@ -2,7 +2,7 @@
 -- and every part i such that their challenges c are equal at all other parts: if their t or g digits differ anywhere, the difference is a nonzero
 -- vector that B and C together send to zero, of squared length at most 4 times the target bound; if these digits are all equal,
 -- A(z - z') = (c_i - c'_i) t_i, and the squared length of z - z' is at most 4(1 + b²) times that bound, with one z digit at most 4 times it."
--- For two answers of `verify` of kind 0, from its promise alone. ShortKernel and ShortPreimage (crates/fold/specs/Theorems/TwoOpenings.antt) are the two
+-- For two answers of `verify` of kind 0, from its promise alone. ShortKernel and ShortPreimage (crates/fold/proofs/Theorems/TwoOpenings.antt) are the two
 -- cases. Parts are counted from 0. The same u1 is asked in the first case only.
 --     two-accepted              where z has two digits
 --     two-accepted-one-digit    where it has one

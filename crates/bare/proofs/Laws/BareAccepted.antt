@@ -1,9 +1,9 @@
 -- The verdict of the bare level, check by check: it is accepted exactly when the seven facts of SPECIFICATION 14.7 hold, and Failed k exactly when check k
 -- is the first that fails. Below, what it says that the verifier accepts: its call is not refused, so the opening has its length and range, the
 -- challenges keep the rule, and no constraint has mixed products.
---     BareAccepts, bare-accepts, bare-accepted, bare-accepted-iff     the seven facts
+--     BareAccepts, bare_accepts, bare_accepted, bare_accepted_iff     the seven facts
 --     bare_failed_iff                                                 the first check that fails
---     BareAcceptedOpening, bare-accepted-opening                      an answer of kind 0
+--     BareAcceptedOpening, bare_accepted-opening                      an answer of kind 0
 use Rattle.std.specs.Prelude.{◌≡◌, ◌↔◌, true, List, ℕ, ◌+◌, ◌*◌, ◌<◌, ◌≤◌, length, get_or, take, drop, ℤ, pos}
 use Rattle.std.proofs.Math.Path.{refl, ap}
 use Rattle.std.proofs.Common.{sym}

@@ -1,6 +1,6 @@
 -- The honest messages and bare opening pass checks 2 to 6 of SPECIFICATION 14.7, and check 7 asks for the squared length of the honest z.
 --     length-honest_t, length-honest_z, length-honest_turns     lengths
---     honest_t_lem, honest-z, honest-turn, honest_z_numbers       what stands in the honest opening
+--     honest_t_lem, honest_z_lem, honest_turn_lem, honest_z_numbers  what stands in the honest opening
 --     passes₂ .. passes₆, states₇                            the checks
 use Rattle.std.specs.Prelude.{◌≡◌, refl, true, ℕ, ◌+◌, ◌*◌, ◌<◌, length, take, ℤ}
 use Rattle.std.proofs.Math.Path.{sym, ap}

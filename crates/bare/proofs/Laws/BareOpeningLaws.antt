@@ -2,9 +2,9 @@
 --     el_blocks                              lists of m elements each, laid out one after the other
 --     length-bare_t, el-bare_t                 t
 --     length-bare_phi, part-bare_phi           φ, as the turns read it
---     length-turn, el-turn, turn-cong, element-cong     a turn reads φ_j and s_j for j ≤ i, and c_j for j < i
+--     length-turn, el-turn, turn_cong, element_cong     a turn reads φ_j and s_j for j ≤ i, and c_j for j < i
 --     turn_of_phi, el-before                 so it is made from the φ that `bare_phi` writes and from the challenges before it
---     length_turns, el-turns                 all turns
+--     length_turns, el_turns                 all turns
 --     length-bare_opening, opening-t, opening-z, opening-turn, opening-z_numbers     the bare opening
 use Rattle.std.specs.Prelude.{◌≡◌, List, ◌++◌, length, get_or, take, ℤ, pos}
 use Rattle.std.proofs.Math.Path.{refl, ap, ap₂}

@@ -1,6 +1,6 @@
 -- SPECIFICATION 7.a: "Lowest number first". The numbers of the tests of each call of the bare level rise, so that its refusal is the lowest number of a
--- test that fails, whatever the arguments: `lowest-first`, crates/fold/specs/Theorems/LowestFirst.antt.
---     bare_commit_rising, bare-phi-rising, bare-turn-rising, bare-verify-rising     the calls
+-- test that fails, whatever the arguments: `lowest-first`, crates/fold/proofs/Theorems/LowestFirst.antt.
+--     bare_commit_rising, bare_phi-rising, bare_turn_rising, bare_verify_rising     the calls
 --     bare_prover_rising     the statement, the draws and a witness
 use Rattle.std.specs.Prelude.{◌≡◌, refl, true, List, ℕ, ℤ}
 use Rattle.fold.specs.Statement.{Draws}

@@ -1,8 +1,8 @@
 -- SPECIFICATION 14.9: "no call refuses what it is lent for them": where the statement, the draws and the witness are not refused and what is written to
 -- has its length, none of the calls of the bare level refuses. SPECIFICATION 7.a: "a call tests only what it takes." `bare_commit`, `bare_phi` and
 -- message 5 with one digit together test all of them but row 6.
---     bare_commit_taken, bare-phi-taken, bare-turn-taken     t, φ and a turn
---     bare_project_taken, bare-aggregate-taken, bare-amortize-taken     messages 2, 3 and 5, the latter with one digit
+--     bare_commit_taken, bare_phi-taken, bare_turn_taken     t, φ and a turn
+--     bare_project_taken, bare_aggregate-taken, bare_amortize_taken     messages 2, 3 and 5, the latter with one digit
 --     bare_messages_test-all
 --     challenges-before     the challenges before a turn keep the rule where all do
 --     turn-tested           what a turn that is not refused has tested of its lists

@@ -2,7 +2,7 @@
 -- whatever else came with them, and every part i such that their challenges are equal at all other parts: A(z - z') = (c_i - c'_i) t_i, and the squared
 -- length of z - z' is at most 4 times the bound on z. Differences are taken modulo q and centred."
 -- Parts are counted from 0. "equal t": the first r·κ elements of the openings are equal.
---     BareShortPreimage, bare-two-openings
+--     BareShortPreimage, bare_two_openings
 use Rattle.std.specs.Prelude.{◌≡◌, ◌≢◌, List, ℕ, ◌*◌, ◌<◌, ◌≤◌, take, ℤ}
 use Rattle.std.proofs.Common.{sym, ◌∙◌, arith}
 use Rattle.std.proofs.Math.Path.{ap, ap₂}

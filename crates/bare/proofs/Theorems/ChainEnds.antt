@@ -3,9 +3,9 @@
 -- them as witness."
 -- The next instance is the relation whose constraints are the numbers that the call left, where it answered `Written`. The fold's draws are 𝓓, those of the
 -- bare level 𝓔.
---     chain_unmixed, chain-row-14    no mixed products, row 14
+--     chain_unmixed, chain_row_14    no mixed products, row 14
 --     chain_meets                    the padded opening meets all constraints
---     lent_tests, chain-taken         beside the next instance and its witness, only what is lent anew can be refused: the tests on it
+--     lent_tests, chain_taken         beside the next instance and its witness, only what is lent anew can be refused: the tests on it
 --     chain_ends                     14.9 of the bare level with the padded opening as witness, where nothing of it is refused
 --     chain_ends_lent                the same where nothing that is lent anew is refused
 use Rattle.std.specs.Prelude.{◌≡◌, Bool, true, ℕ, zero, suc, ◌+◌, ◌*◌, ◌-◌, ◌/◌, ◌≤◌, ◌<◌, max, ℤ, pos}

@@ -1,7 +1,7 @@
 -- What a call of the bare level that is not refused knows of its arguments, as far as its work needs it.
 --     BareCommitFacts, BarePhiFacts, BareTurnFacts, BareVerifyFacts     for each call, of
 --     BareMessageFacts, BareOpeningFacts, BareFoldedFacts, BareAggregateFacts     the verifier's checks
---     bare_commit_facts, bare-phi-facts, bare-turn-facts, bare-verify-facts     that no refusal gives it
+--     bare_commit_facts, bare_phi-facts, bare_turn_facts, bare_verify_facts     that no refusal gives it
 use Rattle.std.specs.Prelude.{◌≡◌, List, ℕ, ◌*◌, ◌-◌, ◌≤◌, length, ℤ}
 use Rattle.std.proofs.Math.Path.{refl}
 use Rattle.fold.specs.declared.Shape.{Shape}

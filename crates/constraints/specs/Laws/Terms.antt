@@ -1,5 +1,5 @@
 -- The summands that the loops over constraints add, with the constraints `step` numbers apart, and the places that they read.
---     term_summand, term-step, term-end        Σ_l ψ_kl f'_l at place e
+--     term_summand, term_step, term_end        Σ_l ψ_kl f'_l at place e
 --     whole_summand, whole-step, whole-end     Σ_k α_k f_k at place e
 use Rattle.std.specs.Prelude.{◌≡◌, refl, List, ℕ, ◌+◌, ◌-◌, ◌*◌, ◌^◌, ◌≤◌, ◌<◌, length, get_or, take, drop, ℤ, pos}
 use Rattle.std.proofs.Common.{◌∙◌, mul-le-mul, arith, length-drop, to_z, of_z}

@@ -2,7 +2,7 @@
 --     over-left         one more element before what is written
 --     Blanked           the loop of `write_blanks`
 --     Columns           the loop of `write_columns`: the columns from `left` on are written; its start, its step and its ends
---     blank-front, same-room, field-written    the calls of `write_field`
+--     blank-front, same-room, field_written    the calls of `write_field`
 --     laid-inner, laid-last, length-laid    a field and the line feed after it: `write_laid`
 use Rattle.std.specs.Prelude.{◌≡◌, Bool, true, get_or, drop, set}
 use Rattle.std.proofs.Math.Path.{refl, ap}

@@ -2,7 +2,7 @@
 --     flat_cuts                     the chunks follow one another
 --     part-within, part-past        element k of part s is element start w s + k of o, or zero; number_past: its numbers
 --     norm_sq_padded_cuts            zeros add nothing to the squared norm
---     block_cuts, trimmed-cuts      each part read back, and all of them with the padding cut off
+--     block_cuts, trimmed_cuts      each part read back, and all of them with the padding cut off
 use Rattle.std.specs.Prelude.{◌≡◌, refl, drop, pos}
 use Rattle.std.proofs.Math.Path.{sym, ap, ap₂}
 use Rattle.std.proofs.Common.{◌∙◌, zero-mul, mul_assoc, length-take, length-drop, take-add, take-take}

@@ -139,7 +139,7 @@ module _ (d n r : ℕ) where
           get_d_triangle r d (λ i j. coeffs d (x i j)) (λ i j _ _. length-coeffs d (x i j)) i j y (pos 0) h l b
           ∙ ap (λ p. get_or (coeffs d (x i j)) p (pos 0)) (first y)
 
-  -- the list of the <s_i,s_j>, as value-places asks for it
+  -- the list of the <s_i,s_j>, as value_places asks for it
   pub el_inners : (s : List ℤ) (i j : ℕ) → i ≤ j → j < r
       → el d (flat r (λ i. elements d (r - i) (λ k. g d n s i (i + k)))) (pair r i j) ≡ g d n s i j
   el_inners s i j h l = el_triangle (g d n s) i j h l

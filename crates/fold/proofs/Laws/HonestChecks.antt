@@ -1,6 +1,6 @@
 -- The honest messages pass checks 2 to 8, and check 9 asks for the squared length of the whole opening.
 --     Shaped                    what is used of the sizes
---     honest_z_lem .. honest-h      the honest digits recompose to the folded vector, the inner commitments and the garbage
+--     honest_z_lem .. honest_h_lem  the honest digits recompose to the folded vector, the inner commitments and the garbage
 --     passes₂ .. passes₈        the checks
 use Rattle.std.specs.Prelude.{◌≡◌, refl, true, List, ℕ, ◌+◌, ◌*◌, ◌≤◌, ◌<◌, length, ℤ}
 use Rattle.std.proofs.Math.Path.{sym, ap}

@@ -1,5 +1,5 @@
 -- Laws of the padded opening, for ν and μ above 0 and an opening of tz · n + m elements.
---     part-padded, part-padding     part s holds its chunk of the opening, then zeros
+--     part-padded, part_padding     part s holds its chunk of the opening, then zeros
 --     zero_padding                  its padding is zero, as ZeroPadding says
 --     chunk-padded                the same as a list
 --     norm_sq-padded                 its squared length is the opening's

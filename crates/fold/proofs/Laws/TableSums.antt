@@ -1,5 +1,5 @@
 -- What the tables of the next instance's constraints sum to, in any commutative ring: β are the powers of a base, x the entries of a block.
---     dot-digits, dot-parts, dot-triangle     the blocks of z, of t, and of g or h
+--     dot-digits, dot-parts, dot_triangle     the blocks of z, of t, and of g or h
 --     rows-mixed .. inner-aggregate           their sums in the words of checks 5 to 8
 use Rattle.std.specs.Prelude.{◌≡◌, refl, Bool, List, ◌++◌, ℕ, zero, ◌+◌, ◌-◌, ◌*◌, ◌<◌, eqb, length}
 use Rattle.std.proofs.Math.Path.{sym, ap, ap₂}

@@ -2,7 +2,7 @@
 --     Rows          the invariant of a loop that writes the elements of the pairs i ≤ j, row by row, at the beginning of a list
 --     drop-last     what stands in the last part of a block, where elements are written before they are split into digits
 --     el-written    elements at the beginning of a list, read back
---     el-pairs, garbage-places, garbage-written     the elements of pairs read back, and their digits
+--     el-pairs, garbage_places, garbage-written     the elements of pairs read back, and their digits
 use Rattle.std.specs.Prelude.{◌≡◌, take, drop, ℤ}
 use Rattle.std.proofs.Math.Path.{refl, sym, ap}
 use Rattle.std.proofs.Common.{◌∙◌, add-mul, mul_assoc, zero-mul, drop_of_length-le, length-take-le, take_at, drop_at}

@@ -1,7 +1,7 @@
 -- Demand 1, for any call whose answer is `answered` by the first of its tests that fails: it is refused by that test's number and by no other, and
 -- what is `written` by it is then what was there. SPECIFICATION 7.
 --     FirstFails, Refuses    what it is to be refused by the first test that fails
---     message-refuses, judgement-refuses, next-call-refuses, number-refuses    the calls, by what they answer where they do not refuse
+--     message-refuses, judgement_refuses, next_call_refuses, number-refuses    the calls, by what they answer where they do not refuse
 use Rattle.std.specs.Prelude.{◌≡◌, ◌↔◌, ◌⊎◌, Bool, true, false, cond, List, [], ◌∷◌, T, ltb, ℤ}
 use Rattle.std.proofs.Math.Path.{refl, ap, subst}
 use Rattle.std.proofs.Common.{sym, ◌∙◌, inl, inr, ltb→lt, arith}

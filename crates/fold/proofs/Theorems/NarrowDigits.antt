@@ -1,5 +1,5 @@
 -- Row 15 (SPECIFICATION 7.i): "each low digit x of the opening, of a base B, has 2·|x| ≤ B. B is b for z low, b1 for the t and h digits, b2 for the g
--- digits." "The top digit of each value .. is free". By index, as recomposition reads the digits (zOf, t_of, garbage_of; Opening.antt): digit e is low
+-- digits." "The top digit of each value .. is free". By index, as recomposition reads the digits (z_of, t_of, garbage_of; Opening.antt): digit e is low
 -- where e + 1 is below the number of digits.
 --     NarrowOpening, narrow-exactly    the test of the row holds exactly where each low digit is narrow
 --     WideOpening, wide-exactly        it fails "exactly when the absolute value of a low digit is more than half its base"

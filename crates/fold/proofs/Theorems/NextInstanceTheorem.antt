@@ -6,7 +6,7 @@
 --     next-instance-past               the same where the answer is not refused 15
 --     solving_refused                  with a wide low digit an opening that, padded, solves it is refused by 15
 --     next_padding                     a padded opening has zero padding
---     next_solution, solution-accepted the same of solutions with zero padding
+--     next_solution, solution_accepted the same of solutions with zero padding
 --     some-ν, some-μ, length-s, length-cut_off   what the tests leave known, for FullChunks too
 use Rattle.std.specs.Prelude.{◌≡◌, ◌↔◌, Bool, true, false, ℕ, ◌*◌, ◌≤◌, ◌<◌, ltb, length, get_or, take, drop, ℤ, pos, nat_abs}
 use Rattle.std.proofs.Math.Path.{refl}

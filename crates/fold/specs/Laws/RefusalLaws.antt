@@ -1,5 +1,5 @@
 -- Laws of the refusals: a call is not refused exactly when each of its tests holds, and what each test says.
---     Passes, numbered, refusal-iff     the list of tests of a call
+--     Passes, numbered, refusal_iff     the list of tests of a call
 --     passes-join, -front, -back, early-passes     lists of tests joined
 --     All, all_of_iff, SomeFails, all_of_false, Any, any_of_iff    the tests of one row
 --     between_iff, degree-fits, ..      the tests by name

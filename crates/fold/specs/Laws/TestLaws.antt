@@ -2,8 +2,8 @@
 --     rising                    the numbers rise; computes on the lists that are written out
 --     passing, failing          one test more; passes, fails: where code asks
 --     Rows, passes-rows         each number's test holds
---     holds, early-holds, holds-iff     where none fails, each number's test holds
---     First, first-iff          k is the first exactly when its test fails and those of lower numbers hold
+--     holds, early-holds, holds_iff     where none fails, each number's test holds
+--     First, first_iff          k is the first exactly when its test fails and those of lower numbers hold
 --     first-after               the same by place: those before it hold
 --     stops, goes_on, after-passes     a list in two parts
 --     accepted-none, failed-number, number-failed     the verdict by its number

@@ -1,5 +1,5 @@
 -- A test computed over a whole list, and its rule at each index.
---     both_left, both_right, both_true, both-and    a conjunction of two tests
+--     both_left, both_right, both_true, both_and    a conjunction of two tests
 --     all-at, all_of                                the test over the list gives the rule at each index, and the other way round
 --     all_false                                     where it does not hold, an index at which it fails
 --     all_append, all_join, all-part, all-last      joined lists, a part of one, one element more

@@ -1,8 +1,8 @@
 -- Two naturals for each integer, so that `omega`, which reads only ℕ, proves linear facts on ℤ.
 --     P x, N x              the positive and the negative part: x is P x - N x, and one of the two is 0
---     eq_pn .. pn-lt        =, ≤ and < on ℤ as facts on the parts, and back
---     add_pn .. mul-pn      the parts of a sum, a difference, an opposite and a product
---     bnd, sfits-pn, pn-sfits    the parts and the range of a signed width
+--     eq_pn .. pn_lt        =, ≤ and < on ℤ as facts on the parts, and back
+--     add_pn .. mul_pn      the parts of a sum, a difference, an opposite and a product
+--     bnd, sfits_pn, pn_sfits    the parts and the range of a signed width
 --     lt_z-true .. le_z_false      what the outcome of a test says, and lt-lt_z .. lt-le_z back
 --     zarith                the set to hand to omega: `omega (zarith, bnd x, bnd y, add_pn x y)`
 -- The facts with arguments are listed for each term that stands in the goal, the others are rules of the set.

@@ -1,4 +1,4 @@
--- Tests as code makes them, against those of the table: `&` and ``` of bools as `all_of` and `any_of`, a range as two comparisons.
+-- Tests as code makes them, against those of the table: `&` and `|` of bools as `all_of` and `any_of`, a range as two comparisons.
 use Rattle.std.specs.Prelude.{◌≡◌, refl, Bool, true, false, cond, ◌&&◌, ◌||◌, List, [], ◌∷◌, ◌++◌, ℕ, leb, eqb, pos}
 use Rattle.std.proofs.Common.{◌∙◌, arith, le-leb}
 use Rattle.fold.specs.Refusals.{all_of, any_of, between, degree}

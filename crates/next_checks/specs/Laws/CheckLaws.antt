@@ -1,6 +1,6 @@
 -- The constraints that the writers lay out are those of the next instance, where the lists that they are lent hold what they should.
 --     minus-held           minus the challenges, as they are written
---     check_5 .. check-4   each check
+--     check_5 .. check_4   each check
 use Rattle.std.specs.Prelude.{◌≡◌, refl, ℕ, ◌+◌, ◌-◌, ◌*◌, ◌≤◌, ◌<◌, eqb, ℤ, negsuc}
 use Rattle.std.proofs.Math.Path.{ap, ap₂}
 use Rattle.std.proofs.Common.{◌∙◌, zero-add, arith}

@@ -1,6 +1,6 @@
 -- Laws of a part of the next witness: refused, and found at its place.
 --     part_known, part_cut               what an unrefused question knows
---     placed_refused, placed-found       the place
+--     placed_refused, placed_found       the place
 --     part_handed_back                   with zeros after it, it is that part of the padded opening
 use Rattle.std.specs.Prelude.{◌≡◌, Bool, List, [], ◌++◌, ℕ, zero, suc, ◌+◌, ◌*◌, ◌-◌, ◌≤◌, ◌<◌, length, take, drop, replicate, ℤ, pos}
 use Rattle.std.proofs.Math.Path.{refl}

@@ -3,7 +3,7 @@
 --     congruent_quotient    where z and e are congruent, z = k·b + e for a k
 --     leaves_even_lem           where z = k·b + e, e leaves an even quotient exactly if k is even
 --     centre-is             where z does not lie halfway, its centred remainder has the property
---     low-is, low-only      the low digit has the property, and it alone
+--     low-is, low_only      the low digit has the property, and it alone
 use Rattle.std.specs.Prelude.{◌≡◌, Bool, cond, ℕ, ◌+◌, ◌*◌, ◌/◌, ◌%◌, ◌≤◌, ◌<◌, ℤ, negsuc, neg_ℤ, nat_abs, ◌+ℤ◌, ◌-ℤ◌, ◌*ℤ◌}
 use Rattle.std.proofs.Math.Path.{refl, sym, ap}
 use Rattle.std.proofs.Common.{◌∙◌}

@@ -1,8 +1,8 @@
 -- Laws of the reader's answer.
---     refusal_first, refusal-rest    tests in two lists, one after the other
+--     refusal_first, refusal_rest    tests in two lists, one after the other
 --     Passed                         what a text that is not refused is known to be
---     count-refused, count-good      how many numbers a header gives
---     read-refused, read-sheet       the reader's promise, refused or not
+--     count-refused, count_good      how many numbers a header gives
+--     read-refused, read_sheet       the reader's promise, refused or not
 --     read_is                        the promise fixes the answer
 use Rattle.std.specs.Prelude.{◌≡◌, Bool, true, false, cond, List, [], ◌∷◌, ◌++◌, length, ℤ}
 use Rattle.std.proofs.Math.Path.{refl, sym, ap}

@@ -1,7 +1,7 @@
 -- Laws of the place after a read and of interrupted reads, in the form in which the code meets them.
 --     place-failed, place-cut, place-within    the place where the read failed, where it answered more than there is room for, else
 --     place-between                            the place is not before the read's own and not past the end
---     not_interrupted, interrupted-by          a read that did not fail was not interrupted; one that failed was if the bits of its error are 4
+--     not_interrupted, interrupted_by          a read that did not fail was not interrupted; one that failed was if the bits of its error are 4
 use Rattle.std.specs.Prelude.{◌≡◌, refl, true, false, ℕ, suc, ◌+◌, ◌-◌, ◌≤◌, ◌<◌, eqb, ℤ, pos, negsuc, nat_abs}
 use Rattle.std.proofs.Common.{arith, SFits, of_z, ne_eqb}
 use Rattle.std.specs.Int.Signed.{lt_z}

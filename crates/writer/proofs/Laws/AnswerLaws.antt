@@ -3,10 +3,10 @@
 --     fields_back, fields_fit            so its sizes give its numbers back, and they fit their columns
 --     numbers-passed, passed-numbers     rows 1 to 10 refuse exactly what is not the numbers of a sheet
 --     count-total                        the numbers of a sheet are as many as the sizes give
---     room_refusal, room-alone           13 is their only refusal, made where the buffer has not room for the text
---     early-first, early-refusal         a refusal by rows 1 to 10 comes before it
---     writing_passed, passed-writing     no test fails exactly where they are and the buffer has room for the text
---     writing_short, short-writing       13 is the refusal exactly where they are and it has not
+--     room_refusal, room_alone           13 is their only refusal, made where the buffer has not room for the text
+--     early-first, early_refusal         a refusal by rows 1 to 10 comes before it
+--     writing_passed, passed_writing     no test fails exactly where they are and the buffer has room for the text
+--     writing_short, short_writing       13 is the refusal exactly where they are and it has not
 --     is-length, is-refused              what an answer says of the refusal
 --     write_is                           the promise fixes the answer
 use Rattle.std.proofs.Math.Path.{◌≡◌, refl, sym, ap}

@@ -1,7 +1,7 @@
 -- Laws of the writer's tests, as its functions make them.
---     rows_inside, challenges-inside, rows_are, challenges-are    the projection rows and the challenges among the numbers
+--     rows_inside, challenges-inside, rows_are, challenges_are    the projection rows and the challenges among the numbers
 --     numbers_refusal, other-count, right-count                   rows 7 to 10
---     good_sizes, refused-header, refused-slice, last-refusal     all tests, one after the other
+--     good_sizes, refused-header, refused_slice, last_refusal     all tests, one after the other
 --     bytes_refused, bytes_good                                   `sheet_bytes`
 --     write_refused, written-counted, written-room, write_done    the writer's promise, refused or not
 use Rattle.std.specs.Prelude.{◌≡◌, Bool, cond, leb, length, take, drop, ℤ}

@@ -1,10 +1,10 @@
 -- The writer: SPECIFICATION 10. All from its promise `SheetWritten`, and what joins it to the reader also from the reader's, `SheetRead`.
---     written-exactly, short-buffer, writing-rising    what it answers
+--     written-exactly, short_buffer, writing_rising    what it answers
 --     text-put, nothing_put            what stands in the buffer afterwards
 --     read-text, read-written          "a text the reader takes is the text the writer makes of its numbers"
 --     written_read                     "What the writer puts down, the reader gives back"
 --     written_count                    how many numbers the reader gives back, by the text alone
---     text_bytes_lem, refused-bytes        the length by the sizes alone
+--     text_bytes_lem, refused_bytes        the length by the sizes alone
 --     most_bytes                       "at most 1384691915 within the limits of the sizes"
 --     least_buffer                     "A buffer of that length is the least that the writer takes."
 use Rattle.std.specs.Prelude.{◌≡◌, true, ◌↔◌, List, take, drop, ℤ}
