@@ -1,17 +1,23 @@
-// Results on standard output. Each call answers what it printed: a magnitude, or how many numbers, blanks or line ends. No result depends on
+// Results on standard output. Each call answers what it printed: a number, a magnitude, or how many bytes, numbers, blanks or line ends. No result depends on
 // whether a write succeeds: one that fails is passed over.
 ghost use Rattle.std.specs.Prelude.{◌≡◌, min, nat_abs, length};
 
 use std::io::Stdout;
 
-// Bytes as they are. The answer says whether they were written.
-pub fn print_bytes(stdout: Stdout, bytes: &[u8]) -> bool {
-    stdout.write_all(bytes).is_ok()
+// Bytes as they are.
+pub fn print_bytes(stdout: Stdout, bytes: &[u8]) -> usize
+    ensures { result ≡ length bytes.now }
+{
+    let _written = stdout.write_all(bytes).is_ok();
+    bytes.len()
 }
 
-// A number in decimal. The answer says whether it was written.
-pub fn print_decimal(stdout: Stdout, x: u64) -> bool {
-    stdout.print(x).is_ok()
+// A number in decimal.
+pub fn print_decimal(stdout: Stdout, x: u64) -> u64
+    ensures { result ≡ x }
+{
+    let _written = stdout.print(x).is_ok();
+    x
 }
 
 fn print_word(stdout: Stdout, x: i32) -> u64
@@ -20,9 +26,7 @@ fn print_word(stdout: Stdout, x: i32) -> u64
     if x < 0 {
         print_bytes(stdout, b"-");
     }
-    let number = residues::range::magnitude(x);
-    print_decimal(stdout, number);
-    number
+    print_decimal(stdout, residues::range::magnitude(x))
 }
 
 // A blank between two results, and none before the first.

@@ -1,9 +1,12 @@
 -- What the program makes of a read's answer: the count of the bytes that it put into the text, negative where it failed.
 --     Moved room got              what a read with room for so many bytes may answer
 --     TookInto, TookBetween       what a read did to the bytes that the input has left, where these are known
+--     number_of kind              the number of a read's error, as C counts them
 --     place_after got from size    the place in a text of `size` bytes after a read from place `from` on
 --     interrupted got error       whether the read is to be made again
 use Rattle.std.specs.Prelude.{◌≡◌, Bool, false, ℕ, ◌+◌, ◌-◌, ◌≤◌, ◌<◌, min, eqb, ℤ, pos, negsuc, List, length, take, drop, Option}
+use Rattle.std.specs.declared.io.ErrorKind.{ErrorKind}
+use Rattle.std.specs.declared.io.ErrorKind.TheVariants.{Interrupted}
 use Rattle.std.specs.Io.KnownBytes.{Keeps, Consumes, IsAtEnd}
 
 -- -1, or how many bytes it moved, at most as many as there is room for
@@ -19,6 +22,11 @@ TookInto old new (negsuc k) part = Keeps old new
 -- the bytes of the text from place `from` to place `to` were taken, and none only at the end
 abbrev pub TookBetween : Option (List ℕ) → Option (List ℕ) → ℕ → ℕ → List ℕ → Type 0
 TookBetween old new from to text = Consumes old new (take (to - from) (drop from text)) × (to ≡ from → IsAtEnd new)
+
+-- 4, which is EINTR, where a signal interrupted the read, and else 0
+abbrev pub number_of : ErrorKind → ℤ
+number_of Interrupted = pos 4
+number_of _ = pos 0
 
 -- the place after as many bytes as the read answered, cut at the end; the end where the read failed
 unfoldable pub place_after : ℤ → ℕ → ℕ → ℕ

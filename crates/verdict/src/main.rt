@@ -3,7 +3,8 @@
 
 ghost use Rattle.std.specs.Prelude.{◌≡◌, ◌≤◌, ◌<◌, length, take, IfSome};
 ghost use Rattle.std.specs.Counts.{IsPrefixLen};
-ghost use Rattle.verdict.specs.Reads.{Moved, TookInto, TookBetween, place_after, interrupted};
+ghost use Rattle.std.specs.IoError.{error_kind};
+ghost use Rattle.verdict.specs.Reads.{Moved, TookInto, TookBetween, number_of, place_after, interrupted};
 
 use std::io;
 use std::io::{ErrorKind, Read};
@@ -22,11 +23,13 @@ fn interrupted(got: isize, error: i32) -> bool
 }
 
 // C's number of a read's error where a signal interrupted it, and 0 where the read failed otherwise.
-fn error_number(error: &io::Error) -> i32 {
-    if error.kind() == ErrorKind::Interrupted {
-        return EINTR;
+fn error_number(error: &io::Error) -> i32
+    ensures { result ≡ number_of (error_kind error.now) }
+{
+    match error.kind() {
+        ErrorKind::Interrupted => EINTR,
+        _ => 0,
     }
-    0
 }
 
 // One read into `part`, as C answers it: the count of its bytes, or -1, and the number of its error.

@@ -6,7 +6,6 @@ ghost use Rattle.std.specs.Prelude.{◌≡◌, ◌≤◌, min, take, nat_abs};
 ghost use Rattle.fields.specs.Place.{number_at};
 ghost use Rattle.judge.specs.Judging.{judged_text, verdict_line};
 
-use cases::printing::print_bytes;
 use cases::reading::read_full;
 use fields::walk::number_size;
 use std::io::{Stdin, Stdout};
@@ -63,7 +62,7 @@ fn run_case(stdin: Stdin, stdout: Stdout, text: &mut [u8], count: usize) -> bool
         return false;
     }
     let line = case_line(text, count);
-    print_bytes(stdout, &line)
+    stdout.write_all(&line).is_ok()
 }
 
 // Runs cases until one fails, and answers how many it ran.

@@ -50,28 +50,9 @@ module _ (b t : ℕ) (f : ℕ → ℤ) where
 pub place-fits : (t w k : ℕ) → k < t → k * w ≤ (t - 1) * w
 place-fits t w k h = let l : k ≤ t - 1 = omega arith in mul-le-mul_right w l
 
--- ---- the loop, with the bits of its locals
+-- ---- the loop
 
 module _ (b t : ℕ) (f : ℕ → ℤ) where
-  pub sum-start : 0 ≡ of_z w32 (centred (tail b t f t))
-  sum-start = rw (tail-start b t f)
-
-  pub sum_step : (left acc : ℕ) (r : ℤ) → 0 < left → left ≤ t → acc ≡ of_z w32 (centred (tail b t f left)) → SFits w32 (f (left - 1))
-      → r ≡ centred (to_z w32 acc *ℤ pos b +ℤ to_z w32 (of_z w32 (f (left - 1)))) → of_z w32 r ≡ of_z w32 (centred (tail b t f (left - 1)))
-  sum_step left acc r h k inv fits e =
-      let back : left ≡ left - 1 + 1 = omega arith in
-      let value : to_z w32 acc ≡ centred (tail b t f left) = ap (to_z w32) inv ∙ to_z-of_z (centred-fits (tail b t f left)) in
-      ap (of_z w32) (rw (value, to_z-of_z fits) at e
-      ∙ ap (λ (n : ℕ). centred (centred (tail b t f n) *ℤ pos b +ℤ f (left - 1))) back
-      ∙ tail-centred b t f (left - 1) (omega arith))
-
-  pub sum-end : (left acc : ℕ) → left ≤ 0 → acc ≡ of_z w32 (centred (tail b t f left)) → to_z w32 acc ≡ centred (value b t f)
-  sum-end left acc h inv =
-      let none : left ≡ 0 = omega arith in
-      ap (to_z w32) inv ∙ to_z-of_z (centred-fits (tail b t f left)) ∙ ap (λ (n : ℕ). centred (tail b t f n)) none
-      ∙ ap centred (tail-end b t f)
-
-  -- the same where the accumulator is read as a number
   pub value_step : (left : ℕ) (acc r : ℤ) → 0 < left → left ≤ t → acc ≡ centred (tail b t f left) → SFits w32 (f (left - 1))
       → r ≡ centred (acc *ℤ pos b +ℤ to_z w32 (of_z w32 (f (left - 1)))) → r ≡ centred (tail b t f (left - 1))
   value_step left acc r h k inv fits e =
@@ -84,3 +65,15 @@ module _ (b t : ℕ) (f : ℕ → ℤ) where
   value_end left acc h inv =
       let none : left ≡ 0 = omega arith in
       inv ∙ ap (λ (n : ℕ). centred (tail b t f n)) none ∙ ap centred (tail-end b t f)
+
+  -- the same with the bits of the accumulator
+  pub sum-start : 0 ≡ of_z w32 (centred (tail b t f t))
+  sum-start = rw (tail-start b t f)
+
+  pub sum_step : (left acc : ℕ) (r : ℤ) → 0 < left → left ≤ t → acc ≡ of_z w32 (centred (tail b t f left)) → SFits w32 (f (left - 1))
+      → r ≡ centred (to_z w32 acc *ℤ pos b +ℤ to_z w32 (of_z w32 (f (left - 1)))) → of_z w32 r ≡ of_z w32 (centred (tail b t f (left - 1)))
+  sum_step left acc r h k inv fits e =
+      ap (of_z w32) (value_step left (to_z w32 acc) r h k (ap (to_z w32) inv ∙ to_z-of_z (centred-fits (tail b t f left))) fits e)
+
+  pub sum-end : (left acc : ℕ) → left ≤ 0 → acc ≡ of_z w32 (centred (tail b t f left)) → to_z w32 acc ≡ centred (value b t f)
+  sum-end left acc h inv = value_end left (to_z w32 acc) h (ap (to_z w32) inv ∙ to_z-of_z (centred-fits (tail b t f left)))
