@@ -1,7 +1,7 @@
 -- The bare level's calls: their arguments as the definitions take them, the number of each refusal, and the verifier's answer.
 use Rattle.std.specs.Prelude.{List, ℕ, ℤ}
-use Rattle.fold.specs.declared.Answer.{Answer}
-use Rattle.fold.specs.declared.Answer.TheVariants.{Judged}
+use Rattle.fold.specs.Answers.{Answer}
+use Rattle.fold.specs.Answers.{Judged}
 use Rattle.fold.specs.declared.Shape.{Shape}
 use Rattle.fold.specs.declared.ConstraintSizes.{ConstraintSizes}
 use Rattle.fold.specs.Answers.{first_failing, answered}

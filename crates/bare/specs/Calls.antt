@@ -1,8 +1,8 @@
 -- What each call of the bare level promises: its answer, and every lent number afterwards. "Nothing lent is written" on a refusal. The verifier's answer is
 -- `bare_verification` (Arguments.antt). A list is followed by a mark, as v', where it stands for the lent numbers after the call.
 use Rattle.std.specs.Prelude.{◌≡◌, List, ℕ, ◌-◌, ℤ}
-use Rattle.fold.specs.declared.Answer.{Answer}
-use Rattle.fold.specs.declared.Answer.TheVariants.{Written}
+use Rattle.fold.specs.Answers.{Answer}
+use Rattle.fold.specs.Answers.{Written}
 use Rattle.fold.specs.declared.Shape.{Shape}
 use Rattle.fold.specs.declared.ConstraintSizes.{ConstraintSizes}
 use Rattle.fold.specs.Answers.{answered, written}

@@ -5,7 +5,7 @@ use Rattle.algebra.specs.CommRing.{CommRing}
 use Rattle.algebra.specs.Sum.{sum}
 use Rattle.algebra.specs.DotProduct.{inner}
 use Rattle.ring.specs.Element.{R, el, same}
-use Rattle.fold.specs.declared.Verdict.{Verdict}
+use Rattle.fold.specs.Answers.{Verdict}
 use Rattle.fold.specs.Answers.{first_failing, judged}
 use Rattle.fold.specs.Statement.{Draws}
 use Rattle.fold.specs.Messages.{aggregate_constant}

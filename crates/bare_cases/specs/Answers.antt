@@ -1,7 +1,7 @@
 -- The answer of each case: the call's, on the lists of the case by their numbers.
 use Rattle.std.specs.Prelude.{cond, List, map, ℕ, eqb, ℤ, drop}
-use Rattle.fold.specs.declared.Answer.{Answer}
-use Rattle.fold.specs.declared.Answer.TheVariants.{Written}
+use Rattle.fold.specs.Answers.{Answer}
+use Rattle.fold.specs.Answers.{Written}
 use Rattle.capi.specs.declared.sizes.CBareSizes.{CBareSizes}
 use Rattle.fold.specs.Answers.{answered}
 use Rattle.fold.specs.Arguments.{draws_of}

@@ -1,7 +1,7 @@
 -- The library's answers for C, as the program prints them: kind and number; and its sizes from those that C gives.
 use Rattle.std.specs.Prelude.{◌≡◌, List, Bool, true, false, ℕ, zero, suc, length, ℤ}
 use Rattle.integers.specs.Over.{over}
-use Rattle.fold.specs.declared.Answer.{Answer}
+use Rattle.fold.specs.Answers.{Answer}
 use Rattle.fold.specs.Answers.{kind_of, number_of, written}
 use Rattle.fold.specs.declared.Shape.{Shape}
 use Rattle.fold.specs.declared.CommitSizes.{CommitSizes}

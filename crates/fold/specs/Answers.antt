@@ -1,10 +1,19 @@
 -- SPECIFICATION 10.7 and 8.7: "kind (0 accepted, 1 failed, 2 refused) and number (the margin when accepted, the check that failed, the row that
 -- refused)"; "the answer is "written", which is no judgement". The one definition of what each answer says.
-use Rattle.std.specs.Prelude.{Bool, true, cond, List, [], ◌∷◌, ℕ, zero, suc, eqb}
-use Rattle.fold.specs.declared.Verdict.{Verdict}
-use Rattle.fold.specs.declared.Verdict.TheVariants.{Accepted, Failed}
-use Rattle.fold.specs.declared.Answer.{Answer}
-use Rattle.fold.specs.declared.Answer.TheVariants.{Refused, Judged, Written}
+use Rattle.std.specs.Prelude.{Bool, true, cond, List, [], ◌∷◌, ℕ, zero, suc, eqb, Result, Ok, Err}
+use Rattle.fold.specs.declared.answers.Refusal.{Refusal}
+use Rattle.fold.specs.Rows.{row_of}
+
+-- a judgement: accepted with a margin, or failed with the number of a check
+pub data Verdict : Type 0 where
+  Accepted : ℕ → Verdict
+  Failed : ℕ → Verdict
+
+-- an answer: refused by the number of a row, a judgement, or that everything asked for was written
+pub data Answer : Type 0 where
+  Refused : ℕ → Answer
+  Judged : Verdict → Answer
+  Written : Answer
 
 abbrev pub kind_of : Answer → ℕ
 kind_of (Refused n) = 2
@@ -47,3 +56,26 @@ checked (suc k) answer = Judged (Failed (suc k))
 unfoldable pub written : {A : Type 0} → ℕ → List A → List A → List A
 written zero new old = new
 written (suc n) new old = old
+
+-- ---- the answer that a call's result is
+
+-- where `number` numbers the checks
+abbrev pub verdict_of : {E : Type 0} → (number : E → ℕ) → Result ℕ E → Verdict
+verdict_of number (Ok m) = Accepted m
+verdict_of number (Err k) = Failed (number k)
+
+-- of a verifier
+abbrev pub judgement_of : {E : Type 0} → (number : E → ℕ) → Result (Result ℕ E) Refusal → Answer
+judgement_of number (Ok verdict) = Judged (verdict_of number verdict)
+judgement_of number (Err r) = Refused (row_of r)
+
+-- of a call that writes
+abbrev pub written_of : Result Unit Refusal → Answer
+written_of (Ok u) = Written
+written_of (Err r) = Refused (row_of r)
+
+-- of one that writes where no check fails
+abbrev pub next_of : {E : Type 0} → (number : E → ℕ) → Result (Result Unit E) Refusal → Answer
+next_of number (Ok (Ok u)) = Written
+next_of number (Ok (Err k)) = Judged (Failed (number k))
+next_of number (Err r) = Refused (row_of r)

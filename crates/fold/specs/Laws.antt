@@ -1,4 +1,5 @@
 pub mod ChunkLaws
 pub mod RefusalLaws
+pub mod ResultLaws
 pub mod SizeBounds
 pub mod TestLaws

@@ -19,7 +19,9 @@ pub mod Constraint
 pub mod NextInstance
 pub mod NextCall
 -- SPECIFICATION 7: the answers and the refusals
+pub mod Rows
 pub mod Answers
+pub mod Codes
 pub mod Refusals
 -- The arguments of the calls
 pub mod Arguments

@@ -2,8 +2,8 @@
 -- judgement and nothing is written; a refusal, 11 included, comes before it. Otherwise all K' are written and the answer is "written",
 -- which is no judgement."
 use Rattle.std.specs.Prelude.{List, [], ℕ, ◌-◌, ℤ}
-use Rattle.fold.specs.declared.Answer.{Answer}
-use Rattle.fold.specs.declared.Answer.TheVariants.{Written}
+use Rattle.fold.specs.Answers.{Answer}
+use Rattle.fold.specs.Answers.{Written}
 use Rattle.fold.specs.Answers.{first_failing, answered, checked, written}
 use Rattle.fold.specs.Sizes.{rest_size}
 use Rattle.fold.specs.Statement.{Statement, Draws, Transcript}

@@ -9,7 +9,7 @@ use Rattle.algebra.specs.Conjugation.{ct}
 use Rattle.algebra.specs.DotProduct.{inner, mixed}
 use Rattle.residues.specs.Modulus.{Zq, red}
 use Rattle.ring.specs.Element.{R, el, every, same}
-use Rattle.fold.specs.declared.Verdict.{Verdict}
+use Rattle.fold.specs.Answers.{Verdict}
 use Rattle.fold.specs.Answers.{first_failing, judged}
 use Rattle.fold.specs.Statement.{term_constant}
 use Rattle.fold.specs.Messages.{times, outer₁, outer₂, aggregated, aggregate_constant}

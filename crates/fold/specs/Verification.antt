@@ -1,7 +1,7 @@
 -- SPECIFICATION 6.a: "The verifier's answer is either a refusal with its number or a judgement."
 use Rattle.std.specs.Prelude.{List, ℤ}
-use Rattle.fold.specs.declared.Answer.{Answer}
-use Rattle.fold.specs.declared.Answer.TheVariants.{Judged}
+use Rattle.fold.specs.Answers.{Answer}
+use Rattle.fold.specs.Answers.{Judged}
 use Rattle.fold.specs.Answers.{first_failing, answered}
 use Rattle.fold.specs.Statement.{Statement, Draws, Transcript}
 use Rattle.fold.specs.Verdict.{verdict}

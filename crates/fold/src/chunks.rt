@@ -74,11 +74,8 @@ pub fn chunk_start(tz: usize, n: usize, nu: usize, m: usize, mu: usize, s: usize
     ensures { result ≡ start (cuts.width tz n nu m mu) s }
 {
     let mut at = 0;
-    let mut k = 0;
-    while k < s {
-        let width = chunk_width(tz, n, nu, m, mu, k);
-        at += width;
-        k += 1;
+    for k in 0..s {
+        at += chunk_width(tz, n, nu, m, mu, k);
     }
     at
 }

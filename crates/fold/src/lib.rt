@@ -1,29 +1,14 @@
 // The answers of every call of the fold, SPECIFICATION 6 and 7, and the sizes that they take.
 #![tactic(auto)]
 
+pub mod answers;
 pub mod chunks;
 pub mod counts;
 pub mod limits;
 pub mod places;
 
 ghost use Rattle.std.specs.Prelude.{◌≡◌};
-ghost use Rattle.fold.specs.Answers.{kind_of, number_of};
 ghost use Rattle.fold.specs.Arguments.{count_of, base_of, based_sizes, in_two_digits};
-
-// A judgement: accepted with the margin of check 9, or failed with the first check that fails.
-#[derive(Clone, Copy)]
-pub enum Verdict {
-    Accepted(u64),
-    Failed(u8),
-}
-
-// What a call answers: a refusal with its number, a judgement, or that everything asked for was written.
-#[derive(Clone, Copy)]
-pub enum Answer {
-    Refused(u8),
-    Judged(Verdict),
-    Written,
-}
 
 // Degree, rank and number of parts.
 #[derive(Clone, Copy)]
@@ -192,36 +177,6 @@ impl StatementSizes {
             t2: self.t2,
             bound: self.bound,
             target: self.target,
-        }
-    }
-}
-
-impl Answer {
-    // 0 accepted, 1 failed, 2 refused; 3 written, which is no judgement.
-    pub fn kind(self) -> u8
-        ensures { result ≡ kind_of self }
-    {
-        match self {
-            Answer::Refused(_) => 2,
-            Answer::Judged(verdict) => match verdict {
-                Verdict::Accepted(_) => 0,
-                Verdict::Failed(_) => 1,
-            },
-            Answer::Written => 3,
-        }
-    }
-
-    // The margin, the number of the failed check or that of the refusal; 0 where there is none.
-    pub fn number(self) -> u64
-        ensures { result ≡ number_of self }
-    {
-        match self {
-            Answer::Refused(number) => number as u64,
-            Answer::Judged(verdict) => match verdict {
-                Verdict::Accepted(margin) => margin,
-                Verdict::Failed(check) => check as u64,
-            },
-            Answer::Written => 0,
         }
     }
 }

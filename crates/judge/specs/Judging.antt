@@ -4,8 +4,8 @@
 --     judged_text text           the answer to a text
 --     verdict_line answer        the line that the program prints
 use Rattle.std.specs.Prelude.{Bool, cond, List, [], ◌∷◌, ℕ, leb, length, ℤ, pos}
-use Rattle.fold.specs.declared.Answer.{Answer}
-use Rattle.fold.specs.declared.Answer.TheVariants as answer
+use Rattle.fold.specs.Answers.{Answer}
+use Rattle.fold.specs.Answers as answer
 use Rattle.fold.specs.Statement.{Statement, Draws, Transcript}
 use Rattle.fold.specs.Arguments.{statement_with, draws_of, transcript_of}
 use Rattle.fold.specs.Sizes.{z_count}

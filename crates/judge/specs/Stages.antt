@@ -5,7 +5,7 @@
 --     matrix_stage      A, B, C, D, and then the others: the answer to all numbers
 --     Cut              a list cut from the front of the numbers, and what is left
 use Rattle.std.specs.Prelude.{List, ◌*◌, take, drop, ℤ}
-use Rattle.fold.specs.declared.Answer.{Answer}
+use Rattle.fold.specs.Answers.{Answer}
 use Rattle.fold.specs.Sizes.{five, z_count, opening_size}
 use Rattle.fold.specs.Refusals.{whole_length, constant_terms_length, projection_length}
 use Rattle.fold.specs.Arguments.{statement_with, draws_of, transcript_of}

@@ -26,8 +26,12 @@ bound_rows_of m = bound_rows (pos m.bound) (pos m.target)
 abbrev pub verify_bounds_of : Sizes → List (ℕ × Bool)
 verify_bounds_of m = size_rows_of m ++ bound_rows_of m
 
+-- rows 5 and 6
+abbrev pub late_rows_of : (tz : ℕ) → Sizes → (ν μ : ℕ) → List (ℕ × Bool)
+late_rows_of tz m ν μ = (5, chunks tz (pos ν) (pos μ)) ∷ bound_rows_of m
+
 abbrev pub next_bounds_of : (tz : ℕ) → Sizes → (ν μ : ℕ) → List (ℕ × Bool)
-next_bounds_of tz m ν μ = size_rows_of m ++ ((5, chunks tz (pos ν) (pos μ)) ∷ bound_rows_of m)
+next_bounds_of tz m ν μ = size_rows_of m ++ late_rows_of tz m ν μ
 
 abbrev pub part_bounds_of : (tz : ℕ) → PartSizes → ℕ → List (ℕ × Bool)
 part_bounds_of tz m i = part_bounds m.shape.d m.shape.n m.shape.r m.kappa m.t1 m.t2 tz m.nu m.mu i

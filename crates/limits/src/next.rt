@@ -1,5 +1,8 @@
 // The sizes of the next instance: rows 1 to 6 of SPECIFICATION 7, n' and its row 11.
+#![tactic(auto, unfolding(fold::specs::Answers::first_failing, fold::specs::Refusals::all_of))]
+
 ghost use Rattle.std.specs.Prelude.{◌≡◌, ◌<◌, ◌≤◌, leb};
+ghost use Rattle.fold.specs.Rows.{row_of, failure};
 ghost use Rattle.fold.specs.Answers.{first_failing};
 ghost use Rattle.fold.specs.Arguments.{VerifySized};
 ghost use Rattle.fold.specs.Sizes.{rest_size};
@@ -9,20 +12,23 @@ ghost use Rattle.limits.specs.Bounds as spec;
 
 use crate::bounds::size_rows;
 use crate::groups::length_bounds;
-use crate::rows::{chunk_counts, first};
+use crate::rows::chunk_counts;
 use fold::Sizes;
+use fold::answers::{Refusal, require};
 use fold::chunks::{next_rank, rest_size};
 use fold::limits::MOST_RANK;
 
 // Rows 1 to 6: the sizes, for tz digits of z.
-pub fn next_bounds(tz: usize, sizes: Sizes, nu: usize, mu: usize) -> u8
+pub fn next_bounds(tz: usize, sizes: Sizes, nu: usize, mu: usize) -> Result<(), Refusal>
     requires { (0 < tz) × (tz ≤ 2) }
-    ensures { result ≡ first_failing (spec.next_bounds_of tz sizes nu mu) }
+    ensures { failure row_of result ≡ first_failing (spec.next_bounds_of tz sizes nu mu) }
 {
-    let size = size_rows(sizes);
-    let five = chunk_counts(tz, nu, mu);
-    let six = length_bounds(sizes.bound, sizes.target);
-    first(size == 0, size, first(five, 5, first(six, 6, 0)))
+    size_rows(sizes)?;
+    require(chunk_counts(tz, nu, mu), Refusal::Chunks)?;
+    require(
+        length_bounds(sizes.bound, sizes.target),
+        Refusal::LengthBound,
+    )
 }
 
 // n' for these sizes.

@@ -87,10 +87,3 @@ pub fn sized(xs: &[i32], k: usize) -> bool
 {
     xs.len() == k
 }
-
-// The number of a row whose test fails, or else what the later rows say.
-pub fn first(passes: bool, number: u8, later: u8) -> u8
-    ensures { result ≡ cond passes later number }
-{
-    if passes { later } else { number }
-}

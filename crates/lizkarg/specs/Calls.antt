@@ -2,8 +2,8 @@
 -- written" on a refusal.
 -- A list is followed by a mark, as t', where it stands for the lent numbers after the call.
 use Rattle.std.specs.Prelude.{◌≡◌, List, ℕ, ℤ, pos, replicate}
-use Rattle.fold.specs.declared.Answer.{Answer}
-use Rattle.fold.specs.declared.Answer.TheVariants.{Written}
+use Rattle.fold.specs.Answers.{Answer}
+use Rattle.fold.specs.Answers.{Written}
 use Rattle.fold.specs.declared.CommitSizes.{CommitSizes}
 use Rattle.fold.specs.declared.GarbageSizes.{GarbageSizes}
 use Rattle.fold.specs.declared.Shape.{Shape}

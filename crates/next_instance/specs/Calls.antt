@@ -1,6 +1,6 @@
 -- What the call of the next instance promises: its answer, and every number of `out` afterwards.
 use Rattle.std.specs.Prelude.{◌≡◌, List, ℕ, ℤ}
-use Rattle.fold.specs.declared.Answer.{Answer}
+use Rattle.fold.specs.Answers.{Answer}
 use Rattle.fold.specs.Statement.{Statement, Draws, Transcript}
 use Rattle.fold.specs.NextCall.{next_answer, next_out}
 

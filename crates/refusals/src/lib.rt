@@ -1,5 +1,5 @@
-// The number with which each call refuses, 0 where it does not: SPECIFICATION 7. Sizes are tested before lengths, which
-// are products of them, and lengths before what the lists hold.
+// Whether each call is refused, and by which row: SPECIFICATION 7. Sizes are tested before lengths, which are products of them, and lengths
+// before what the lists hold.
 #![tactic(auto)]
 
 pub mod draws;
@@ -10,10 +10,12 @@ pub mod part;
 pub mod ranges;
 
 ghost use Rattle.std.specs.Prelude.{◌≡◌, ◌<◌, ◌≤◌};
+ghost use Rattle.fold.specs.Rows.{row_of, failure};
 ghost use Rattle.fold.specs.Arguments.{commit_refusal, project_refusal, aggregate_refusal, garbage_refusal, amortize_refusal_with, verify_refusal, product_refusal};
 ghost use Rattle.fold.specs.Arguments.{statement_with, draws_of, transcript_of};
 
 use draws::draw_lengths;
+use fold::answers::{Refusal, require};
 use fold::{CommitSizes, ConstraintSizes, GarbageSizes, Shape, Sizes};
 use lengths::{
     aggregate_lengths, amortize_lengths, commit_lengths, constraint_lengths, garbage_lengths,
@@ -22,7 +24,7 @@ use lengths::{
 use limits::bounds::{
     aggregate_bounds, amortize_bounds, commit_bounds, garbage_bounds, project_bounds, verify_bounds,
 };
-use limits::rows::{degree, first};
+use limits::rows::degree;
 use narrow::narrow_digits;
 use ranges::{challenges, constraint_ranges, is_element, message_ranges, projections_in_range};
 use residues::range::{are_coefficients, are_projection_entries};
@@ -38,23 +40,18 @@ pub fn commit_refusal(
     t: &[i32],
     g: &[i32],
     u1: &[i32],
-) -> u8
-    ensures { result ≡ commit_refusal sizes a_matrix.now b_matrix.now c_matrix.now witness.now
+) -> Result<(), Refusal>
+    ensures { failure row_of result ≡ commit_refusal sizes a_matrix.now b_matrix.now c_matrix.now witness.now
         t.now g.now u1.now }
 {
-    let size = commit_bounds(sizes);
-    if size != 0 {
-        return size;
-    }
+    commit_bounds(sizes)?;
     let fits = commit_lengths(sizes, a_matrix, b_matrix, c_matrix, witness, t, g, u1);
-    if !fits {
-        return 7;
-    }
+    require(fits, Refusal::SliceLength)?;
     let ranges = are_coefficients(a_matrix)
         & are_coefficients(b_matrix)
         & are_coefficients(c_matrix)
         & are_coefficients(witness);
-    first(ranges, 8, 0)
+    require(ranges, Refusal::Coefficient)
 }
 
 // Message 2: projection rows and the witness; p for its length.
@@ -64,20 +61,16 @@ pub fn project_refusal(
     projections: &[i32],
     witness: &[i32],
     p: &[i32],
-) -> u8
-    ensures { result ≡ project_refusal shape w projections.now witness.now p.now }
+) -> Result<(), Refusal>
+    ensures { failure row_of result ≡ project_refusal shape w projections.now witness.now p.now }
 {
-    let size = project_bounds(shape, w);
-    if size != 0 {
-        return size;
-    }
+    project_bounds(shape, w)?;
     let fits = project_lengths(shape, w, projections, witness, p);
-    if !fits {
-        return 7;
-    }
+    require(fits, Refusal::SliceLength)?;
     let entries = are_projection_entries(projections);
     let ranges = projections_in_range(projections, entries) & are_coefficients(witness);
-    first(ranges, 8, first(entries, 9, 0))
+    require(ranges, Refusal::Coefficient)?;
+    require(entries, Refusal::ProjectionEntry)
 }
 
 // Message 3: constant-term constraints, projection rows, ψ, ω and the witness; b'' for its length.
@@ -91,14 +84,11 @@ pub fn aggregate_refusal(
     omega: &[i32],
     witness: &[i32],
     second_b: &[i32],
-) -> u8
-    ensures { result ≡ aggregate_refusal shape l w constant_terms.now projections.now psi.now omega.now
+) -> Result<(), Refusal>
+    ensures { failure row_of result ≡ aggregate_refusal shape l w constant_terms.now projections.now psi.now omega.now
         witness.now second_b.now }
 {
-    let size = aggregate_bounds(shape, l, w);
-    if size != 0 {
-        return size;
-    }
+    aggregate_bounds(shape, l, w)?;
     let sizes = ConstraintSizes { shape, k: 0, l, w };
     let fits = aggregate_lengths(
         sizes,
@@ -109,16 +99,15 @@ pub fn aggregate_refusal(
         witness,
         second_b,
     );
-    if !fits {
-        return 7;
-    }
+    require(fits, Refusal::SliceLength)?;
     let entries = are_projection_entries(projections);
     let ranges = are_coefficients(constant_terms)
         & projections_in_range(projections, entries)
         & are_coefficients(psi)
         & are_coefficients(omega)
         & are_coefficients(witness);
-    first(ranges, 8, first(entries, 9, 0))
+    require(ranges, Refusal::Coefficient)?;
+    require(entries, Refusal::ProjectionEntry)
 }
 
 // Message 4: both kinds of constraints, projection rows, ψ, ω, α, δ, D and the witness; h and u2 for their lengths.
@@ -135,15 +124,12 @@ pub fn garbage_refusal(
     witness: &[i32],
     h: &[i32],
     u2: &[i32],
-) -> u8
-    ensures { result ≡ garbage_refusal sizes whole.now constant_terms.now projections.now psi.now
+) -> Result<(), Refusal>
+    ensures { failure row_of result ≡ garbage_refusal sizes whole.now constant_terms.now projections.now psi.now
         omega.now alpha.now delta.now d_matrix.now
         witness.now h.now u2.now }
 {
-    let size = garbage_bounds(sizes);
-    if size != 0 {
-        return size;
-    }
+    garbage_bounds(sizes)?;
     let shape = sizes.shape;
     let constraint_sizes = ConstraintSizes {
         shape,
@@ -161,9 +147,7 @@ pub fn garbage_refusal(
         alpha,
         delta,
     ) & garbage_lengths(sizes, d_matrix, witness, h, u2);
-    if !fits {
-        return 7;
-    }
+    require(fits, Refusal::SliceLength)?;
     let entries = are_projection_entries(projections);
     let others = are_coefficients(d_matrix) & are_coefficients(witness);
     let ranges = constraint_ranges(
@@ -176,7 +160,8 @@ pub fn garbage_refusal(
         alpha,
         delta,
     ) & others;
-    first(ranges, 8, first(entries, 9, 0))
+    require(ranges, Refusal::Coefficient)?;
+    require(entries, Refusal::ProjectionEntry)
 }
 
 // Message 5: challenges and the witness; the tz digits of z for their length.
@@ -187,21 +172,16 @@ pub fn amortize_refusal(
     c: &[i32],
     witness: &[i32],
     z: &[i32],
-) -> u8
+) -> Result<(), Refusal>
     requires { tz ≤ 2 }
-    ensures { result ≡ amortize_refusal_with tz shape b c.now witness.now z.now }
+    ensures { failure row_of result ≡ amortize_refusal_with tz shape b c.now witness.now z.now }
 {
-    let size = amortize_bounds(shape, b);
-    if size != 0 {
-        return size;
-    }
+    amortize_bounds(shape, b)?;
     let fits = amortize_lengths(tz, shape, b, c, witness, z);
-    if !fits {
-        return 7;
-    }
+    require(fits, Refusal::SliceLength)?;
     let ranges = are_coefficients(c) & are_coefficients(witness);
-    let rule = challenges(shape.d, shape.r, c);
-    first(ranges, 8, first(rule, 10, 0))
+    require(ranges, Refusal::Coefficient)?;
+    require(challenges(shape.d, shape.r, c), Refusal::Challenge)
 }
 
 // The verifier: the statement, the draws, the messages and the opening, whose z has tz digits.
@@ -225,17 +205,14 @@ pub fn verify_refusal(
     u2: &[i32],
     c: &[i32],
     opening: &[i32],
-) -> u8
+) -> Result<(), Refusal>
     requires { (0 < tz) × (tz ≤ 2) }
-    ensures { result ≡ verify_refusal (statement_with tz sizes a_matrix.now b_matrix.now c_matrix.now
+    ensures { failure row_of result ≡ verify_refusal (statement_with tz sizes a_matrix.now b_matrix.now c_matrix.now
         d_matrix.now whole.now constant_terms.now) (draws_of projections.now
         psi.now omega.now alpha.now delta.now c.now)
         (transcript_of u1.now p.now second_b.now u2.now) opening.now }
 {
-    let size = verify_bounds(sizes);
-    if size != 0 {
-        return size;
-    }
+    verify_bounds(sizes)?;
     let opened = opening_fits(
         tz,
         sizes.shape.d,
@@ -260,9 +237,7 @@ pub fn verify_refusal(
             delta,
             c,
         );
-    if !fits {
-        return 7;
-    }
+    require(fits, Refusal::SliceLength)?;
     let entries = are_projection_entries(projections);
     let ranges = are_coefficients(opening)
         & message_ranges(u1, p, second_b, u2, a_matrix, b_matrix, c_matrix, d_matrix)
@@ -277,21 +252,20 @@ pub fn verify_refusal(
             delta,
         )
         & are_coefficients(c);
+    require(ranges, Refusal::Coefficient)?;
+    require(entries, Refusal::ProjectionEntry)?;
     let rule = challenges(sizes.shape.d, sizes.shape.r, c);
+    require(rule, Refusal::Challenge)?;
     let narrow = narrow_digits(tz, sizes, opening);
-    first(
-        ranges,
-        8,
-        first(entries, 9, first(rule, 10, first(narrow, 15, 0))),
-    )
+    require(narrow, Refusal::LowDigit)
 }
 
 // The ring product: the degree and two elements by value.
-pub fn product_refusal(d: usize, x: Element, y: Element) -> u8
-    ensures { result ≡ product_refusal d x.coefficients y.coefficients }
+pub fn product_refusal(d: usize, x: Element, y: Element) -> Result<(), Refusal>
+    ensures { failure row_of result ≡ product_refusal d x.coefficients y.coefficients }
 {
+    require(degree(d), Refusal::Degree)?;
     let a = x.coefficients;
     let b = y.coefficients;
-    let elements = is_element(d, &a) & is_element(d, &b);
-    first(degree(d), 1, first(elements, 8, 0))
+    require(is_element(d, &a) & is_element(d, &b), Refusal::Coefficient)
 }

@@ -32,13 +32,10 @@ fn low_narrow(
     let low = (t - 1) * width;
     let start = place * d;
     let mut all = true;
-    let mut i = 0;
-    while i < count {
+    for i in 0..count {
         let at = start + i * group;
         let end = at + low;
-        let one = are_narrow(base, &xs[at..end]);
-        all = all & one;
-        i += 1;
+        all &= are_narrow(base, &xs[at..end]);
     }
     all
 }

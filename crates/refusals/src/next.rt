@@ -1,5 +1,6 @@
-// The number with which the next instance refuses, 0 where it does not: SPECIFICATION 7.
+// Whether the next instance is refused, and by which row: SPECIFICATION 7.
 ghost use Rattle.std.specs.Prelude.{◌≡◌, ◌+◌, ◌*◌, ◌<◌, ◌≤◌};
+ghost use Rattle.fold.specs.Rows.{row_of, failure};
 ghost use Rattle.fold.specs.Answers.{first_failing};
 ghost use Rattle.fold.specs.Refusals.{next_tests};
 ghost use Rattle.fold.specs.Refusals as table;
@@ -13,8 +14,9 @@ use crate::draws::draw_lengths;
 use crate::lengths::{matrix_lengths, message_lengths};
 use crate::ranges::{challenges, constraint_ranges, message_ranges};
 use fold::Sizes;
+use fold::answers::{Refusal, require};
 use limits::next::{next_bounds, rank_fits, rank_of};
-use limits::rows::{first, sized};
+use limits::rows::sized;
 use residues::range::{are_coefficients, are_projection_entries};
 
 // Row 7: numbers of `count` whole constraints on `parts` parts of `rank` elements. The rank may be above 256 here, which row 11 tells.
@@ -63,17 +65,14 @@ pub fn next_refusal(
     u2: &[i32],
     c: &[i32],
     out: &[i32],
-) -> u8
+) -> Result<(), Refusal>
     requires { (0 < tz) × (tz ≤ 2) }
-    ensures { result ≡ first_failing (next_tests (statement_with tz sizes a_matrix.now b_matrix.now c_matrix.now
+    ensures { failure row_of result ≡ first_failing (next_tests (statement_with tz sizes a_matrix.now b_matrix.now c_matrix.now
         d_matrix.now whole.now constant_terms.now) (draws_of projections.now
         psi.now omega.now alpha.now delta.now c.now)
         (transcript_of u1.now p.now second_b.now u2.now) nu mu out.now) }
 {
-    let size = next_bounds(tz, sizes, nu, mu);
-    if size != 0 {
-        return size;
-    }
+    next_bounds(tz, sizes, nu, mu)?;
     let rank = rank_of(sizes, nu, mu);
     let fits = out_fits(tz, sizes, nu, mu, rank, out)
         & message_lengths(sizes, u1, p, second_b, u2)
@@ -89,9 +88,7 @@ pub fn next_refusal(
             delta,
             c,
         );
-    if !fits {
-        return 7;
-    }
+    require(fits, Refusal::SliceLength)?;
     let entries = are_projection_entries(projections);
     let ranges = message_ranges(u1, p, second_b, u2, a_matrix, b_matrix, c_matrix, d_matrix)
         & constraint_ranges(
@@ -105,11 +102,9 @@ pub fn next_refusal(
             delta,
         )
         & are_coefficients(c);
+    require(ranges, Refusal::Coefficient)?;
+    require(entries, Refusal::ProjectionEntry)?;
     let rule = challenges(sizes.shape.d, sizes.shape.r, c);
-    let small = rank_fits(rank);
-    first(
-        ranges,
-        8,
-        first(entries, 9, first(rule, 10, first(small, 11, 0))),
-    )
+    require(rule, Refusal::Challenge)?;
+    require(rank_fits(rank), Refusal::NextRank)
 }

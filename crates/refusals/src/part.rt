@@ -1,23 +1,28 @@
-// The number with which the question for a part of the next witness refuses, 0 where it does not.
+// Whether the question for a part of the next witness is refused, and by which row.
+#![tactic(auto, unfolding(fold::specs::Answers::first_failing))]
+
 ghost use Rattle.std.specs.Prelude.{◌≡◌, ◌<◌, ◌≤◌};
+ghost use Rattle.fold.specs.Rows.{row_of, failure};
 ghost use Rattle.fold.specs.Arguments.{part_refusal_with, part_refusal_of};
 
 use crate::lengths::opening_fits;
 use fold::PartSizes;
+use fold::answers::{Refusal, require};
 use fold::counts::count_if;
 use limits::part::part_bounds;
-use limits::rows::first;
 
 // The tests of a part of an opening whose z has tz digits.
-pub fn part_refusal(tz: usize, sizes: PartSizes, part: usize, opening: &[i32]) -> u8
+pub fn part_refusal(
+    tz: usize,
+    sizes: PartSizes,
+    part: usize,
+    opening: &[i32],
+) -> Result<(), Refusal>
     requires { (0 < tz) × (tz ≤ 2) }
-    ensures { result ≡ part_refusal_with tz sizes part opening.now }
+    ensures { failure row_of result ≡ part_refusal_with tz sizes part opening.now }
 {
-    let size = part_bounds(tz, sizes, part);
-    if size != 0 {
-        return size;
-    }
-    let seven = opening_fits(
+    part_bounds(tz, sizes, part)?;
+    let fits = opening_fits(
         tz,
         sizes.shape.d,
         sizes.shape.n,
@@ -27,12 +32,12 @@ pub fn part_refusal(tz: usize, sizes: PartSizes, part: usize, opening: &[i32]) -
         sizes.t2,
         opening,
     );
-    first(seven, 7, 0)
+    require(fits, Refusal::SliceLength)
 }
 
-// The number with which part `part`, from 1, of the next witness is refused; 0 where it is not.
-pub fn next_part_refusal(sizes: PartSizes, part: usize, opening: &[i32]) -> u8
-    ensures { result ≡ part_refusal_of sizes part opening.now }
+// Whether part `part`, from 1, of the next witness is refused.
+pub fn next_part_refusal(sizes: PartSizes, part: usize, opening: &[i32]) -> Result<(), Refusal>
+    ensures { failure row_of result ≡ part_refusal_of sizes part opening.now }
 {
     let tz = count_if(sizes.one_digit);
     part_refusal(tz, sizes, part, opening)

@@ -89,13 +89,10 @@ pub fn challenges(d: usize, r: usize, c: &[i32]) -> bool
     ensures { result ≡ table.challenges d r c.now }
 {
     let mut all = true;
-    let mut i = 0;
-    while i < r {
+    for i in 0..r {
         let at = i * d;
         let end = at + d;
-        let one = is_challenge(&c[at..end]);
-        all = all & one;
-        i += 1;
+        all &= is_challenge(&c[at..end]);
     }
     all
 }

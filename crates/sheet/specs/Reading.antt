@@ -12,8 +12,8 @@
 use Rattle.std.specs.Prelude.{◌≡◌, Bool, false, cond, List, [], ◌∷◌, ◌++◌, ℕ, zero, suc, ◌*◌, eqb, length, get_or, ℤ, pos, negsuc}
 use Rattle.integers.specs.Lists.{tab}
 use Rattle.residues.specs.Range.{coefficients, projection_entries}
-use Rattle.fold.specs.declared.Answer.{Answer}
-use Rattle.fold.specs.declared.Answer.TheVariants as answer
+use Rattle.fold.specs.Answers.{Answer}
+use Rattle.fold.specs.Answers as answer
 use Rattle.fold.specs.Answers.{first_failing, answered, written}
 use Rattle.fold.specs.declared.Sizes.{Sizes}
 use Rattle.fold.specs.Sizes.{z_count}

@@ -15,9 +15,9 @@ use Rattle.std.proofs.Common.{sym, ap, ◌∙◌}
 use Rattle.integers.specs.Sums.{norm_sq}
 use Rattle.integers.specs.Flat.{flat}
 use Rattle.ring.specs.Element.{el}
-use Rattle.fold.specs.declared.Answer.{Answer}
-use Rattle.fold.specs.declared.Answer.TheVariants.{Judged, Written}
-use Rattle.fold.specs.declared.Verdict.TheVariants.{Accepted, Failed}
+use Rattle.fold.specs.Answers.{Answer}
+use Rattle.fold.specs.Answers.{Judged, Written}
+use Rattle.fold.specs.Answers.{Accepted, Failed}
 use Rattle.fold.specs.declared.ZDigits.TheVariants.{One}
 use Rattle.fold.specs.Answers.{kind_of, number_of, first_failing, answered}
 use Rattle.fold.specs.Arguments.{draws_of}

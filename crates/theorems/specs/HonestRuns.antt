@@ -5,8 +5,8 @@
 -- For what the five calls wrote and `verify` answers on it, by their promises alone; the cases: HonestVerdict, crates/fold/proofs/Theorems/HonestRuns.antt.
 -- `honest_judged`: whatever the witness, `verify` refuses none of it.
 use Rattle.std.specs.Prelude.{◌≡◌, List, ℤ}
-use Rattle.fold.specs.declared.Answer.{Answer}
-use Rattle.fold.specs.declared.Answer.TheVariants.{Judged, Written}
+use Rattle.fold.specs.Answers.{Answer}
+use Rattle.fold.specs.Answers.{Judged, Written}
 use Rattle.fold.specs.declared.StatementSizes.{StatementSizes}
 use Rattle.fold.specs.Answers.{first_failing}
 use Rattle.fold.specs.Arguments.{statement_of, draws_of, transcript_of, commit_sizes_of, garbage_sizes_of}

@@ -10,9 +10,9 @@
 use Rattle.std.specs.Prelude.{◌≡◌, ◌↔◌, List, [], ◌∷◌, ℕ, ◌+◌, ◌≤◌, ℤ, pos}
 use Rattle.std.proofs.Common.{sym, ap, ◌∙◌}
 use Rattle.integers.specs.Sums.{norm_sq}
-use Rattle.fold.specs.declared.Answer.{Answer}
-use Rattle.fold.specs.declared.Answer.TheVariants.{Judged}
-use Rattle.fold.specs.declared.Verdict.TheVariants.{Accepted}
+use Rattle.fold.specs.Answers.{Answer}
+use Rattle.fold.specs.Answers.{Judged}
+use Rattle.fold.specs.Answers.{Accepted}
 use Rattle.fold.specs.Answers.{kind_of, number_of}
 use Rattle.fold.specs.Statement.{Statement, Draws, Transcript}
 use Rattle.fold.specs.Verification.{verification}

@@ -7,8 +7,8 @@
 --     next_not_14, next_phi_not_14         the next instance of a fold with one z digit, as it was written, is never refused by 14, "whatever the draws" (14.11)
 use Rattle.std.specs.Prelude.{◌≡◌, true, false, ◌↔◌, ◌≢◌, List, [], ℕ, ◌<◌, ℤ}
 use Rattle.std.proofs.Common.{sym, ap, ◌∙◌, arith}
-use Rattle.fold.specs.declared.Answer.{Answer}
-use Rattle.fold.specs.declared.Answer.TheVariants.{Refused, Written}
+use Rattle.fold.specs.Answers.{Answer}
+use Rattle.fold.specs.Answers.{Refused, Written}
 use Rattle.fold.specs.declared.ConstraintSizes.{ConstraintSizes}
 use Rattle.fold.specs.Answers.{kind_of, test_of}
 use Rattle.fold.specs.Statement.{Relation, Statement, Draws, Transcript}

@@ -8,10 +8,10 @@
 -- That honest messages never meet 15 is `honest_judged` (HonestRuns.antt); what it means for the next instance stands in NextInstance.antt.
 use Rattle.std.specs.Prelude.{◌≡◌, refl, Bool, true, false, ◌↔◌, List, ℕ, ◌<◌, ◌≤◌, length, ℤ}
 use Rattle.std.proofs.Common.{sym, ap, ◌∙◌, arith}
-use Rattle.fold.specs.declared.Answer.{Answer}
-use Rattle.fold.specs.declared.Answer.TheVariants.{Refused, Judged}
-use Rattle.fold.specs.declared.Verdict.{Verdict}
-use Rattle.fold.specs.declared.Verdict.TheVariants.{Accepted, Failed}
+use Rattle.fold.specs.Answers.{Answer}
+use Rattle.fold.specs.Answers.{Refused, Judged}
+use Rattle.fold.specs.Answers.{Verdict}
+use Rattle.fold.specs.Answers.{Accepted, Failed}
 use Rattle.fold.specs.Answers.{kind_of, test_of}
 use Rattle.fold.specs.Statement.{Statement, Draws, Transcript}
 use Rattle.fold.specs.Refusals.{verify_tests}

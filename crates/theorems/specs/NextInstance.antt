@@ -12,8 +12,8 @@
 -- That an accepted opening has narrow low digits is `accepted-narrow`, NarrowDigits.antt.
 use Rattle.std.specs.Prelude.{◌≡◌, ◌↔◌, List, ◌++◌, ℕ, ◌*◌, ◌-◌, length, take, drop, replicate, ℤ, pos}
 use Rattle.std.proofs.Common.{sym, ap, ◌∙◌}
-use Rattle.fold.specs.declared.Answer.{Answer}
-use Rattle.fold.specs.declared.Answer.TheVariants.{Refused, Written}
+use Rattle.fold.specs.Answers.{Answer}
+use Rattle.fold.specs.Answers.{Refused, Written}
 use Rattle.fold.specs.declared.StatementSizes.{StatementSizes}
 use Rattle.fold.specs.Answers.{kind_of}
 use Rattle.fold.specs.Sizes.{opening_size}

@@ -7,8 +7,8 @@
 -- `Unmixed` (crates/fold/proofs/Theorems/OneDigit.antt) says of a statement that no a_ij with i < j is other than zero.
 use Rattle.std.specs.Prelude.{◌≡◌, refl, true, List, ℕ, ℤ, pos}
 use Rattle.std.proofs.Common.{sym, ◌∙◌, arith}
-use Rattle.fold.specs.declared.Answer.{Answer}
-use Rattle.fold.specs.declared.Answer.TheVariants.{Refused, Written}
+use Rattle.fold.specs.Answers.{Answer}
+use Rattle.fold.specs.Answers.{Refused, Written}
 use Rattle.fold.specs.declared.Shape.{Shape}
 use Rattle.fold.specs.declared.StatementSizes.{StatementSizes}
 use Rattle.fold.specs.declared.ZDigits.TheVariants.{One}

@@ -5,7 +5,7 @@
 -- then nothing lent has changed (`Refuses`, crates/fold/proofs/Theorems/FirstRefusal.antt). That a call ends and does nothing undefined is part of its proof.
 use Rattle.std.specs.Prelude.{◌≡◌, refl, ◌↔◌, List, [], ℕ, suc, length, ℤ}
 use Rattle.std.proofs.Common.{◌∙◌}
-use Rattle.fold.specs.declared.Answer.{Answer}
+use Rattle.fold.specs.Answers.{Answer}
 use Rattle.fold.specs.declared.CommitSizes.{CommitSizes}
 use Rattle.fold.specs.declared.ConstraintSizes.{ConstraintSizes}
 use Rattle.fold.specs.declared.GarbageSizes.{GarbageSizes}

@@ -9,9 +9,9 @@
 -- and `read-written` (crates/writer/proofs/Theorems/WriterTheorems.antt); their refusals are `read-refuses` and `write_refuses` (Refusals.antt).
 use Rattle.std.specs.Prelude.{◌≡◌, refl, true, false, List, ◌++◌, ℕ, ◌≤◌, ◌<◌, length, take, ℤ}
 use Rattle.std.proofs.Common.{sym, ap, ◌∙◌, arith}
-use Rattle.fold.specs.declared.Answer.{Answer}
-use Rattle.fold.specs.declared.Answer.TheVariants.{Refused, Judged}
-use Rattle.fold.specs.declared.Verdict.{Verdict}
+use Rattle.fold.specs.Answers.{Answer}
+use Rattle.fold.specs.Answers.{Refused, Judged}
+use Rattle.fold.specs.Answers.{Verdict}
 use Rattle.fold.specs.Answers.{first_failing, answered}
 use Rattle.fold.proofs.Theorems.FirstRefusal.{Refuses, judgement_refuses}
 use Rattle.sheet.specs.Layout.{fields, body_lines, sheet_text, SheetNumbers}

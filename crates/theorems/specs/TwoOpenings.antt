@@ -8,7 +8,7 @@
 --     two-accepted-one-digit    where it has one
 use Rattle.std.specs.Prelude.{◌≡◌, ◌≢◌, List, ℕ, ◌+◌, ◌*◌, ◌<◌, ℤ}
 use Rattle.std.proofs.Common.{sym, ap, ◌∙◌}
-use Rattle.fold.specs.declared.Answer.{Answer}
+use Rattle.fold.specs.Answers.{Answer}
 use Rattle.fold.specs.Answers.{kind_of}
 use Rattle.fold.specs.Statement.{Statement, Draws, Transcript}
 use Rattle.fold.specs.Verification.{verification}

@@ -4,8 +4,8 @@ use Rattle.ring.specs.Element.{el}
 use Rattle.residues.specs.declared.length.Margin.{Margin}
 use Rattle.residues.specs.declared.length.Margin.TheVariants.{Within, Above}
 use Rattle.fold.specs.declared.Sizes.{Sizes}
-use Rattle.fold.specs.declared.Verdict.{Verdict}
-use Rattle.fold.specs.declared.Verdict.TheVariants.{Accepted, Failed}
+use Rattle.fold.specs.Answers.{Verdict}
+use Rattle.fold.specs.Answers.{Accepted, Failed}
 use Rattle.fold.specs.Verdict.{message_checks, outer_checks, amortized_checks, last_checks, opening_checks, margin₉}
 use Rattle.fold.specs.Arguments.{statement_with, draws_of, transcript_of}
 use Rattle.checks.specs.Known.Facts.{z_value}

@@ -10,8 +10,8 @@
 --     SheetWritten                              the writer's promise
 use Rattle.std.specs.Prelude.{◌≡◌, Bool, cond, List, [], ◌∷◌, ◌++◌, map, ℕ, zero, suc, ◌+◌, ◌*◌, eqb, leb, length, ℤ, pos}
 use Rattle.integers.specs.Over.{over}
-use Rattle.fold.specs.declared.Answer.{Answer}
-use Rattle.fold.specs.declared.Answer.TheVariants as answer
+use Rattle.fold.specs.Answers.{Answer}
+use Rattle.fold.specs.Answers as answer
 use Rattle.fold.specs.Answers.{first_failing, answered, written}
 use Rattle.fold.specs.Sizes.{function_size}
 use Rattle.fold.specs.declared.Sizes.{Sizes}

@@ -17,9 +17,9 @@ use Rattle.residues.specs.Modulus.{Zq, red}
 use Rattle.residues.specs.Range.{coefficients, challenge}
 use Rattle.ring.specs.Element.{R, el, same}
 use Rattle.ring.specs.Laws.ElementEquality.{every_true, true-every, same_true, same_iff}
-use Rattle.fold.specs.declared.Verdict.{Verdict}
-use Rattle.fold.specs.declared.Verdict.TheVariants.{Accepted, Failed}
-use Rattle.fold.specs.declared.Answer.TheVariants.{Judged}
+use Rattle.fold.specs.Answers.{Verdict}
+use Rattle.fold.specs.Answers.{Accepted, Failed}
+use Rattle.fold.specs.Answers.{Judged}
 use Rattle.fold.specs.Answers.{kind_of, judged}
 use Rattle.fold.specs.Sizes.{five}
 use Rattle.fold.specs.Statement.{Draws, term_constant}

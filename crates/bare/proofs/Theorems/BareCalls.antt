@@ -9,8 +9,8 @@ use Rattle.std.proofs.Common.{ap, ◌∙◌, arith}
 use Rattle.integers.specs.Flat.{flat}
 use Rattle.integers.specs.Laws.FlatLaws.{flat_cong}
 use Rattle.residues.specs.Digits.{least_base}
-use Rattle.fold.specs.declared.Answer.{Answer}
-use Rattle.fold.specs.declared.Answer.TheVariants.{Judged, Written}
+use Rattle.fold.specs.Answers.{Answer}
+use Rattle.fold.specs.Answers.{Judged, Written}
 use Rattle.fold.specs.Answers.{first_failing, answered}
 use Rattle.fold.specs.Arguments.{draws_of}
 use Rattle.fold.specs.Statement.{Meets, Draws, part}

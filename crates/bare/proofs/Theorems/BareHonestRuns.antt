@@ -10,9 +10,9 @@
 -- What no call refuses stands in BareTaken.antt.
 use Rattle.std.specs.Prelude.{◌≡◌, refl, ◌↔◌, List, ◌*◌, ◌-◌, ◌≤◌, ◌<◌, ℤ}
 use Rattle.integers.specs.Sums.{norm_sq}
-use Rattle.fold.specs.declared.Verdict.{Verdict}
-use Rattle.fold.specs.declared.Verdict.TheVariants.{Accepted, Failed}
-use Rattle.fold.specs.declared.Answer.TheVariants.{Judged}
+use Rattle.fold.specs.Answers.{Verdict}
+use Rattle.fold.specs.Answers.{Accepted, Failed}
+use Rattle.fold.specs.Answers.{Judged}
 use Rattle.fold.specs.Answers.{first_failing, answered}
 use Rattle.fold.specs.Statement.{Meets, Draws}
 use Rattle.fold.proofs.Laws.HonestVerdict.{outcome_fails_1, outcome-fails-last, outcome-accepted}

@@ -16,7 +16,7 @@ use native.Mathlib.Omega.{arith}
 use Rattle.std.proofs.Math.ListN.{length}
 use borrow.Author.Tests.{leb-true}
 use Rattle.residues.specs.Range.{coefficients, projection_entries}
-use Rattle.fold.specs.declared.Answer.TheVariants.{Written, Judged}
+use Rattle.fold.specs.Answers.{Written, Judged}
 use Rattle.fold.specs.Answers.{kind_of, first_failing}
 use Rattle.fold.specs.Limits.{most_constraints}
 use Rattle.fold.specs.Sizes.{five, ceiling, next_rank, next_parts, next_count, opening_size}

@@ -1,6 +1,6 @@
 -- `bare_verifier::bare_verify` meets its contract: a refusal with its number, or the judgement. Assumes nothing.
 use mathlib.Core.Path.{ap}
-use Rattle.fold.specs.declared.Answer.TheVariants.{Judged}
+use Rattle.fold.specs.Answers.{Judged}
 use Rattle.bare.specs.Verdict.{bare_verdict}
 use Rattle.verifier.specs.Laws.JudgementLaws.{check_failed, refused, unrefused}
 use Rattle.bare_verifier.specs.Laws.JudgementLaws.{call_facts, message-fails, folded-fails, aggregate_says}

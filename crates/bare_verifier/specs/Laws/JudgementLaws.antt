@@ -1,7 +1,7 @@
 -- The parts of the bare verdict's checks are all of them, and what a call that is not refused knows.
 use Rattle.std.specs.Prelude.{◌≡◌, refl, List, ℕ, ◌≤◌, ℤ}
 use Rattle.std.proofs.Common.{sym, ap, ◌∙◌, arith}
-use Rattle.fold.specs.declared.Verdict.{Verdict}
+use Rattle.fold.specs.Answers.{Verdict}
 use Rattle.fold.specs.Answers.{first_failing, judged}
 use Rattle.fold.specs.Statement.{Draws}
 use Rattle.fold.specs.Arguments.{draws_of}

@@ -12,9 +12,9 @@ use Rattle.algebra.specs.DotProduct.{inner, mixed}
 use Rattle.residues.specs.Modulus.{Zq, red}
 use Rattle.ring.specs.Element.{R, el, same}
 use Rattle.ring.specs.Laws.ElementEquality.{every_true, true-every, same_true, same_refl}
-use Rattle.fold.specs.declared.Verdict.{Verdict}
-use Rattle.fold.specs.declared.Verdict.TheVariants.{Accepted, Failed}
-use Rattle.fold.specs.declared.Answer.TheVariants.{Judged}
+use Rattle.fold.specs.Answers.{Verdict}
+use Rattle.fold.specs.Answers.{Accepted, Failed}
+use Rattle.fold.specs.Answers.{Judged}
 use Rattle.fold.specs.Answers.{kind_of, judged}
 use Rattle.fold.specs.Statement.{term_constant}
 use Rattle.fold.specs.Messages.{times, outer₁, outer₂, aggregate_constant, aggregated}

@@ -1,8 +1,8 @@
 -- What the five calls of an honest run wrote is the honest transcript and opening, and they have tested all but the bounds.
 use Rattle.std.specs.Prelude.{◌≡◌, refl, List, ℕ, zero, suc, ◌<◌, ℤ}
 use Rattle.std.proofs.Common.{◌∙◌, arith}
-use Rattle.fold.specs.declared.Answer.{Answer}
-use Rattle.fold.specs.declared.Answer.TheVariants.{Judged, Written}
+use Rattle.fold.specs.Answers.{Answer}
+use Rattle.fold.specs.Answers.{Judged, Written}
 use Rattle.fold.specs.Answers.{first_failing, answered, written}
 use Rattle.fold.specs.Arguments.{transcript_of}
 use Rattle.fold.specs.Statement.{Meets, Statement, Draws}

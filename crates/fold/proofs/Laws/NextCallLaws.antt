@@ -2,7 +2,7 @@
 use Rattle.std.specs.Prelude.{◌≡◌, true, false, ◌↔◌, List, ◌++◌, ℕ, zero, suc, ◌-◌, ◌*◌, length, take, drop, replicate, ℤ, pos}
 use Rattle.std.proofs.Math.Path.{refl}
 use Rattle.std.proofs.Common.{sym, ◌∙◌, arith}
-use Rattle.fold.specs.declared.Answer.TheVariants.{Written, Refused}
+use Rattle.fold.specs.Answers.{Written, Refused}
 use Rattle.fold.specs.Answers.{kind_of, first_failing, answered, checked, written}
 use Rattle.fold.specs.Sizes.{rest_size, opening_size, next_rank, next_parts, next_count}
 use Rattle.fold.specs.Statement.{Statement, Draws, Transcript}

@@ -4,8 +4,8 @@ use Rattle.std.specs.Prelude.{◌≡◌, true, List, ℕ, zero, suc, ◌*◌, �
 use Rattle.std.proofs.Math.Path.{refl}
 use Rattle.std.proofs.Common.{arith}
 use Rattle.residues.specs.Range.{coefficients, challenge}
-use Rattle.fold.specs.declared.Verdict.{Verdict}
-use Rattle.fold.specs.declared.Answer.TheVariants.{Judged}
+use Rattle.fold.specs.Answers.{Verdict}
+use Rattle.fold.specs.Answers.{Judged}
 use Rattle.fold.specs.Answers.{kind_of, first_failing, answered}
 use Rattle.fold.specs.Sizes.{opening_size}
 use Rattle.fold.specs.Statement.{Statement, Draws, Transcript}

@@ -3,7 +3,7 @@
 --     any_solution              its verdict, whatever the digits' width
 --     any_solution_accepted     the verifier's answer, where the low digits are narrow
 use Rattle.std.specs.Prelude.{◌≡◌, true, List, ℕ, ◌*◌, length, ℤ}
-use Rattle.fold.specs.declared.Answer.TheVariants.{Judged}
+use Rattle.fold.specs.Answers.{Judged}
 use Rattle.fold.specs.Answers.{kind_of, first_failing}
 use Rattle.fold.specs.Statement.{Solves, Statement, Draws, Transcript}
 use Rattle.fold.specs.Verdict.{verdict}

@@ -6,9 +6,9 @@
 use Rattle.std.specs.Prelude.{◌≡◌, refl, ◌↔◌, List, ◌*◌, ◌-◌, ◌≤◌, ◌<◌, ℤ}
 use Rattle.std.proofs.Common.{ap}
 use Rattle.integers.specs.Sums.{norm_sq}
-use Rattle.fold.specs.declared.Verdict.{Verdict}
-use Rattle.fold.specs.declared.Verdict.TheVariants.{Accepted, Failed}
-use Rattle.fold.specs.declared.Answer.TheVariants.{Judged}
+use Rattle.fold.specs.Answers.{Verdict}
+use Rattle.fold.specs.Answers.{Accepted, Failed}
+use Rattle.fold.specs.Answers.{Judged}
 use Rattle.fold.specs.Answers.{first_failing, answered}
 use Rattle.fold.specs.Statement.{Meets, Statement, Draws, Transcript}
 use Rattle.fold.specs.Verdict.{verdict}

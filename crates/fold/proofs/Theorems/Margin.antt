@@ -5,8 +5,8 @@
 use Rattle.std.specs.Prelude.{◌≡◌, ◌↔◌, List, ℕ, ◌+◌, ℤ}
 use Rattle.std.proofs.Common.{sym, ap, ◌∙◌, arith}
 use Rattle.integers.specs.Sums.{norm_sq}
-use Rattle.fold.specs.declared.Verdict.TheVariants.{Accepted}
-use Rattle.fold.specs.declared.Answer.TheVariants.{Judged}
+use Rattle.fold.specs.Answers.{Accepted}
+use Rattle.fold.specs.Answers.{Judged}
 use Rattle.fold.specs.Answers.{kind_of, number_of, first_failing, answered}
 use Rattle.fold.specs.Statement.{Statement, Draws, Transcript}
 use Rattle.fold.specs.Verdict.{margin₉, margin, verdict}

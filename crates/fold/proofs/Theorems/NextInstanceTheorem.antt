@@ -16,7 +16,7 @@ use Rattle.integers.specs.Sums.{sq, norm_sq}
 use Rattle.integers.specs.Laws.SumLaws.{norm_sq-summand}
 use Rattle.residues.specs.Range.{coefficients}
 use Rattle.residues.proofs.Laws.RangeLaws.{coefficients_of}
-use Rattle.fold.specs.declared.Answer.TheVariants.{Judged, Refused}
+use Rattle.fold.specs.Answers.{Judged, Refused}
 use Rattle.fold.specs.Answers.{kind_of, first_failing, test_of, answered}
 use Rattle.fold.specs.Sizes.{opening_size}
 use Rattle.fold.specs.Statement.{Solves}

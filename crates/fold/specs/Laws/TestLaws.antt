@@ -10,9 +10,9 @@
 use Rattle.std.specs.Prelude.{◌≡◌, refl, Bool, true, false, cond, not, ◌↔◌, List, [], ◌∷◌, ◌++◌, ℕ, zero, suc, ◌≤◌, ◌<◌, T, eqb, ltb}
 use Rattle.std.proofs.Common.{sym, ap, subst, ◌∙◌, arith, ltb-true, ltb-false, lt-ltb, eqb-true, eq-eqb, ne_eqb}
 use Rattle.std.proofs.lemmas.Bool.{eqb-false, not-true, not-false}
-use Rattle.fold.specs.declared.Verdict.{Verdict}
-use Rattle.fold.specs.declared.Verdict.TheVariants.{Failed}
-use Rattle.fold.specs.declared.Answer.TheVariants.{Judged}
+use Rattle.fold.specs.Answers.{Verdict}
+use Rattle.fold.specs.Answers.{Failed}
+use Rattle.fold.specs.Answers.{Judged}
 use Rattle.fold.specs.Answers.{kind_of, first_failing, test_of, judged}
 use Rattle.fold.specs.Laws.RefusalLaws.{both_left, both_right, Passes, numbered, refusal_passes, early-passes}
 

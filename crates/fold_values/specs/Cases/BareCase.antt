@@ -2,9 +2,9 @@
 -- bare level to numbers that were worked out with a pencil.
 use Rattle.std.specs.Prelude.{◌≡◌, refl, List, [], ◌∷◌, ℕ, ℤ}
 use Rattle.integers.specs.Literals.{+◌, -◌, ◌zeros∷◌}
-use Rattle.fold.specs.declared.Verdict.{Verdict}
-use Rattle.fold.specs.declared.Verdict.TheVariants.{Accepted, Failed}
-use Rattle.fold.specs.declared.Answer.TheVariants.{Refused, Judged}
+use Rattle.fold.specs.Answers.{Verdict}
+use Rattle.fold.specs.Answers.{Accepted, Failed}
+use Rattle.fold.specs.Answers.{Refused, Judged}
 use Rattle.fold.specs.Answers.{first_failing, answered}
 use Rattle.fold.specs.Statement.{part, Draws}
 use Rattle.bare.specs.declared.BareSizes.{BareSizes}

@@ -2,7 +2,7 @@
 -- less. The base that stands in the statement is looked at by row 4 alone.
 use Rattle.std.specs.Prelude.{◌≡◌, refl, Bool, true, false, List, [], ◌∷◌, ◌++◌, map, ℕ, length, ℤ}
 use Rattle.integers.specs.Literals.{+◌, -◌}
-use Rattle.fold.specs.declared.Verdict.TheVariants.{Accepted, Failed}
+use Rattle.fold.specs.Answers.{Accepted, Failed}
 use Rattle.fold.specs.declared.PartSizes.{PartSizes}
 use Rattle.fold.specs.declared.ZDigits.{ZDigits}
 use Rattle.fold.specs.declared.ZDigits.TheVariants.{One, Two}

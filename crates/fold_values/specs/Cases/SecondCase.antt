@@ -8,8 +8,8 @@ use Rattle.algebra.specs.Conjugation.{ct}
 use Rattle.algebra.specs.DotProduct.{value}
 use Rattle.residues.specs.Modulus.{Zq, red}
 use Rattle.ring.specs.Element.{R}
-use Rattle.fold.specs.declared.Verdict.{Verdict}
-use Rattle.fold.specs.declared.Verdict.TheVariants.{Accepted, Failed}
+use Rattle.fold.specs.Answers.{Verdict}
+use Rattle.fold.specs.Answers.{Accepted, Failed}
 use Rattle.fold.specs.Answers.{first_failing}
 use Rattle.fold.specs.Statement.{Meets, part, function, whole_at, whole_constant, term_at, term_constant}
 use Rattle.fold.specs.Statement.{Statement, Transcript}

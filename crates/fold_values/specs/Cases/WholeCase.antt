@@ -6,7 +6,7 @@ use Rattle.integers.specs.Literals.{+◌, -◌, ◌zeros∷◌}
 use Rattle.integers.specs.Sums.{norm_sq}
 use Rattle.algebra.specs.DotProduct.{value}
 use Rattle.ring.specs.Element.{R}
-use Rattle.fold.specs.declared.Verdict.TheVariants.{Accepted}
+use Rattle.fold.specs.Answers.{Accepted}
 use Rattle.fold.specs.Answers.{first_failing}
 use Rattle.fold.specs.Statement.{Solves, part, function, whole_at, whole_constant}
 use Rattle.fold.specs.Statement.{Statement, Draws, Transcript}

@@ -8,7 +8,7 @@ use Rattle.algebra.specs.Conjugation.{conjugate}
 use Rattle.residues.specs.Modulus.{Zq, centred}
 use Rattle.residues.specs.Digits.{split}
 use Rattle.ring.specs.Element.{R, lift, coeffs}
-use Rattle.fold.specs.declared.Verdict.TheVariants.{Accepted, Failed}
+use Rattle.fold.specs.Answers.{Accepted, Failed}
 use Rattle.fold.specs.Statement.{Relation}
 use Rattle.fold.specs.Messages.{elements, half, z}
 use Rattle.fold.specs.Verdict.{verdict}

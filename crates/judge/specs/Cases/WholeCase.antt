@@ -5,8 +5,8 @@ use Rattle.std.proofs.Common.{ap, ◌∙◌, arith}
 use Rattle.integers.specs.Flat.{flat}
 use Rattle.integers.specs.Literals.{+◌}
 use Rattle.algebra.specs.Triangle.{start, pairs-count}
-use Rattle.fold.specs.declared.Verdict.TheVariants.{Accepted}
-use Rattle.fold.specs.declared.Answer.TheVariants.{Judged, Refused}
+use Rattle.fold.specs.Answers.{Accepted}
+use Rattle.fold.specs.Answers.{Judged, Refused}
 use Rattle.fold.specs.Sizes.{pairs, function_size, t_size, garbage_size, rest_size, opening_size}
 use Rattle.fold.specs.Refusals.{whole_length, constant_terms_length, projection_length}
 use Rattle.fold_values.specs.Cases.WholeCase.{whole-case}

@@ -1,7 +1,7 @@
 -- What is known of the reader's answer, and what the judge makes of it.
 use Rattle.std.specs.Prelude.{◌≡◌, List, ℕ, length, ℤ}
 use Rattle.fold.specs.Arguments.{VerifySized}
-use Rattle.fold.specs.declared.Answer.{Answer}
+use Rattle.fold.specs.Answers.{Answer}
 use Rattle.fold.specs.Answers.{written}
 use Rattle.sheet.specs.declared.reader.SheetAnswer.{SheetAnswer}
 use Rattle.sheet.specs.declared.reader.SheetAnswer.TheVariants.{Sheet, Refused}

@@ -4,7 +4,7 @@ use Rattle.std.proofs.Common.{sym, ◌∙◌, append_assoc, append-nil, arith, l
 use Rattle.integers.specs.Flat.{flat}
 use Rattle.integers.specs.Over.{over}
 use Rattle.integers.specs.Laws.OverLaws.{over-all, over-over}
-use Rattle.fold.specs.declared.Answer.{Answer}
+use Rattle.fold.specs.Answers.{Answer}
 use Rattle.fold.specs.Answers.{kind_of, number_of}
 use Rattle.fields.specs.Field.{signed_text, field_text}
 use Rattle.fields.specs.Place.{field_width, feed}

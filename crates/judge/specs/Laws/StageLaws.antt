@@ -3,7 +3,7 @@ use Rattle.std.specs.Prelude.{◌≡◌, List, ℕ, ◌*◌, take, drop, ℤ}
 use Rattle.std.proofs.Math.Path.{refl}
 use Rattle.std.proofs.Common.{◌∙◌}
 use Rattle.fold.specs.declared.Sizes.{Sizes}
-use Rattle.fold.specs.declared.Answer.{Answer}
+use Rattle.fold.specs.Answers.{Answer}
 use Rattle.fold.specs.Sizes.{z_count, t_size, garbage_size, opening_size}
 use Rattle.fold.specs.Refusals.{whole_length, constant_terms_length, projection_length}
 use Rattle.fold.specs.Arguments.{statement_with, draws_of, transcript_of}

@@ -9,10 +9,10 @@
 use Rattle.std.specs.Prelude.{◌≡◌, refl, Bool, true, false, cond, List, [], ◌∷◌, ◌++◌, ℕ, zero, suc, ◌≤◌, ◌<◌, leb, eqb, length, ℤ}
 use Rattle.std.proofs.Common.{sym, ap, ◌∙◌, subst, arith, le-leb, leb-true, leb-false, eq-eqb}
 use Rattle.std.proofs.lemmas.Bool.{lt-leb}
-use Rattle.fold.specs.declared.Verdict.{Verdict}
-use Rattle.fold.specs.declared.Verdict.TheVariants.{Accepted, Failed}
-use Rattle.fold.specs.declared.Answer.{Answer}
-use Rattle.fold.specs.declared.Answer.TheVariants.{Refused, Judged, Written}
+use Rattle.fold.specs.Answers.{Verdict}
+use Rattle.fold.specs.Answers.{Accepted, Failed}
+use Rattle.fold.specs.Answers.{Answer}
+use Rattle.fold.specs.Answers.{Refused, Judged, Written}
 use Rattle.fold.specs.Verdict.{verdict}
 use Rattle.fold.specs.Answers.{kind_of, number_of, first_failing, answered}
 use Rattle.fold.specs.Laws.RefusalLaws.{numbered, refusal_passes, passes_refusal, passes-front, passes-back}

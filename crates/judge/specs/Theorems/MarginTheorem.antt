@@ -6,9 +6,9 @@ use Rattle.std.proofs.Math.Path.{◌≡◌, ap}
 use Rattle.std.specs.Prelude.{refl, Bool, true, false, cond, List, [], ◌∷◌, ℕ, zero, suc, ◌+◌, ◌≤◌, leb, ℤ, pos}
 use Rattle.std.proofs.Common.{sym, ◌∙◌, arith, leb-true}
 use Rattle.integers.specs.Sums.{norm_sq}
-use Rattle.fold.specs.declared.Verdict.TheVariants.{Accepted, Failed}
-use Rattle.fold.specs.declared.Answer.{Answer}
-use Rattle.fold.specs.declared.Answer.TheVariants.{Refused, Judged, Written}
+use Rattle.fold.specs.Answers.{Accepted, Failed}
+use Rattle.fold.specs.Answers.{Answer}
+use Rattle.fold.specs.Answers.{Refused, Judged, Written}
 use Rattle.fold.specs.declared.Sizes.{Sizes}
 use Rattle.fold.specs.Answers.{kind_of, number_of, first_failing, judged, answered}
 use Rattle.fold.specs.Verdict.{checks, verdict, margin₉}

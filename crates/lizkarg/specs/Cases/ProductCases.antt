@@ -1,8 +1,8 @@
 -- The ring product's call, computed: a product that is written and two that are refused. The sides of each test: crates/fold_values/specs/Cases/ProductCases.antt.
 use Rattle.std.specs.Prelude.{◌≡◌, refl, List, [], ◌∷◌, ℤ}
 use Rattle.integers.specs.Literals.{+◌, -◌, ◌zeros∷◌}
-use Rattle.fold.specs.declared.Answer.{Answer}
-use Rattle.fold.specs.declared.Answer.TheVariants.{Refused, Written}
+use Rattle.fold.specs.Answers.{Answer}
+use Rattle.fold.specs.Answers.{Refused, Written}
 use Rattle.fold.specs.Answers.{answered, written}
 use Rattle.fold_values.specs.Cases.Computing.{fold_computes}
 use Rattle.fold_values.specs.Cases.ProductCases.{one, third, from}

@@ -3,8 +3,8 @@ use Rattle.std.specs.Prelude.{◌≡◌, List, ℤ}
 use Rattle.std.proofs.Math.Path.{refl, sym}
 use Rattle.std.proofs.Common.{◌∙◌}
 use Prim.Native.Nat.{ℕ, zero, suc}
-use Rattle.fold.specs.declared.Answer.TheVariants.{Refused, Judged, Written}
-use Rattle.fold.specs.declared.Verdict.TheVariants.{Failed}
+use Rattle.fold.specs.Answers.{Refused, Judged, Written}
+use Rattle.fold.specs.Answers.{Failed}
 use Rattle.fold.specs.declared.Sizes.{Sizes}
 use Rattle.fold.specs.Answers.{first_failing, answered, checked, written}
 use Rattle.fold.specs.Statement.{Statement, Draws, Transcript}

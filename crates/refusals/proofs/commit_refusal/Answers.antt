@@ -1,42 +1,30 @@
--- `refusals::commit_refusal` meets its contract: the sizes, then row 7, then the rows after it. Assumes nothing.
-use mathlib.Core.Path.{refl}
+-- `refusals::commit_refusal` meets its contract: the sizes, then row 7, then the rows after it.
+use Rattle.std.proofs.Common.{refl}
+use Rattle.fold.specs.declared.answers.Refusal.TheVariants.{Coefficient}
 use Rattle.fold.specs.Refusals.{commit_tests}
-use Rattle.fold.specs.Laws.TestLaws.{stops}
+use Rattle.fold.specs.Laws.ResultLaws.{stopped, row_fails, row_holds, handed_on, required, last_row}
 use Rattle.limits.specs.Bounds.{commit_bounds_of}
-use Rattle.limits.specs.Laws.RowLaws.{end, ◌&◌}
-use Rattle.limits.specs.Laws.StageLaws.{row, none}
-use Rattle.refusals.specs.Laws.FitLaws.{unfit, fit}
+use Rattle.limits.specs.Laws.RowLaws.{end, ◌&◌, joined-row}
 use Rattle.limits.specs.Known.StageLimits.{commit-sized}
 use Rattle.refusals.proofs.commit_refusal.Goals as goal
 
-pub returns-then-size-ne0 : goal.returns-then-size-ne0
+pub returns-in_err-commit_bounds : goal.returns-in_err-commit_bounds
 unfolding commit_tests
-returns-then-size-ne0 c =
-    let a = c.args in
-    let m = a.sizes in
-    stops (commit_bounds_of m) _ c.commit_bounds-size.ensures c.if-size-ne0.true
+returns-in_err-commit_bounds c =
+    handed_on _ _ c.from_residual.ensures.1 (stopped (commit_bounds_of c.args.sizes) _ _ c.in_err-commit_bounds.ensures)
 
 pub commit_lengths-fits-requires : goal.commit_lengths-fits-requires
-commit_lengths-fits-requires c =
-    let a = c.args in
-    let m = a.sizes in
-    commit-sized m c.commit_bounds-size.ensures c.if-size-ne0.false
+commit_lengths-fits-requires c = commit-sized c.args.sizes c.in_ok-commit_bounds.ensures refl
 
-pub returns-then-not-fits : goal.returns-then-not-fits
+pub returns-in_err-require : goal.returns-in_err-require
 unfolding commit_tests
-returns-then-not-fits c =
-    let a = c.args in
-    let m = a.sizes in
-    let fits = c.commit_lengths-fits.ensures in
-    unfit (commit_bounds_of m) 7 _ _ refl c.commit_bounds-size.ensures c.if-size-ne0.false fits c.if-not-fits.true-raw
+returns-in_err-require c =
+    required _ c.from_residual-in_err-require.ensures.1 c.in_err-require.ensures.told
+    (row_fails (commit_bounds_of c.args.sizes) 7 _ refl c.in_ok-commit_bounds.ensures c.commit_lengths-fits.ensures c.in_err-require.ensures.told.0)
 
 pub returns : goal.returns
 unfolding commit_tests
 returns c =
-    let a = c.args in
-    let m = a.sizes in
-    let fits = c.commit_lengths-fits.ensures in
-    fit (commit_bounds_of m) 7 _ _ refl c.commit_bounds-size.ensures c.if-size-ne0.false fits c.if-not-fits.false-raw
-    (row 8 _
-    (c.are_coefficients.ensures & c.are_coefficients-2.ensures & c.are_coefficients-3.ensures
-    & c.are_coefficients-4.ensures & end) c.first.ensures none)
+    row_holds (commit_bounds_of c.args.sizes) 7 _ refl c.in_ok-commit_bounds.ensures c.commit_lengths-fits.ensures c.in_ok-require.ensures.told
+    (last_row Coefficient c.require-2.ensures.value
+    (joined-row (c.are_coefficients.ensures & c.are_coefficients-2.ensures & c.are_coefficients-3.ensures & c.are_coefficients-4.ensures & end)))

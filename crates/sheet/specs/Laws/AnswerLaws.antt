@@ -14,7 +14,7 @@ use Rattle.integers.specs.Over.{over}
 use Rattle.integers.specs.Laws.OverLaws.{over-all}
 use Rattle.residues.specs.Range.{coefficients}
 use Rattle.fold.specs.Arguments.{VerifySized}
-use Rattle.fold.specs.declared.Answer.TheVariants as answer
+use Rattle.fold.specs.Answers as answer
 use Rattle.fold.specs.Answers.{kind_of, number_of, first_failing, answered, written}
 use Rattle.fold.specs.Laws.RefusalLaws.{Passes, refusal_passes, passes_refusal, passes-front, passes-back, passes-join}
 use Rattle.fold.specs.declared.Sizes.{Sizes}

@@ -1,6 +1,6 @@
 -- `verifier::verify` meets its contract: a refusal with its number, or the judgement. Assumes nothing.
 use mathlib.Core.Path.{ap}
-use Rattle.fold.specs.declared.Answer.TheVariants.{Judged}
+use Rattle.fold.specs.Answers.{Judged}
 use Rattle.fold.specs.Arguments.{count_of, based_sizes}
 use Rattle.fold.specs.Verdict.{verdict}
 use Rattle.fold.proofs.Laws.DigitCounts.{digits-few}

@@ -5,10 +5,10 @@ use Rattle.integers.specs.Over.{over}
 use Rattle.residues.specs.declared.length.Margin.{Margin}
 use Rattle.residues.specs.declared.length.Margin.TheVariants.{Within, Above}
 use Rattle.residues.specs.Length.{margin_if, remaining}
-use Rattle.fold.specs.declared.Verdict.{Verdict}
-use Rattle.fold.specs.declared.Verdict.TheVariants.{Accepted, Failed}
-use Rattle.fold.specs.declared.Answer.{Answer}
-use Rattle.fold.specs.declared.Answer.TheVariants.{Refused}
+use Rattle.fold.specs.Answers.{Verdict}
+use Rattle.fold.specs.Answers.{Accepted, Failed}
+use Rattle.fold.specs.Answers.{Answer}
+use Rattle.fold.specs.Answers.{Refused}
 use Rattle.fold.specs.declared.Sizes.{Sizes}
 use Rattle.fold.specs.Answers.{first_failing, judged, answered}
 use Rattle.fold.specs.Messages.{elements}

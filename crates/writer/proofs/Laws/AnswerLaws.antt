@@ -20,7 +20,7 @@ use borrow.Author.Tests.{eqb-true, eq-eqb, leb-true, leb-false, le-leb, lt-leb, 
 use Rattle.integers.specs.Lists.{tab}
 use Rattle.integers.specs.Laws.ListLaws.{tab_get_d}
 use Rattle.integers.specs.Laws.Bridge.{zarith}
-use Rattle.fold.specs.declared.Answer.TheVariants as answer
+use Rattle.fold.specs.Answers as answer
 use Rattle.fold.specs.declared.Sizes.{Sizes}
 use Rattle.fold.specs.Answers.{kind_of, number_of, first_failing, answered}
 use Rattle.fold.specs.Limits.{most_bound}

@@ -5,7 +5,7 @@ use Rattle.std.proofs.Math.Path.{◌≡◌, refl, ap}
 use Rattle.std.specs.Prelude.{List, ℤ}
 use Prim.Native.Nat.{ℕ, zero, suc}
 use Rattle.std.proofs.Common.{arith}
-use Rattle.fold.specs.declared.Answer.TheVariants as answer
+use Rattle.fold.specs.Answers as answer
 use Rattle.fold.specs.Answers.{kind_of, answered, written}
 use Rattle.sheet.specs.declared.header.SheetSizes.{SheetSizes}
 use Rattle.sheet.specs.declared.reader.SheetAnswer.TheVariants.{Sheet}

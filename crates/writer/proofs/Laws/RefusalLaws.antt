@@ -13,7 +13,7 @@ use native.Mathlib.Omega.{arith}
 use borrow.Author.Tests.{eq-eqb, ne_eqb}
 use Rattle.integers.specs.Over.{over}
 use Rattle.residues.specs.Range.{coefficients, projection_entries}
-use Rattle.fold.specs.declared.Answer.TheVariants as answer
+use Rattle.fold.specs.Answers as answer
 use Rattle.fold.specs.Answers.{first_failing, answered, written}
 use Rattle.fold.specs.Arguments.{VerifySized}
 use Rattle.fold.specs.Laws.RefusalLaws.{refusal_passes}

@@ -12,9 +12,6 @@ loop-e-init c = taken_start _ _ _ c.if-part-eq0.false
 pub returns-then-left-nu : goal.returns-then-left-nu
 returns-then-left-nu c = part_of_z _ _ _ _ c.loop-e.invariant c.loop-e-test.true c.if-left-nu.true
 
-pub loop-e-smaller : goal.loop-e-smaller
-loop-e-smaller c = omega (arith, c.loop-e-test.true)
-
 pub loop-e-preserved : goal.loop-e-preserved
 loop-e-preserved c = taken_step _ _ _ c.loop-e.invariant c.loop-e-test.true c.if-left-nu.false
 

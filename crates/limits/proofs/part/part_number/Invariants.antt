@@ -1,9 +1,5 @@
-use Prim.Native.Nat.{◌-◌}
 use Rattle.limits.specs.Laws.CountLaws.{TakenOff}
 use Rattle.limits.proofs.part.part_number.Given as goal
 
 abbrev pub invariant-loop-e : goal.invariant-loop-e
-invariant-loop-e l = TakenOff l.tz l.nu l.part l.left l.e
-
-abbrev pub decreases-loop-e : goal.decreases-loop-e
-decreases-loop-e l = l.tz - l.e
+invariant-loop-e l = TakenOff l.tz l.nu l.part l.left l._e

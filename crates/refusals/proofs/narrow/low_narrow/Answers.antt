@@ -72,8 +72,8 @@ slice_bounds-are_narrow-end c =
     let inside : let a = c.args in a.place * a.d + c.loop-i.i * (a.t * (a.rows * a.d)) + (a.t - 1) * (a.rows * a.d) ≤ length a.xs.now = low-inside (c.args.place * c.args.d) c.args.count c.args.t (c.args.rows * c.args.d) c.loop-i.i _ c.loop-i-test.true c.requires.d_in_bounds in
     inside
 
-pub are_narrow-one-requires : goal.are_narrow-one-requires
-are_narrow-one-requires c = search
+pub are_narrow-all-requires : goal.are_narrow-all-requires
+are_narrow-all-requires c = search
 
 pub loop-i-preserved : goal.loop-i-preserved
 loop-i-preserved c =
@@ -83,7 +83,7 @@ loop-i-preserved c =
     let at = a.place * a.d + i * (a.t * w) in
     let width : at + (a.t - 1) * w - at ≡ (a.t - 1) * w = omega arith in
     tested-step c.loop-i.invariant (omega arith)
-    (c.are_narrow-one.ensures
+    (c.are_narrow-all.ensures
     ∙ ap (λ x. all_narrow a.base (take x (drop at a.xs.now))) width
     ∙ ap (λ (ys : List ℤ). all_narrow a.base (take ((a.t - 1) * w) ys)) (sym (drop-drop (i * (a.t * w)) (a.place * a.d) a.xs.now)))
 

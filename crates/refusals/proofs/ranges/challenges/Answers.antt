@@ -24,7 +24,7 @@ loop-i-preserved c =
     kept_step _ _ _ c.loop-i.all _ _
     c.loop-i.invariant
     c.loop-i-test.true
-    c.is_challenge-one.ensures
+    c.is_challenge-all.ensures
 
 pub returns : goal.returns
 returns c = kept-end _ _ _ _ _ c.loop-i.invariant c.loop-i-test.false
