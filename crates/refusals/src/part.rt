@@ -1,6 +1,4 @@
 // Whether the question for a part of the next witness is refused, and by which row.
-#![tactic(auto, unfolding(fold::specs::Answers::first_failing))]
-
 ghost use Rattle.std.specs.Prelude.{◌≡◌, ◌<◌, ◌≤◌};
 ghost use Rattle.fold.specs.Rows.{row_of, failure};
 ghost use Rattle.fold.specs.Arguments.{part_refusal_with, part_refusal_of};

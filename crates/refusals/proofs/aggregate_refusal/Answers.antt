@@ -1,47 +1,46 @@
--- `refusals::aggregate_refusal` meets its contract: the sizes, then row 7, then the rows after it. Assumes nothing.
-use mathlib.Core.Path.{refl}
-use Rattle.fold.specs.Refusals.{aggregate_bounds, aggregate_tests}
-use Rattle.fold.specs.Laws.TestLaws.{stops}
-use Rattle.limits.specs.Laws.RowLaws.{end, ◌&◌}
-use Rattle.limits.specs.Laws.StageLaws.{single, row, none}
-use Rattle.refusals.specs.Laws.FitLaws.{unfit, fit}
+-- `refusals::aggregate_refusal` meets its contract: the sizes, then row 7, then the rows after it.
+use Rattle.std.proofs.Common.{refl, sym, ◌∙◌}
+use Rattle.fold.specs.declared.answers.Refusal.TheVariants.{ProjectionEntry}
+use Rattle.fold.specs.Refusals.{aggregate_tests, aggregate_bounds}
+use Rattle.fold.specs.Laws.TestLaws.{passing, failing}
+use Rattle.fold.specs.Laws.ResultLaws.{stopped, row_fails, row_holds, handed_on, required, last_row}
+use Rattle.limits.specs.Laws.RowLaws.{end, ◌&◌, joined-row}
 use Rattle.limits.specs.Known.StageLimits.{aggregate-sized}
 use Rattle.refusals.proofs.aggregate_refusal.Goals as goal
 
-pub returns-then-size-ne0 : goal.returns-then-size-ne0
+pub returns-in_err-aggregate_bounds : goal.returns-in_err-aggregate_bounds
 unfolding aggregate_tests
-returns-then-size-ne0 c =
-    let a = c.args in
-    let m = a.shape in
-    stops (aggregate_bounds m.d m.n m.r a.l a.w) _ c.aggregate_bounds-size.ensures c.if-size-ne0.true
+returns-in_err-aggregate_bounds c =
+    let a = c.args in handed_on _ _ c.from_residual.ensures.1 (stopped (aggregate_bounds a.shape.d a.shape.n a.shape.r a.l a.w) _ _ c.in_err-aggregate_bounds.ensures)
 
 pub aggregate_lengths-fits-requires : goal.aggregate_lengths-fits-requires
 aggregate_lengths-fits-requires c =
-    let a = c.args in
-    let m = a.shape in
-    aggregate-sized m.d m.n m.r a.l a.w c.aggregate_bounds-size.ensures c.if-size-ne0.false
-
-pub returns-then-not-fits : goal.returns-then-not-fits
-unfolding aggregate_tests
-returns-then-not-fits c =
-    let a = c.args in
-    let m = a.shape in
-    let fits = c.aggregate_lengths-fits.ensures in
-    let bounds = aggregate_bounds m.d m.n m.r a.l a.w in
-    unfit bounds 7 _ _ refl c.aggregate_bounds-size.ensures c.if-size-ne0.false fits c.if-not-fits.true-raw
+    let m = c.args.shape in aggregate-sized m.d m.n m.r c.args.l c.args.w c.in_ok-aggregate_bounds.ensures refl
 
 pub projections_in_range-requires : goal.projections_in_range-requires
 projections_in_range-requires c = c.are_projection_entries-entries.ensures
+
+pub returns-in_err-require : goal.returns-in_err-require
+unfolding aggregate_tests
+returns-in_err-require c =
+    let a = c.args in
+    required _ c.from_residual-in_err-require.ensures.1 c.in_err-require.ensures.told
+    (row_fails (aggregate_bounds a.shape.d a.shape.n a.shape.r a.l a.w) 7 _ refl c.in_ok-aggregate_bounds.ensures c.aggregate_lengths-fits.ensures c.in_err-require.ensures.told.0)
+
+pub returns-in_err-require-2 : goal.returns-in_err-require-2
+unfolding aggregate_tests
+returns-in_err-require-2 c =
+    let a = c.args in
+    required _ c.from_residual-in_err-require-2.ensures.1 c.in_err-require-2.ensures.told
+    (row_holds (aggregate_bounds a.shape.d a.shape.n a.shape.r a.l a.w) 7 _ refl c.in_ok-aggregate_bounds.ensures c.aggregate_lengths-fits.ensures c.in_ok-require.ensures.told
+    (failing 8 _ (sym ((joined-row (c.are_coefficients.ensures & c.projections_in_range.ensures & c.are_coefficients-2.ensures
+    & c.are_coefficients-3.ensures & c.are_coefficients-4.ensures & end))) ∙ c.in_err-require-2.ensures.told.0)))
 
 pub returns : goal.returns
 unfolding aggregate_tests
 returns c =
     let a = c.args in
-    let m = a.shape in
-    let fits = c.aggregate_lengths-fits.ensures in
-    let bounds = aggregate_bounds m.d m.n m.r a.l a.w in
-    fit bounds 7 _ _ refl c.aggregate_bounds-size.ensures c.if-size-ne0.false fits c.if-not-fits.false-raw
-    (row 8 _
-    (c.are_coefficients.ensures & c.projections_in_range.ensures & c.are_coefficients-2.ensures
-    & c.are_coefficients-3.ensures & c.are_coefficients-4.ensures & end) c.first-2.ensures
-    (single 9 _ c.are_projection_entries-entries.ensures c.first.ensures none))
+    row_holds (aggregate_bounds a.shape.d a.shape.n a.shape.r a.l a.w) 7 _ refl c.in_ok-aggregate_bounds.ensures c.aggregate_lengths-fits.ensures c.in_ok-require.ensures.told
+    (passing 8 _ (sym ((joined-row (c.are_coefficients.ensures & c.projections_in_range.ensures & c.are_coefficients-2.ensures
+    & c.are_coefficients-3.ensures & c.are_coefficients-4.ensures & end))) ∙ c.in_ok-require-2.ensures.told)
+    (last_row ProjectionEntry c.require-3.ensures.value c.are_projection_entries-entries.ensures))

@@ -1,49 +1,53 @@
--- `refusals::garbage_refusal` meets its contract: the sizes, then row 7, then the rows after it. Assumes nothing.
-use mathlib.Core.Path.{refl}
+-- `refusals::garbage_refusal` meets its contract: the sizes, then row 7, then the rows after it.
+use Rattle.std.proofs.Common.{refl, sym, ◌∙◌}
+use Rattle.fold.specs.declared.answers.Refusal.TheVariants.{ProjectionEntry}
 use Rattle.fold.specs.Refusals.{garbage_tests}
-use Rattle.fold.specs.Laws.TestLaws.{stops}
+use Rattle.fold.specs.Laws.TestLaws.{passing, failing}
+use Rattle.fold.specs.Laws.ResultLaws.{stopped, row_fails, row_holds, handed_on, required, last_row}
 use Rattle.limits.specs.Bounds.{garbage_bounds_of}
 use Rattle.limits.specs.Laws.RowLaws.{end, ◌&◌, joined-row}
-use Rattle.limits.specs.Laws.StageLaws.{single, none, append-rows}
-use Rattle.refusals.specs.Laws.FitLaws.{unfit, fit}
+use Rattle.limits.specs.Laws.StageLaws.{append-rows}
 use Rattle.limits.specs.Known.StageLimits.{garbage-sized}
 use Rattle.refusals.specs.Known.ConstraintSized.{garbage-constraints}
 use Rattle.refusals.proofs.garbage_refusal.Goals as goal
 
-pub returns-then-size-ne0 : goal.returns-then-size-ne0
+pub returns-in_err-garbage_bounds : goal.returns-in_err-garbage_bounds
 unfolding garbage_tests
-returns-then-size-ne0 c =
-    let a = c.args in
-    let m = a.sizes in
-    stops (garbage_bounds_of m) _ c.garbage_bounds-size.ensures c.if-size-ne0.true
+returns-in_err-garbage_bounds c =
+    let a = c.args in handed_on _ _ c.from_residual.ensures.1 (stopped (garbage_bounds_of a.sizes) _ _ c.in_err-garbage_bounds.ensures)
 
 pub constraint_lengths-requires : goal.constraint_lengths-requires
 constraint_lengths-requires c =
-    let m = c.args.sizes in
-    garbage-constraints m (garbage-sized m c.garbage_bounds-size.ensures c.if-size-ne0.false)
+    let m = c.args.sizes in garbage-constraints m (garbage-sized m c.in_ok-garbage_bounds.ensures refl)
 
 pub garbage_lengths-requires : goal.garbage_lengths-requires
-garbage_lengths-requires c =
-    let m = c.args.sizes in
-    garbage-sized m c.garbage_bounds-size.ensures c.if-size-ne0.false
-
-pub returns-then-not-fits : goal.returns-then-not-fits
-unfolding garbage_tests
-returns-then-not-fits c =
-    let m = c.args.sizes in
-    let fits = append-rows _ _ c.constraint_lengths.ensures c.garbage_lengths.ensures in
-    unfit (garbage_bounds_of m) 7 _ _ refl c.garbage_bounds-size.ensures c.if-size-ne0.false fits c.if-not-fits.true-raw
+garbage_lengths-requires c = garbage-sized c.args.sizes c.in_ok-garbage_bounds.ensures refl
 
 pub constraint_ranges-requires : goal.constraint_ranges-requires
 constraint_ranges-requires c = c.are_projection_entries-entries.ensures
 
+pub returns-in_err-require : goal.returns-in_err-require
+unfolding garbage_tests
+returns-in_err-require c =
+    let a = c.args in
+    let fits = append-rows _ _ c.constraint_lengths.ensures c.garbage_lengths.ensures in
+    required _ c.from_residual-in_err-require.ensures.1 c.in_err-require.ensures.told
+    (row_fails (garbage_bounds_of a.sizes) 7 _ refl c.in_ok-garbage_bounds.ensures fits c.in_err-require.ensures.told.0)
+
+pub returns-in_err-require-2 : goal.returns-in_err-require-2
+unfolding garbage_tests
+returns-in_err-require-2 c =
+    let a = c.args in
+    let fits = append-rows _ _ c.constraint_lengths.ensures c.garbage_lengths.ensures in
+    required _ c.from_residual-in_err-require-2.ensures.1 c.in_err-require-2.ensures.told
+    (row_holds (garbage_bounds_of a.sizes) 7 _ refl c.in_ok-garbage_bounds.ensures fits c.in_ok-require.ensures.told
+    (failing 8 _ (sym ((append-rows _ _ c.constraint_ranges.ensures (joined-row (c.are_coefficients.ensures & c.are_coefficients-2.ensures & end)))) ∙ c.in_err-require-2.ensures.told.0)))
+
 pub returns : goal.returns
 unfolding garbage_tests
 returns c =
-    let m = c.args.sizes in
+    let a = c.args in
     let fits = append-rows _ _ c.constraint_lengths.ensures c.garbage_lengths.ensures in
-    fit (garbage_bounds_of m) 7 _ _ refl c.garbage_bounds-size.ensures c.if-size-ne0.false fits c.if-not-fits.false-raw
-    (single 8 _
-    (append-rows _ _ c.constraint_ranges.ensures (joined-row (c.are_coefficients.ensures
-    & c.are_coefficients-2.ensures & end))) c.first-2.ensures
-    (single 9 _ c.are_projection_entries-entries.ensures c.first.ensures none))
+    row_holds (garbage_bounds_of a.sizes) 7 _ refl c.in_ok-garbage_bounds.ensures fits c.in_ok-require.ensures.told
+    (passing 8 _ (sym ((append-rows _ _ c.constraint_ranges.ensures (joined-row (c.are_coefficients.ensures & c.are_coefficients-2.ensures & end)))) ∙ c.in_ok-require-2.ensures.told)
+    (last_row ProjectionEntry c.require-3.ensures.value c.are_projection_entries-entries.ensures))

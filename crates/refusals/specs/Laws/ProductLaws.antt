@@ -1,14 +1,13 @@
 -- The tests of the ring product as code makes them, and the degree of a product that is not refused.
-use Rattle.std.specs.Prelude.{◌≡◌, refl, Bool, true, cond, ◌&&◌, List, [], ℕ, ◌<◌, ◌≤◌, ◌-◌, ℤ, pos, length, take, drop}
+use Rattle.std.specs.Prelude.{◌≡◌, refl, Bool, true, ◌&&◌, List, [], ℕ, ◌<◌, ◌≤◌, ◌-◌, ℤ, length, take, drop}
 use Rattle.std.proofs.Common.{sym, ap, ◌∙◌, arith, length-drop, drop_of_length-le, take_all}
 use Rattle.ring.specs.Element.{Degree}
 use Rattle.residues.specs.Range.{all_within, coefficients}
 use Rattle.residues.proofs.Laws.RangeLaws.{all_within_of}
 use Rattle.fold.specs.Arguments.{product_refusal}
-use Rattle.fold.specs.Refusals.{degree, is_element, product_tests}
+use Rattle.fold.specs.Refusals.{is_element, product_tests}
 use Rattle.fold.specs.Laws.RefusalLaws.{refusal_passes, degree-fits}
 use Rattle.limits.specs.Laws.RowLaws.{joined-row, end, ◌&◌}
-use Rattle.limits.specs.Laws.StageLaws.{single, row, none}
 
 -- the numbers from d on, where there are none and where the slice is cut at d
 pub none_from : (d : ℕ) (xs : List ℤ) → length xs < d → true ≡ all_within 0 (drop d xs)
@@ -23,11 +22,6 @@ rest_from d xs e = e ∙ ap (all_within 0) (take_all (length xs - d) (drop d xs)
 pub element-tests : (d : ℕ) (xs : List ℤ) {s t : Bool} → s ≡ coefficients xs → t ≡ all_within 0 (drop d xs) → s && t ≡ is_element d xs
 unfolding is_element
 element-tests d xs s-is t-is = joined-row (s-is & t-is & end)
-
-pub product-tests : (d : ℕ) (x y : List ℤ) {degree_ok s_ok t_ok : Bool} {later n : ℕ} → degree_ok ≡ degree (pos d) → s_ok ≡ is_element d x
-    → t_ok ≡ is_element d y → later ≡ cond (s_ok && t_ok) 0 8 → n ≡ cond degree_ok later 1 → n ≡ product_refusal d x y
-unfolding product_tests
-product-tests d x y degree-is s-is t-is later-is n-is = single 1 _ degree-is n-is (row 8 _ (s-is & t-is & end) later-is none)
 
 pub product-degree : (d : ℕ) (x y : List ℤ) {n : ℕ} → n ≡ product_refusal d x y → n ≡ 0 → Degree d
 unfolding product_tests
