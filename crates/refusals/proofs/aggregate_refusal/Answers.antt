@@ -1,6 +1,7 @@
 -- `refusals::aggregate_refusal` meets its contract: the sizes, then row 7, then the rows after it.
 use Rattle.std.proofs.Common.{refl, sym, ◌∙◌}
 use Rattle.fold.specs.declared.answers.Refusal.TheVariants.{ProjectionEntry}
+use Rattle.fold.specs.Rows.{row_of}
 use Rattle.fold.specs.Refusals.{aggregate_tests, aggregate_bounds}
 use Rattle.fold.specs.Laws.TestLaws.{passing, failing}
 use Rattle.fold.specs.Laws.ResultLaws.{stopped, row_fails, row_holds, handed_on, required, last_row}
@@ -11,7 +12,7 @@ use Rattle.refusals.proofs.aggregate_refusal.Goals as goal
 pub returns-in_err-aggregate_bounds : goal.returns-in_err-aggregate_bounds
 unfolding aggregate_tests
 returns-in_err-aggregate_bounds c =
-    let a = c.args in handed_on _ _ c.from_residual.ensures.1 (stopped (aggregate_bounds a.shape.d a.shape.n a.shape.r a.l a.w) _ _ c.in_err-aggregate_bounds.ensures)
+    let a = c.args in handed_on row_of _ _ c.from_residual.ensures.1 (stopped (aggregate_bounds a.shape.d a.shape.n a.shape.r a.l a.w) _ _ c.in_err-aggregate_bounds.ensures)
 
 pub aggregate_lengths-fits-requires : goal.aggregate_lengths-fits-requires
 aggregate_lengths-fits-requires c =
@@ -24,14 +25,14 @@ pub returns-in_err-require : goal.returns-in_err-require
 unfolding aggregate_tests
 returns-in_err-require c =
     let a = c.args in
-    required _ c.from_residual-in_err-require.ensures.1 c.in_err-require.ensures.told
+    required row_of _ c.from_residual-in_err-require.ensures.1 c.in_err-require.ensures.told
     (row_fails (aggregate_bounds a.shape.d a.shape.n a.shape.r a.l a.w) 7 _ refl c.in_ok-aggregate_bounds.ensures c.aggregate_lengths-fits.ensures c.in_err-require.ensures.told.0)
 
 pub returns-in_err-require-2 : goal.returns-in_err-require-2
 unfolding aggregate_tests
 returns-in_err-require-2 c =
     let a = c.args in
-    required _ c.from_residual-in_err-require-2.ensures.1 c.in_err-require-2.ensures.told
+    required row_of _ c.from_residual-in_err-require-2.ensures.1 c.in_err-require-2.ensures.told
     (row_holds (aggregate_bounds a.shape.d a.shape.n a.shape.r a.l a.w) 7 _ refl c.in_ok-aggregate_bounds.ensures c.aggregate_lengths-fits.ensures c.in_ok-require.ensures.told
     (failing 8 _ (sym ((joined-row (c.are_coefficients.ensures & c.projections_in_range.ensures & c.are_coefficients-2.ensures
     & c.are_coefficients-3.ensures & c.are_coefficients-4.ensures & end))) ∙ c.in_err-require-2.ensures.told.0)))
@@ -43,4 +44,4 @@ returns c =
     row_holds (aggregate_bounds a.shape.d a.shape.n a.shape.r a.l a.w) 7 _ refl c.in_ok-aggregate_bounds.ensures c.aggregate_lengths-fits.ensures c.in_ok-require.ensures.told
     (passing 8 _ (sym ((joined-row (c.are_coefficients.ensures & c.projections_in_range.ensures & c.are_coefficients-2.ensures
     & c.are_coefficients-3.ensures & c.are_coefficients-4.ensures & end))) ∙ c.in_ok-require-2.ensures.told)
-    (last_row ProjectionEntry c.require-3.ensures.value c.are_projection_entries-entries.ensures))
+    (last_row row_of ProjectionEntry c.require-3.ensures.value c.are_projection_entries-entries.ensures))

@@ -1,6 +1,7 @@
 -- `refusals::next::next_refusal` meets its contract: the sizes, then row 7, then the rows after it.
 use Rattle.std.proofs.Common.{refl, sym, ap, ◌∙◌}
 use Rattle.fold.specs.declared.answers.Refusal.TheVariants.{NextRank}
+use Rattle.fold.specs.Rows.{row_of}
 use Rattle.fold.specs.Refusals.{next_tests}
 use Rattle.fold.specs.Laws.TestLaws.{passing, failing}
 use Rattle.fold.specs.Laws.ResultLaws.{stopped, row_fails, row_holds, handed_on, required, last_row}
@@ -17,7 +18,7 @@ use Rattle.refusals.proofs.next.next_refusal.Goals as goal
 pub returns-in_err-next_bounds : goal.returns-in_err-next_bounds
 unfolding next_tests
 returns-in_err-next_bounds c =
-    let a = c.args in handed_on _ _ c.from_residual.ensures.1 (stopped (next_bounds_of a.tz a.sizes a.nu a.mu) _ _ c.in_err-next_bounds.ensures)
+    let a = c.args in handed_on row_of _ _ c.from_residual.ensures.1 (stopped (next_bounds_of a.tz a.sizes a.nu a.mu) _ _ c.in_err-next_bounds.ensures)
 
 pub next_bounds-requires : goal.next_bounds-requires
 next_bounds-requires c = c.requires
@@ -51,7 +52,7 @@ pub returns-in_err-require : goal.returns-in_err-require
 unfolding next_tests
 returns-in_err-require c =
     let a = c.args in
-    required _ c.from_residual-in_err-require.ensures.1 c.in_err-require.ensures.told
+    required row_of _ c.from_residual-in_err-require.ensures.1 c.in_err-require.ensures.told
     (row_fails (next_bounds_of a.tz a.sizes a.nu a.mu) 7 _ refl c.in_ok-next_bounds.ensures (append-rows _ _ (append-rows _ _ (append-rows _ _ (joined-row (c.out_fits.ensures & end)) c.message_lengths.ensures)
     c.matrix_lengths.ensures) c.draw_lengths.ensures) c.in_err-require.ensures.told.0)
 
@@ -59,7 +60,7 @@ pub returns-in_err-require-2 : goal.returns-in_err-require-2
 unfolding next_tests
 returns-in_err-require-2 c =
     let a = c.args in
-    required _ c.from_residual-in_err-require-2.ensures.1 c.in_err-require-2.ensures.told
+    required row_of _ c.from_residual-in_err-require-2.ensures.1 c.in_err-require-2.ensures.told
     (row_holds (next_bounds_of a.tz a.sizes a.nu a.mu) 7 _ refl c.in_ok-next_bounds.ensures (append-rows _ _ (append-rows _ _ (append-rows _ _ (joined-row (c.out_fits.ensures & end)) c.message_lengths.ensures)
     c.matrix_lengths.ensures) c.draw_lengths.ensures) c.in_ok-require.ensures.told
     (failing 8 _ (sym (append-rows _ _ (append-rows _ _ c.message_ranges.ensures c.constraint_ranges.ensures) (joined-row (c.are_coefficients.ensures & end))) ∙ c.in_err-require-2.ensures.told.0)))
@@ -68,7 +69,7 @@ pub returns-in_err-require-3 : goal.returns-in_err-require-3
 unfolding next_tests
 returns-in_err-require-3 c =
     let a = c.args in
-    required _ c.from_residual-in_err-require-3.ensures.1 c.in_err-require-3.ensures.told
+    required row_of _ c.from_residual-in_err-require-3.ensures.1 c.in_err-require-3.ensures.told
     (row_holds (next_bounds_of a.tz a.sizes a.nu a.mu) 7 _ refl c.in_ok-next_bounds.ensures (append-rows _ _ (append-rows _ _ (append-rows _ _ (joined-row (c.out_fits.ensures & end)) c.message_lengths.ensures)
     c.matrix_lengths.ensures) c.draw_lengths.ensures) c.in_ok-require.ensures.told
     (passing 8 _ (sym (append-rows _ _ (append-rows _ _ c.message_ranges.ensures c.constraint_ranges.ensures) (joined-row (c.are_coefficients.ensures & end))) ∙ c.in_ok-require-2.ensures.told) (failing 9 _ (sym c.are_projection_entries-entries.ensures ∙ c.in_err-require-3.ensures.told.0))))
@@ -77,7 +78,7 @@ pub returns-in_err-require-4 : goal.returns-in_err-require-4
 unfolding next_tests
 returns-in_err-require-4 c =
     let a = c.args in
-    required _ c.from_residual-in_err-require-4.ensures.1 c.in_err-require-4.ensures.told
+    required row_of _ c.from_residual-in_err-require-4.ensures.1 c.in_err-require-4.ensures.told
     (row_holds (next_bounds_of a.tz a.sizes a.nu a.mu) 7 _ refl c.in_ok-next_bounds.ensures (append-rows _ _ (append-rows _ _ (append-rows _ _ (joined-row (c.out_fits.ensures & end)) c.message_lengths.ensures)
     c.matrix_lengths.ensures) c.draw_lengths.ensures) c.in_ok-require.ensures.told
     (passing 8 _ (sym (append-rows _ _ (append-rows _ _ c.message_ranges.ensures c.constraint_ranges.ensures) (joined-row (c.are_coefficients.ensures & end))) ∙ c.in_ok-require-2.ensures.told) (passing 9 _ (sym c.are_projection_entries-entries.ensures ∙ c.in_ok-require-3.ensures.told) (failing 10 _ (sym c.challenges-rule.ensures ∙ c.in_err-require-4.ensures.told.0)))))
@@ -91,4 +92,4 @@ returns c =
     (passing 8 _ (sym (append-rows _ _ (append-rows _ _ c.message_ranges.ensures c.constraint_ranges.ensures) (joined-row (c.are_coefficients.ensures & end))) ∙ c.in_ok-require-2.ensures.told)
     (passing 9 _ (sym c.are_projection_entries-entries.ensures ∙ c.in_ok-require-3.ensures.told)
     (passing 10 _ (sym c.challenges-rule.ensures ∙ c.in_ok-require-4.ensures.told)
-    (last_row NextRank c.require-5.ensures.value ((c.rank_fits.ensures ∙ ap (λ x. leb x most_rank) c.rank_of-rank.ensures))))))
+    (last_row row_of NextRank c.require-5.ensures.value ((c.rank_fits.ensures ∙ ap (λ x. leb x most_rank) c.rank_of-rank.ensures))))))
