@@ -39,15 +39,11 @@ fn peel(base: usize, width: usize, block: &mut [i32], to: usize, from: usize)
     requires width_bound { (to + width ≤ from) × (from + width ≤ length block.old) }
     ensures { Peeled base to from width block.old block.new }
 {
-    let mut i = 0;
-    while i < width {
+    for i in 0..width {
         let place = from + i;
         let x = block[place];
-        let low = low_digit(base, x);
-        let left = quotient(base, x);
-        block[to + i] = low;
-        block[place] = left;
-        i += 1;
+        block[to + i] = low_digit(base, x);
+        block[place] = quotient(base, x);
     }
 }
 
@@ -58,10 +54,8 @@ pub fn split_digits(base: usize, count: usize, width: usize, block: &mut [i32])
     ensures { block.new ≡ split base count (drop ((count - 1) * width) block.old) }
 {
     let last = (count - 1) * width;
-    let mut k = 0;
-    while k + 1 < count {
+    for k in 0..count - 1 {
         peel(base, width, block, k * width, last);
-        k += 1;
     }
 }
 
@@ -70,9 +64,7 @@ pub fn fold_digit(acc: i32, base: usize, x: i32) -> i32
     requires { Base base }
     ensures { result ≡ centred (acc *ℤ pos base +ℤ x) }
 {
-    let product = acc as i64 * base as i64;
-    let digit = x as i64;
-    centre(product + digit)
+    centre(acc as i64 * base as i64 + x as i64)
 }
 
 // The number modulo q whose digits stand `width` apart, the lowest at `at`.
@@ -81,10 +73,8 @@ pub fn recompose_number(base: usize, count: usize, width: usize, digits: &[i32],
     requires count_nonzero { (0 < count) × (at + (count - 1) * width < length digits.now) }
     ensures { result ≡ centred (value base count (λ e. get_or digits.now (at + e * width) (pos 0))) }
 {
-    let mut left = count;
     let mut acc: i32 = 0;
-    while left > 0 {
-        left -= 1;
+    for left in (0..count).rev() {
         acc = fold_digit(acc, base, digits[at + left * width]);
     }
     acc

@@ -33,14 +33,12 @@ pub fn compare(bound: u64, xs: &[i32]) -> Margin
     ensures { result ≡ remaining bound (norm_sq xs.now) }
 {
     let mut rest = bound;
-    let mut i = 0;
-    while i < xs.len() {
-        let s = square(xs[i]);
+    for x in xs {
+        let s = square(*x);
         if rest < s {
             return Margin::Above;
         }
-        rest = rest - s;
-        i += 1;
+        rest -= s;
     }
     Margin::Within(rest)
 }

@@ -33,17 +33,13 @@ fn centre_small(x: i64) -> i32
 pub fn add(x: i32, y: i32) -> i32
     ensures { result ≡ centred (x +ℤ y) }
 {
-    let a = x as i64;
-    let b = y as i64;
-    centre_small(a + b)
+    centre_small(x as i64 + y as i64)
 }
 
 pub fn multiply(x: i32, y: i32) -> i32
     ensures { result ≡ centred (x *ℤ y) }
 {
-    let a = x as i64;
-    let b = y as i64;
-    centre(a * b)
+    centre(x as i64 * y as i64)
 }
 
 // x modulo q, from 0 to q - 1.

@@ -1,5 +1,5 @@
 // The tests of refusals 8, 9, 10 and 15 on slices.
-ghost use Rattle.std.specs.Prelude.{◌≡◌, cond, eqb, nat_abs};
+ghost use Rattle.std.specs.Prelude.{◌≡◌, nat_abs};
 ghost use Rattle.residues.specs.Digits.{Base};
 ghost use Rattle.residues.specs.Range.{between, all_between, coefficients, projection_entries, count_of, counted_challenge, short_challenge, challenge, all_narrow};
 
@@ -19,9 +19,7 @@ pub fn magnitude(x: i32) -> u64
 fn is_between(low: i32, high: i32, x: i32) -> bool
     ensures { result ≡ between low high x }
 {
-    let below = x < low;
-    let above = high < x;
-    !below & !above
+    !(x < low) & !(high < x)
 }
 
 // Every number of xs lies from low to high. All are looked at, so that several can be tested at a time.
@@ -29,12 +27,8 @@ pub fn all_between(low: i32, high: i32, xs: &[i32]) -> bool
     ensures { result ≡ all_between low high xs.now }
 {
     let mut all = true;
-    let mut i = 0;
-    while i < xs.len() {
-        let x = xs[i];
-        let inside = is_between(low, high, x);
-        all = all & inside;
-        i += 1;
+    for x in xs {
+        all &= is_between(low, high, *x);
     }
     all
 }
@@ -53,29 +47,11 @@ pub fn are_projection_entries(xs: &[i32]) -> bool
     all_between(-1, 1, xs)
 }
 
-// 1 where x has the absolute value a, else 0.
-fn one_if(a: u64, x: i32) -> usize
-    ensures { result ≡ cond (eqb (nat_abs x) a) 1 0 }
-{
-    let m = magnitude(x);
-    if m == a {
-        return 1;
-    }
-    0
-}
-
 // How many numbers of xs have the absolute value a.
 fn count_of(a: u64, xs: &[i32]) -> usize
     ensures { result ≡ count_of a xs.now }
 {
-    let mut count = 0;
-    let mut i = 0;
-    while i < xs.len() {
-        let one = one_if(a, xs[i]);
-        count += one;
-        i += 1;
-    }
-    count
+    xs.iter().filter(|x| magnitude(**x) == a).count()
 }
 
 // xs passes the rule of degree 64: 23 zeros, 31 of ±1, 10 of ±2.

@@ -1,13 +1,12 @@
 -- Laws of counts by absolute value.
 --     count-is                    a count is the sum over all indices of 1 where the number has this absolute value, else 0
---     Tally                       the invariant of the loop of `count_of`, with its start, its step and its end
 --     counts-most                 zeros, ones and twos are no more than all numbers
 --     all_small, norm_sq-counts    where they are all: no absolute value is above 2, and their counts give the squared length
 --     total-short                 the absolute values sum to at most the squared length
-use Rattle.std.specs.Prelude.{◌≡◌, refl, Bool, true, false, cond, List, [], ◌∷◌, ℕ, zero, suc, ◌+◌, ◌*◌, ◌≤◌, ◌<◌, leb, eqb, length, get_or, ℤ, pos, nat_abs}
-use Rattle.std.proofs.Common.{sym, ap, ◌∙◌, arith, le-leb, ne_eqb}
+use Rattle.std.specs.Prelude.{◌≡◌, refl, Bool, true, false, cond, List, [], ◌∷◌, ℕ, zero, suc, ◌+◌, ◌*◌, ◌≤◌, leb, eqb, length, get_or, ℤ, pos, nat_abs}
+use Rattle.std.proofs.Common.{ap, arith, le-leb, ne_eqb}
 use Rattle.integers.specs.Sums.{total, sq, norm_sq}
-use Rattle.integers.specs.Laws.SumLaws.{total-add-one, total_first, total_mono, norm_sq-total}
+use Rattle.integers.specs.Laws.SumLaws.{total_first, total_mono, norm_sq-total}
 use Rattle.integers.specs.Laws.AllLaws.{both_true}
 use Rattle.integers.specs.Lists.{all}
 use Rattle.residues.specs.Range.{all_within, count_of}
@@ -30,31 +29,6 @@ pub count-is : (a : ℕ) (xs : List ℤ) → count_of a xs ≡ total (length xs)
 unfolding count_of total
 count-is a [] = refl
 count-is a (x ∷ xs) = omega (arith, count-is a xs, total_first (length xs) (λ k. one_if (eqb (nat_abs (get_or (x ∷ xs) k (pos 0))) a)))
-
--- ---- the loop of `count_of`: `count` of the first i numbers have the absolute value a
-
-pub record Tally (a : ℕ) (xs : List ℤ) (count i : ℕ) : Type 0 where
-  pub below : i ≤ length xs
-  pub most : count ≤ i
-  pub is : count ≡ total i (λ k. one_if (eqb (nat_abs (get_or xs k (pos 0))) a))
-
-pub tally_start : (a : ℕ) (xs : List ℤ) → Tally a xs 0 0
-unfolding total
-tally_start a xs = record { below = omega arith; most = omega arith; is = refl }
-
-pub tally_step : (a : ℕ) (xs : List ℤ) (count i : ℕ) {one : ℕ} → Tally a xs count i → i < length xs
-    → one ≡ one_if (eqb (nat_abs (get_or xs i (pos 0))) a) → Tally a xs (count + one) (i + 1)
-tally_step a xs count i t h e =
-    record {
-      below = omega arith;
-      most = omega (arith, t.most, one_if_most (eqb (nat_abs (get_or xs i (pos 0))) a));
-      is = omega (arith, t.is, total-add-one i (λ k. one_if (eqb (nat_abs (get_or xs k (pos 0))) a)));
-    }
-
-pub tally_end : (a : ℕ) (xs : List ℤ) (count i : ℕ) → Tally a xs count i → length xs ≤ i → count ≡ count_of a xs
-tally_end a xs count i t h =
-    let all : i ≡ length xs = omega (arith, t.below) in
-    t.is ∙ ap (λ (k : ℕ). total k (λ j. one_if (eqb (nat_abs (get_or xs j (pos 0))) a))) all ∙ sym (count-is a xs)
 
 -- ---- zeros, ones and twos
 

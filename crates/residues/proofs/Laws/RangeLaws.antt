@@ -3,14 +3,14 @@
 --     all_within_false                   one number above the bound
 --     all_within_mono                    a larger bound
 --     all_within-join, -part             joined slices, a part of a slice
---     Tested                            the invariant of the loop of `all_between`, with its start, its step and its two ends
+--     Tested                            the invariant of the loop of `all_between`, with its start and its step
 --     coefficients-.., projections-..   the same at the bounds of rows 8 and 9
 --     counted-tests, short-tests        row 10: the two rules as tests
 --     challenge_64, -other              which of them is asked
 --     all_narrow-at, -of, -false         row 15: the test by index
 --     narrow-between                    and as code asks it
 use Rattle.std.specs.Prelude.{◌≡◌, refl, Bool, true, false, cond, not, ◌&&◌, List, [], ◌∷◌, ◌++◌, ℕ, zero, suc, ◌+◌, ◌*◌, ◌/◌, ◌≤◌, ◌<◌, leb, ltb, eqb, length, get_or, take, drop, ℤ, pos, negsuc, neg_ℤ, nat_abs}
-use Rattle.std.proofs.Common.{sym, ap, ap₂, ◌∙◌, le_trans, add-one, arith, take-suc, take_all, le-leb, leb-true, leb-false, ltb-true, ltb-false, le-ltb, eq-eqb, ne_eqb}
+use Rattle.std.proofs.Common.{sym, ap, ap₂, ◌∙◌, le_trans, add-one, arith, take-suc, le-leb, leb-true, leb-false, ltb-true, ltb-false, le-ltb, eq-eqb, ne_eqb}
 use Rattle.std.proofs.lemmas.Bool.{lt-leb}
 use Rattle.integers.specs.Lists.{all}
 use Rattle.integers.specs.Sums.{norm_sq}
@@ -113,9 +113,6 @@ tested-step low high xs i {all} {inside} r h e =
           ∙ sym (all-last (between low high) (take i xs) (get_or xs i (pos 0)))
           ∙ ap (all_between low high) (sym (take-suc xs i (pos 0) h) ∙ ap (λ (k : ℕ). take k xs) (sym (add-one i)));
     }
-
-pub tested-end : (low high : ℤ) (xs : List ℤ) (i : ℕ) {all : Bool} → Tested low high xs i all → length xs ≤ i → all ≡ all_between low high xs
-tested-end low high xs i r h = r.is ∙ ap (all_between low high) (take_all i xs h)
 
 -- ---- row 8
 

@@ -2,21 +2,12 @@
 use mathlib.Core.Path.{◌∙◌}
 use mir.Syntax.{w32}
 use mir.Facts.{to_z-of_z}
-use Rattle.residues.proofs.Laws.Words.{widen, wide}
+use Rattle.residues.proofs.Laws.Words.{wide}
 use Rattle.residues.proofs.Laws.DigitSteps.{base-held, base-product-fits, horner-fits}
 use Rattle.residues.proofs.digits.fold_digit.Goals as goal
 
-pub overflow_cast-product : goal.overflow_cast-product
-overflow_cast-product c = rw (to_z-of_z c.ranges.acc) (widen c.ranges.acc)
-
-pub overflow_mul-product : goal.overflow_mul-product
-overflow_mul-product c = rw (wide c.ranges.acc, base-held c.requires) (base-product-fits c.requires c.ranges.acc)
-
-pub overflow_cast-digit : goal.overflow_cast-digit
-overflow_cast-digit c = rw (to_z-of_z c.ranges.x) (widen c.ranges.x)
-
-pub overflow_add-product : goal.overflow_add-product
-overflow_add-product c =
+pub overflow_add-acc : goal.overflow_add-acc
+overflow_add-acc c =
     let product = base-product-fits c.requires c.ranges.acc in
     rw (wide c.ranges.acc, base-held c.requires, wide c.ranges.x, to_z-of_z product) (horner-fits c.requires c.ranges.acc c.ranges.x)
 

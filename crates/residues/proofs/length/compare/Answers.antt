@@ -17,18 +17,18 @@ squared : (x : ℤ) {s : ℕ} → mag x < 2 ^ 31 → s ≡ nat_abs (to_z w32 (of
 unfolding sq
 squared x g e = e ∙ ap (λ (z : ℤ). nat_abs z * nat_abs z) (word x g)
 
-pub loop-i-init : goal.loop-i-init
-loop-i-init c = compared_start _ _
+pub loop-x-init : goal.loop-x-init
+loop-x-init c = compared_start _ _
 
 pub returns-then-rest-s : goal.returns-then-rest-s
 returns-then-rest-s c =
-    compared_above _ _ _ _ _ c.loop-i.invariant c.loop-i-test.true
+    compared_above _ _ _ _ _ c.loop-x.invariant c.loop-x-test.true
     (squared _ c.square-arg-1.given c.square-s.ensures) (omega arith)
 
-pub loop-i-preserved : goal.loop-i-preserved
-loop-i-preserved c =
-    compared_step _ _ _ _ _ c.loop-i.invariant c.loop-i-test.true
+pub loop-x-preserved : goal.loop-x-preserved
+loop-x-preserved c =
+    compared_step _ _ _ _ _ c.loop-x.invariant c.loop-x-test.true
     (squared _ c.square-arg-1.given c.square-s.ensures) (omega arith)
 
 pub returns : goal.returns
-returns c = compared_end _ _ _ _ c.loop-i.invariant c.loop-i-test.false
+returns c = compared_end _ _ _ _ c.loop-x.invariant c.loop-x-test.false
