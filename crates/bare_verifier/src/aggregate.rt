@@ -19,7 +19,6 @@ use checks::linear::linear_sum;
 use constraints::aggregated::{aggregate_a, aggregate_constant};
 use fold::ConstraintSizes;
 use residues::length;
-use residues::length::Margin;
 use ring::element::Element;
 
 // Check 5: Σ <φ_i, z> c_i is the sum over all turns of (mixed φ)·c_i + (own φ)·c_i².
@@ -176,7 +175,7 @@ pub fn aggregate_holds(
 }
 
 // Check 7: the squared length of z against the bound on z.
-pub fn z_margin(sizes: BareSizes, c: &[i32], opening: &[i32]) -> Margin
+pub fn z_margin(sizes: BareSizes, c: &[i32], opening: &[i32]) -> Option<u64>
     requires { BareOpeningFacts sizes c.now opening.now }
     ensures { result ≡ remaining sizes.z_bound (norm_sq (z_numbers sizes.shape.d sizes.shape.n sizes.shape.r sizes.kappa opening.now)) }
 {

@@ -9,7 +9,6 @@ ghost use Rattle.fold.specs.Limits.{most_bound, most_projections};
 
 use fold::{Sizes, places};
 use residues::length;
-use residues::length::Margin;
 
 // Check 1: 2·|p|² is at most w·β².
 pub fn short_projection(w: usize, bound: u64, p: &[i32]) -> bool
@@ -18,12 +17,11 @@ pub fn short_projection(w: usize, bound: u64, p: &[i32]) -> bool
 {
     let budget = w as u64 * bound;
     let once = length::compare(budget, p);
-    let twice = length::lessen(once, p);
-    length::is_within(twice)
+    length::lessen(once, p).is_some()
 }
 
 // The squared length of xs, cut at two places, against the target.
-fn parts_margin(target: u64, first: usize, second: usize, xs: &[i32]) -> Margin
+fn parts_margin(target: u64, first: usize, second: usize, xs: &[i32]) -> Option<u64>
     requires { (first ≤ second) × (second ≤ length xs.now) }
     ensures { result ≡ remaining target (three_lengths first second xs.now) }
 {
@@ -33,7 +31,7 @@ fn parts_margin(target: u64, first: usize, second: usize, xs: &[i32]) -> Margin
 }
 
 // Check 9: the squared length of all digits, tz of them of z, against β'².
-pub fn opening_margin(tz: usize, sizes: Sizes, opening: &[i32]) -> Margin
+pub fn opening_margin(tz: usize, sizes: Sizes, opening: &[i32]) -> Option<u64>
     requires tz_bound { tz ≤ 2 }
     requires fits { Fits sizes }
     requires opening { Opening tz sizes opening.now }

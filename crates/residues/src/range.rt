@@ -3,7 +3,7 @@ ghost use Rattle.std.specs.Prelude.{◌≡◌, nat_abs};
 ghost use Rattle.residues.specs.Digits.{Base};
 ghost use Rattle.residues.specs.Range.{between, all_between, coefficients, projection_entries, count_of, counted_challenge, short_challenge, challenge, all_narrow};
 
-use crate::length::{compare, is_within};
+use crate::length::compare;
 
 // The absolute value. `wide >> 63` is -1 where x is negative and 0 elsewhere.
 pub fn magnitude(x: i32) -> u64
@@ -69,7 +69,7 @@ fn is_short_challenge(xs: &[i32]) -> bool
     ensures { result ≡ short_challenge xs.now }
 {
     let small = all_between(-2, 2, xs);
-    let short = is_within(compare(71, xs));
+    let short = compare(71, xs).is_some();
     small & short
 }
 

@@ -1,11 +1,7 @@
 -- The verdict's checks in parts, for the sizes of a struct; lists that no check of a part takes are empty, and checks 1 and 2 take no z digit.
 use Rattle.std.specs.Prelude.{◌≡◌, Bool, List, [], ℕ, ◌*◌, ◌≤◌, ◌<◌, ℤ, length}
 use Rattle.ring.specs.Element.{el}
-use Rattle.residues.specs.declared.length.Margin.{Margin}
-use Rattle.residues.specs.declared.length.Margin.TheVariants.{Within, Above}
 use Rattle.fold.specs.declared.Sizes.{Sizes}
-use Rattle.fold.specs.Answers.{Verdict}
-use Rattle.fold.specs.Answers.{Accepted, Failed}
 use Rattle.fold.specs.Verdict.{message_checks, outer_checks, amortized_checks, last_checks, opening_checks, margin₉}
 use Rattle.fold.specs.Arguments.{statement_with, draws_of, transcript_of}
 use Rattle.checks.specs.Known.Facts.{z_value}
@@ -30,13 +26,9 @@ abbrev pub last_checks_of : (tz : ℕ) → Sizes → (whole constant_terms proje
 last_checks_of tz s whole constant_terms projections ψ ω b'' α δ o =
     last_checks (statement_with tz s [] [] [] [] whole constant_terms) (draws_of projections ψ ω α δ []) (transcript_of [] [] b'' []) o
 
--- the margin, and what a last check of a length says, by its number and a comparison with the bound
+-- the margin
 abbrev pub margin_of : (tz : ℕ) → Sizes → (o : List ℤ) → ℕ
 margin_of tz s o = margin₉ s.shape.d s.shape.n s.shape.r tz s.kappa s.t1 s.t2 s.target o
-
-abbrev pub by_length : (check : ℕ) → Margin → Verdict
-by_length check (Within rest) = Accepted rest
-by_length check Above = Failed check
 
 -- z stands at the start of a list
 pub record Recomposed (tz : ℕ) (s : Sizes) (o z : List ℤ) : Type 0 where

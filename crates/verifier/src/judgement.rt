@@ -1,15 +1,17 @@
-// The first check that fails, by number where those after it are still to be asked (0 where none fails), else as a verdict. A check is asked only
-// where those before it pass.
+// The first check that fails, or the margin. A check is asked only where those before it pass.
 ghost use Rattle.std.specs.Prelude.{◌≡◌, List, ◌<◌, ◌≤◌, ℤ};
-ghost use Rattle.fold.specs.Answers.{first_failing, judged};
+ghost use Rattle.fold.specs.Rows.{check_number, failure};
+ghost use Rattle.fold.specs.Answers.{first_failing, judged, verdict_of};
 ghost use Rattle.fold.specs.Known.WorkFacts.{MessageFacts, OuterFacts, AmortizedFacts, RelationFacts, OpeningFacts};
-ghost use Rattle.verifier.specs.Judgement.{message_checks_of, outer_checks_of, amortized_checks_of, last_checks_of, opening_checks_of, margin_of, by_length, Recomposed};
+ghost use Rattle.fold.specs.Known.CallFacts.{VerifyFacts};
+ghost use Rattle.fold.specs.Arguments.{statement_with, draws_of, transcript_of};
+ghost use Rattle.fold.specs.Verdict.{verdict};
+ghost use Rattle.verifier.specs.Judgement.{message_checks_of, outer_checks_of, amortized_checks_of, last_checks_of, opening_checks_of, margin_of, Recomposed};
 
 use checks::{amortized, linear, norms, outer, recomposed, relation, terms};
+use fold::answers::{Check, Verdict, require};
 use fold::limits::PART_ROOM;
-use fold::{ConstraintSizes, Sizes, Verdict};
-use limits::rows::first;
-use residues::length::Margin;
+use fold::{ConstraintSizes, Sizes};
 
 // Checks 1 and 2, which need no opening.
 pub fn message_checks(
@@ -19,15 +21,13 @@ pub fn message_checks(
     psi: &[i32],
     omega: &[i32],
     second_b: &[i32],
-) -> u8
+) -> Result<(), Check>
     requires { MessageFacts sizes constant_terms.now psi.now omega.now p.now second_b.now }
-    ensures { result ≡ first_failing (message_checks_of sizes constant_terms.now p.now psi.now omega.now
+    ensures { failure check_number result ≡ first_failing (message_checks_of sizes constant_terms.now p.now psi.now omega.now
         second_b.now) }
 {
     let one = norms::short_projection(sizes.w, sizes.bound, p);
-    if !one {
-        return 1;
-    }
+    require(one, Check::ProjectionLength)?;
     let shape = sizes.shape;
     let constraint_sizes = ConstraintSizes {
         shape,
@@ -36,7 +36,7 @@ pub fn message_checks(
         w: sizes.w,
     };
     let two = terms::constant_terms_hold(constraint_sizes, constant_terms, psi, omega, p, second_b);
-    first(two, 2, 0)
+    require(two, Check::ConstantTerms)
 }
 
 // Checks 3 and 4.
@@ -49,18 +49,16 @@ pub fn outer_checks(
     u1: &[i32],
     u2: &[i32],
     opening: &[i32],
-) -> u8
+) -> Result<(), Check>
     requires tz_bound { tz ≤ 2 }
     requires outer_facts { OuterFacts tz sizes b_matrix.now c_matrix.now d_matrix.now u1.now u2.now opening.now }
-    ensures { result ≡ first_failing (outer_checks_of tz sizes b_matrix.now c_matrix.now d_matrix.now
+    ensures { failure check_number result ≡ first_failing (outer_checks_of tz sizes b_matrix.now c_matrix.now d_matrix.now
         u1.now u2.now opening.now) }
 {
     let three = outer::first_outer(tz, sizes, b_matrix, c_matrix, u1, opening);
-    if !three {
-        return 3;
-    }
+    require(three, Check::FirstOuter)?;
     let four = outer::second_outer(tz, sizes, d_matrix, u2, opening);
-    first(four, 4, 0)
+    require(four, Check::SecondOuter)
 }
 
 // Checks 5 and 6, with the recomposed z at the start of a slice.
@@ -71,28 +69,16 @@ fn amortized_checks(
     c: &[i32],
     z: &[i32],
     opening: &[i32],
-) -> u8
+) -> Result<(), Check>
     requires tz_bound { tz ≤ 2 }
     requires amortized_facts { AmortizedFacts tz sizes a_matrix.now c.now opening.now }
     requires recomposed { Recomposed tz sizes opening.now z.now }
-    ensures { result ≡ first_failing (amortized_checks_of tz sizes a_matrix.now c.now opening.now) }
+    ensures { failure check_number result ≡ first_failing (amortized_checks_of tz sizes a_matrix.now c.now opening.now) }
 {
     let five = amortized::amortized(tz, sizes, a_matrix, c, z, opening);
-    if !five {
-        return 5;
-    }
+    require(five, Check::Amortized)?;
     let six = amortized::self_product(tz, sizes, c, z, opening);
-    first(six, 6, 0)
-}
-
-// What a last check of a length says: accepted with what is left of the bound, or failed.
-pub fn by_length(check: u8, margin: Margin) -> Verdict
-    ensures { result ≡ by_length check margin }
-{
-    let Margin::Within(rest) = margin else {
-        return Verdict::Failed(check);
-    };
-    Verdict::Accepted(rest)
+    require(six, Check::SelfProduct)
 }
 
 // Checks 8 and 9. The projection rows and ω are no part of the aggregate's a.
@@ -109,7 +95,7 @@ fn last_verdict(
 ) -> Verdict
     requires tz_bound { tz ≤ 2 }
     requires relation_facts { RelationFacts tz sizes whole.now constant_terms.now psi.now alpha.now delta.now second_b.now opening.now }
-    ensures { (projections ω : List ℤ) → result ≡ judged (first_failing (last_checks_of tz sizes whole.now constant_terms.now projections
+    ensures { (projections ω : List ℤ) → verdict_of check_number result ≡ judged (first_failing (last_checks_of tz sizes whole.now constant_terms.now projections
         psi.now ω second_b.now alpha.now delta.now opening.now))
         (margin_of tz sizes opening.now) }
 {
@@ -124,11 +110,8 @@ fn last_verdict(
         second_b,
         opening,
     );
-    if !eight {
-        return Verdict::Failed(8);
-    }
-    let margin = norms::opening_margin(tz, sizes, opening);
-    by_length(9, margin)
+    require(eight, Check::Relation)?;
+    norms::opening_margin(tz, sizes, opening).ok_or(Check::OpeningLength)
 }
 
 // Checks 5 to 9, with z recomposed once.
@@ -150,16 +133,13 @@ pub fn opening_verdict(
     requires tz_nonzero { (0 < tz) × (tz ≤ 2) }
     requires opening_facts { OpeningFacts tz sizes a_matrix.now whole.now constant_terms.now projections.now psi.now omega.now second_b.now alpha.now delta.now
         c.now opening.now }
-    ensures { result ≡ judged (first_failing (opening_checks_of tz sizes a_matrix.now whole.now constant_terms.now projections.now
+    ensures { verdict_of check_number result ≡ judged (first_failing (opening_checks_of tz sizes a_matrix.now whole.now constant_terms.now projections.now
         psi.now omega.now second_b.now alpha.now delta.now c.now
         opening.now)) (margin_of tz sizes opening.now) }
 {
     let mut z = [0i32; PART_ROOM];
     recomposed::write_z(tz, sizes.shape.d, sizes.shape.n, sizes.b, opening, &mut z);
-    let failed = amortized_checks(tz, sizes, a_matrix, c, &z, opening);
-    if failed != 0 {
-        return Verdict::Failed(failed);
-    }
+    amortized_checks(tz, sizes, a_matrix, c, &z, opening)?;
     let shape = sizes.shape;
     let constraint_sizes = ConstraintSizes {
         shape,
@@ -180,9 +160,7 @@ pub fn opening_verdict(
         &z,
     );
     let seven = linear::linear_holds(tz, sizes, sum, c, opening);
-    if !seven {
-        return Verdict::Failed(7);
-    }
+    require(seven, Check::Linear)?;
     last_verdict(
         tz,
         sizes,
@@ -192,6 +170,56 @@ pub fn opening_verdict(
         alpha,
         delta,
         second_b,
+        opening,
+    )
+}
+
+// The verdict: checks 1 to 9 of a call that is not refused.
+pub fn judge(
+    tz: usize,
+    sizes: Sizes,
+    a_matrix: &[i32],
+    b_matrix: &[i32],
+    c_matrix: &[i32],
+    d_matrix: &[i32],
+    whole: &[i32],
+    constant_terms: &[i32],
+    u1: &[i32],
+    projections: &[i32],
+    p: &[i32],
+    psi: &[i32],
+    omega: &[i32],
+    second_b: &[i32],
+    alpha: &[i32],
+    delta: &[i32],
+    u2: &[i32],
+    c: &[i32],
+    opening: &[i32],
+) -> Verdict
+    requires tz_nonzero { (0 < tz) × (tz ≤ 2) }
+    requires facts { VerifyFacts tz sizes a_matrix.now b_matrix.now c_matrix.now d_matrix.now whole.now constant_terms.now projections.now psi.now
+        omega.now alpha.now delta.now c.now u1.now p.now second_b.now u2.now opening.now }
+    ensures { verdict_of check_number result ≡ verdict (statement_with tz sizes a_matrix.now b_matrix.now c_matrix.now
+        d_matrix.now whole.now constant_terms.now)
+        (draws_of projections.now psi.now omega.now alpha.now delta.now
+        c.now) (transcript_of u1.now p.now second_b.now u2.now)
+        opening.now }
+{
+    message_checks(sizes, constant_terms, p, psi, omega, second_b)?;
+    outer_checks(tz, sizes, b_matrix, c_matrix, d_matrix, u1, u2, opening)?;
+    opening_verdict(
+        tz,
+        sizes,
+        a_matrix,
+        whole,
+        constant_terms,
+        projections,
+        psi,
+        omega,
+        second_b,
+        alpha,
+        delta,
+        c,
         opening,
     )
 }

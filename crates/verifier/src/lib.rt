@@ -2,10 +2,13 @@
 #![tactic(auto)]
 
 ghost use Rattle.std.specs.Prelude.{◌≡◌};
+ghost use Rattle.fold.specs.Rows.{check_number};
+ghost use Rattle.fold.specs.Answers.{judgement_of};
 ghost use Rattle.fold.specs.Arguments.{statement_of, draws_of, transcript_of};
 ghost use Rattle.fold.specs.Verification.{verification};
 
-use fold::{Answer, StatementSizes, Verdict};
+use fold::StatementSizes;
+use fold::answers::{Refusal, Verdict};
 use refusals::verify_refusal;
 
 pub mod judgement;
@@ -30,8 +33,8 @@ pub fn verify(
     u2: &[i32],
     c: &[i32],
     opening: &[i32],
-) -> Answer
-    ensures { result ≡ verification (statement_of sizes a_matrix.now b_matrix.now c_matrix.now
+) -> Result<Verdict, Refusal>
+    ensures { judgement_of check_number result ≡ verification (statement_of sizes a_matrix.now b_matrix.now c_matrix.now
         d_matrix.now whole.now constant_terms.now)
         (draws_of projections.now psi.now omega.now alpha.now delta.now
         c.now) (transcript_of u1.now p.now second_b.now u2.now)
@@ -40,7 +43,7 @@ pub fn verify(
     let z = sizes.z;
     let tz = z.count();
     let given = sizes.based();
-    let refusal = verify_refusal(
+    verify_refusal(
         tz,
         given,
         a_matrix,
@@ -60,32 +63,26 @@ pub fn verify(
         u2,
         c,
         opening,
-    );
-    if 0 < refusal {
-        return Answer::Refused(refusal);
-    }
-    let message = judgement::message_checks(given, constant_terms, p, psi, omega, second_b);
-    if message != 0 {
-        return Answer::Judged(Verdict::Failed(message));
-    }
-    let outer = judgement::outer_checks(tz, given, b_matrix, c_matrix, d_matrix, u1, u2, opening);
-    if outer != 0 {
-        return Answer::Judged(Verdict::Failed(outer));
-    }
-    let verdict = judgement::opening_verdict(
+    )?;
+    Ok(judgement::judge(
         tz,
         given,
         a_matrix,
+        b_matrix,
+        c_matrix,
+        d_matrix,
         whole,
         constant_terms,
+        u1,
         projections,
+        p,
         psi,
         omega,
         second_b,
         alpha,
         delta,
+        u2,
         c,
         opening,
-    );
-    Answer::Judged(verdict)
+    ))
 }

@@ -1,8 +1,7 @@
 -- Laws of what Norms.antt defines.
-use Rattle.std.specs.Prelude.{◌≡◌, refl, Bool, List, ℕ, ◌+◌, ◌*◌, ◌-◌, length, ℤ}
+use Rattle.std.specs.Prelude.{◌≡◌, refl, Bool, List, ℕ, ◌+◌, ◌*◌, ◌-◌, length, ℤ, Option}
 use Rattle.std.proofs.Common.{ap, ◌∙◌, arith}
 use Rattle.integers.specs.Sums.{norm_sq}
-use Rattle.residues.specs.declared.length.Margin.{Margin}
 use Rattle.residues.specs.Length.{remaining, lessened, holds}
 use Rattle.residues.proofs.Laws.LengthLaws.{lessened-remaining, holds-remaining}
 use Rattle.fold.specs.Sizes.{t_size, garbage_size, rest_size, opening_size}
@@ -10,22 +9,22 @@ use Rattle.fold.specs.Verdict.{check₁}
 use Rattle.fold.specs.Opening.{z_length, tg_length, h_length, digits_length, t_place, g_place, h_place}
 use Rattle.checks.specs.Norms.{three_lengths}
 
-pub check_one : (w β² budget : ℕ) (p : List ℤ) (once twice : Margin) (r : Bool) → budget ≡ w * β²
+pub check_one : (w β² budget : ℕ) (p : List ℤ) (once twice : Option ℕ) (r : Bool) → budget ≡ w * β²
     → once ≡ remaining budget (norm_sq p) → twice ≡ lessened once (norm_sq p) → r ≡ holds twice → r ≡ check₁ w β² p
 unfolding check₁
 check_one w β² budget p once twice r e first second result =
     let double : norm_sq p + norm_sq p ≡ 2 * norm_sq p = omega arith in
     result
-    ∙ ap holds (second ∙ ap (λ (m : Margin). lessened m (norm_sq p)) first ∙ lessened-remaining budget (norm_sq p) (norm_sq p))
+    ∙ ap holds (second ∙ ap (λ (m : Option ℕ). lessened m (norm_sq p)) first ∙ lessened-remaining budget (norm_sq p) (norm_sq p))
     ∙ holds-remaining budget (norm_sq p + norm_sq p)
     ∙ rw (double, e) refl
 
 -- three lengths against one bound
-pub three-lengths : (x y z target : ℕ) (one two three : Margin) → one ≡ remaining target x → two ≡ lessened one y
+pub three-lengths : (x y z target : ℕ) (one two three : Option ℕ) → one ≡ remaining target x → two ≡ lessened one y
     → three ≡ lessened two z → three ≡ remaining target (x + y + z)
 three-lengths x y z target one two three first second third =
     third
-    ∙ ap (λ (m : Margin). lessened m z) (second ∙ ap (λ (m : Margin). lessened m y) first ∙ lessened-remaining target x y)
+    ∙ ap (λ (m : Option ℕ). lessened m z) (second ∙ ap (λ (m : Option ℕ). lessened m y) first ∙ lessened-remaining target x y)
     ∙ lessened-remaining target (x + y) z
 
 -- the digits' length with the opening cut where t and h start

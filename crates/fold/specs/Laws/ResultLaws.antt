@@ -7,6 +7,7 @@
 --     handed_on, required, last_row     the result: an error that `?` hands on, one of `require`, and a last `require`
 --     failed_on, failed_check           a verdict's
 --     refused_by, unrefused_by          the answer of a call that is refused, or not
+--     refused_judgement, refused_writing     a refused call's
 use Rattle.std.specs.Prelude.{◌≡◌, refl, Bool, true, false, if◌then◌else◌, Result, Ok, Err, IsErrAnd, List, [], ◌∷◌, ◌++◌, ℕ, zero, suc}
 use Rattle.std.proofs.Common.{arith, sym, ap, ◌∙◌}
 use Rattle.fold.specs.declared.answers.Refusal.{Refusal}
@@ -14,7 +15,7 @@ use Rattle.fold.specs.declared.answers.Refusal.TheVariants.{Degree, Size, Commit
 use Rattle.fold.specs.declared.answers.Check.{Check}
 use Rattle.fold.specs.declared.answers.Check.TheVariants.{ProjectionLength, ConstantTerms, FirstOuter, SecondOuter, Amortized, SelfProduct, Linear, Relation, OpeningLength}
 use Rattle.fold.specs.Rows.{row_of, check_number, failure}
-use Rattle.fold.specs.Answers.{Answer, Refused, Failed, first_failing, judged, answered, verdict_of}
+use Rattle.fold.specs.Answers.{Answer, Refused, Failed, first_failing, judged, answered, verdict_of, judgement_of, written_of}
 use Rattle.fold.specs.Laws.RefusalLaws.{numbered}
 use Rattle.fold.specs.Laws.TestLaws.{stops, goes_on, failing, passing}
 
@@ -67,6 +68,20 @@ pub row_holds : (early : List (ℕ × Bool)) (k : ℕ) (later : List (ℕ × Boo
     → {s t : Bool} → s ≡ t → s ≡ true → {x : ℕ} → x ≡ first_failing later → x ≡ first_failing (early ++ ((k, t) ∷ later))
 row_holds early k later l e q f h = gone_on early _ l e (passing k later (sym q ∙ f) h)
 
+-- ---- answers
+
+-- a call that is refused, or not
+pub refused_by : (k n : ℕ) (a : Answer) → k ≡ n → (k ≡ 0 → ⊥) → Refused k ≡ answered n a
+unfolding answered
+refused_by zero n a e some = absurd (some refl)
+refused_by (suc k) zero a e some = absurd (some e)
+refused_by (suc k) (suc n) a e some = ap Refused e
+
+pub unrefused_by : (n : ℕ) {a b : Answer} → 0 ≡ n → a ≡ b → a ≡ answered n b
+unfolding answered
+unrefused_by zero e f = f
+unrefused_by (suc n) e f = absurd (omega (arith, e))
+
 -- ---- results
 
 module _ {E : Type 0} (number : E → ℕ) where
@@ -95,16 +110,14 @@ module _ {E : Type 0} (number : E → ℕ) where
   failed_check r m told because some q =
       failed_on r _ m told (λ z. some (sym (ap number because.1) ∙ z)) (ap number because.1 ∙ q)
 
--- ---- answers
+  -- a verifier's answer
+  pub refused_judgement : (r : Result (Result ℕ E) Refusal) (e : Refusal) (n : ℕ) (a : Answer) → IsErrAnd r (λ x. x ≡ e) → row_of e ≡ n
+      → judgement_of number r ≡ answered n a
+  refused_judgement (Ok v) e n a told q = absurd told
+  refused_judgement (Err x) e n a told q = ap (λ y. Refused (row_of y)) told ∙ refused_by (row_of e) n a q (row_nonzero e)
 
--- a call that is refused, or not
-pub refused_by : (k n : ℕ) (a : Answer) → k ≡ n → (k ≡ 0 → ⊥) → Refused k ≡ answered n a
-unfolding answered
-refused_by zero n a e some = absurd (some refl)
-refused_by (suc k) zero a e some = absurd (some e)
-refused_by (suc k) (suc n) a e some = ap Refused e
-
-pub unrefused_by : (n : ℕ) {a b : Answer} → 0 ≡ n → a ≡ b → a ≡ answered n b
-unfolding answered
-unrefused_by zero e f = f
-unrefused_by (suc n) e f = absurd (omega (arith, e))
+-- that of a call that writes
+pub refused_writing : (r : Result Unit Refusal) (e : Refusal) (n : ℕ) (a : Answer) → IsErrAnd r (λ x. x ≡ e) → row_of e ≡ n
+    → written_of r ≡ answered n a
+refused_writing (Ok u) e n a told q = absurd told
+refused_writing (Err x) e n a told q = ap (λ y. Refused (row_of y)) told ∙ refused_by (row_of e) n a q (row_nonzero e)

@@ -4,38 +4,36 @@
 --     lessened-remaining    one bound for two lengths: lessening by each is comparing the sum
 --     holds-remaining       the answer as a test
 --     Compared              the invariant of the loop of `compare`, with its start, its step and its two ends
-use Rattle.std.specs.Prelude.{◌≡◌, refl, Bool, true, false, List, ℕ, suc, ◌+◌, ◌-◌, ◌≤◌, ◌<◌, leb, length, get_or, take, ℤ, pos}
+use Rattle.std.specs.Prelude.{◌≡◌, refl, Bool, true, false, List, ℕ, suc, ◌+◌, ◌-◌, ◌≤◌, ◌<◌, leb, length, get_or, take, ℤ, pos, Option, Some, None}
 use Rattle.std.proofs.Common.{sym, ap, ◌∙◌, add-one, arith, take_all, le-leb, leb-true, leb-false}
 use Rattle.std.proofs.lemmas.Bool.{lt-leb}
 use Rattle.integers.specs.Sums.{norm_sq, sq}
 use Rattle.integers.specs.Laws.SumLaws.{norm_sq-take-suc, norm_sq-take-le}
-use Rattle.residues.specs.declared.length.Margin.{Margin}
-use Rattle.residues.specs.declared.length.Margin.TheVariants.{Within, Above}
 use Rattle.residues.specs.Length.{margin_if, remaining, lessened, holds}
 
 -- ---- the two answers
 
-pub remaining-within : (b n : ℕ) → n ≤ b → remaining b n ≡ Within (b - n)
+pub remaining-within : (b n : ℕ) → n ≤ b → remaining b n ≡ Some (b - n)
 unfolding remaining
-remaining-within b n h = ap (λ (t : Bool). margin_if t (Within (b - n))) (le-leb n b h)
+remaining-within b n h = ap (λ (t : Bool). margin_if t (Some (b - n))) (le-leb n b h)
 
-pub remaining-above : (b n : ℕ) → b < n → remaining b n ≡ Above
+pub remaining-above : (b n : ℕ) → b < n → remaining b n ≡ None
 unfolding remaining
-remaining-above b n h = ap (λ (t : Bool). margin_if t (Within (b - n))) (lt-leb n b h)
+remaining-above b n h = ap (λ (t : Bool). margin_if t (Some (b - n))) (lt-leb n b h)
 
 pub holds-remaining : (b n : ℕ) → holds (remaining b n) ≡ leb n b
 unfolding remaining
 holds-remaining b n = holds-margin_if (leb n b)
   where
-    holds-margin_if : (t : Bool) → holds (margin_if t (Within (b - n))) ≡ t
+    holds-margin_if : (t : Bool) → holds (margin_if t (Some (b - n))) ≡ t
     holds-margin_if true = refl
     holds-margin_if false = refl
 
-pub lessened-within : (n : ℕ) {margin : Margin} {rest : ℕ} → margin ≡ Within rest → remaining rest n ≡ lessened margin n
+pub lessened-within : (n : ℕ) {margin : Option ℕ} {rest : ℕ} → margin ≡ Some rest → remaining rest n ≡ lessened margin n
 unfolding lessened
 lessened-within n e = rw e refl
 
-pub lessened-above : (n : ℕ) {margin : Margin} → margin ≡ Above → Above ≡ lessened margin n
+pub lessened-above : (n : ℕ) {margin : Option ℕ} → margin ≡ None → None ≡ lessened margin n
 unfolding lessened
 lessened-above n e = rw e refl
 
@@ -46,7 +44,7 @@ left_over : (b m n : ℕ) → m ≤ b → (t : Bool) → leb n (b - m) ≡ t →
 left_over b m n h true e =
     let k : n ≤ b - m = leb-true n (b - m) e in
     let s : b - m - n ≡ b - (m + n) = omega arith in
-    remaining-within (b - m) n k ∙ ap Within s ∙ sym (remaining-within b (m + n) (omega arith))
+    remaining-within (b - m) n k ∙ ap Some s ∙ sym (remaining-within b (m + n) (omega arith))
 left_over b m n h false e =
     let k : b - m < n = leb-false n (b - m) e in
     remaining-above (b - m) n k ∙ sym (remaining-above b (m + n) (omega arith))
@@ -78,14 +76,14 @@ module _ (bound : ℕ) (xs : List ℤ) (rest i s : ℕ) (inv : Compared bound xs
       record { below = omega arith; paid = rw add-one (omega (arith, inv.paid, norm_sq-take-suc xs i h)) }
 
   -- it does not: the whole is above the bound
-  pub compared_above : i < length xs → s ≡ sq (get_or xs i (pos 0)) → rest < s → Above ≡ remaining bound (norm_sq xs)
+  pub compared_above : i < length xs → s ≡ sq (get_or xs i (pos 0)) → rest < s → None ≡ remaining bound (norm_sq xs)
   compared_above h e k =
       sym (remaining-above bound (norm_sq xs) (omega (arith, inv.paid, norm_sq-take-suc xs i h, norm_sq-take-le xs (suc i))))
 
 -- all numbers are paid for
 pub compared_end : (bound : ℕ) (xs : List ℤ) (rest i : ℕ) → Compared bound xs rest i → length xs ≤ i
-    → Within rest ≡ remaining bound (norm_sq xs)
+    → Some rest ≡ remaining bound (norm_sq xs)
 compared_end bound xs rest i inv h =
     let e : rest + norm_sq xs ≡ bound = rw (take_all i xs) at inv.paid in
     let s : rest ≡ bound - norm_sq xs = omega arith in
-    ap Within s ∙ sym (remaining-within bound (norm_sq xs) (omega arith))
+    ap Some s ∙ sym (remaining-within bound (norm_sq xs) (omega arith))

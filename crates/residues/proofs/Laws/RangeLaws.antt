@@ -9,13 +9,12 @@
 --     challenge_64, -other              which of them is asked
 --     all_narrow-at, -of, -false         row 15: the test by index
 --     narrow-between                    and as code asks it
-use Rattle.std.specs.Prelude.{◌≡◌, refl, Bool, true, false, cond, not, ◌&&◌, List, [], ◌∷◌, ◌++◌, ℕ, zero, suc, ◌+◌, ◌*◌, ◌/◌, ◌≤◌, ◌<◌, leb, ltb, eqb, length, get_or, take, drop, ℤ, pos, negsuc, neg_ℤ, nat_abs}
+use Rattle.std.specs.Prelude.{◌≡◌, refl, Bool, true, false, cond, not, ◌&&◌, List, [], ◌∷◌, ◌++◌, ℕ, zero, suc, ◌+◌, ◌*◌, ◌/◌, ◌≤◌, ◌<◌, leb, ltb, eqb, length, get_or, take, drop, ℤ, pos, negsuc, neg_ℤ, nat_abs, Option}
 use Rattle.std.proofs.Common.{sym, ap, ap₂, ◌∙◌, le_trans, add-one, arith, take-suc, le-leb, leb-true, leb-false, ltb-true, ltb-false, le-ltb, eq-eqb, ne_eqb}
 use Rattle.std.proofs.lemmas.Bool.{lt-leb}
 use Rattle.integers.specs.Lists.{all}
 use Rattle.integers.specs.Sums.{norm_sq}
 use Rattle.integers.specs.Laws.AllLaws.{both_and, all-at, all_of, all_false, all_join, all-part, all-last}
-use Rattle.residues.specs.declared.length.Margin.{Margin}
 use Rattle.residues.specs.Length.{remaining, holds}
 use Rattle.residues.proofs.Laws.LengthLaws.{holds-remaining}
 use Rattle.residues.specs.Range.{between, all_between, all_within, coefficients, projection_entries, count_of, counted_challenge, short_challenge, challenge, all_narrow}
@@ -151,7 +150,7 @@ unfolding counted_challenge
 counted-tests xs e f g = rw (e, f, g) refl
 
 -- that of the smaller degrees as two, the second on what 71 leaves
-pub short-tests : (xs : List ℤ) {small short : Bool} {margin : Margin} → small ≡ all_within 2 xs → margin ≡ remaining 71 (norm_sq xs)
+pub short-tests : (xs : List ℤ) {small short : Bool} {margin : Option ℕ} → small ≡ all_within 2 xs → margin ≡ remaining 71 (norm_sq xs)
     → short ≡ holds margin → small && short ≡ short_challenge xs
 unfolding short_challenge
 short-tests xs e m h = rw (e, h, m, holds-remaining) (both_and (all_within 2 xs) (leb (norm_sq xs) 71))

@@ -1,52 +1,27 @@
--- `verifier::verify` meets its contract: a refusal with its number, or the judgement. Assumes nothing.
-use mathlib.Core.Path.{ap}
+-- `verifier::verify` meets its contract: a refusal with its number, or the judgement.
+use Rattle.std.proofs.Common.{ap}
 use Rattle.fold.specs.Answers.{Judged}
-use Rattle.fold.specs.Arguments.{count_of, based_sizes}
-use Rattle.fold.specs.Verdict.{verdict}
+use Rattle.fold.specs.Rows.{check_number}
 use Rattle.fold.proofs.Laws.DigitCounts.{digits-few}
-use Rattle.verifier.specs.Laws.JudgementLaws.{call_facts, message-fails, outer-fails, opening_says, check_failed, refused, unrefused}
+use Rattle.fold.specs.Laws.ResultLaws.{refused_judgement, unrefused_by}
+use Rattle.verifier.specs.Laws.JudgementLaws.{call_facts}
 use Rattle.verifier.proofs.verify.Goals as goal
 
-pub verify_refusal-refusal-requires : goal.verify_refusal-refusal-requires
-verify_refusal-refusal-requires c = rw c.count-tz.ensures (digits-few c.args.sizes.z)
+pub verify_refusal-requires : goal.verify_refusal-requires
+verify_refusal-requires c = rw c.count-tz.ensures (digits-few c.args.sizes.z)
 
-pub returns-then-refusal-gt0 : goal.returns-then-refusal-gt0
-returns-then-refusal-gt0 c = refused _ _ _ (rw (c.count-tz.ensures, c.based-given.ensures) at c.verify_refusal-refusal.ensures) c.if-refusal-gt0.true
+pub returns-in_err-verify_refusal : goal.returns-in_err-verify_refusal
+returns-in_err-verify_refusal c =
+    refused_judgement check_number _ _ _ _ c.from_residual.ensures.1 (rw (c.count-tz.ensures, c.based-given.ensures) at c.in_err-verify_refusal.ensures)
 
-pub message_checks-message-requires : goal.message_checks-message-requires
-message_checks-message-requires c =
-    (call_facts c.count-tz.result c.based-given.result _ _ _ _ _ _ _ _ _ _ _ _ _ _ _ _ _ c.verify_refusal-refusal.ensures c.if-refusal-gt0.false).message
-
-pub returns-then-message-ne0 : goal.returns-then-message-ne0
-unfolding verdict
-returns-then-message-ne0 c =
-    let s = c.args.sizes in
-    unrefused _ _ (rw (c.count-tz.ensures, c.based-given.ensures) at c.verify_refusal-refusal.ensures) c.if-refusal-gt0.false
-    (ap Judged (check_failed _ _ _ c.if-message-ne0.true
-    (message-fails (count_of s.z) (based_sizes s) _ _ _ _ _ _ _ _ _ _ _ _ _ _ _ _ _ (rw c.based-given.ensures at c.message_checks-message.ensures) c.if-message-ne0.true)))
-
-pub outer_checks-outer-requires : goal.outer_checks-outer-requires
-outer_checks-outer-requires c =
-    record { tz_bound = rw c.count-tz.ensures (digits-few c.args.sizes.z).1; outer_facts = (call_facts c.count-tz.result c.based-given.result _ _ _ _ _ _ _ _ _ _ _ _ _ _ _ _ _ c.verify_refusal-refusal.ensures c.if-refusal-gt0.false).outer }
-
-pub returns-then-outer-ne0 : goal.returns-then-outer-ne0
-unfolding verdict
-returns-then-outer-ne0 c =
-    let s = c.args.sizes in
-    unrefused _ _ (rw (c.count-tz.ensures, c.based-given.ensures) at c.verify_refusal-refusal.ensures) c.if-refusal-gt0.false
-    (ap Judged (check_failed _ _ _ c.if-outer-ne0.true
-    (outer-fails (count_of s.z) (based_sizes s) _ _ _ _ _ _ _ _ _ _ _ _ _ _ _ _ _ (rw c.based-given.ensures at c.message_checks-message.ensures) c.if-message-ne0.false
-    (rw (c.count-tz.ensures, c.based-given.ensures) at c.outer_checks-outer.ensures) c.if-outer-ne0.true)))
-
-pub opening_verdict-verdict-requires : goal.opening_verdict-verdict-requires
-opening_verdict-verdict-requires c =
-    record { tz_nonzero = rw c.count-tz.ensures (digits-few c.args.sizes.z); opening_facts = (call_facts c.count-tz.result c.based-given.result _ _ _ _ _ _ _ _ _ _ _ _ _ _ _ _ _ c.verify_refusal-refusal.ensures c.if-refusal-gt0.false).opening }
+pub judge-requires : goal.judge-requires
+judge-requires c =
+    record {
+      tz_nonzero = rw c.count-tz.ensures (digits-few c.args.sizes.z);
+      facts = call_facts c.count-tz.result c.based-given.result _ _ _ _ _ _ _ _ _ _ _ _ _ _ _ _ _ c.in_ok-verify_refusal.ensures;
+    }
 
 pub returns : goal.returns
-unfolding verdict
 returns c =
-    let s = c.args.sizes in
-    unrefused _ _ (rw (c.count-tz.ensures, c.based-given.ensures) at c.verify_refusal-refusal.ensures) c.if-refusal-gt0.false
-    (ap Judged (opening_says (count_of s.z) (based_sizes s) _ _ _ _ _ _ _ _ _ _ _ _ _ _ _ _ _ (rw c.based-given.ensures at c.message_checks-message.ensures) c.if-message-ne0.false
-    (rw (c.count-tz.ensures, c.based-given.ensures) at c.outer_checks-outer.ensures) _ c.if-outer-ne0.false
-    (rw (c.count-tz.ensures, c.based-given.ensures) at c.opening_verdict-verdict.ensures)))
+    unrefused_by _ (rw (c.count-tz.ensures, c.based-given.ensures) at c.in_ok-verify_refusal.ensures)
+    (ap Judged (rw (c.count-tz.ensures, c.based-given.ensures) at c.judge.ensures))

@@ -9,4 +9,4 @@ pub overflow_mul-budget : goal.overflow_mul-budget
 overflow_mul-budget c = omega (arith, mul-le-mul c.requires.0 c.requires.1)
 
 pub returns : goal.returns
-returns c = check_one _ _ _ _ _ _ _ refl c.compare-once.ensures c.lessen-twice.ensures c.is_within.ensures
+returns c = check_one _ _ _ _ _ _ _ refl c.compare-once.ensures c.lessen.ensures c.is_some.ensures

@@ -4,4 +4,4 @@ use Rattle.residues.proofs.Laws.RangeLaws.{short-tests, between-bound}
 use Rattle.residues.proofs.range.is_short_challenge.Goals as goal
 
 pub returns : goal.returns
-returns c = short-tests _ (c.all_between-small.ensures ∙ between-bound 1 _) c.compare.ensures c.is_within-short.ensures
+returns c = short-tests _ (c.all_between-small.ensures ∙ between-bound 1 _) c.compare.ensures c.is_some-short.ensures

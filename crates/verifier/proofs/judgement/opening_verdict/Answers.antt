@@ -4,11 +4,14 @@ use native.Mathlib.Nat.{mul-le-mul}
 use native.Mathlib.Omega.{arith}
 use lib.ListN.{length, length-replicate}
 use lib.IntN.{pos}
-use Rattle.fold.specs.Laws.TestLaws.{fails, passes, stops, goes_on}
+use Rattle.fold.specs.declared.answers.Check.TheVariants.{Linear}
+use Rattle.fold.specs.Rows.{check_number}
+use Rattle.fold.specs.Laws.TestLaws.{passing, failing, stops}
+use Rattle.fold.specs.Laws.ResultLaws.{gone_on, failed_on, failed_check, check_nonzero}
 use Rattle.checks.specs.Laws.SizeLaws.{z-within}
 use Rattle.checks.specs.Laws.RelationLaws.{check_seven}
 use Rattle.verifier.specs.Judgement.{Recomposed}
-use Rattle.verifier.specs.Laws.JudgementLaws.{recomposed, check_failed, check_passed}
+use Rattle.verifier.specs.Laws.JudgementLaws.{recomposed, check_passed}
 use Rattle.verifier.proofs.judgement.opening_verdict.Goals as goal
 
 pub slice_bounds-write_z-end : goal.slice_bounds-write_z-end
@@ -32,13 +35,14 @@ slice_bounds-amortized_checks-end c =
     let long : length c.write_z.new.z ≡ 16384 = c.write_z.auto.z ∙ length-replicate 16384 (pos 0) in
     sym long
 
-pub amortized_checks-failed-requires : goal.amortized_checks-failed-requires
-amortized_checks-failed-requires c =
+pub amortized_checks-requires : goal.amortized_checks-requires
+amortized_checks-requires c =
     let long : length c.write_z.new.z ≡ 16384 = c.write_z.auto.z ∙ length-replicate 16384 (pos 0) in
     let stands : Recomposed c.args.tz c.args.sizes c.args.opening.now c.write_z.new.z = recomposed c.args.tz c.args.sizes c.requires.opening_facts.relation.limits _ _ _ long c.write_z.ensures in record { tz_bound = c.requires.tz_nonzero.1; amortized_facts = c.requires.opening_facts.amortized; recomposed = stands }
 
-pub returns-then-failed-ne0 : goal.returns-then-failed-ne0
-returns-then-failed-ne0 c = check_failed _ _ _ c.if-failed-ne0.true (stops _ _ c.amortized_checks-failed.ensures c.if-failed-ne0.true)
+pub returns-in_err-amortized_checks : goal.returns-in_err-amortized_checks
+returns-in_err-amortized_checks c =
+    failed_on check_number _ _ _ c.from_residual.ensures.1 (check_nonzero _) (stops _ _ c.in_err-amortized_checks.ensures (check_nonzero _))
 
 pub slice_bounds-linear_sum-end : goal.slice_bounds-linear_sum-end
 slice_bounds-linear_sum-end c =
@@ -53,14 +57,14 @@ linear_sum-sum-requires c =
 pub linear_holds-seven-requires : goal.linear_holds-seven-requires
 linear_holds-seven-requires c = record { tz_bound = c.requires.tz_nonzero.1; folded_facts = c.requires.opening_facts.amortized.folded }
 
-pub returns-then-not-seven : goal.returns-then-not-seven
-returns-then-not-seven c =
+pub returns-in_err-require : goal.returns-in_err-require
+returns-in_err-require c =
     let long : length c.write_z.new.z ≡ 16384 = c.write_z.auto.z ∙ length-replicate 16384 (pos 0) in
     let stands : Recomposed c.args.tz c.args.sizes c.args.opening.now c.write_z.new.z = recomposed c.args.tz c.args.sizes c.requires.opening_facts.relation.limits _ _ _ long c.write_z.ensures in
     let small = c.requires.opening_facts.relation.limits.shaped.degree.small in
-    check_failed 7 _ _ (λ e. omega arith)
-    (goes_on _ _ refl c.amortized_checks-failed.ensures c.if-failed-ne0.false
-    (fails 7 _ (check_seven _ _ _ _ _ _ _ _ small stands.agree c.linear_sum-sum.ensures c.linear_holds-seven.ensures) c.if-not-seven.true-raw))
+    failed_check check_number _ _ c.from_residual-in_err-require.ensures.1 c.in_err-require.ensures.told (check_nonzero Linear)
+    (gone_on _ _ refl c.in_ok-amortized_checks.ensures
+    (failing 7 _ (sym (check_seven _ _ _ _ _ _ _ _ small stands.agree c.linear_sum-sum.ensures c.linear_holds-seven.ensures) ∙ c.in_err-require.ensures.told.0)))
 
 pub last_verdict-requires : goal.last_verdict-requires
 last_verdict-requires c = record { tz_bound = c.requires.tz_nonzero.1; relation_facts = c.requires.opening_facts.relation }
@@ -71,5 +75,5 @@ returns c =
     let stands : Recomposed c.args.tz c.args.sizes c.args.opening.now c.write_z.new.z = recomposed c.args.tz c.args.sizes c.requires.opening_facts.relation.limits _ _ _ long c.write_z.ensures in
     let small = c.requires.opening_facts.relation.limits.shaped.degree.small in
     check_passed _ _ _ (c.last_verdict.ensures c.args.projections.now c.args.omega.now)
-    (goes_on _ _ refl c.amortized_checks-failed.ensures c.if-failed-ne0.false
-    (passes 7 _ (check_seven _ _ _ _ _ _ _ _ small stands.agree c.linear_sum-sum.ensures c.linear_holds-seven.ensures) c.if-not-seven.false-raw refl))
+    (gone_on _ _ refl c.in_ok-amortized_checks.ensures
+    (passing 7 _ (sym (check_seven _ _ _ _ _ _ _ _ small stands.agree c.linear_sum-sum.ensures c.linear_holds-seven.ensures) ∙ c.in_ok-require.ensures.told) refl))
