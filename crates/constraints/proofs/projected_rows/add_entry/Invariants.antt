@@ -1,4 +1,4 @@
-use Prim.Native.Nat.{◌+◌, ◌-◌, ◌*◌}
+use Prim.Native.Nat.{◌+◌, ◌*◌}
 use lib.ListN.{get_or}
 use lib.IntN.{pos, ◌*ℤ◌}
 use Rattle.constraints.specs.Accumulator.{AddedFive}
@@ -7,6 +7,3 @@ use Rattle.constraints.proofs.projected_rows.add_entry.Given as goal
 
 abbrev pub invariant-loop-k : goal.invariant-loop-k
 invariant-loop-k l = Counted 5 (λ k. AddedFive 2147483648 (λ i. get_or l.omega (i * l.w + l.j) (pos 0) *ℤ l.x) l.at l.initial.acc k l.acc) l.k
-
-abbrev pub decreases-loop-k : goal.decreases-loop-k
-decreases-loop-k l = 5 - l.k
