@@ -1,5 +1,4 @@
-use mathlib.Core.List.{[]}
-use lib.ListN.{get_or}
+use Rattle.std.proofs.Common.{[], get_or}
 use Rattle.ring.specs.Element.{R, lift, el}
 use Rattle.ring.specs.Laws.Loops.{Summed}
 use Rattle.constraints.proofs.aggregated.weighted_row.Given as goal

@@ -1,6 +1,4 @@
-use Prim.Native.Nat.{◌+◌, ◌*◌}
-use lib.ListN.{get_or}
-use lib.IntN.{pos, ◌*ℤ◌}
+use Rattle.std.proofs.Common.{◌+◌, ◌*◌, get_or, pos, ◌*ℤ◌}
 use Rattle.constraints.specs.Accumulator.{AddedFive}
 use Rattle.ring.specs.Laws.Loops.{Counted}
 use Rattle.constraints.proofs.projected_rows.add_entry.Given as goal

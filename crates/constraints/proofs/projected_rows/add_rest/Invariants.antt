@@ -1,4 +1,4 @@
-use Prim.Native.Nat.{◌*◌}
+use Rattle.std.proofs.Common.{◌*◌}
 use Rattle.constraints.specs.ProjectedRows.{Summed}
 use Rattle.constraints.proofs.projected_rows.add_rest.Given as goal
 

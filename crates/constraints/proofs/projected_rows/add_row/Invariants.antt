@@ -1,4 +1,4 @@
-use Prim.Native.Nat.{◌+◌, ◌*◌}
+use Rattle.std.proofs.Common.{◌+◌, ◌*◌}
 use Rattle.constraints.specs.Laws.AccumulatorLaws.{Turning}
 use Rattle.constraints.specs.ProjectedRows.{partial}
 use Rattle.constraints.proofs.projected_rows.add_row.Given as goal

@@ -1,6 +1,4 @@
-use Prim.Native.Nat.{◌+◌, ◌*◌}
-use lib.ListN.{get_or}
-use lib.IntN.{pos}
+use Rattle.std.proofs.Common.{◌+◌, ◌*◌, get_or, pos}
 use Rattle.residues.specs.Modulus.{centred}
 use Rattle.ring.specs.Laws.Loops.{Filling}
 use Rattle.constraints.proofs.projected_rows.centred_element.Given as goal

@@ -1,6 +1,4 @@
-use Prim.Native.Nat.{◌+◌, ◌*◌}
-use lib.ListN.{get_or, replicate}
-use lib.IntN.{pos}
+use Rattle.std.proofs.Common.{◌+◌, ◌*◌, get_or, replicate, pos}
 use Rattle.integers.specs.Lists.{tab, upto}
 use Rattle.residues.specs.Modulus.{centred}
 use Rattle.ring.specs.Laws.Loops.{Filling}

@@ -1,6 +1,6 @@
 -- `constraints::projected_rows::projection_row` meets its contract.
 use Rattle.std.proofs.Common.{ℕ, ◌∙◌}
-use lib.ListN.{length-replicate}
+use Rattle.std.proofs.Math.ListN.{length-replicate}
 use Rattle.constraints.specs.Laws.ProjectedRowLaws.{summed_start, row-end}
 use Rattle.constraints.proofs.projected_rows.projection_row.Goals as goal
 

@@ -1,5 +1,6 @@
 -- `constraints::row_groups::entry_digit` meets its contract: x + 1 is not negative.
-use mir.Facts.{to_z-of_z, Fits-nat_abs}
+use Rattle.std.proofs.Common.{to_z-of_z}
+use mir.Facts.{Fits-nat_abs}
 use Rattle.constraints.specs.Laws.RowGroupLaws.{digit-fits, digit-natural, digit_value}
 use Rattle.constraints.proofs.row_groups.entry_digit.Goals as goal
 

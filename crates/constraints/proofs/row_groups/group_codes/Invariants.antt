@@ -1,4 +1,4 @@
-use Prim.Native.Nat.{◌*◌}
+use Rattle.std.proofs.Common.{◌*◌}
 use Rattle.constraints.specs.RowGroups.{CodesOf}
 use Rattle.constraints.proofs.row_groups.group_codes.Given as goal
 

@@ -1,8 +1,6 @@
 -- `constraints::row_groups::weighted_sum` meets its contract.
-use native.Mathlib.Omega.{arith}
-use mir.Facts.{to_z-of_z}
+use Rattle.std.proofs.Common.{arith, to_z-of_z, w64}
 use Rattle.constraints.specs.Laws.RowGroupLaws.{four_summands}
-use mir.Syntax.{w64}
 use Rattle.constraints.proofs.row_groups.weighted_sum.Goals as goal
 
 pub add_summand-two-requires : goal.add_summand-two-requires

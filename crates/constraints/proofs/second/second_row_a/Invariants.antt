@@ -1,5 +1,4 @@
-use lib.ListN.{replicate}
-use lib.IntN.{pos}
+use Rattle.std.proofs.Common.{replicate, pos}
 use Rattle.ring.specs.Element.{array}
 use Rattle.fold.specs.Entries.{second_a}
 use Rattle.ring.specs.Laws.Loops.{Filling}

@@ -1,4 +1,4 @@
-use Prim.Native.Nat.{◌*◌}
+use Rattle.std.proofs.Common.{◌*◌}
 use Rattle.constraints.specs.Laws.Terms.{term_summand}
 use Rattle.ring.specs.Laws.Loops.{Summed}
 use Rattle.constraints.proofs.second.term_entry.Given as goal
