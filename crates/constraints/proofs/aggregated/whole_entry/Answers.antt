@@ -1,12 +1,9 @@
 -- `constraints::aggregated::whole_entry` meets its contract. The loop has added k constraints.
 use Rattle.std.proofs.Common.{refl, arith}
 use Rattle.constraints.specs.Laws.Terms.{whole-step, whole-end, whole-size-small, whole-step-small}
-use Rattle.constraints.specs.Laws.Terms.{whole-inside, whole-place, α-place, rest-room}
+use Rattle.constraints.specs.Laws.Terms.{whole-inside, whole-place, rest-room}
 use Rattle.ring.specs.Laws.Loops.{summed_start, summed_end}
 use Rattle.constraints.proofs.aggregated.whole_entry.Goals as goal
-
-pub function_size-requires : goal.function_size-requires
-function_size-requires c = (c.requires.whole_facts.shaped.rank-small, c.requires.whole_facts.shaped.parts-small)
 
 pub overflow_add-step : goal.overflow_add-step
 overflow_add-step c = omega (arith, whole-size-small c.requires.whole_facts c.function_size.ensures)
@@ -32,15 +29,6 @@ slice_bounds-from_slice-start c = omega (arith, whole-inside c.requires.whole_fa
 pub from_slice-entry-requires-clause-d_in_bounds : goal.from_slice-entry-requires-clause-d_in_bounds
 from_slice-entry-requires-clause-d_in_bounds c =
     rest-room c.args.whole.now _ (whole-place c.requires.whole_facts c.function_size.ensures c.loop-k-test.true c.requires.e_bound refl)
-
-pub from_slice-weight-requires-clause-d_in_bounds : goal.from_slice-weight-requires-clause-d_in_bounds
-from_slice-weight-requires-clause-d_in_bounds c = α-place c.requires.whole_facts c.loop-k-test.true
-
-pub product-requires : goal.product-requires
-product-requires c = c.requires.whole_facts.shaped.degree
-
-pub sum-sum-requires : goal.sum-sum-requires
-sum-sum-requires c = c.requires.whole_facts.shaped.degree
 
 pub loop-k-preserved : goal.loop-k-preserved
 loop-k-preserved c =

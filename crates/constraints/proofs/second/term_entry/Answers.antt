@@ -1,12 +1,9 @@
 -- `constraints::second::term_entry` meets its contract. The loop has added j constraints.
 use Rattle.std.proofs.Common.{refl, arith}
 use Rattle.constraints.specs.Laws.Terms.{term_step, term_end, term_step-small}
-use Rattle.constraints.specs.Laws.Terms.{term_inside, term_place, ψ-place, rest-room}
+use Rattle.constraints.specs.Laws.Terms.{term_inside, term_place, rest-room}
 use Rattle.ring.specs.Laws.Loops.{summed_start, summed_end}
 use Rattle.constraints.proofs.second.term_entry.Goals as goal
-
-pub function_size-requires : goal.function_size-requires
-function_size-requires c = (c.requires.term_facts.shaped.rank-small, c.requires.term_facts.shaped.parts-small)
 
 pub overflow_mul-step : goal.overflow_mul-step
 overflow_mul-step c = omega (arith, term_step-small c.requires.term_facts c.function_size.ensures)
@@ -33,24 +30,6 @@ pub from_slice-entry-requires-clause-d_in_bounds : goal.from_slice-entry-require
 from_slice-entry-requires-clause-d_in_bounds c =
     rest-room c.args.constant_terms.now _
     (term_place c.requires.term_facts c.function_size.ensures c.loop-j-test.true c.requires.k_bound.1 refl)
-
-pub overflow_mul-k : goal.overflow_mul-k
-overflow_mul-k c = omega (arith, ψ-place c.requires.term_facts c.requires.k_bound.0 c.loop-j-test.true)
-
-pub overflow_add-k : goal.overflow_add-k
-overflow_add-k c = omega (arith, ψ-place c.requires.term_facts c.requires.k_bound.0 c.loop-j-test.true)
-
-pub offset_bounds-psi-k : goal.offset_bounds-psi-k
-offset_bounds-psi-k c = omega (arith, ψ-place c.requires.term_facts c.requires.k_bound.0 c.loop-j-test.true)
-
-pub bounds-psi-k : goal.bounds-psi-k
-bounds-psi-k c = (ψ-place c.requires.term_facts c.requires.k_bound.0 c.loop-j-test.true).0
-
-pub scale-requires : goal.scale-requires
-scale-requires c = c.requires.term_facts.shaped.degree
-
-pub sum-sum-requires : goal.sum-sum-requires
-sum-sum-requires c = c.requires.term_facts.shaped.degree
 
 pub loop-j-preserved : goal.loop-j-preserved
 loop-j-preserved c =
