@@ -9,11 +9,6 @@ use Rattle.ring.specs.Laws.ElementPlaces.{block-before, row_fits}
 use Rattle.ring.specs.Laws.Writers.{blocks_start, blocks_over, blocks_end}
 use Rattle.aggregation.proofs.products.write_products.Goals as goal
 
-pub write_omega_sums-requires : goal.write_omega_sums-requires
-write_omega_sums-requires c =
-    let projected = c.requires.aggregate_facts.seconds.projected in
-    (projected.row_count, projected.ω-length, length-replicate 25920 (pos 0))
-
 pub loop-i-init : goal.loop-i-init
 loop-i-init c =
     let z = c.args.sizes.shape in
