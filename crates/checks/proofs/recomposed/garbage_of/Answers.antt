@@ -1,7 +1,5 @@
 -- `checks::recomposed::garbage_of` meets its contract.
-use mathlib.Core.Path.{refl, ap, ◌∙◌}
-use Prim.Native.Nat.{◌+◌, ◌*◌}
-use native.Mathlib.Omega.{arith}
+use Rattle.std.proofs.Common.{refl, ap, ◌∙◌, ◌+◌, ◌*◌, arith}
 use Rattle.ring.specs.Element.{array}
 use Rattle.ring.specs.Laws.ElementPlaces.{place-below}
 use Rattle.checks.specs.Laws.PlaceLaws.{garbage-recomposed, garbage-digit-fits}
@@ -17,9 +15,9 @@ overflow_add-first c =
     let a = c.args in
     omega (arith, place-below a.d (a.place + (a.q * a.t + a.t)) c.requires.degree.positive c.requires.d_in_bounds)
 
-pub recompose-requires : goal.recompose-requires
-recompose-requires c =
-    let a = c.args in record { degree = c.requires.degree; base = c.requires.base; t_nonzero = c.requires.t_nonzero; d_in_bounds = garbage-digit-fits a.d a.t a.place a.q _ c.requires.t_nonzero c.requires.d_in_bounds }
+pub recompose-requires-clause-d_in_bounds : goal.recompose-requires-clause-d_in_bounds
+recompose-requires-clause-d_in_bounds c =
+    garbage-digit-fits c.args.d c.args.t c.args.place c.args.q _ c.requires.t_nonzero c.requires.d_in_bounds
 
 pub returns : goal.returns
 returns c =
