@@ -21,8 +21,8 @@ pub overflow_mul-of_z : goal.overflow_mul-of_z
 overflow_mul-of_z c =
     omega (arith, product-bound c.args.tz c.args.sizes.shape.n 2 256 c.requires.tz_nonzero.1 c.requires.verify_sized.shaped.rank-small)
 
-pub overflow_add-all : goal.overflow_add-all
-overflow_add-all c =
+pub overflow_add-z : goal.overflow_add-z
+overflow_add-z c =
     omega (
       arith,
       product-bound c.args.tz c.args.sizes.shape.n 2 256 c.requires.tz_nonzero.1 c.requires.verify_sized.shaped.rank-small,
@@ -40,11 +40,11 @@ overflow_add-t c =
 
 pub overflow_add-g : goal.overflow_add-g
 overflow_add-g c =
-    let room = room_of c.args.sizes.shape.n c.requires.chunk_limits c.requires.mu_bound c.rest_size-m.ensures c.next_rank-rank.ensures c.function_size-size.ensures in omega (arith, room.0, room.1, c.t_size-of_t.ensures, t-size-bound c.args.sizes c.requires.verify_sized)
+    let room = room_of c.args.sizes.shape.n c.requires.chunk_limits c.requires.mu_bound c.rest_size-m.ensures c.next_rank-rank.ensures c.function_size-size.ensures in omega (arith, room.0, room.1, c.t_size.ensures, t-size-bound c.args.sizes c.requires.verify_sized)
 
 pub overflow_add-h : goal.overflow_add-h
 overflow_add-h c =
-    let room = room_of c.args.sizes.shape.n c.requires.chunk_limits c.requires.mu_bound c.rest_size-m.ensures c.next_rank-rank.ensures c.function_size-size.ensures in omega (arith, room.0, room.1, c.t_size-of_t.ensures, t-size-bound c.args.sizes c.requires.verify_sized, c.garbage_size-of_g.ensures, g-size-bound c.args.sizes c.requires.verify_sized)
+    let room = room_of c.args.sizes.shape.n c.requires.chunk_limits c.requires.mu_bound c.rest_size-m.ensures c.next_rank-rank.ensures c.function_size-size.ensures in omega (arith, room.0, room.1, c.t_size.ensures, t-size-bound c.args.sizes c.requires.verify_sized, c.garbage_size.ensures, g-size-bound c.args.sizes c.requires.verify_sized)
 
 pub returns : goal.returns
 unfolding next_parts
@@ -67,8 +67,8 @@ returns c =
         size_is = c.function_size-size.ensures;
         z-is = omega (arith, room.0);
         t-is = refl;
-        g-is = omega (arith, c.t_size-of_t.ensures);
-        h-is = omega (arith, c.garbage_size-of_g.ensures);
+        g-is = omega (arith, c.t_size.ensures);
+        h-is = omega (arith, c.garbage_size.ensures);
       },
       refl,
       refl,

@@ -27,8 +27,8 @@ pub write_phi_part-requires : goal.write_phi_part-requires
 write_phi_part-requires c =
     record { aggregate_facts = c.requires.aggregate_facts; omega_sums = c.write_omega_sums.ensures; i_lt_r = (c.loop-i-test.true, rw c.loop-i.invariant.0 (phi-room c.requires.aggregate_facts.wholes.shaped)) }
 
-pub from_slice-challenge-requires : goal.from_slice-challenge-requires
-from_slice-challenge-requires c =
+pub from_slice-requires : goal.from_slice-requires
+from_slice-requires c =
     record { degree = c.requires.aggregate_facts.wholes.shaped.degree; d_in_bounds = element-within c.args.sizes.shape.d c.loop-i-test.true c.requires.d_in_bounds.0 }
 
 pub add_multiples-requires : goal.add_multiples-requires
@@ -36,23 +36,13 @@ add_multiples-requires c =
     let shaped = c.requires.aggregate_facts.wholes.shaped in
     let kept = c.write_phi_part.auto.out in record { degree = shaped.degree; d_in_bounds = (omega (arith, phi-room shaped, kept, c.loop-i.invariant.0), c.loop-i.invariant.1.room) }
 
-pub overflow_add-i : goal.overflow_add-i
-overflow_add-i c =
-    let turn : c.loop-i.i < c.args.sizes.shape.r = c.loop-i-test.true in
-    omega (arith, c.requires.aggregate_facts.wholes.shaped.parts-small, turn)
-
-pub loop-i-smaller : goal.loop-i-smaller
-loop-i-smaller c =
-    let turn : c.loop-i.i < c.args.sizes.shape.r = c.loop-i-test.true in
-    omega (arith, turn)
-
 pub loop-i-preserved : goal.loop-i-preserved
 loop-i-preserved c =
     let turn : c.loop-i.i < c.args.sizes.shape.r = c.loop-i-test.true in
     let kept = c.write_phi_part.auto.out in (
       kept ∙ c.loop-i.invariant.0,
       folding_step c.loop-i.invariant.1 _ c.requires.aggregate_facts.wholes.shaped.degree.small turn c.write_phi_part.ensures
-          c.from_slice-challenge.ensures c.add_multiples.ensures,
+          c.from_slice.ensures c.add_multiples.ensures,
     )
 
 pub returns : goal.returns
