@@ -4,8 +4,8 @@ use native.Mathlib.Omega.{arith}
 use Rattle.fields.specs.Laws.SectionLaws.{before-challenges, challenges-is}
 use Rattle.fields.proofs.sizes.challenges_from.Goals as goal
 
-pub overflow_mul-own : goal.overflow_mul-own
-overflow_mul-own c = omega (arith, mul-le-mul (before-challenges c.requires.K-small c.requires.κ₂-small) c.requires.shaped.degree.small)
+pub overflow_mul-before : goal.overflow_mul-before
+overflow_mul-before c = omega (arith, mul-le-mul (before-challenges c.requires.K-small c.requires.κ₂-small) c.requires.shaped.degree.small)
 
 pub overflow_add-result : goal.overflow_add-result
 overflow_add-result c = omega (arith, mul-le-mul (before-challenges c.requires.K-small c.requires.κ₂-small) c.requires.shaped.degree.small)

@@ -9,16 +9,16 @@ pub overflow_mul-result : goal.overflow_mul-result
 overflow_mul-result c =
     omega (
       arith,
-      mul-le-mul (sum-le c.matrix_count-a.ensures.1 c.whole_count-b.ensures.1)
+      mul-le-mul (sum-le c.matrix_count.ensures.1 c.whole_count.ensures.1)
           c.requires.shaped.degree.small,
     )
 
 pub returns : goal.returns
 returns c = (
-  rw (c.matrix_count-a.ensures.0, c.whole_count-b.ensures.0) refl,
+  rw (c.matrix_count.ensures.0, c.whole_count.ensures.0) refl,
   omega (
     arith,
-    mul-le-mul (sum-le c.matrix_count-a.ensures.1 c.whole_count-b.ensures.1)
+    mul-le-mul (sum-le c.matrix_count.ensures.1 c.whole_count.ensures.1)
         c.requires.shaped.degree.small,
   ),
 )

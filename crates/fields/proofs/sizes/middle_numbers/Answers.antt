@@ -5,11 +5,11 @@ use native.Mathlib.Omega.{arith}
 use Rattle.fields.proofs.sizes.middle_numbers.Goals as goal
 
 pub overflow_mul-result : goal.overflow_mul-result
-overflow_mul-result c = omega (arith, mul-le-mul c.row_count-a.ensures.1 c.requires.shaped.degree.small)
+overflow_mul-result c = omega (arith, mul-le-mul c.row_count.ensures.1 c.requires.shaped.degree.small)
 
 pub returns : goal.returns
 returns c = (
-  rw c.row_count-a.ensures.0 refl,
+  rw c.row_count.ensures.0 refl,
   omega
-      (arith, mul-le-mul c.row_count-a.ensures.1 c.requires.shaped.degree.small),
+      (arith, mul-le-mul c.row_count.ensures.1 c.requires.shaped.degree.small),
 )

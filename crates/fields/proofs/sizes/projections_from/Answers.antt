@@ -4,8 +4,8 @@ use native.Mathlib.Omega.{arith}
 use Rattle.fields.specs.Laws.SectionLaws.{projections-is}
 use Rattle.fields.proofs.sizes.projections_from.Goals as goal
 
-pub overflow_mul-own : goal.overflow_mul-own
-overflow_mul-own c = omega (arith, mul-le-mul c.requires.κ₁-small c.requires.shaped.degree.small)
+pub overflow_mul-result : goal.overflow_mul-result
+overflow_mul-result c = omega (arith, mul-le-mul c.requires.κ₁-small c.requires.shaped.degree.small)
 
 pub overflow_add-result : goal.overflow_add-result
 overflow_add-result c = omega (arith, mul-le-mul c.requires.κ₁-small c.requires.shaped.degree.small)

@@ -3,4 +3,4 @@ use mathlib.Core.Path.{refl}
 use Rattle.fields.proofs.walk.is_within.Goals as goal
 
 pub returns : goal.returns
-returns c = rw c.number_size-m.ensures refl
+returns c = rw c.number_size.ensures refl

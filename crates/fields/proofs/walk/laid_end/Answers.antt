@@ -12,7 +12,7 @@ ends_line-last-requires c = c.requires
 pub returns-then-not-is_laid : goal.returns-then-not-is_laid
 returns-then-not-is_laid c =
     laid_broken _ _ _ _ _ _ c.loop-i.invariant c.loop-i-test.true
-    c.ends_line-last.ensures c.is_laid.ensures c.if-not-is_laid.true-raw
+    c.ends_line-last.ensures c.is_laid.ensures c.if-not-is_laid.true
 
 pub overflow_add-here : goal.overflow_add-here
 overflow_add-here c =
@@ -20,13 +20,13 @@ overflow_add-here c =
       arith,
       laid-fits _ _ _ _ _ _ c.loop-i.invariant
           c.loop-i-test.true c.ends_line-last.ensures
-          c.is_laid.ensures c.if-not-is_laid.false-raw c.field_width-here.ensures,
+          c.is_laid.ensures c.if-not-is_laid.false c.field_width-here.ensures,
     )
 
 pub loop-i-preserved : goal.loop-i-preserved
 loop-i-preserved c =
     laid-step _ _ _ _ _ _ c.loop-i.invariant c.loop-i-test.true
-    c.ends_line-last.ensures c.is_laid.ensures c.if-not-is_laid.false-raw c.field_width-here.ensures
+    c.ends_line-last.ensures c.is_laid.ensures c.if-not-is_laid.false c.field_width-here.ensures
 
 pub returns : goal.returns
 returns c = laid_end _ _ _ _ _ _ c.loop-i.invariant c.loop-i-test.false

@@ -9,14 +9,14 @@ loop-j-init c = walked_start c.requires.span
 pub overflow_add-from : goal.overflow_add-from
 overflow_add-from c = omega (arith, walked_index c.loop-j.invariant c.loop-j-test.true)
 
-pub ends_line-last-requires : goal.ends_line-last-requires
-ends_line-last-requires c = c.requires.d_nonzero
+pub ends_line-requires : goal.ends_line-requires
+ends_line-requires c = c.requires.d_nonzero
 
 pub overflow_add-here : goal.overflow_add-here
-overflow_add-here c = omega (arith, walked_fits c.loop-j.invariant c.loop-j-test.true c.ends_line-last.ensures c.field_width-here.ensures)
+overflow_add-here c = omega (arith, walked_fits c.loop-j.invariant c.loop-j-test.true c.ends_line.ensures c.field_width-here.ensures)
 
 pub loop-j-preserved : goal.loop-j-preserved
-loop-j-preserved c = walked_step c.loop-j.invariant c.loop-j-test.true c.ends_line-last.ensures c.field_width-here.ensures
+loop-j-preserved c = walked_step c.loop-j.invariant c.loop-j-test.true c.ends_line.ensures c.field_width-here.ensures
 
 pub returns : goal.returns
 returns c = walked_end c.loop-j.invariant c.loop-j-test.false

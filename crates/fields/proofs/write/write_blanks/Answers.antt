@@ -12,12 +12,6 @@ overflow_add-text c = omega (arith, c.requires, c.loop-k-test.true)
 pub bounds-text-at : goal.bounds-text-at
 bounds-text-at c = omega (arith, c.requires, c.loop-k-test.true, c.loop-k.invariant.size)
 
-pub overflow_add-k : goal.overflow_add-k
-overflow_add-k c = omega (arith, c.loop-k-test.true)
-
-pub loop-k-smaller : goal.loop-k-smaller
-loop-k-smaller c = omega (arith, c.loop-k-test.true)
-
 pub loop-k-preserved : goal.loop-k-preserved
 loop-k-preserved c = blanked_step _ _ c.requires c.loop-k.invariant c.loop-k-test.true
 

@@ -11,7 +11,7 @@ overflow_cast-result c =
     let is = to_z-of_z c.ranges.x in
     rw is (non_neg_sign c.args.x (rw is at c.if-x-lt0.false), Fits-nat_abs tt c.ranges.x)
 
-pub returns : goal.returns
-returns c =
+pub returns-else-x-lt0 : goal.returns-else-x-lt0
+returns-else-x-lt0 c =
     let is = to_z-of_z c.ranges.x in
     rw is (size-positive c.args.x (rw is at c.if-x-lt0.false))
