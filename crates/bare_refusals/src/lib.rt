@@ -1,4 +1,4 @@
-// The number with which each call of the bare level refuses, 0 where it does not: SPECIFICATION 7.
+// Whether each call of the bare level is refused, and by which row: SPECIFICATION 7.
 #![tactic(auto)]
 
 pub mod bounds;
@@ -6,15 +6,16 @@ pub mod lengths;
 pub mod unmixed;
 
 ghost use Rattle.std.specs.Prelude.{◌≡◌};
+ghost use Rattle.fold.specs.Rows.{row_of, failure};
 ghost use Rattle.fold.specs.Arguments.{draws_of};
 ghost use Rattle.bare.specs.Arguments.{bare_statement_of, bare_transcript_of};
 ghost use Rattle.bare.specs.Arguments.{bare_commit_refusal, bare_phi_refusal, bare_turn_refusal, bare_verify_refusal};
 
 use bare::BareSizes;
 use bounds::{commit_bounds, phi_bounds, turn_bounds, verify_bounds};
+use fold::answers::{Refusal, require};
 use fold::{ConstraintSizes, Shape};
 use lengths::{commit_lengths, given_lengths, opened_lengths, turn_lengths};
-use limits::rows::first;
 use refusals::lengths::{constraint_lengths, matrix_fits};
 use refusals::ranges::{challenges, constraint_ranges};
 use residues::range::{are_coefficients, are_projection_entries};
@@ -27,19 +28,14 @@ pub fn bare_commit_refusal(
     a_matrix: &[i32],
     witness: &[i32],
     t: &[i32],
-) -> u8
-    ensures { result ≡ bare_commit_refusal shape kappa a_matrix.now witness.now t.now }
+) -> Result<(), Refusal>
+    ensures { failure row_of result ≡ bare_commit_refusal shape kappa a_matrix.now witness.now t.now }
 {
-    let size = commit_bounds(shape, kappa);
-    if size != 0 {
-        return size;
-    }
+    commit_bounds(shape, kappa)?;
     let fits = commit_lengths(shape, kappa, a_matrix, witness, t);
-    if !fits {
-        return 7;
-    }
+    require(fits, Refusal::SliceLength)?;
     let ranges = are_coefficients(a_matrix) & are_coefficients(witness);
-    first(ranges, 8, 0)
+    require(ranges, Refusal::Coefficient)
 }
 
 // φ: both kinds of constraints, projection rows, ψ, ω, α and δ; φ for its length.
@@ -53,14 +49,11 @@ pub fn bare_phi_refusal(
     alpha: &[i32],
     delta: &[i32],
     phi: &[i32],
-) -> u8
-    ensures { result ≡ bare_phi_refusal sizes whole.now constant_terms.now projections.now psi.now
+) -> Result<(), Refusal>
+    ensures { failure row_of result ≡ bare_phi_refusal sizes whole.now constant_terms.now projections.now psi.now
         omega.now alpha.now delta.now phi.now }
 {
-    let size = phi_bounds(sizes);
-    if size != 0 {
-        return size;
-    }
+    phi_bounds(sizes)?;
     let fits = matrix_fits(phi, sizes.shape.r, sizes.shape.n, sizes.shape.d)
         & constraint_lengths(
             sizes,
@@ -72,9 +65,7 @@ pub fn bare_phi_refusal(
             alpha,
             delta,
         );
-    if !fits {
-        return 7;
-    }
+    require(fits, Refusal::SliceLength)?;
     let entries = are_projection_entries(projections);
     let ranges = constraint_ranges(
         whole,
@@ -86,8 +77,10 @@ pub fn bare_phi_refusal(
         alpha,
         delta,
     );
+    require(ranges, Refusal::Coefficient)?;
+    require(entries, Refusal::ProjectionEntry)?;
     let products = all_unmixed(sizes, whole, constant_terms);
-    first(ranges, 8, first(entries, 9, first(products, 14, 0)))
+    require(products, Refusal::MixedProduct)
 }
 
 // A turn, from 1 on: φ, the challenges before it and the witness; its four elements for their length.
@@ -98,20 +91,16 @@ pub fn bare_turn_refusal(
     c: &[i32],
     witness: &[i32],
     out: &[i32],
-) -> u8
-    ensures { result ≡ bare_turn_refusal shape turn phi.now c.now witness.now out.now }
+) -> Result<(), Refusal>
+    ensures { failure row_of result ≡ bare_turn_refusal shape turn phi.now c.now witness.now out.now }
 {
-    let size = turn_bounds(shape, turn);
-    if size != 0 {
-        return size;
-    }
+    turn_bounds(shape, turn)?;
     let fits = turn_lengths(shape, turn, phi, c, witness, out);
-    if !fits {
-        return 7;
-    }
+    require(fits, Refusal::SliceLength)?;
     let ranges = are_coefficients(phi) & are_coefficients(c) & are_coefficients(witness);
+    require(ranges, Refusal::Coefficient)?;
     let rule = challenges(shape.d, turn - 1, c);
-    first(ranges, 8, first(rule, 10, 0))
+    require(rule, Refusal::Challenge)
 }
 
 // The verifier: the statement, the draws, p, b'' and the bare opening.
@@ -129,15 +118,12 @@ pub fn bare_verify_refusal(
     delta: &[i32],
     c: &[i32],
     opening: &[i32],
-) -> u8
-    ensures { result ≡ bare_verify_refusal (bare_statement_of sizes a_matrix.now whole.now constant_terms.now)
+) -> Result<(), Refusal>
+    ensures { failure row_of result ≡ bare_verify_refusal (bare_statement_of sizes a_matrix.now whole.now constant_terms.now)
         (draws_of projections.now psi.now omega.now alpha.now delta.now c.now)
         (bare_transcript_of p.now second_b.now) opening.now }
 {
-    let size = verify_bounds(sizes);
-    if size != 0 {
-        return size;
-    }
+    verify_bounds(sizes)?;
     let shape = sizes.shape;
     let constraint_sizes = ConstraintSizes {
         shape,
@@ -157,9 +143,7 @@ pub fn bare_verify_refusal(
             alpha,
             delta,
         );
-    if !fits {
-        return 7;
-    }
+    require(fits, Refusal::SliceLength)?;
     let entries = are_projection_entries(projections);
     let ranges = are_coefficients(opening)
         & are_coefficients(p)
@@ -176,11 +160,10 @@ pub fn bare_verify_refusal(
             alpha,
             delta,
         );
+    require(ranges, Refusal::Coefficient)?;
+    require(entries, Refusal::ProjectionEntry)?;
     let rule = challenges(shape.d, shape.r, c);
+    require(rule, Refusal::Challenge)?;
     let products = all_unmixed(constraint_sizes, whole, constant_terms);
-    first(
-        ranges,
-        8,
-        first(entries, 9, first(rule, 10, first(products, 14, 0))),
-    )
+    require(products, Refusal::MixedProduct)
 }
