@@ -5,6 +5,7 @@ pub mod Messages
 pub mod Opening
 pub mod Honest
 -- 14.7 and 14.8: the verdict
+pub mod Checks
 pub mod Verdict
 -- 7: refusals
 pub mod Refusals

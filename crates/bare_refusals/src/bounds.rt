@@ -1,4 +1,4 @@
-// SPECIFICATION 7.1 to 7.6 for the calls of the bare level: their sizes. 0 where none of these refuses.
+// SPECIFICATION 7.1 to 7.6 for the calls of the bare level: their sizes.
 #![tactic(auto, unfolding(fold::specs::Answers::first_failing, fold::specs::Refusals::all_of))]
 
 ghost use Rattle.std.specs.Prelude.{◌≡◌, pos};

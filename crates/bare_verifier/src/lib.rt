@@ -2,12 +2,14 @@
 #![tactic(auto)]
 
 ghost use Rattle.std.specs.Prelude.{◌≡◌};
+ghost use Rattle.fold.specs.Answers.{judgement_of};
 ghost use Rattle.fold.specs.Arguments.{draws_of};
+ghost use Rattle.bare.specs.Checks.{bare_check_number};
 ghost use Rattle.bare.specs.Arguments.{bare_statement_of, bare_transcript_of, bare_verification};
 
-use bare::BareSizes;
+use bare::{BareCheck, BareSizes};
 use bare_refusals::bare_verify_refusal;
-use fold::{Answer, Verdict};
+use fold::answers::{Refusal, Verdict};
 
 pub mod aggregate;
 pub mod folded;
@@ -29,12 +31,12 @@ pub fn bare_verify(
     delta: &[i32],
     c: &[i32],
     opening: &[i32],
-) -> Answer
-    ensures { result ≡ bare_verification (bare_statement_of sizes a_matrix.now whole.now constant_terms.now)
+) -> Result<Verdict<BareCheck>, Refusal>
+    ensures { judgement_of bare_check_number result ≡ bare_verification (bare_statement_of sizes a_matrix.now whole.now constant_terms.now)
         (draws_of projections.now psi.now omega.now alpha.now delta.now c.now)
         (bare_transcript_of p.now second_b.now) opening.now }
 {
-    let refusal = bare_verify_refusal(
+    bare_verify_refusal(
         sizes,
         a_matrix,
         whole,
@@ -48,23 +50,14 @@ pub fn bare_verify(
         delta,
         c,
         opening,
-    );
-    if 0 < refusal {
-        return Answer::Refused(refusal);
-    }
-    let message = judgement::message_checks(sizes, constant_terms, p, psi, omega, second_b);
-    if message != 0 {
-        return Answer::Judged(Verdict::Failed(message));
-    }
-    let folded = judgement::folded_checks(sizes, a_matrix, c, opening);
-    if folded != 0 {
-        return Answer::Judged(Verdict::Failed(folded));
-    }
-    let verdict = judgement::aggregate_verdict(
+    )?;
+    Ok(judgement::judge(
         sizes,
+        a_matrix,
         whole,
         constant_terms,
         projections,
+        p,
         psi,
         omega,
         second_b,
@@ -72,6 +65,5 @@ pub fn bare_verify(
         delta,
         c,
         opening,
-    );
-    Answer::Judged(verdict)
+    ))
 }
