@@ -4,9 +4,6 @@ use Rattle.aggregation.specs.Laws.ValueLaws.{pairs-room}
 use Rattle.aggregation.specs.Laws.GarbageLaws.{square-room, digits-length, h-written}
 use Rattle.aggregation.proofs.garbage.write_h.Goals as goal
 
-pub write_products-requires-clause-witness_len : goal.write_products-requires-clause-witness_len
-write_products-requires-clause-witness_len c = (c.requires.s-length, square-room c.requires.aggregated.wholes.shaped)
-
 pub write_half_sums-requires-clause-d_in_bounds : goal.write_half_sums-requires-clause-d_in_bounds
 write_half_sums-requires-clause-d_in_bounds c =
     let shaped = c.requires.aggregated.wholes.shaped in

@@ -1,17 +1,11 @@
 -- `aggregation::garbage::write_half_row` meets its contract. The loop's invariant: the h of the first k parts from i on are written.
-use Rattle.std.proofs.Common.{refl, arith}
+use Rattle.std.proofs.Common.{refl}
 use Rattle.fold.specs.Messages.{elements}
-use Rattle.ring.specs.Laws.Writers.{elements-start, elements-below, elements-fit, elements-turn, elements-end}
+use Rattle.ring.specs.Laws.Writers.{elements-start, elements-turn, elements-end}
 use Rattle.aggregation.proofs.garbage.write_half_row.Goals as goal
 
 pub loop-k-init : goal.loop-k-init
 loop-k-init c = elements-start c.requires.i_le_r.2
-
-pub overflow_add-at : goal.overflow_add-at
-overflow_add-at c = omega (arith, elements-below c.loop-k.invariant c.requires.degree)
-
-pub store-requires-clause-d_in_bounds : goal.store-requires-clause-d_in_bounds
-store-requires-clause-d_in_bounds c = elements-fit c.loop-k.invariant refl c.loop-k-test.true
 
 pub loop-k-preserved : goal.loop-k-preserved
 loop-k-preserved c =

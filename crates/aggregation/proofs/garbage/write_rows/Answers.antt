@@ -1,9 +1,9 @@
 -- `aggregation::garbage::write_rows` meets its contract. The loop's invariant: the first k rows are written.
 use Rattle.std.proofs.Common.{sym, zero-add, arith}
 use Rattle.fold.specs.Messages.{elements}
-use Rattle.ring.specs.Laws.Writers.{elements_start₀, elements-fit, elements-turn, elements-all}
+use Rattle.ring.specs.Laws.Writers.{elements_start₀, elements-turn, elements-all}
 use Rattle.aggregation.specs.Laws.GarbageLaws.{row-end}
-use Rattle.ring.specs.Laws.ElementPlaces.{row_fits, row_below}
+use Rattle.ring.specs.Laws.ElementPlaces.{row_below}
 use Rattle.aggregation.proofs.garbage.write_rows.Goals as goal
 
 pub loop-k-init : goal.loop-k-init
@@ -11,13 +11,6 @@ loop-k-init c = elements_start₀ (omega (arith, c.requires.m_bound.3))
 
 pub overflow_mul-k : goal.overflow_mul-k
 overflow_mul-k c = omega (arith, row_below c.args.d c.args.m c.requires.degree.positive c.loop-k-test.true c.requires.m_bound.1)
-
-pub inner-requires-clause-n_bound : goal.inner-requires-clause-n_bound
-inner-requires-clause-n_bound c =
-    let m = c.requires.m_bound in (m.0, row_fits c.args.d c.args.m c.loop-k-test.true m.1, rw (zero-add c.args.m) m.2)
-
-pub store-requires-clause-d_in_bounds : goal.store-requires-clause-d_in_bounds
-store-requires-clause-d_in_bounds c = elements-fit c.loop-k.invariant (sym (zero-add _)) c.loop-k-test.true
 
 pub loop-k-preserved : goal.loop-k-preserved
 loop-k-preserved c =

@@ -1,11 +1,9 @@
 -- `aggregation::products::write_products` meets its contract. The loop's invariant: the first i rows are written.
-use Rattle.std.proofs.Common.{◌≡◌, ◌∙◌, ◌+◌, ◌*◌, zero-mul, mul_assoc, mul-le-mul, arith, pos}
+use Rattle.std.proofs.Common.{◌≡◌, ◌∙◌, ◌+◌, ◌*◌, zero-mul, mul_assoc, arith, pos}
 use lib.ListN.{length-replicate}
 use Rattle.aggregation.specs.Garbage.{square_elements}
 use Rattle.aggregation.specs.Laws.GarbageLaws.{row_written}
-use Rattle.constraints.specs.Laws.SizeLaws.{phi-room}
 use Rattle.fold.proofs.Laws.WriterLaws.{length-elements}
-use Rattle.ring.specs.Laws.ElementPlaces.{block-before, row_fits}
 use Rattle.ring.specs.Laws.Writers.{blocks_start, blocks_over, blocks_end}
 use Rattle.aggregation.proofs.products.write_products.Goals as goal
 
@@ -13,25 +11,6 @@ pub loop-i-init : goal.loop-i-init
 loop-i-init c =
     let z = c.args.sizes.shape in
     (length-replicate 16384 (pos 0), rw (zero-mul (z.r * z.d)) (blocks_start (omega (arith, c.requires.witness_len.1))))
-
-pub write_phi_part-requires-clause-i_lt_r : goal.write_phi_part-requires-clause-i_lt_r
-write_phi_part-requires-clause-i_lt_r c = (c.loop-i-test.true, rw c.loop-i.invariant.0 (phi-room c.requires.aggregate_facts.wholes.shaped))
-
-pub overflow_mul-i : goal.overflow_mul-i
-overflow_mul-i c =
-    let parts = c.args.sizes.shape.r in
-    let few = c.requires.aggregate_facts.wholes.shaped.parts-small in
-    omega (arith, block-before parts c.loop-i.i parts c.loop-i-test.true, mul-le-mul few few)
-
-pub write_part_products-requires-clause-n_le_most_rank : goal.write_part_products-requires-clause-n_le_most_rank
-write_part_products-requires-clause-n_le_most_rank c =
-    let z = c.args.sizes.shape in
-    let shaped = c.requires.aggregate_facts.wholes.shaped in (
-      shaped.rank-small,
-      omega (arith, phi-room shaped, c.write_phi_part.auto.out, c.loop-i.invariant.0),
-      omega (arith, c.requires.witness_len.0),
-      row_fits z.d z.r {i = c.loop-i.i} c.loop-i-test.true (rw c.loop-i.invariant.1.same c.requires.witness_len.1),
-    )
 
 pub loop-i-preserved : goal.loop-i-preserved
 loop-i-preserved c =

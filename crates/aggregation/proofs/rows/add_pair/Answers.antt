@@ -1,9 +1,8 @@
 -- `aggregation::rows::add_pair` meets its contract: where the row is zero the sums are what they were.
-use Rattle.std.proofs.Common.{sym, ◌∙◌, ◌+◌, ◌*◌, arith}
+use Rattle.std.proofs.Common.{sym, ◌∙◌}
 use Rattle.algebra.specs.DotProduct.{inner}
 use Rattle.fold.specs.Statement.{part}
 use Rattle.fold.specs.Messages.{g}
-use Rattle.ring.specs.Laws.ElementPlaces.{place-below}
 use Rattle.aggregation.specs.Laws.RowLaws.{zero_row, by_element}
 use Rattle.aggregation.proofs.rows.add_pair.Goals as goal
 
@@ -12,16 +11,6 @@ returns-then-is_zero c =
     let a = c.args in
     let y = g a.d a.n a.witness.now a.i a.j in
     zero_row a.d a.sums a.row y c.requires.canonical (sym c.is_zero.ensures ∙ c.if-is_zero.true)
-
-pub overflow_mul-i : goal.overflow_mul-i
-overflow_mul-i c =
-    let a = c.args in
-    omega (arith, place-below a.d (a.i * a.n + a.n) c.requires.degree.positive c.requires.n_le_most_rank.1)
-
-pub overflow_mul-j : goal.overflow_mul-j
-overflow_mul-j c =
-    let a = c.args in
-    omega (arith, place-below a.d (a.j * a.n + a.n) c.requires.degree.positive c.requires.n_le_most_rank.2)
 
 pub returns : goal.returns
 unfolding g inner part

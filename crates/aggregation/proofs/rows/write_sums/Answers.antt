@@ -1,15 +1,12 @@
 -- `aggregation::rows::write_sums` meets its contract. The loop has written the first k elements.
 use Rattle.std.proofs.Common.{sym, zero-add, arith}
 use Rattle.fold.specs.Messages.{elements}
-use Rattle.ring.specs.Laws.Writers.{elements_start₀, elements-fit, elements-turn, elements-all}
+use Rattle.ring.specs.Laws.Writers.{elements_start₀, elements-turn, elements-all}
 use Rattle.aggregation.specs.Rows.{added}
 use Rattle.aggregation.proofs.rows.write_sums.Goals as goal
 
 pub loop-k-init : goal.loop-k-init
 loop-k-init c = elements_start₀ (omega (arith, c.requires.out_len))
-
-pub store-requires-clause-d_in_bounds : goal.store-requires-clause-d_in_bounds
-store-requires-clause-d_in_bounds c = elements-fit c.loop-k.invariant (sym (zero-add _)) c.loop-k-test.true
 
 pub loop-k-preserved : goal.loop-k-preserved
 unfolding added
