@@ -1,6 +1,6 @@
 -- `next_constraints::elements::write_blocks` meets its contract. The loop's invariant: the first k blocks are written.
 use Rattle.std.proofs.Common.{◌≡◌, ℕ, ◌+◌, ◌*◌, ◌<◌, ◌≤◌, List, length, ℤ, refl, ◌∙◌, arith, mul-le-mul_right}
-use Rattle.next_constraints.specs.Laws.BlockLaws.{blocks_start, blocks_turn, blocks_end}
+use Rattle.next_constraints.specs.Laws.BlockLaws.{blocks_start, blocks_turn}
 use Rattle.next_constraints.proofs.elements.write_blocks.Goals as goal
 
 -- block k, from element `place` on, ends within the list

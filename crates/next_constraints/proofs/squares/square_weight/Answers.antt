@@ -1,11 +1,6 @@
 -- `next_constraints::squares::square_weight` meets its contract.
-use Rattle.next_constraints.specs.Laws.Squares.{weight-once, weight-twice}
+use Rattle.next_constraints.specs.Laws.Squares.{weight-twice}
 use Rattle.next_constraints.proofs.squares.square_weight.Goals as goal
-
-pub returns-then-s-s2 : goal.returns-then-s-s2
-returns-then-s-s2 c =
-    let a = c.args in
-    weight-once a.s a.s2 _ _ c.if-s-s2.true c.power-once.ensures
 
 pub returns-else-s-s2 : goal.returns-else-s-s2
 returns-else-s-s2 c =
