@@ -4,9 +4,6 @@ use Rattle.fields.specs.Sections.{matrix_count}
 use Rattle.fields.specs.Laws.SectionLaws.{matrices_few}
 use Rattle.fields.proofs.sizes.matrix_count.Goals as goal
 
-pub overflow_mul-result : goal.overflow_mul-result
-overflow_mul-result c = omega (arith, matrices_few c.args.s c.requires c.t_size-ts.ensures c.garbage_size-gs.ensures c.garbage_size-hs.ensures)
-
 pub overflow_mul-result-2 : goal.overflow_mul-result-2
 overflow_mul-result-2 c = omega (arith, matrices_few c.args.s c.requires c.t_size-ts.ensures c.garbage_size-gs.ensures c.garbage_size-hs.ensures)
 

@@ -5,9 +5,6 @@ use native.Mathlib.Omega.{arith}
 use Rattle.fields.specs.Sections.{ones_count, sections_of}
 use Rattle.fields.proofs.sizes.sections_of.Goals as goal
 
-pub overflow_mul-result : goal.overflow_mul-result
-overflow_mul-result c = omega (arith, mul-le-mul c.requires.L-small c.term_size-period.ensures.1)
-
 pub returns : goal.returns
 unfolding sections_of ones_count
 returns c =

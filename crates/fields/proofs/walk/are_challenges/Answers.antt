@@ -7,9 +7,6 @@ use Rattle.fields.proofs.walk.are_challenges.Goals as goal
 pub loop-e-init : goal.loop-e-init
 loop-e-init c = challenged_start c.requires.span
 
-pub overflow_mul-at : goal.overflow_mul-at
-overflow_mul-at c = omega (arith, challenged_index c.loop-e.invariant c.loop-e-test.true)
-
 pub overflow_add-at : goal.overflow_add-at
 overflow_add-at c = omega (arith, challenged_index c.loop-e.invariant c.loop-e-test.true)
 
