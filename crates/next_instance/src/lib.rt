@@ -1,10 +1,13 @@
 // The next instance: SPECIFICATION 8. The call has no `requires`: what it cannot take it refuses by number.
 #![tactic(auto)]
 
+ghost use Rattle.fold.specs.Rows.{check_number};
+ghost use Rattle.fold.specs.Answers.{next_of};
 ghost use Rattle.fold.specs.Arguments.{statement_of, draws_of, transcript_of};
 ghost use Rattle.next_instance.specs.Calls.{NextCalled};
 
-use fold::{Answer, StatementSizes, Verdict};
+use fold::StatementSizes;
+use fold::answers::{Check, Refusal};
 use refusals::next::next_refusal;
 use verifier::judgement::message_checks;
 use writer::write_instance;
@@ -34,16 +37,16 @@ pub fn next_instance(
     u2: &[i32],
     c: &[i32],
     out: &mut [i32],
-) -> Answer
+) -> Result<Result<(), Check>, Refusal>
     ensures { NextCalled (statement_of sizes a_matrix.now b_matrix.now c_matrix.now
         d_matrix.now whole.now constant_terms.now) (draws_of projections.now
         psi.now omega.now alpha.now delta.now c.now)
         (transcript_of u1.now p.now second_b.now u2.now) nu mu out.old
-        result out.new }
+        (next_of check_number result) out.new }
 {
     let tz = sizes.z.count();
     let given = sizes.based();
-    let refusal = next_refusal(
+    next_refusal(
         tz,
         given,
         nu,
@@ -65,13 +68,10 @@ pub fn next_instance(
         u2,
         c,
         out,
-    );
-    if refusal != 0 {
-        return Answer::Refused(refusal);
-    }
-    let failed = message_checks(given, constant_terms, p, psi, omega, second_b);
-    if failed != 0 {
-        return Answer::Judged(Verdict::Failed(failed));
+    )?;
+    match message_checks(given, constant_terms, p, psi, omega, second_b) {
+        Err(check) => return Ok(Err(check)),
+        Ok(()) => {}
     }
     write_instance(
         tz,
@@ -96,5 +96,5 @@ pub fn next_instance(
         c,
         out,
     );
-    Answer::Written
+    Ok(Ok(()))
 }

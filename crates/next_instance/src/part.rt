@@ -20,12 +20,12 @@ fn place_of(tz: usize, sizes: PartSizes, part: usize, opening: &[i32]) -> Place
     requires { (0 < tz) × (tz ≤ 2) }
     ensures { PlacedWith tz sizes part opening.now result }
 {
-    let refusal = part_refusal(tz, sizes, part, opening);
-    if refusal != 0 {
-        return Place {
+    match part_refusal(tz, sizes, part, opening) {
+        Err(_) => return Place {
             start: 0,
             length: 0,
-        };
+        },
+        Ok(()) => {}
     }
     let m = rest_size(sizes.shape.r, sizes.kappa, sizes.t1, sizes.t2);
     let s = part - 1;

@@ -1,9 +1,12 @@
 -- The call of the next instance, stage by stage: refused, a check failed, written.
-use Rattle.std.specs.Prelude.{◌≡◌, List, ℤ}
-use Rattle.std.proofs.Math.Path.{refl, sym}
+use Rattle.std.specs.Prelude.{◌≡◌, Result, Ok, Err, IsErrAnd, List, ℤ}
+use Rattle.std.proofs.Math.Path.{refl, ap, sym}
 use Rattle.std.proofs.Common.{◌∙◌}
 use Prim.Native.Nat.{ℕ, zero, suc}
-use Rattle.fold.specs.Answers.{Refused, Judged, Written}
+use Rattle.fold.specs.declared.answers.Refusal.{Refusal}
+use Rattle.fold.specs.declared.answers.Check.{Check}
+use Rattle.fold.specs.Rows.{row_of, check_number}
+use Rattle.fold.specs.Answers.{Refused, Judged, Written, next_of}
 use Rattle.fold.specs.Answers.{Failed}
 use Rattle.fold.specs.declared.Sizes.{Sizes}
 use Rattle.fold.specs.Answers.{first_failing, answered, checked, written}
@@ -62,3 +65,8 @@ module _ (tz : ℕ) (sizes : Sizes) (A B C D whole constant_terms projections ψ
 
         pub next-written : {out' : List ℤ} → y ≡ 0 → out' ≡ next_whole 𝓢 𝓓 𝓣 ν μ → NextCalled 𝓢 𝓓 𝓣 ν μ out Written out'
         next-written pass new = written_at 𝓢 𝓓 𝓣 ν μ out (sym number ∙ none) (first-is ∙ pass) new
+
+-- a result that hands a refusal on
+pub refused_result : (r : Result (Result Unit Check) Refusal) (e : Refusal) → IsErrAnd r (λ x. x ≡ e) → next_of check_number r ≡ Refused (row_of e)
+refused_result (Ok done) e told = absurd told
+refused_result (Err x) e told = ap (λ y. Refused (row_of y)) told
