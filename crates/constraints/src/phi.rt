@@ -34,12 +34,8 @@ pub fn write_phi_part(
         delta.now).φ i)) }
 {
     let shape = sizes.shape;
-    let d = shape.d;
-    let rank = shape.n;
-    let first = i * rank;
-    let mut y = 0;
-    while y < rank {
-        let e = first + y;
+    for y in 0..shape.n {
+        let e = i * shape.n + y;
         let projected = projection_row(shape, sizes.w, projections, omega, omega_sums, e);
         let phi = aggregate_phi(
             sizes,
@@ -51,7 +47,6 @@ pub fn write_phi_part(
             projected,
             e,
         );
-        phi.store(d, out, y);
-        y += 1;
+        phi.store(shape.d, out, y);
     }
 }

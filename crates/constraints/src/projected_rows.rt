@@ -1,6 +1,6 @@
 // The projection rows, weighted and summed for the five second functions together. The sums are exact and stay below 2^40; each is reduced
 // once. Number y * 5 + k of an accumulator belongs to coefficient y and function k.
-ghost use Rattle.std.specs.Prelude.{◌≡◌, ◌+◌, ◌*◌, ◌/◌, ◌<◌, ◌≤◌, length, get_or, pos, nat_abs, ◌+ℤ◌, ◌*ℤ◌};
+ghost use Rattle.std.specs.Prelude.{◌≡◌, ◌+◌, ◌*◌, ◌/◌, ◌<◌, ◌≤◌, length, get_or, pos, nat_abs, ◌*ℤ◌};
 ghost use Rattle.integers.specs.Lists.{tab, upto};
 ghost use Rattle.residues.specs.Modulus.{centred};
 ghost use Rattle.ring.specs.Element.{Degree, array};
@@ -15,41 +15,14 @@ use crate::row_groups::{CODES, OMEGA_SUMS, group_codes};
 use fold::Shape;
 use residues::modulus;
 
-fn plus(a: i64, b: i64) -> i64
-    requires { (nat_abs a < 4611686018427387904) × (nat_abs b < 4611686018427387904) }
-    ensures { result ≡ a +ℤ b }
-{
-    a + b
-}
-
-// c x, where x is -1, 0 or 1.
-fn signed(c: i32, x: i32) -> i64
-    requires { nat_abs x ≤ 1 }
-    ensures { result ≡ c *ℤ x }
-{
-    let wide = c as i64;
-    if x > 0 {
-        return wide;
-    }
-    if x < 0 {
-        return 0 - wide;
-    }
-    0
-}
-
 // Adds five neighbouring numbers of the table.
 fn add_five(acc: &mut [i64; 320], at: usize, omega_sums: &[i64; OMEGA_SUMS], from: usize)
     requires five_room { FiveRoom acc.old at }
     requires from_bound { (from + 5 ≤ omega_sum_count) × SmallFive 8589934592 omega_sums.now from }
     ensures { AddedFive 8589934592 (λ k. get_or omega_sums.now (from + k) (pos 0)) at acc.old 5 acc.new }
 {
-    let mut k = 0;
-    while k < 5 {
-        let old = acc[at + k];
-        let sum = omega_sums[from + k];
-        let new = plus(old, sum);
-        acc[at + k] = new;
-        k += 1;
+    for k in 0..5 {
+        acc[at + k] += omega_sums[from + k];
     }
 }
 
@@ -61,14 +34,8 @@ fn add_entry(acc: &mut [i64; 320], at: usize, w: usize, omega: &[i32], j: usize,
     ensures { AddedFive 2147483648 (λ k. get_or omega.now (k * w + j) (pos 0) *ℤ x) at acc.old 5
         acc.new }
 {
-    let mut k = 0;
-    while k < 5 {
-        let weight = omega[k * w + j];
-        let summand = signed(weight, x);
-        let old = acc[at + k];
-        let new = plus(old, summand);
-        acc[at + k] = new;
-        k += 1;
+    for k in 0..5 {
+        acc[at + k] += omega[k * w + j] as i64 * x as i64;
     }
 }
 
@@ -90,14 +57,9 @@ fn add_group(
     requires summed { Summed shape.d (shape.r * shape.n) w projections.now omega.now e (group * 4) acc.old }
     ensures { Summed shape.d (shape.r * shape.n) w projections.now omega.now e (group * 4 + 4) acc.new }
 {
-    let place = group * 64;
-    let first = group * 81;
-    let mut y = 0;
-    while y < shape.d {
-        let c = codes[place + y] as usize;
-        let number = first + c;
+    for y in 0..shape.d {
+        let number = group * 81 + codes[group * 64 + y] as usize;
         add_five(acc, y * 5, omega_sums, number * 5);
-        y += 1;
     }
 }
 
@@ -116,17 +78,10 @@ fn add_row(
     requires summed { Summed shape.d (shape.r * shape.n) w projections.now omega.now e j acc.old }
     ensures { Summed shape.d (shape.r * shape.n) w projections.now omega.now e (j + 1) acc.new }
 {
-    let d = shape.d;
-    let parts = shape.r;
-    let rank = shape.n;
-    let count = parts * rank;
-    let element = j * count + e;
-    let at = element * d;
-    let mut y = 0;
-    while y < d {
+    let at = (j * (shape.r * shape.n) + e) * shape.d;
+    for y in 0..shape.d {
         let x = projections[at + y];
         add_entry(acc, y * 5, w, omega, j, x);
-        y += 1;
     }
 }
 
@@ -147,9 +102,7 @@ fn add_groups(
     requires summed { Summed shape.d (shape.r * shape.n) w projections.now omega.now e 0 acc.old }
     ensures { Summed shape.d (shape.r * shape.n) w projections.now omega.now e (w / 4 * 4) acc.new }
 {
-    let groups = w / 4;
-    let mut group = 0;
-    while group < groups {
+    for group in 0..w / 4 {
         add_group(
             shape,
             w,
@@ -161,7 +114,6 @@ fn add_groups(
             group,
             acc,
         );
-        group += 1;
     }
 }
 
@@ -179,11 +131,8 @@ fn add_rest(
     requires summed { Summed shape.d (shape.r * shape.n) w projections.now omega.now e (w / 4 * 4) acc.old }
     ensures { Summed shape.d (shape.r * shape.n) w projections.now omega.now e w acc.new }
 {
-    let groups = w / 4;
-    let mut j = groups * 4;
-    while j < w {
+    for j in w / 4 * 4..w {
         add_row(shape, w, projections, omega, e, j, acc);
-        j += 1;
     }
 }
 
@@ -194,12 +143,8 @@ fn centred_element(d: usize, acc: &[i64; 320], k: usize) -> [i32; 64]
     ensures { result ≡ tab 64 (upto d (λ y. centred (get_or acc.now (y * 5 + k) (pos 0))) (pos 0)) }
 {
     let mut out = [0i32; 64];
-    let mut y = 0;
-    while y < d {
-        let x = acc[y * 5 + k];
-        let number = modulus::centre(x);
-        out[y] = number;
-        y += 1;
+    for y in 0..d {
+        out[y] = modulus::centre(acc[y * 5 + k]);
     }
     out
 }
@@ -210,11 +155,8 @@ fn centred_row(d: usize, acc: &[i64; 320]) -> [[i32; 64]; 5]
     ensures { result ≡ tab 5 (λ k. tab 64 (upto d (λ y. centred (get_or acc.now (y * 5 + k) (pos 0))) (pos 0))) }
 {
     let mut out = [[0i32; 64]; 5];
-    let mut k = 0;
-    while k < 5 {
-        let element = centred_element(d, acc, k);
-        out[k] = element;
-        k += 1;
+    for k in 0..5 {
+        out[k] = centred_element(d, acc, k);
     }
     out
 }
@@ -234,7 +176,6 @@ pub fn projection_row(
     ensures { result ≡ tab 5 (λ k. array shape.d (projection_entry shape.d shape.n shape.r w projections.now
         omega.now k e)) }
 {
-    let d = shape.d;
     let mut codes = [0u32; CODES];
     group_codes(shape, w, projections, omega, e, &mut codes);
     let mut acc = [0i64; 320];
@@ -249,5 +190,5 @@ pub fn projection_row(
         &mut acc,
     );
     add_rest(shape, w, projections, omega, e, &mut acc);
-    centred_row(d, &acc)
+    centred_row(shape.d, &acc)
 }

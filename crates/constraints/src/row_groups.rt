@@ -27,13 +27,8 @@ fn code(x0: i32, x1: i32, x2: i32, x3: i32) -> u32
     requires { (nat_abs x0 ≤ 1) × (nat_abs x1 ≤ 1) × (nat_abs x2 ≤ 1) × (nat_abs x3 ≤ 1) }
     ensures { Coded result x0 x1 x2 x3 }
 {
-    let t0 = entry_digit(x0);
-    let t1 = entry_digit(x1);
-    let t2 = entry_digit(x2);
-    let t3 = entry_digit(x3);
-    let high = t3 + t3 + t3 + t2;
-    let middle = high + high + high + t1;
-    middle + middle + middle + t0
+    let high = entry_digit(x3) * 3 + entry_digit(x2);
+    (high * 3 + entry_digit(x1)) * 3 + entry_digit(x0)
 }
 
 // The code of the entries of four rows, which stand `step` apart, the first at `at`.
@@ -46,11 +41,12 @@ fn code_at(projections: &[i32], at: usize, step: usize) -> u32
     let second = at + step;
     let third = second + step;
     let fourth = third + step;
-    let x0 = projections[at];
-    let x1 = projections[second];
-    let x2 = projections[third];
-    let x3 = projections[fourth];
-    code(x0, x1, x2, x3)
+    code(
+        projections[at],
+        projections[second],
+        projections[third],
+        projections[fourth],
+    )
 }
 
 // The codes of d neighbouring entries of four rows, from place `from` on.
@@ -67,11 +63,8 @@ fn write_codes(
     requires d_bound { (from + d ≤ code_count) × (length codes.old ≡ code_count) }
     ensures { Codes projections.now at step from codes.old d codes.new }
 {
-    let mut y = 0;
-    while y < d {
-        let c = code_at(projections, at + y, step);
-        codes[from + y] = c;
-        y += 1;
+    for y in 0..d {
+        codes[from + y] = code_at(projections, at + y, step);
     }
 }
 
@@ -90,18 +83,11 @@ pub fn group_codes(
     ensures { CodesOf shape.d (shape.r * shape.n) projections.now e (w / 4) codes.new }
 {
     let d = shape.d;
-    let parts = shape.r;
-    let rank = shape.n;
-    let count = parts * rank;
+    let count = shape.r * shape.n;
     let step = count * d;
-    let groups = w / 4;
-    let mut g = 0;
-    while g < groups {
-        let row = g * 4;
-        let element = row * count + e;
-        let at = element * d;
+    for g in 0..w / 4 {
+        let at = (g * 4 * count + e) * d;
         write_codes(d, projections, at, step, codes, g * 64);
-        g += 1;
     }
 }
 
@@ -109,19 +95,14 @@ pub fn group_codes(
 fn decoded(c: usize) -> i32
     ensures { result ≡ decode c }
 {
-    let digit = c % 3;
-    let wide = digit as i64;
-    (wide - 1) as i32
+    ((c % 3) as i64 - 1) as i32
 }
 
 fn add_signed(acc: i64, x: i32, y: i32) -> i64
     requires { nat_abs acc < 4611686018427387904 }
     ensures { result ≡ acc +ℤ (x *ℤ y) }
 {
-    let a = x as i64;
-    let b = y as i64;
-    let product = a * b;
-    acc + product
+    acc + x as i64 * y as i64
 }
 
 // One more weighted entry: the number of omega at `at`, times the entry of the last digit of c.
@@ -129,9 +110,7 @@ fn add_summand(sum: i64, omega: &[i32], at: usize, c: usize) -> i64
     requires { (at < length omega.now) × (nat_abs sum ≤ 6442450944) }
     ensures { Summand omega.now at c sum result }
 {
-    let weight = omega[at];
-    let x = decoded(c);
-    add_signed(sum, weight, x)
+    add_signed(sum, omega[at], decoded(c))
 }
 
 // The sum of the four entries of code c, weighted by the numbers of omega from `at` on.
@@ -150,17 +129,9 @@ pub fn write_omega_sums(w: usize, omega: &[i32], omega_sums: &mut [i64; OMEGA_SU
     requires { (w ≤ most_projections) × (length omega.now ≡ 5 * w) × (length omega_sums.old ≡ omega_sum_count) }
     ensures { OmegaSums w omega.now omega_sums.new }
 {
-    let groups = w / 4;
-    let count = groups * 405;
-    let mut i = 0;
-    while i < count {
-        let k = i % 5;
+    for i in 0..w / 4 * 405 {
         let number = i / 5;
-        let group = number / 81;
-        let c = number % 81;
-        let at = k * w + group * 4;
-        let sum = weighted_sum(omega, at, c);
-        omega_sums[i] = sum;
-        i += 1;
+        let at = i % 5 * w + number / 81 * 4;
+        omega_sums[i] = weighted_sum(omega, at, number % 81);
     }
 }

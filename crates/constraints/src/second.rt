@@ -30,20 +30,11 @@ fn term_entry(
         psi.now k e) }
 {
     let d = shape.d;
-    let size = counts::function_size(shape.n, shape.r);
-    let step = size * d + 1;
-    let first = k * l;
+    let step = counts::function_size(shape.n, shape.r) * d + 1;
     let mut sum = Element::additive_identity();
-    let mut at = 0;
-    let mut j = 0;
-    while j < l {
-        let weight = psi[first + j];
-        let rest = &constant_terms[at..];
-        let entry = Element::from_slice(d, rest, e);
-        let weighted = entry.scale(d, weight);
-        sum = sum.sum(d, weighted);
-        at += step;
-        j += 1;
+    for j in 0..l {
+        let entry = Element::from_slice(d, &constant_terms[j * step..], e);
+        sum = sum.sum(d, entry.scale(d, psi[k * l + j]));
     }
     sum
 }
@@ -62,12 +53,9 @@ pub fn second_row_a(
         psi.now k e)) }
 {
     let mut row = [[0i32; 64]; 5];
-    let mut k = 0;
-    while k < COUNT {
-        let entry = term_entry(shape, l, constant_terms, psi, k, e);
-        let coefficients = entry.coefficients;
+    for k in 0..COUNT {
+        let Element { coefficients } = term_entry(shape, l, constant_terms, psi, k, e);
         row[k] = coefficients;
-        k += 1;
     }
     row
 }
@@ -88,12 +76,9 @@ fn second_phi(
         (term_entry shape.d shape.n shape.r l constant_terms.now psi.now k (pairs shape.r + e))
         (conjugate Zq (lift shape.d projected.coefficients))) }
 {
-    let d = shape.d;
-    let pairs = counts::pair_count(shape.r);
-    let place = pairs + e;
+    let place = counts::pair_count(shape.r) + e;
     let own = term_entry(shape, l, constant_terms, psi, k, place);
-    let conjugated = projected.conjugate(d);
-    own.sum(d, conjugated)
+    own.sum(shape.d, projected.conjugate(shape.d))
 }
 
 // The φ of the five second functions at element e of the witness, from the row of their projected parts.
@@ -111,14 +96,12 @@ pub fn second_row_phi(
         psi.now projected k e)) }
 {
     let mut row = [[0i32; 64]; 5];
-    let mut k = 0;
-    while k < COUNT {
-        let coefficients = projected[k];
-        let part = Element { coefficients };
-        let entry = second_phi(shape, l, constant_terms, psi, part, k, e);
-        let phi = entry.coefficients;
-        row[k] = phi;
-        k += 1;
+    for k in 0..COUNT {
+        let part = Element {
+            coefficients: projected[k],
+        };
+        let Element { coefficients } = second_phi(shape, l, constant_terms, psi, part, k, e);
+        row[k] = coefficients;
     }
     row
 }

@@ -8,7 +8,6 @@ ghost use Rattle.fold.specs.Known.CallFacts.{AmortizeFacts};
 use fold::Shape;
 use residues::digits::split_digits;
 use ring::element::Element;
-use ring::product::multiply;
 
 // Element k of z: the sum over i of c_i and element k of part i.
 fn folded_element(d: usize, n: usize, r: usize, c: &[i32], witness: &[i32], k: usize) -> Element
@@ -17,17 +16,10 @@ fn folded_element(d: usize, n: usize, r: usize, c: &[i32], witness: &[i32], k: u
     ensures { result.coefficients ≡ array d (z d n r c.now witness.now k) }
 {
     let mut sum = Element::additive_identity();
-    let mut i = 0;
-    while i < r {
+    for i in 0..r {
         let challenge = Element::from_slice(d, c, i);
         let element = Element::from_slice(d, witness, i * n + k);
-        let x = challenge.coefficients;
-        let y = element.coefficients;
-        let product = Element {
-            coefficients: multiply(d, x, y),
-        };
-        sum = sum.sum(d, product);
-        i += 1;
+        sum = sum.sum(d, challenge.product(d, element));
     }
     sum
 }
@@ -46,11 +38,8 @@ fn write_folded(
     requires d_in_bounds { (r * d ≤ length c.now) × (r * n * d ≤ length witness.now) × ((at + n) * d ≤ length out.old) }
     ensures { out.new ≡ over out.old (at * d) (elements d n (z d n r c.now witness.now)) }
 {
-    let mut k = 0;
-    while k < n {
-        let element = folded_element(d, n, r, c, witness, k);
-        element.store(d, out, at + k);
-        k += 1;
+    for k in 0..n {
+        folded_element(d, n, r, c, witness, k).store(d, out, at + k);
     }
 }
 
@@ -60,11 +49,8 @@ pub fn write_z(tz: usize, shape: Shape, b: usize, c: &[i32], witness: &[i32], ou
     requires amortize_facts { AmortizeFacts shape tz b c.now witness.now out.old }
     ensures { out.new ≡ z_digits shape.d shape.n shape.r tz b c.now witness.now }
 {
-    let d = shape.d;
-    let n = shape.n;
-    let r = shape.r;
+    let Shape { d, n, r } = shape;
     let last = (tz - 1) * n;
     write_folded(d, n, r, c, witness, out, last);
-    let width = n * d;
-    split_digits(b, tz, width, out);
+    split_digits(b, tz, n * d, out);
 }

@@ -10,9 +10,9 @@ ghost use Rattle.prover.specs.Known.Facts.{PartFacts};
 ghost use Rattle.prover.specs.Outputs.{outer, t_of, g_of, u₁_of};
 
 use crate::garbage::{write_garbage_digits, write_pair_products};
-use fold::CommitSizes;
 use fold::counts::{garbage_size, t_size};
 use fold::limits::PAIR_ROOM;
+use fold::{CommitSizes, Shape};
 use residues::digits::split_digits;
 use ring::element::Element;
 use ring::product::inner;
@@ -33,15 +33,11 @@ pub fn write_products(
     requires d_in_bounds { (at + kappa) * d ≤ length block.old }
     ensures { block.new ≡ over block.old (at * d) (elements d kappa (t d n a_matrix.now witness.now i)) }
 {
-    let part = i * n;
-    let mut k = 0;
-    while k < kappa {
-        let row = k * n;
+    for k in 0..kappa {
         let product = Element {
-            coefficients: inner(d, n, a_matrix, row, witness, part),
+            coefficients: inner(d, n, a_matrix, k * n, witness, i * n),
         };
         product.store(d, block, at + k);
-        k += 1;
     }
 }
 
@@ -65,8 +61,7 @@ fn write_t_part(
 {
     let last = (t1 - 1) * kappa;
     write_products(d, n, kappa, a_matrix, witness, i, block, last);
-    let width = kappa * d;
-    split_digits(b1, t1, width, block);
+    split_digits(b1, t1, kappa * d, block);
 }
 
 // The t digits: by part, then digit, then row.
@@ -74,30 +69,21 @@ pub fn write_t(sizes: CommitSizes, a_matrix: &[i32], witness: &[i32], out: &mut 
     requires { TFacts sizes a_matrix.now witness.now out.old }
     ensures { out.new ≡ t_of sizes a_matrix.now witness.now }
 {
-    let d = sizes.shape.d;
-    let n = sizes.shape.n;
-    let r = sizes.shape.r;
-    let kappa = sizes.kappa;
-    let b1 = sizes.b1;
-    let t1 = sizes.t1;
-    let width = t1 * (kappa * d);
-    let mut at = 0;
-    let mut i = 0;
-    while i < r {
-        let next = at + width;
+    let Shape { d, n, r } = sizes.shape;
+    let width = sizes.t1 * (sizes.kappa * d);
+    for i in 0..r {
+        let at = i * width;
         write_t_part(
             d,
             n,
-            kappa,
-            b1,
-            t1,
+            sizes.kappa,
+            sizes.b1,
+            sizes.t1,
             a_matrix,
             witness,
             i,
-            &mut out[at..next],
+            &mut out[at..at + width],
         );
-        at = next;
-        i += 1;
     }
 }
 
@@ -106,14 +92,10 @@ pub fn write_g(sizes: CommitSizes, witness: &[i32], out: &mut [i32])
     requires { GFacts sizes witness.now out.old }
     ensures { out.new ≡ g_of sizes witness.now }
 {
-    let d = sizes.shape.d;
-    let n = sizes.shape.n;
-    let r = sizes.shape.r;
-    let b2 = sizes.b2;
-    let t2 = sizes.t2;
+    let Shape { d, n, r } = sizes.shape;
     let mut products = [0i32; PAIR_ROOM];
     write_pair_products(d, n, r, witness, &mut products);
-    write_garbage_digits(d, r, b2, t2, &products, out);
+    write_garbage_digits(d, r, sizes.b2, sizes.t2, &products, out);
 }
 
 // Row k of B·x + C·y, for vectors x of m and y of l elements.
@@ -159,11 +141,8 @@ fn write_outer(
     requires out_len { length out.old ≡ rows * d }
     ensures { out.new ≡ elements d rows (outer d m l b_matrix.now x.now c_matrix.now y.now) }
 {
-    let mut k = 0;
-    while k < rows {
-        let row = outer_row(d, m, b_matrix, x, l, c_matrix, y, k);
-        row.store(d, out, k);
-        k += 1;
+    for k in 0..rows {
+        outer_row(d, m, b_matrix, x, l, c_matrix, y, k).store(d, out, k);
     }
 }
 

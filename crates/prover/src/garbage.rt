@@ -30,16 +30,11 @@ fn write_pair_row(
     requires n_le_most_rank { (n ≤ most_rank) × (i ≤ r) × (r * n * d ≤ length witness.now) × ((at + (r - i)) * d ≤ length out.old) }
     ensures { out.new ≡ over out.old (at * d) (elements d (r - i) (λ k. g d n witness.now i (i + k))) }
 {
-    let count = r - i;
-    let mut k = 0;
-    while k < count {
-        let left = i * n;
-        let right = (i + k) * n;
+    for k in 0..r - i {
         let product = Element {
-            coefficients: inner(d, n, witness, left, witness, right),
+            coefficients: inner(d, n, witness, i * n, witness, (i + k) * n),
         };
         product.store(d, out, at + k);
-        k += 1;
     }
 }
 
@@ -50,11 +45,9 @@ pub fn write_pair_products(d: usize, n: usize, r: usize, witness: &[i32], out: &
     ensures { out.new ≡ over out.old 0 (pair_elements d r (g d n witness.now)) }
 {
     let mut at = 0;
-    let mut i = 0;
-    while i < r {
+    for i in 0..r {
         write_pair_row(d, n, r, witness, i, out, at);
         at += r - i;
-        i += 1;
     }
 }
 
@@ -72,8 +65,7 @@ fn write_element_digits(
     requires t_nonzero { (0 < t) × (e * d + d ≤ length values.now) × (length block.old ≡ t * d) }
     ensures { block.new ≡ split base t (coeffs d (el d values.now e)) }
 {
-    let element = Element::from_slice(d, values, e);
-    element.store(d, block, t - 1);
+    Element::from_slice(d, values, e).store(d, block, t - 1);
     split_digits(base, t, d, block);
 }
 
@@ -85,13 +77,9 @@ pub fn write_digits(d: usize, base: usize, t: usize, count: usize, values: &[i32
     ensures { out.new ≡ flat count (λ e. split base t (coeffs d (el d values.now e))) }
 {
     let width = t * d;
-    let mut at = 0;
-    let mut e = 0;
-    while e < count {
-        let next = at + width;
-        write_element_digits(d, base, t, values, e, &mut out[at..next]);
-        at = next;
-        e += 1;
+    for e in 0..count {
+        let at = e * width;
+        write_element_digits(d, base, t, values, e, &mut out[at..at + width]);
     }
 }
 
@@ -109,6 +97,5 @@ pub fn write_garbage_digits(
     requires r_le_most_parts { (r ≤ most_parts) × (0 < t) × (t ≤ most_digits) × (pairs r * d ≤ length values.now) × (length out.old ≡ garbage_size r t * d) }
     ensures { out.new ≡ garbage_digits d r base t (λ i j. el d values.now (pair r i j)) }
 {
-    let count = pair_count(r);
-    write_digits(d, base, t, count, values, out);
+    write_digits(d, base, t, pair_count(r), values, out);
 }

@@ -23,10 +23,8 @@ fn project_row(row: &[i32], witness: &[i32]) -> i32
     ensures { result ≡ centred (dot row.now witness.now (length witness.now)) }
 {
     let mut acc: i64 = 0;
-    let mut y = 0;
-    while y < witness.len() {
+    for y in 0..witness.len() {
         acc = add_product(acc, row[y], witness[y]);
-        y += 1;
     }
     centre(acc)
 }
@@ -37,13 +35,8 @@ pub fn write_p(shape: Shape, w: usize, projections: &[i32], witness: &[i32], out
     ensures { out.new ≡ p shape.d shape.n shape.r w projections.now witness.now }
 {
     let size = witness.len();
-    let mut at = 0;
-    let mut j = 0;
-    while j < w {
-        let next = at + size;
-        let product = project_row(&projections[at..next], witness);
-        out[j] = product;
-        at = next;
-        j += 1;
+    for j in 0..w {
+        let at = j * size;
+        out[j] = project_row(&projections[at..at + size], witness);
     }
 }

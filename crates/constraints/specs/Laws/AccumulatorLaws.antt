@@ -105,6 +105,14 @@ module _ {b : ℕ} {δ : ℕ → ℤ} {at : ℕ} {old : List ℤ} {m : ℕ} {new
           let same : k ≡ m = omega (arith, l, ltb-false k m e) in
           rw same bound
 
+  -- the machine's sum of the number there and a summand s that it holds
+  module _ {s : ℤ} (given : mag (get_or new (at + m) (pos 0)) < 2 ^ 63) (is : s ≡ δ m) (bound : nat_abs (δ m) ≤ b) (room_left : b ≤ 8589934592) where
+    pub five_fits : SFits w64 (held (get_or new (at + m) (pos 0)) +ℤ s)
+    five_fits = plus-fits _ s (five-room given) (rw is (omega (arith, bound, room_left)))
+
+    pub five_more : AddedFive b δ at old (m + 1) (set new (at + m) (held (held (get_or new (at + m) (pos 0)) +ℤ s)))
+    five_more = five-step five_fits.sfits given is bound refl
+
 -- ---- the accumulator
 
 pub record Cell (acc : List ℤ) (i : ℕ) (v : ℤ) (j : ℕ) : Type 0 where

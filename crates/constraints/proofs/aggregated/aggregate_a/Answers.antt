@@ -1,20 +1,21 @@
--- `constraints::aggregated::aggregate_a` meets its contract.
-use native.Mathlib.Omega.{arith}
+-- `constraints::aggregated::aggregate_a` meets its contract: the row of five is weighted.
+use Rattle.std.proofs.Common.{ap, ◌∙◌, arith}
+use Rattle.ring.specs.Element.{array}
+use Rattle.constraints.specs.Aggregated.{weighted_a}
+use Rattle.constraints.specs.Laws.Rows.{row-weighted}
 use Rattle.constraints.specs.Laws.SizeLaws.{function-parts}
 use Rattle.constraints.specs.Laws.AggregatedLaws.{aggregate-a-end}
 use Rattle.constraints.proofs.aggregated.aggregate_a.Goals as goal
 
-pub whole_entry-wholes-requires : goal.whole_entry-wholes-requires
-whole_entry-wholes-requires c =
-    let size = function-parts c.args.sizes.shape.n c.args.sizes.shape.r in record { whole_facts = c.requires.whole_facts; e_bound = omega (arith, size, c.requires.delta_len.1) }
-
-pub weighted_a-seconds-requires : goal.weighted_a-seconds-requires
-weighted_a-seconds-requires c = record { term_facts = c.requires.term_facts; delta_len = (c.requires.delta_len) }
-
-pub sum-requires : goal.sum-requires
-sum-requires c = c.requires.whole_facts.shaped.degree
+pub whole_entry-wholes-requires-clause-e_bound : goal.whole_entry-wholes-requires-clause-e_bound
+whole_entry-wholes-requires-clause-e_bound c =
+    omega (arith, function-parts c.args.sizes.shape.n c.args.sizes.shape.r, c.requires.delta_len.1)
 
 pub returns : goal.returns
+unfolding weighted_a
 returns c =
-    aggregate-a-end _ _ _ _ _ _ _ _ _ _ _ c.requires.whole_facts.shaped.degree c.whole_entry-wholes.ensures
-    c.weighted_a-seconds.ensures c.sum.ensures
+    let d = c.args.sizes.shape.d in
+    let degree = c.requires.whole_facts.shaped.degree in
+    aggregate-a-end _ _ _ _ _ _ _ _ _ _ _ degree c.whole_entry-wholes.ensures
+    (c.weighted_row.ensures ∙ ap (array d) (row-weighted d c.args.delta.now _ degree.small c.second_row_a-row_a.ensures))
+    c.sum.ensures

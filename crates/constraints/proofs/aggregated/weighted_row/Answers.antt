@@ -1,24 +1,11 @@
 -- `constraints::aggregated::weighted_row` meets its contract. The loop has added the first k of the five summands.
-use mathlib.Core.Path.{ap, ◌∙◌}
-use mathlib.Core.List.{[]}
-use native.Mathlib.Omega.{arith}
-use lib.ListN.{get_or}
+use Rattle.std.proofs.Common.{ap, ◌∙◌, [], arith, get_or}
 use Rattle.ring.specs.Element.{R, lift, array}
-use Rattle.constraints.specs.Laws.AggregatedLaws.{δ-place}
-use Rattle.ring.specs.Laws.Loops.{summed_start, summed_step, summed_end, held}
+use Rattle.ring.specs.Laws.Loops.{summed_start, summed_step, held}
 use Rattle.constraints.proofs.aggregated.weighted_row.Goals as goal
 
 pub loop-k-init : goal.loop-k-init
 loop-k-init c = summed_start (c.additive_identity-sum.ensures _)
-
-pub from_slice-weight-requires : goal.from_slice-weight-requires
-from_slice-weight-requires c = record { degree = c.requires.degree; d_in_bounds = δ-place c.args.d c.args.delta.now c.requires.delta_len (omega arith) }
-
-pub multiplied-weighted-requires : goal.multiplied-weighted-requires
-multiplied-weighted-requires c = c.requires.degree
-
-pub sum-sum-requires : goal.sum-sum-requires
-sum-sum-requires c = c.requires.degree
 
 pub loop-k-preserved : goal.loop-k-preserved
 loop-k-preserved c =
@@ -26,7 +13,4 @@ loop-k-preserved c =
     let weight = held c.requires.degree.small c.from_slice-weight.ensures in
     let entry = lift d (get_or c.args.row c.loop-k.k []) in
     summed_step c.loop-k.invariant c.requires.degree (omega arith)
-    (c.multiplied-weighted.ensures ∙ ap (λ u. array d ((R d).mul u entry)) weight) c.sum-sum.ensures
-
-pub returns : goal.returns
-returns c = summed_end c.loop-k.invariant (omega arith)
+    (c.product.ensures ∙ ap (λ u. array d ((R d).mul u entry)) weight) c.sum-sum.ensures

@@ -1,46 +1,12 @@
 -- `constraints::phi::write_phi_part` meets its contract. The loop's invariant: the first y elements are written.
-use mathlib.Core.Path.{refl, sym}
-use Prim.Native.Nat.{◌+◌, ◌*◌, ◌<◌}
-use native.Mathlib.Nat.{zero-add}
-use native.Mathlib.Omega.{arith}
-use Rattle.integers.specs.Laws.FlatLaws.{block-fits}
-use Rattle.ring.specs.Laws.ElementPlaces.{block-before}
+use Rattle.std.proofs.Common.{refl, sym, zero-add}
 use Rattle.fold.specs.Messages.{elements}
-use Rattle.ring.specs.Laws.Writers.{elements_start₀, elements-fit, elements-turn, elements_end₀}
-use Rattle.constraints.specs.Laws.SizeLaws.{witness_small}
+use Rattle.ring.specs.Laws.Writers.{elements_start₀, elements-turn, elements_end₀}
 use Rattle.constraints.specs.Laws.AggregatedLaws.{aggregate-row}
 use Rattle.constraints.proofs.phi.write_phi_part.Goals as goal
 
-pub overflow_mul-first : goal.overflow_mul-first
-overflow_mul-first c =
-    let z = c.args.sizes.shape in
-    omega (arith, witness_small c.requires.aggregate_facts.wholes.shaped, block-before z.n c.args.i z.r c.requires.i_lt_r.0)
-
 pub loop-y-init : goal.loop-y-init
 loop-y-init c = elements_start₀ c.requires.i_lt_r.1
-
-pub overflow_add-e : goal.overflow_add-e
-overflow_add-e c =
-    let place : let z = c.args.sizes.shape in c.args.i * z.n + c.loop-y.y < z.r * z.n = block-fits c.args.sizes.shape.r c.args.sizes.shape.n c.args.i c.loop-y.y c.requires.i_lt_r.0 c.loop-y-test.true in
-    omega (arith, place, witness_small c.requires.aggregate_facts.wholes.shaped)
-
-pub projection_row-projected-requires : goal.projection_row-projected-requires
-projection_row-projected-requires c =
-    let place : let z = c.args.sizes.shape in c.args.i * z.n + c.loop-y.y < z.r * z.n = block-fits c.args.sizes.shape.r c.args.sizes.shape.n c.args.i c.loop-y.y c.requires.i_lt_r.0 c.loop-y-test.true in record { projection_facts = c.requires.aggregate_facts.seconds.projected; omega_sums = c.requires.omega_sums; e_bound = place }
-
-pub aggregate_phi-phi-requires : goal.aggregate_phi-phi-requires
-aggregate_phi-phi-requires c =
-    let place : let z = c.args.sizes.shape in c.args.i * z.n + c.loop-y.y < z.r * z.n = block-fits c.args.sizes.shape.r c.args.sizes.shape.n c.args.i c.loop-y.y c.requires.i_lt_r.0 c.loop-y-test.true in record { whole_facts = c.requires.aggregate_facts.wholes; term_facts = c.requires.aggregate_facts.seconds.terms; delta_len = (c.requires.aggregate_facts.δ-length, place) }
-
-pub store-requires : goal.store-requires
-store-requires c =
-    record { degree = c.requires.aggregate_facts.wholes.shaped.degree; d_in_bounds = elements-fit c.loop-y.invariant (sym (zero-add _)) c.loop-y-test.true }
-
-pub overflow_add-y : goal.overflow_add-y
-overflow_add-y c = omega (arith, c.requires.aggregate_facts.wholes.shaped.rank-small, c.loop-y-test.true)
-
-pub loop-y-smaller : goal.loop-y-smaller
-loop-y-smaller c = omega (arith, c.loop-y-test.true)
 
 pub loop-y-preserved : goal.loop-y-preserved
 loop-y-preserved c =
@@ -49,9 +15,6 @@ loop-y-preserved c =
     aggregate-row _ _ _ _ _ _ _ _ _ _ degree.small c.projection_row-projected.ensures _ _ _ _ c.args.i c.loop-y.y refl
     c.aggregate_phi-phi.ensures in
     elements-turn c.loop-y.invariant degree (sym (zero-add _)) c.loop-y-test.true entry c.store.ensures
-
-pub shape_of-out : goal.shape_of-out
-shape_of-out c = c.loop-y.invariant.same
 
 pub returns : goal.returns
 unfolding elements

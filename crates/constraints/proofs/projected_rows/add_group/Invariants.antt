@@ -1,11 +1,10 @@
-use Prim.Native.Nat.{◌+◌, ◌-◌, ◌*◌}
+use Rattle.std.proofs.Common.{◌+◌, ◌*◌}
 use Rattle.constraints.specs.Laws.AccumulatorLaws.{Turning}
 use Rattle.constraints.specs.ProjectedRows.{partial}
 use Rattle.constraints.proofs.projected_rows.add_group.Given as goal
 
 abbrev pub invariant-loop-y : goal.invariant-loop-y
-invariant-loop-y l = Turning l.shape.d (partial l.shape.d (l.shape.r * l.shape.n) l.w l.projections l.omega l.e (l.group * 4))
-    (partial l.shape.d (l.shape.r * l.shape.n) l.w l.projections l.omega l.e (l.group * 4 + 4)) (l.group * 4) 4 l.y l.acc
-
-abbrev pub decreases-loop-y : goal.decreases-loop-y
-decreases-loop-y l = l.shape.d - l.y
+invariant-loop-y l =
+    let shape = l.fn.shape in
+    let sums = partial shape.d (shape.r * shape.n) l.w l.projections l.omega l.e in
+    Turning shape.d (sums (l.group * 4)) (sums (l.group * 4 + 4)) (l.group * 4) 4 l.y l.acc

@@ -1,10 +1,10 @@
-use Prim.Native.Nat.{◌+◌, ◌-◌, ◌*◌}
+use Rattle.std.proofs.Common.{◌+◌, ◌*◌}
 use Rattle.constraints.specs.Laws.AccumulatorLaws.{Turning}
 use Rattle.constraints.specs.ProjectedRows.{partial}
 use Rattle.constraints.proofs.projected_rows.add_row.Given as goal
 
 abbrev pub invariant-loop-y : goal.invariant-loop-y
-invariant-loop-y l = Turning l.d (partial l.d (l.parts * l.rank) l.w l.projections l.omega l.e l.j) (partial l.d (l.parts * l.rank) l.w l.projections l.omega l.e (l.j + 1)) l.j 1 l.y l.acc
-
-abbrev pub decreases-loop-y : goal.decreases-loop-y
-decreases-loop-y l = l.d - l.y
+invariant-loop-y l =
+    let shape = l.fn.shape in
+    let sums = partial shape.d (shape.r * shape.n) l.w l.projections l.omega l.e in
+    Turning shape.d (sums l.j) (sums (l.j + 1)) l.j 1 l.y l.acc

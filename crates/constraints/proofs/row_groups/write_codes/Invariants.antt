@@ -1,9 +1,5 @@
-use Prim.Native.Nat.{◌-◌, ◌≤◌}
 use Rattle.constraints.specs.RowGroups.{Codes}
 use Rattle.constraints.proofs.row_groups.write_codes.Given as goal
 
 abbrev pub invariant-loop-y : goal.invariant-loop-y
-invariant-loop-y l = (l.y ≤ l.d) × Codes l.projections l.at l.step l.from l.initial.codes l.y l.codes
-
-abbrev pub decreases-loop-y : goal.decreases-loop-y
-decreases-loop-y l = l.d - l.y
+invariant-loop-y l = Codes l.projections l.at l.step l.from l.initial.codes l.y l.codes

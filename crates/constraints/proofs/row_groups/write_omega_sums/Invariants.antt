@@ -1,9 +1,5 @@
-use Prim.Native.Nat.{◌-◌}
 use Rattle.constraints.specs.Laws.RowGroupLaws.{Tabled}
 use Rattle.constraints.proofs.row_groups.write_omega_sums.Given as goal
 
 abbrev pub invariant-loop-i : goal.invariant-loop-i
 invariant-loop-i l = Tabled l.w l.omega l.i l.omega_sums
-
-abbrev pub decreases-loop-i : goal.decreases-loop-i
-decreases-loop-i l = l.count - l.i

@@ -1,29 +1,20 @@
 -- `constraints::second::second_phi` meets its contract.
-use native.Mathlib.Omega.{arith}
+use Rattle.std.proofs.Common.{arith}
 use Rattle.fold.specs.Laws.SizeBounds.{pairs-bound}
 use Rattle.constraints.specs.Laws.SizeLaws.{witness_small, function-parts}
 use Rattle.constraints.specs.Laws.AggregatedLaws.{second-φ-end}
 use Rattle.constraints.proofs.second.second_phi.Goals as goal
 
-pub pair_count-pairs-requires : goal.pair_count-pairs-requires
-pair_count-pairs-requires c = c.requires.term_facts.shaped.parts-small
-
 pub overflow_add-place : goal.overflow_add-place
 overflow_add-place c =
     let shaped = c.requires.term_facts.shaped in
-    omega (arith, c.pair_count-pairs.ensures, pairs-bound _ shaped.parts-small, witness_small shaped, c.requires.k_bound.1)
+    omega (arith, c.pair_count.ensures, pairs-bound _ shaped.parts-small, witness_small shaped, c.requires.k_bound.1)
 
-pub term_entry-own-requires : goal.term_entry-own-requires
-term_entry-own-requires c =
-    let size = function-parts c.args.shape.n c.args.shape.r in record { term_facts = c.requires.term_facts; k_bound = (c.requires.k_bound.0, omega (arith, c.pair_count-pairs.ensures, size, c.requires.k_bound.1)) }
-
-pub conjugate-conjugated-requires : goal.conjugate-conjugated-requires
-conjugate-conjugated-requires c = c.requires.term_facts.shaped.degree
-
-pub sum-requires : goal.sum-requires
-sum-requires c = c.requires.term_facts.shaped.degree
+pub term_entry-own-requires-clause-k_bound : goal.term_entry-own-requires-clause-k_bound
+term_entry-own-requires-clause-k_bound c =
+    (c.requires.k_bound.0, omega (arith, c.pair_count.ensures, function-parts c.args.shape.n c.args.shape.r, c.requires.k_bound.1))
 
 pub returns : goal.returns
 returns c =
-    let own = rw c.pair_count-pairs.ensures at c.term_entry-own.ensures in
-    second-φ-end _ _ _ _ _ _ _ _ _ c.requires.term_facts.shaped.degree own c.conjugate-conjugated.ensures c.sum.ensures
+    let own = rw c.pair_count.ensures at c.term_entry-own.ensures in
+    second-φ-end _ _ _ _ _ _ _ _ _ c.requires.term_facts.shaped.degree own c.conjugate.ensures c.sum.ensures

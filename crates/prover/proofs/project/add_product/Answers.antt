@@ -1,18 +1,9 @@
 -- `prover::project::add_product` meets its contract: the sum stays far from the limits of 64 bits.
-use mir.Facts.{to_z-of_z}
-use Rattle.residues.proofs.Laws.Words.{widen, wide}
+use Rattle.std.proofs.Common.{to_z-of_z}
+use Rattle.residues.proofs.Laws.Words.{wide}
 use Rattle.residues.proofs.Laws.Centring.{product-fits}
 use Rattle.prover.specs.Laws.ProjectedLaws.{summand-fits}
 use Rattle.prover.proofs.project.add_product.Goals as goal
-
-pub overflow_cast-result : goal.overflow_cast-result
-overflow_cast-result c = rw (to_z-of_z c.ranges.x) (widen c.ranges.x)
-
-pub overflow_cast-result-2 : goal.overflow_cast-result-2
-overflow_cast-result-2 c = rw (to_z-of_z c.ranges.y) (widen c.ranges.y)
-
-pub overflow_mul-result : goal.overflow_mul-result
-overflow_mul-result c = rw (wide c.ranges.x, wide c.ranges.y) (product-fits c.ranges.x c.ranges.y)
 
 pub overflow_add-result : goal.overflow_add-result
 overflow_add-result c =

@@ -1,10 +1,8 @@
 -- `prover::project::project_row` meets its contract. The loop's invariant: the accumulator is the sum of the first y summands, at most
 -- y * 2^31.
-use mathlib.Core.Path.{◌∙◌}
-use mir.Facts.{to_z-of_z, of_z-to_z}
-use Rattle.prover.specs.Laws.ProjectedLaws.{entry-small, dotted_start, dotted_small, dotted_turn, dotted_end}
-use mir.Syntax.{w32}
-use mir.Syntax.{w64}
+use Rattle.std.proofs.Common.{to_z-of_z, w64}
+use mir.Facts.{of_z-to_z}
+use Rattle.prover.specs.Laws.ProjectedLaws.{entry-small, dotted_start, dotted_small, dotted_turn}
 use Rattle.prover.proofs.project.project_row.Goals as goal
 
 pub loop-y-init : goal.loop-y-init
@@ -23,8 +21,3 @@ loop-y-preserved c =
     (dotted_turn c.args.row.now c.args.witness.now c.requires.2 (rw (of_z-to_z c.loop-y.auto.acc-fits) at c.loop-y.invariant) c.requires.0
     c.loop-y-test.true
     c.add_product-arg-1.given c.add_product-arg-in-loop-y-1.given c.add_product-acc.ensures)
-
-pub returns : goal.returns
-returns c =
-    to_z-of_z {w = w32} (record { sfits = c.centre.type_inv })
-    ∙ dotted_end c.args.row.now c.args.witness.now c.requires.2 (rw (of_z-to_z c.loop-y.auto.acc-fits) at c.loop-y.invariant) c.loop-y-test.false c.centre.ensures
