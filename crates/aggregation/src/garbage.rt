@@ -22,12 +22,9 @@ fn half_sum(d: usize, r: usize, products: &[i32], i: usize, j: usize) -> Element
     requires i_lt_r { (i < r) × (j < r) × (r * r * d ≤ length products.now) }
     ensures { result.coefficients ≡ array d (halved d r products.now i j) }
 {
-    let first = i * r + j;
-    let second = j * r + i;
-    let one = Element::from_slice(d, products, first);
-    let other = Element::from_slice(d, products, second);
-    let both = one.sum(d, other);
-    both.half(d)
+    let one = Element::from_slice(d, products, i * r + j);
+    let other = Element::from_slice(d, products, j * r + i);
+    one.sum(d, other).half(d)
 }
 
 // The h_ij of part i with the parts from i on, written from element `at` on.
@@ -36,12 +33,8 @@ fn write_half_row(d: usize, r: usize, products: &[i32], i: usize, out: &mut [i32
     requires i_le_r { (i ≤ r) × (r * r * d ≤ length products.now) × ((at + (r - i)) * d ≤ length out.old) }
     ensures { out.new ≡ over out.old (at * d) (elements d (r - i) (λ k. halved d r products.now i (i + k))) }
 {
-    let count = r - i;
-    let mut k = 0;
-    while k < count {
-        let product = half_sum(d, r, products, i, i + k);
-        product.store(d, out, at + k);
-        k += 1;
+    for k in 0..r - i {
+        half_sum(d, r, products, i, i + k).store(d, out, at + k);
     }
 }
 
@@ -52,11 +45,9 @@ fn write_half_sums(d: usize, r: usize, products: &[i32], out: &mut [i32])
     ensures { out.new ≡ over out.old 0 (pair_elements d r (halved d r products.now)) }
 {
     let mut at = 0;
-    let mut i = 0;
-    while i < r {
+    for i in 0..r {
         write_half_row(d, r, products, i, out, at);
         at += r - i;
-        i += 1;
     }
 }
 
@@ -74,7 +65,9 @@ pub fn write_h(
     out: &mut [i32],
 )
     requires { HFacts sizes whole.now constant_terms.now projections.now psi.now omega.now alpha.now delta.now witness.now out.old }
-    ensures { out.new ≡ h_digits sizes.shape.d sizes.shape.n sizes.shape.r sizes.b1 sizes.t1 (aggregate sizes.shape.d sizes.shape.n sizes.shape.r sizes.k sizes.l sizes.w whole.now constant_terms.now projections.now psi.now omega.now alpha.now delta.now).φ witness.now }
+    ensures { out.new ≡ h_digits sizes.shape.d sizes.shape.n sizes.shape.r sizes.b1 sizes.t1
+        (aggregate sizes.shape.d sizes.shape.n sizes.shape.r sizes.k sizes.l sizes.w whole.now constant_terms.now projections.now
+        psi.now omega.now alpha.now delta.now).φ witness.now }
 {
     let shape = sizes.shape;
     let d = shape.d;
@@ -100,8 +93,7 @@ pub fn write_h(
     );
     let mut values = [0i32; PAIR_ROOM];
     write_half_sums(d, r, &products, &mut values);
-    let count = pair_count(r);
-    write_digits(d, sizes.b1, sizes.t1, count, &values, out);
+    write_digits(d, sizes.b1, sizes.t1, pair_count(r), &values, out);
 }
 
 // The product of a matrix of m columns with the vector x, row by row.
@@ -110,14 +102,11 @@ fn write_rows(d: usize, rows: usize, m: usize, matrix: &[i32], x: &[i32], out: &
     requires m_bound { (m ≤ 4096) × (rows * m * d ≤ length matrix.now) × (m * d ≤ length x.now) × (length out.old ≡ rows * d) }
     ensures { out.new ≡ elements d rows (λ k. times d m matrix.now k (el d x.now)) }
 {
-    let mut k = 0;
-    while k < rows {
-        let row = k * m;
+    for k in 0..rows {
         let product = Element {
-            coefficients: inner(d, m, matrix, row, x, 0),
+            coefficients: inner(d, m, matrix, k * m, x, 0),
         };
         product.store(d, out, k);
-        k += 1;
     }
 }
 

@@ -29,14 +29,11 @@ fn write_part_products(
     requires n_le_most_rank { (n ≤ most_rank) × (n * d ≤ length phi.now) × (r * n * d ≤ length witness.now) × ((at + r) * d ≤ length out.old) }
     ensures { out.new ≡ over out.old (at * d) (elements d r (part_product d n phi.now witness.now)) }
 {
-    let mut j = 0;
-    while j < r {
-        let part = j * n;
+    for j in 0..r {
         let product = Element {
-            coefficients: inner(d, n, phi, 0, witness, part),
+            coefficients: inner(d, n, phi, 0, witness, j * n),
         };
         product.store(d, out, at + j);
-        j += 1;
     }
 }
 
@@ -64,12 +61,9 @@ pub fn write_products(
 {
     let mut omega_sums = [0i64; OMEGA_SUMS];
     row_groups::write_omega_sums(sizes.w, omega, &mut omega_sums);
-    let d = sizes.shape.d;
-    let rank = sizes.shape.n;
-    let parts = sizes.shape.r;
+    let shape = sizes.shape;
     let mut phi = [0i32; PART_ROOM];
-    let mut i = 0;
-    while i < parts {
+    for i in 0..shape.r {
         write_phi_part(
             sizes,
             whole,
@@ -83,8 +77,6 @@ pub fn write_products(
             i,
             &mut phi,
         );
-        let at = i * parts;
-        write_part_products(d, rank, parts, &phi, witness, out, at);
-        i += 1;
+        write_part_products(shape.d, shape.n, shape.r, &phi, witness, out, i * shape.r);
     }
 }

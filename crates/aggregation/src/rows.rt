@@ -16,14 +16,11 @@ pub fn write_sums(d: usize, first: [[i32; 64]; 5], second: [[i32; 64]; 5], out: 
     requires out_len { length out.old ≡ 5 * d }
     ensures { out.new ≡ elements d 5 (added d first second) }
 {
-    let mut k = 0;
-    while k < COUNT {
-        let x = first[k];
-        let y = second[k];
-        let coefficients = coefficients::added(d, x, y);
-        let value = Element { coefficients };
+    for k in 0..COUNT {
+        let value = Element {
+            coefficients: coefficients::added(d, first[k], second[k]),
+        };
         value.store(d, out, k);
-        k += 1;
     }
 }
 
@@ -38,14 +35,9 @@ pub fn add_products(
     ensures { result ≡ tab 5 (λ k. array d (plus_product d sums row (lift d y) k)) }
 {
     let mut out = [[0i32; 64]; 5];
-    let mut k = 0;
-    while k < COUNT {
-        let sum = sums[k];
-        let entry = row[k];
-        let product = product::multiply(d, entry, y);
-        let more = coefficients::added(d, sum, product);
-        out[k] = more;
-        k += 1;
+    for k in 0..COUNT {
+        let product = product::multiply(d, row[k], y);
+        out[k] = coefficients::added(d, sums[k], product);
     }
     out
 }
@@ -55,15 +47,10 @@ fn is_zero(d: usize, row: [[i32; 64]; 5]) -> bool
     requires { Degree d }
     ensures { result ≡ every 5 (λ k. same d (lift d (get_or row k [])) (R d).zero) }
 {
-    let identity = Element::additive_identity();
-    let zero = identity.coefficients;
+    let zero = Element::additive_identity().coefficients;
     let mut all = true;
-    let mut k = 0;
-    while k < COUNT {
-        let entry = row[k];
-        let same = coefficients::equal(d, entry, zero);
-        all = all & same;
-        k += 1;
+    for entry in row {
+        all &= coefficients::equal(d, entry, zero);
     }
     all
 }
@@ -86,8 +73,6 @@ pub fn add_pair(
     if is_zero(d, row) {
         return sums;
     }
-    let left = i * n;
-    let right = j * n;
-    let inner = product::inner(d, n, witness, left, witness, right);
+    let inner = product::inner(d, n, witness, i * n, witness, j * n);
     add_products(d, sums, row, inner)
 }

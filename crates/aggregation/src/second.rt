@@ -27,27 +27,18 @@ fn add_part_pairs(
     witness: &[i32],
     i: usize,
     at: usize,
-    before: [[i32; 64]; 5],
+    mut sums: [[i32; 64]; 5],
 ) -> [[i32; 64]; 5]
     requires pair_facts { PairFacts shape.d shape.n shape.r l constant_terms.now psi.now witness.now }
     requires i_lt_r { (i < shape.r) × (at ≡ pair shape.r i i) }
-    requires sums { Sums shape.d (pair_summand shape.d shape.n shape.r l constant_terms.now psi.now witness.now) at before }
+    requires sums { Sums shape.d (pair_summand shape.d shape.n shape.r l constant_terms.now psi.now witness.now) at sums }
     ensures { Sums shape.d (pair_summand shape.d shape.n shape.r l constant_terms.now psi.now
         witness.now) (at + (shape.r - i)) result }
 {
-    let d = shape.d;
-    let rank = shape.n;
-    let parts = shape.r;
-    let count = parts - i;
-    let mut sums = before;
-    let mut k = 0;
-    while k < count {
-        let place = at + k;
-        let j = i + k;
-        let row = second_row_a(shape, l, constant_terms, psi, place);
-        let more = rows::add_pair(d, rank, witness, i, j, sums, row);
+    for k in 0..shape.r - i {
+        let row = second_row_a(shape, l, constant_terms, psi, at + k);
+        let more = rows::add_pair(shape.d, shape.n, witness, i, i + k, sums, row);
         sums = more;
-        k += 1;
     }
     sums
 }
@@ -64,15 +55,12 @@ fn weigh_pairs(
     ensures { Sums shape.d (pair_summand shape.d shape.n shape.r l constant_terms.now psi.now
         witness.now) (pairs shape.r) result }
 {
-    let parts = shape.r;
     let mut sums = [[0i32; 64]; 5];
     let mut at = 0;
-    let mut i = 0;
-    while i < parts {
+    for i in 0..shape.r {
         let more = add_part_pairs(shape, l, constant_terms, psi, witness, i, at, sums);
         sums = more;
-        at += parts - i;
-        i += 1;
+        at += shape.r - i;
     }
     sums
 }
@@ -94,20 +82,13 @@ fn weigh_witness(
     ensures { Sums shape.d (witness_summand shape.d shape.n shape.r l w constant_terms.now projections.now
         psi.now omega.now witness.now) (shape.r * shape.n) result }
 {
-    let d = shape.d;
-    let parts = shape.r;
-    let rank = shape.n;
-    let count = parts * rank;
     let mut sums = [[0i32; 64]; 5];
-    let mut e = 0;
-    while e < count {
+    for e in 0..shape.r * shape.n {
         let projected = projection_row(shape, w, projections, omega, omega_sums, e);
         let row = second_row_phi(shape, l, constant_terms, psi, projected, e);
-        let element = Element::from_slice(d, witness, e);
-        let y = element.coefficients;
-        let more = rows::add_products(d, sums, row, y);
+        let element = Element::from_slice(shape.d, witness, e);
+        let more = rows::add_products(shape.d, sums, row, element.coefficients);
         sums = more;
-        e += 1;
     }
     sums
 }
@@ -129,7 +110,6 @@ pub fn write_second_b(
 {
     let mut omega_sums = [0i64; OMEGA_SUMS];
     row_groups::write_omega_sums(w, omega, &mut omega_sums);
-    let d = shape.d;
     let quadratic = weigh_pairs(shape, l, constant_terms, psi, witness);
     let linear = weigh_witness(
         shape,
@@ -142,5 +122,5 @@ pub fn write_second_b(
         &omega_sums,
         witness,
     );
-    rows::write_sums(d, quadratic, linear, second_b);
+    rows::write_sums(shape.d, quadratic, linear, second_b);
 }

@@ -1,5 +1,5 @@
 // Checks 5 and 6: the amortized opening z, of tz digits, against t and g.
-ghost use Rattle.std.specs.Prelude.{◌≡◌, ◌+◌, ◌*◌, ◌<◌, ◌≤◌, length};
+ghost use Rattle.std.specs.Prelude.{◌≡◌, ◌+◌, ◌-◌, ◌*◌, ◌<◌, ◌≤◌, length};
 ghost use Rattle.algebra.specs.Sum.{sum};
 ghost use Rattle.algebra.specs.Triangle.{pair};
 ghost use Rattle.algebra.specs.DotProduct.{mixed};
@@ -9,8 +9,9 @@ ghost use Rattle.fold.specs.Opening.{block, garbage_of};
 ghost use Rattle.fold.specs.Verdict.{check₅, check₆};
 ghost use Rattle.fold.specs.Known.WorkFacts.{FoldedFacts, AmortizedFacts};
 ghost use Rattle.checks.specs.Known.Facts.{Holds, t_value, g_value};
-ghost use Rattle.checks.specs.Mixed.{Garbage, mixed_at, mixed_row};
+ghost use Rattle.checks.specs.Mixed.{Garbage, mixed_summand, mixed_row};
 
+use crate::indices::{every, sum_of};
 use crate::{outer, recomposed};
 use fold::{Sizes, places};
 use ring::element::Element;
@@ -34,8 +35,7 @@ fn folded_summand(
     let d = sizes.shape.d;
     let start = places::t_place(tz, sizes);
     let t = recomposed::t_of(d, sizes.kappa, sizes.b1, sizes.t1, opening, start, i, k);
-    let challenge = Element::from_slice(d, c, i);
-    challenge.product(d, t)
+    Element::from_slice(d, c, i).product(d, t)
 }
 
 // Row k of Σ c_i t_i.
@@ -46,16 +46,11 @@ fn folded_row(tz: usize, sizes: Sizes, c: &[i32], opening: &[i32], k: usize) -> 
     ensures { result.coefficients ≡ array sizes.shape.d (sum (R sizes.shape.d) sizes.shape.r
         (λ i. (R sizes.shape.d).mul (el sizes.shape.d c.now i) (t_value tz sizes opening.now i k))) }
 {
-    let d = sizes.shape.d;
-    let count = sizes.shape.r;
-    let mut acc = Element::additive_identity();
-    let mut i = 0;
-    while i < count {
-        let summand = folded_summand(tz, sizes, c, opening, i, k);
-        acc = acc.sum(d, summand);
-        i += 1;
-    }
-    acc
+    sum_of(
+        sizes.shape.d,
+        sizes.shape.r,
+        |i| folded_summand(tz, sizes, c, opening, i, k),
+    )
 }
 
 // Row k of A z is that of Σ c_i t_i.
@@ -76,10 +71,8 @@ fn amortized_row(
         (sum (R sizes.shape.d) sizes.shape.r (λ i. (R sizes.shape.d).mul (el sizes.shape.d c.now i)
         (t_value tz sizes opening.now i k))) }
 {
-    let d = sizes.shape.d;
-    let left = outer::row_times(d, sizes.shape.n, a_matrix, k, z, 0);
-    let right = folded_row(tz, sizes, c, opening, k);
-    left.equals(d, right)
+    let left = outer::row_times(sizes.shape.d, sizes.shape.n, a_matrix, k, z, 0);
+    left.equals(sizes.shape.d, folded_row(tz, sizes, c, opening, k))
 }
 
 // Check 5: every row of A z, with z read from the start of a slice.
@@ -97,27 +90,35 @@ pub fn amortized(
     ensures { result ≡ check₅ sizes.shape.d sizes.shape.n sizes.shape.r sizes.kappa a_matrix.now c.now
         (el sizes.shape.d z.now) (t_value tz sizes opening.now) }
 {
-    let rows = sizes.kappa;
-    let mut all = true;
-    let mut k = 0;
-    while k < rows {
-        let row = amortized_row(tz, sizes, a_matrix, c, z, opening, k);
-        all = all & row;
-        k += 1;
-    }
-    all
+    every(
+        sizes.kappa,
+        |k| amortized_row(tz, sizes, a_matrix, c, z, opening, k),
+    )
 }
 
-// Summand k of row i of the mixed sum: a garbage element times c_i c_j for j = i + k, doubled off the diagonal.
-fn mixed_summand(d: usize, garbage: Element, c: &[i32], i: usize, k: usize) -> Element
-    requires degree { Degree d }
-    requires d_in_bounds { (i + k) * d + d ≤ length c.now }
-    ensures { result.coefficients ≡ array d (mixed_at d c.now i k (lift d garbage.coefficients)) }
+// Summand k of row i of the mixed sum: the garbage element of (i, j) for j = i + k, times c_i c_j, doubled off the diagonal.
+// q is the number of the row's first pair.
+fn mixed_summand(
+    d: usize,
+    r: usize,
+    b: usize,
+    t: usize,
+    opening: &[i32],
+    place: usize,
+    c: &[i32],
+    i: usize,
+    q: usize,
+    k: usize,
+) -> Element
+    requires garbage { Garbage d r b t place opening.now }
+    requires holds { Holds d r c.now }
+    requires k_bound { (k < r - i) × (q ≡ pair r i i) }
+    ensures { result.coefficients ≡ array d (mixed_summand d r b t place c.now opening.now i k) }
 {
+    let garbage = recomposed::garbage_of(d, b, t, opening, place, q + k);
     let left = Element::from_slice(d, c, i);
     let right = Element::from_slice(d, c, i + k);
-    let challenges = left.product(d, right);
-    let once = garbage.product(d, challenges);
+    let once = garbage.product(d, left.product(d, right));
     if k == 0 {
         return once;
     }
@@ -141,16 +142,11 @@ fn mixed_row(
     requires i_lt_r { (i < r) × (q ≡ pair r i i) }
     ensures { result.coefficients ≡ array d (mixed_row d r b t place c.now opening.now i) }
 {
-    let width = r - i;
-    let mut acc = Element::additive_identity();
-    let mut k = 0;
-    while k < width {
-        let garbage = recomposed::garbage_of(d, b, t, opening, place, q + k);
-        let summand = mixed_summand(d, garbage, c, i, k);
-        acc = acc.sum(d, summand);
-        k += 1;
-    }
-    acc
+    sum_of(
+        d,
+        r - i,
+        |k| mixed_summand(d, r, b, t, opening, place, c, i, q, k),
+    )
 }
 
 // Σ w_ii c_i² + 2 Σ_{i<j} w_ij c_i c_j, where w is g or h, its digits from element `place` of the opening on.
@@ -170,12 +166,9 @@ pub fn mixed_sum(
 {
     let mut acc = Element::additive_identity();
     let mut q = 0;
-    let mut i = 0;
-    while i < r {
-        let row = mixed_row(d, r, b, t, opening, place, c, i, q);
-        acc = acc.sum(d, row);
+    for i in 0..r {
+        acc = acc.sum(d, mixed_row(d, r, b, t, opening, place, c, i, q));
         q += r - i;
-        i += 1;
     }
     acc
 }

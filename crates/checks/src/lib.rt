@@ -2,6 +2,7 @@
 #![tactic(auto)]
 
 pub mod amortized;
+mod indices;
 pub mod linear;
 pub mod norms;
 pub mod outer;

@@ -30,8 +30,7 @@ fn linear_summand(shape: Shape, phi: &[i32], z: &[i32], c: &[i32], i: usize) -> 
     let product = Element {
         coefficients: inner(d, shape.n, phi, 0, z, 0),
     };
-    let challenge = Element::from_slice(d, c, i);
-    product.product(d, challenge)
+    product.product(d, Element::from_slice(d, c, i))
 }
 
 // Σ <φ_i, z> c_i, with z read from the start of a slice.
@@ -59,12 +58,9 @@ pub fn linear_sum(
     let mut omega_sums = [0i64; OMEGA_SUMS];
     row_groups::write_omega_sums(sizes.w, omega, &mut omega_sums);
     let shape = sizes.shape;
-    let d = shape.d;
-    let parts = shape.r;
     let mut phi = [0i32; PART_ROOM];
     let mut acc = Element::additive_identity();
-    let mut i = 0;
-    while i < parts {
+    for i in 0..shape.r {
         write_phi_part(
             sizes,
             whole,
@@ -78,9 +74,7 @@ pub fn linear_sum(
             i,
             &mut phi,
         );
-        let summand = linear_summand(shape, &phi, z, c, i);
-        acc = acc.sum(d, summand);
-        i += 1;
+        acc = acc.sum(shape.d, linear_summand(shape, &phi, z, c, i));
     }
     acc
 }

@@ -7,6 +7,7 @@ ghost use Rattle.fold.specs.Verdict.{check₃, check₄};
 ghost use Rattle.fold.specs.Known.WorkFacts.{FirstOuterFacts, SecondOuterFacts};
 ghost use Rattle.checks.specs.Known.Facts.{t_block_of, g_block_of, h_block_of};
 
+use crate::indices::every;
 use fold::counts::{garbage_size, t_size};
 use fold::{Sizes, places};
 use ring::element::Element;
@@ -19,9 +20,8 @@ pub fn row_times(d: usize, m: usize, matrix: &[i32], k: usize, xs: &[i32], place
     requires d_in_bounds { ((k * m + m) * d ≤ length matrix.now) × ((place + m) * d ≤ length xs.now) }
     ensures { result.coefficients ≡ array d (times d m matrix.now k (block d xs.now place)) }
 {
-    let row = k * m;
     Element {
-        coefficients: product::inner(d, m, matrix, row, xs, place),
+        coefficients: product::inner(d, m, matrix, k * m, xs, place),
     }
 }
 
@@ -49,9 +49,7 @@ fn first_row(
     let g_count = garbage_size(sizes.shape.r, sizes.t2);
     let g_start = places::g_place(tz, sizes);
     let g_part = row_times(d, g_count, c_matrix, k, opening, g_start);
-    let row = t_part.sum(d, g_part);
-    let u = Element::from_slice(d, u1, k);
-    u.equals(d, row)
+    Element::from_slice(d, u1, k).equals(d, t_part.sum(d, g_part))
 }
 
 // Check 3: every row of u1.
@@ -68,15 +66,10 @@ pub fn first_outer(
     ensures { result ≡ check₃ sizes.shape.d sizes.shape.r sizes.kappa sizes.kappa1 sizes.t1 sizes.t2 b_matrix.now
         c_matrix.now u1.now (t_block_of tz sizes opening.now) (g_block_of tz sizes opening.now) }
 {
-    let rows = sizes.kappa1;
-    let mut all = true;
-    let mut k = 0;
-    while k < rows {
-        let row = first_row(tz, sizes, b_matrix, c_matrix, u1, opening, k);
-        all = all & row;
-        k += 1;
-    }
-    all
+    every(
+        sizes.kappa1,
+        |k| first_row(tz, sizes, b_matrix, c_matrix, u1, opening, k),
+    )
 }
 
 // Row k of u2 is D·(h digits).
@@ -98,8 +91,7 @@ fn second_row(
     let count = garbage_size(sizes.shape.r, sizes.t1);
     let start = places::h_place(tz, sizes);
     let row = row_times(d, count, d_matrix, k, opening, start);
-    let u = Element::from_slice(d, u2, k);
-    u.equals(d, row)
+    Element::from_slice(d, u2, k).equals(d, row)
 }
 
 // Check 4: every row of u2.
@@ -109,13 +101,8 @@ pub fn second_outer(tz: usize, sizes: Sizes, d_matrix: &[i32], u2: &[i32], openi
     ensures { result ≡ check₄ sizes.shape.d sizes.shape.r sizes.kappa2 sizes.t1 d_matrix.now u2.now
         (h_block_of tz sizes opening.now) }
 {
-    let rows = sizes.kappa2;
-    let mut all = true;
-    let mut k = 0;
-    while k < rows {
-        let row = second_row(tz, sizes, d_matrix, u2, opening, k);
-        all = all & row;
-        k += 1;
-    }
-    all
+    every(
+        sizes.kappa2,
+        |k| second_row(tz, sizes, d_matrix, u2, opening, k),
+    )
 }

@@ -50,10 +50,7 @@ pub fn write_z(tz: usize, d: usize, n: usize, b: usize, opening: &[i32], z: &mut
     requires d_in_bounds { (tz * n * d ≤ length opening.now) × (n * d ≤ length z.old) }
     ensures { z.new ≡ over z.old 0 (elements d n (z_of d n tz b (el d opening.now))) }
 {
-    let mut k = 0;
-    while k < n {
-        let element = Element::recompose(d, b, tz, opening, k, n);
-        element.store(d, z, k);
-        k += 1;
+    for k in 0..n {
+        Element::recompose(d, b, tz, opening, k, n).store(d, z, k);
     }
 }

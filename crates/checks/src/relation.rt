@@ -11,6 +11,7 @@ ghost use Rattle.checks.specs.Known.Facts.{Holds, g_value, h_value};
 ghost use Rattle.checks.specs.Mixed.{Garbage};
 ghost use Rattle.checks.specs.Relation.{relation_summand};
 
+use crate::indices::sum_of;
 use crate::recomposed;
 use constraints::aggregated;
 use fold::counts::pair_count;
@@ -77,12 +78,8 @@ fn relation_sum(
         (relation_summand sizes whole.now constant_terms.now psi.now alpha.now
         delta.now opening.now place)) }
 {
-    let d = sizes.shape.d;
-    let count = pair_count(sizes.shape.r);
-    let mut acc = Element::additive_identity();
-    let mut q = 0;
-    while q < count {
-        let product = relation_summand(
+    sum_of(sizes.shape.d, pair_count(sizes.shape.r), |q| {
+        relation_summand(
             sizes,
             whole,
             constant_terms,
@@ -92,11 +89,8 @@ fn relation_sum(
             opening,
             place,
             q,
-        );
-        acc = acc.sum(d, product);
-        q += 1;
-    }
-    acc
+        )
+    })
 }
 
 // Σ h_ii, the digits of h from element `place` of the opening on.
@@ -106,12 +100,9 @@ fn diagonal_sum(d: usize, r: usize, b: usize, t: usize, opening: &[i32], place: 
 {
     let mut acc = Element::additive_identity();
     let mut q = 0;
-    let mut i = 0;
-    while i < r {
-        let h = recomposed::garbage_of(d, b, t, opening, place, q);
-        acc = acc.sum(d, h);
+    for i in 0..r {
+        acc = acc.sum(d, recomposed::garbage_of(d, b, t, opening, place, q));
         q += r - i;
-        i += 1;
     }
     acc
 }

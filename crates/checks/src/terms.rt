@@ -6,6 +6,7 @@ ghost use Rattle.fold.specs.Verdict.{check₂};
 ghost use Rattle.fold.specs.Known.WorkFacts.{ConstantTermFacts};
 ghost use Rattle.checks.specs.ConstantTerms.{weighted, term_holds};
 
+use crate::indices::every;
 use fold::ConstraintSizes;
 use fold::counts::function_size;
 use residues::modulus;
@@ -23,14 +24,10 @@ fn weighted_sum(
     requires { (at + count ≤ length weights.now) × (first + count * step < length xs.now + step) }
     ensures { result ≡ cent (sum Zq count (weighted weights.now at xs.now first step)) }
 {
-    let mut acc: i32 = 0;
-    let mut l = 0;
-    while l < count {
-        let x = weights[at + l];
-        let y = xs[first + l * step];
-        let product = modulus::multiply(x, y);
+    let mut acc = 0;
+    for l in 0..count {
+        let product = modulus::multiply(weights[at + l], xs[first + l * step]);
         acc = modulus::add(acc, product);
-        l += 1;
     }
     acc
 }
@@ -45,7 +42,8 @@ fn constant_term_holds(
     second_b: &[i32],
     k: usize,
 ) -> bool
-    requires constant_term_facts { ConstantTermFacts sizes.shape.d sizes.shape.n sizes.shape.r sizes.l sizes.w constant_terms.now psi.now omega.now p.now second_b.now }
+    requires constant_term_facts { ConstantTermFacts sizes.shape.d sizes.shape.n sizes.shape.r sizes.l sizes.w
+        constant_terms.now psi.now omega.now p.now second_b.now }
     requires k_bound { k < 5 }
     ensures { result ≡ term_holds sizes.shape.d sizes.shape.n sizes.shape.r sizes.l sizes.w constant_terms.now psi.now
         omega.now p.now second_b.now k }
@@ -55,8 +53,7 @@ fn constant_term_holds(
     let terms = weighted_sum(sizes.l, psi, k * sizes.l, constant_terms, last, last + 1);
     let projected = weighted_sum(sizes.w, omega, k * sizes.w, p, 0, 1);
     let expected = modulus::add(terms, projected);
-    let element = Element::from_slice(d, second_b, k);
-    let given = element.constant_term();
+    let given = Element::from_slice(d, second_b, k).constant_term();
     modulus::residue(given) == modulus::residue(expected)
 }
 
@@ -73,12 +70,8 @@ pub fn constant_terms_hold(
     ensures { result ≡ check₂ sizes.shape.d sizes.shape.n sizes.shape.r sizes.l sizes.w constant_terms.now psi.now
         omega.now p.now second_b.now }
 {
-    let mut all = true;
-    let mut k = 0;
-    while k < 5 {
-        let holds = constant_term_holds(sizes, constant_terms, psi, omega, p, second_b, k);
-        all = all & holds;
-        k += 1;
-    }
-    all
+    every(
+        5,
+        |k| constant_term_holds(sizes, constant_terms, psi, omega, p, second_b, k),
+    )
 }

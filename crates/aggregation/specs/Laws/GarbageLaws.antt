@@ -1,6 +1,6 @@
 -- Laws of what Garbage.antt defines.
-use Rattle.std.specs.Prelude.{◌≡◌, refl, ℕ, ◌+◌, ◌*◌, ◌<◌, ◌≤◌, ℤ, pos}
-use Rattle.std.proofs.Common.{sym, ap₂, ◌∙◌, mul-le-mul, zero-mul}
+use Rattle.std.specs.Prelude.{◌≡◌, ℕ, ◌+◌, ◌*◌, ◌<◌, ◌≤◌, ℤ, pos}
+use Rattle.std.proofs.Common.{ap₂, ◌∙◌, mul-le-mul, zero-mul}
 use Rattle.std.proofs.Math.Path.{ap}
 use mathlib.Core.List.{List}
 use Rattle.std.proofs.Math.Nat.{zero-add}

@@ -12,7 +12,6 @@ use Rattle.fold.specs.Known.Facts.{Shaped}
 use Rattle.fold.specs.Sizes.{pairs}
 use Rattle.fold.specs.Statement.{part}
 use Rattle.fold.specs.Messages.{elements, g, second, b''}
-use Rattle.fold.specs.Sizes.{five}
 use Rattle.fold.specs.Entries.{second_a, secondΦ}
 use Rattle.fold.proofs.Laws.EntryLaws.{second-value, el_inners}
 use Rattle.constraints.specs.Laws.Rows.{row-entry}

@@ -1,34 +1,22 @@
 -- `aggregation::garbage::write_rows` meets its contract. The loop's invariant: the first k rows are written.
-use mathlib.Core.Path.{sym}
-use native.Mathlib.Nat.{zero-add}
-use native.Mathlib.Omega.{arith}
+use Rattle.std.proofs.Common.{sym, zero-add, arith}
 use Rattle.fold.specs.Messages.{elements}
-use Rattle.ring.specs.Laws.Writers.{elements_start₀, elements-fit, elements-turn, elements-all}
+use Rattle.ring.specs.Laws.Writers.{elements_start₀, elements-turn, elements-all}
 use Rattle.aggregation.specs.Laws.GarbageLaws.{row-end}
-use Rattle.ring.specs.Laws.ElementPlaces.{row_fits, row_below}
+use Rattle.ring.specs.Laws.ElementPlaces.{row_below}
 use Rattle.aggregation.proofs.garbage.write_rows.Goals as goal
 
 pub loop-k-init : goal.loop-k-init
 loop-k-init c = elements_start₀ (omega (arith, c.requires.m_bound.3))
 
-pub overflow_mul-row : goal.overflow_mul-row
-overflow_mul-row c = omega (arith, row_below c.args.d c.args.m c.requires.degree.positive c.loop-k-test.true c.requires.m_bound.1)
-
-pub inner-requires : goal.inner-requires
-inner-requires c =
-    record { degree = c.requires.degree; n_bound = (c.requires.m_bound.0, row_fits c.args.d c.args.m c.loop-k-test.true c.requires.m_bound.1, rw (zero-add c.args.m) c.requires.m_bound.2) }
-
-pub store-requires : goal.store-requires
-store-requires c = record { degree = c.requires.degree; d_in_bounds = elements-fit c.loop-k.invariant (sym (zero-add _)) c.loop-k-test.true }
+pub overflow_mul-k : goal.overflow_mul-k
+overflow_mul-k c = omega (arith, row_below c.args.d c.args.m c.requires.degree.positive c.loop-k-test.true c.requires.m_bound.1)
 
 pub loop-k-preserved : goal.loop-k-preserved
 loop-k-preserved c =
     let a = c.args in
     elements-turn c.loop-k.invariant c.requires.degree (sym (zero-add _)) c.loop-k-test.true
     (row-end a.d a.m a.matrix.now a.x.now c.loop-k.k c.inner.ensures) c.store.ensures
-
-pub shape_of-out : goal.shape_of-out
-shape_of-out c = c.loop-k.invariant.same
 
 pub returns : goal.returns
 unfolding elements

@@ -1,5 +1,5 @@
 -- `aggregation::garbage::write_u2` meets its contract.
-use native.Mathlib.Omega.{arith}
+use Rattle.std.proofs.Common.{arith}
 use Rattle.fold.specs.Laws.SizeBounds.{garbage_size-bound}
 use Rattle.aggregation.specs.Laws.GarbageLaws.{outer-end}
 use Rattle.aggregation.proofs.garbage.write_u2.Goals as goal

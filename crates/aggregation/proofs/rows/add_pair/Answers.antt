@@ -1,39 +1,16 @@
 -- `aggregation::rows::add_pair` meets its contract: where the row is zero the sums are what they were.
-use mathlib.Core.Path.{sym, ◌∙◌}
-use Prim.Native.Nat.{◌+◌, ◌*◌}
-use native.Mathlib.Omega.{arith}
+use Rattle.std.proofs.Common.{sym, ◌∙◌}
 use Rattle.algebra.specs.DotProduct.{inner}
 use Rattle.fold.specs.Statement.{part}
 use Rattle.fold.specs.Messages.{g}
-use Rattle.ring.specs.Laws.ElementPlaces.{place-below}
 use Rattle.aggregation.specs.Laws.RowLaws.{zero_row, by_element}
 use Rattle.aggregation.proofs.rows.add_pair.Goals as goal
-
-pub is_zero-requires : goal.is_zero-requires
-is_zero-requires c = c.requires.degree
 
 pub returns-then-is_zero : goal.returns-then-is_zero
 returns-then-is_zero c =
     let a = c.args in
     let y = g a.d a.n a.witness.now a.i a.j in
     zero_row a.d a.sums a.row y c.requires.canonical (sym c.is_zero.ensures ∙ c.if-is_zero.true)
-
-pub overflow_mul-left : goal.overflow_mul-left
-overflow_mul-left c =
-    let a = c.args in
-    omega (arith, place-below a.d (a.i * a.n + a.n) c.requires.degree.positive c.requires.n_le_most_rank.1)
-
-pub overflow_mul-right : goal.overflow_mul-right
-overflow_mul-right c =
-    let a = c.args in
-    omega (arith, place-below a.d (a.j * a.n + a.n) c.requires.degree.positive c.requires.n_le_most_rank.2)
-
-pub inner-inner-requires : goal.inner-inner-requires
-inner-inner-requires c =
-    record { degree = c.requires.degree; n_bound = (omega (arith, c.requires.n_le_most_rank.0), c.requires.n_le_most_rank.1, c.requires.n_le_most_rank.2) }
-
-pub add_products-requires : goal.add_products-requires
-add_products-requires c = c.requires.degree
 
 pub returns : goal.returns
 unfolding g inner part

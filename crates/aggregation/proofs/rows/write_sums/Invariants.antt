@@ -1,10 +1,6 @@
-use Prim.Native.Nat.{◌-◌}
 use Rattle.ring.specs.Laws.Writers.{Elements}
 use Rattle.aggregation.specs.Rows.{added}
 use Rattle.aggregation.proofs.rows.write_sums.Given as goal
 
 abbrev pub invariant-loop-k : goal.invariant-loop-k
 invariant-loop-k l = Elements l.d 0 5 (added l.d l.first l.second) l.initial.out l.k l.out
-
-abbrev pub decreases-loop-k : goal.decreases-loop-k
-decreases-loop-k l = 5 - l.k

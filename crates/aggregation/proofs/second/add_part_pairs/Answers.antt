@@ -1,34 +1,32 @@
 -- `aggregation::second::add_part_pairs` meets its contract. The loop has added the first k pairs of part i.
-use mathlib.Core.Path.{◌≡◌}
-use Prim.Native.Nat.{◌+◌, ◌*◌, ◌<◌, ◌≤◌}
-use native.Mathlib.Omega.{arith}
-use lib.ListN.{length}
+use Rattle.std.proofs.Common.{◌≡◌, ◌+◌, ◌*◌, ◌≤◌, arith, length}
 use Rattle.fold.specs.Laws.SizeBounds.{pairs-bound}
 use Rattle.ring.specs.Laws.ElementPlaces.{row_fits}
 use Rattle.aggregation.specs.Laws.RowLaws.{canonical}
 use Rattle.aggregation.specs.Laws.ValueLaws.{pair-below, pairs-step}
-use Rattle.fold.specs.Sizes.{pairs}
 use Rattle.ring.specs.Laws.Loops.{counted_start, counted_step, counted-end}
 use Rattle.aggregation.proofs.second.add_part_pairs.Goals as goal
 
 pub loop-k-init : goal.loop-k-init
 loop-k-init c = let same : c.args.at ≡ c.args.at + 0 = omega arith in counted_start (rw (← same) c.requires.sums)
 
-pub overflow_add-place : goal.overflow_add-place
-overflow_add-place c =
-    let below : c.args.at + c.loop-k.k < pairs c.args.shape.r = pair-below c.args.shape.r c.args.i c.loop-k.k c.requires.i_lt_r.1 c.loop-k-test.true in
+pub overflow_add-at : goal.overflow_add-at
+overflow_add-at c =
+    let below = pair-below c.args.shape.r c.args.i c.loop-k.k c.requires.i_lt_r.1 c.loop-k-test.true in
     omega (arith, below, pairs-bound _ c.requires.pair_facts.terms.shaped.parts-small)
 
-pub second_row_a-row-requires : goal.second_row_a-row-requires
-second_row_a-row-requires c =
-    let below : c.args.at + c.loop-k.k < pairs c.args.shape.r = pair-below c.args.shape.r c.args.i c.loop-k.k c.requires.i_lt_r.1 c.loop-k-test.true in record { term_facts = c.requires.pair_facts.terms; e_bound = below }
+pub second_row_a-row-requires-clause-e_bound : goal.second_row_a-row-requires-clause-e_bound
+second_row_a-row-requires-clause-e_bound c = pair-below c.args.shape.r c.args.i c.loop-k.k c.requires.i_lt_r.1 c.loop-k-test.true
 
-pub add_pair-more-requires : goal.add_pair-more-requires
-add_pair-more-requires c =
+pub add_pair-more-requires-clause-n_le_most_rank : goal.add_pair-more-requires-clause-n_le_most_rank
+add_pair-more-requires-clause-n_le_most_rank c =
     let z = c.args.shape in
-    let shaped = c.requires.pair_facts.terms.shaped in
     let fits : z.r * z.n * z.d ≤ length c.args.witness.now = omega (arith, c.requires.pair_facts.s-length) in
-    let next = row_fits z.d z.n {i = c.args.i + c.loop-k.k} (omega (arith, c.loop-k-test.true)) fits in record { degree = shaped.degree; n_le_most_rank = (shaped.rank-small, row_fits z.d z.n {i = c.args.i} c.requires.i_lt_r.0 fits, next); canonical = canonical _ shaped.degree.small c.loop-k.invariant.held.held }
+    let next = row_fits z.d z.n {i = c.args.i + c.loop-k.k} (omega (arith, c.loop-k-test.true)) fits in
+    (c.requires.pair_facts.terms.shaped.rank-small, row_fits z.d z.n {i = c.args.i} c.requires.i_lt_r.0 fits, next)
+
+pub add_pair-more-requires-clause-canonical : goal.add_pair-more-requires-clause-canonical
+add_pair-more-requires-clause-canonical c = canonical _ c.requires.pair_facts.terms.shaped.degree.small c.loop-k.invariant.held.held
 
 pub loop-k-preserved : goal.loop-k-preserved
 loop-k-preserved c =

@@ -1,6 +1,5 @@
 -- `checks::amortized::mixed_sum` meets its contract. The accumulator holds the rows so far, and q is the number of the next row's first pair.
-use mathlib.Core.Path.{ap, ◌∙◌}
-use native.Mathlib.Omega.{arith}
+use Rattle.std.proofs.Common.{ap, ◌∙◌, arith}
 use Rattle.ring.specs.Element.{array}
 use Rattle.checks.specs.Laws.MixedLaws.{mixed-all, pair-first, pair-next-row, pair_small}
 use Rattle.ring.specs.Laws.Loops.{summed_start, summed_step, summed_end}
@@ -8,12 +7,6 @@ use Rattle.checks.proofs.amortized.mixed_sum.Goals as goal
 
 pub loop-i-init : goal.loop-i-init
 loop-i-init c = (summed_start (c.additive_identity-acc.ensures _), pair-first _)
-
-pub mixed_row-row-requires : goal.mixed_row-row-requires
-mixed_row-row-requires c = record { garbage = c.requires.garbage; holds = c.requires.holds; i_lt_r = (c.loop-i-test.true, c.loop-i.invariant.1) }
-
-pub sum-acc-requires : goal.sum-acc-requires
-sum-acc-requires c = c.requires.garbage.degree
 
 pub overflow_add-q : goal.overflow_add-q
 overflow_add-q c =
@@ -23,7 +16,7 @@ overflow_add-q c =
 pub loop-i-preserved : goal.loop-i-preserved
 loop-i-preserved c = (
   summed_step c.loop-i.invariant.0 c.requires.garbage.degree c.loop-i-test.true
-      c.mixed_row-row.ensures c.sum-acc.ensures,
+      c.mixed_row.ensures c.sum-acc.ensures,
   pair-next-row c.args.r c.loop-i.i c.loop-i.q c.loop-i-test.true c.loop-i.invariant.1,
 )
 

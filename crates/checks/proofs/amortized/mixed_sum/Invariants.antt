@@ -1,5 +1,4 @@
-use mathlib.Core.Path.{◌≡◌}
-use Prim.Native.Nat.{◌-◌}
+use Rattle.std.proofs.Common.{◌≡◌}
 use Rattle.algebra.specs.Triangle.{pair}
 use Rattle.checks.specs.Mixed.{mixed_row}
 use Rattle.ring.specs.Laws.Loops.{Summed}
@@ -7,6 +6,3 @@ use Rattle.checks.proofs.amortized.mixed_sum.Given as goal
 
 abbrev pub invariant-loop-i : goal.invariant-loop-i
 invariant-loop-i l = Summed l.d l.r (mixed_row l.d l.r l.b l.t l.place l.c l.opening) l.i l.acc.coefficients × (l.q ≡ pair l.r l.i l.i)
-
-abbrev pub decreases-loop-i : goal.decreases-loop-i
-decreases-loop-i l = l.r - l.i

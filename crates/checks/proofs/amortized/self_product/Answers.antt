@@ -1,6 +1,5 @@
 -- `checks::amortized::self_product` meets its contract.
-use mathlib.Core.Path.{ap, ◌∙◌}
-use Prim.Native.Nat.{ℕ}
+use Rattle.std.proofs.Common.{ap, ◌∙◌, ℕ}
 use Rattle.algebra.specs.DotProduct.{mixed}
 use Rattle.ring.specs.Element.{R, el, array}
 use Rattle.fold.specs.Opening.{block, garbage_of}
@@ -8,9 +7,9 @@ use Rattle.checks.specs.Laws.MixedLaws.{g-garbage}
 use Rattle.checks.specs.Laws.Rows.{self_product}
 use Rattle.checks.proofs.amortized.self_product.Goals as goal
 
-pub mixed_sum-right-requires : goal.mixed_sum-right-requires
-mixed_sum-right-requires c =
-    record { garbage = g-garbage c.args.tz c.args.sizes c.requires.folded_facts.limits _ c.requires.folded_facts.o-length _ c.g_place-start.ensures; holds = c.requires.folded_facts.c-length }
+pub mixed_sum-right-requires-clause-garbage : goal.mixed_sum-right-requires-clause-garbage
+mixed_sum-right-requires-clause-garbage c =
+    let f = c.requires.folded_facts in g-garbage c.args.tz c.args.sizes f.limits _ f.o-length _ c.g_place-start.ensures
 
 pub returns : goal.returns
 returns c =

@@ -3,15 +3,9 @@ use Rattle.checks.specs.Laws.MixedLaws.{h-garbage}
 use Rattle.checks.specs.Laws.RelationLaws.{linear_holds}
 use Rattle.checks.proofs.linear.linear_holds.Goals as goal
 
-pub h_place-start-requires : goal.h_place-start-requires
-h_place-start-requires c = record { tz_bound = c.requires.tz_bound; verify_sized = c.requires.folded_facts.limits }
-
-pub mixed_sum-right-requires : goal.mixed_sum-right-requires
-mixed_sum-right-requires c =
-    record { garbage = h-garbage c.args.tz c.args.sizes c.requires.folded_facts.limits _ c.requires.folded_facts.o-length _ c.h_place-start.ensures; holds = c.requires.folded_facts.c-length }
-
-pub equals-requires : goal.equals-requires
-equals-requires c = c.requires.folded_facts.limits.shaped.degree
+pub mixed_sum-right-requires-clause-garbage : goal.mixed_sum-right-requires-clause-garbage
+mixed_sum-right-requires-clause-garbage c =
+    let f = c.requires.folded_facts in h-garbage c.args.tz c.args.sizes f.limits _ f.o-length _ c.h_place-start.ensures
 
 pub returns : goal.returns
 returns c =

@@ -1,8 +1,5 @@
 -- `checks::norms::opening_margin` meets its contract: the opening is cut where t and h start.
-use mathlib.Core.Path.{ap, ◌∙◌}
-use Prim.Native.Nat.{ℕ, ◌*◌, ◌≤◌}
-use native.Mathlib.Omega.{arith}
-use native.Mathlib.Nat.{mul-le-mul, mul-le-mul_right}
+use Rattle.std.proofs.Common.{ap, ◌∙◌, ℕ, ◌*◌, ◌≤◌, arith, mul-le-mul, mul-le-mul_right}
 use Rattle.residues.specs.Length.{remaining}
 use Rattle.fold.proofs.Laws.PlaceBounds.{t-place-bound, h-place-bound}
 use Rattle.checks.specs.Laws.SizeLaws.{h-within, t-before-h}
@@ -28,5 +25,6 @@ parts_margin-requires c = (
 pub returns : goal.returns
 returns c =
     c.parts_margin.ensures
-    ∙ ap (remaining c.args.sizes.target) (lengths_of_opening _ _ _ _ _ _ _ _ _ _ c.requires.opening (ap (λ (a : ℕ). a * c.args.sizes.shape.d) c.t_place.ensures)
+    ∙ ap (remaining c.args.sizes.target)
+    (lengths_of_opening _ _ _ _ _ _ _ _ _ _ c.requires.opening (ap (λ (a : ℕ). a * c.args.sizes.shape.d) c.t_place.ensures)
     (ap (λ (a : ℕ). a * c.args.sizes.shape.d) c.h_place.ensures))

@@ -1,13 +1,7 @@
 -- `checks::norms::parts_margin` meets its contract.
-use mathlib.Core.Path.{sym}
-use native.Mathlib.Omega.{arith}
-use lib.Seq.{length-take-le}
 use Rattle.checks.specs.Norms.{three_lengths}
 use Rattle.checks.specs.Laws.NormLaws.{three-lengths}
 use Rattle.checks.proofs.norms.parts_margin.Goals as goal
-
-pub slice_bounds-compare-end : goal.slice_bounds-compare-end
-slice_bounds-compare-end c = sym (length-take-le _ _ (omega arith))
 
 pub returns : goal.returns
 unfolding three_lengths

@@ -1,16 +1,8 @@
 -- `checks::outer::row_times` meets its contract.
-use mathlib.Core.Path.{ap, ◌∙◌}
-use Prim.Native.Nat.{◌+◌, ◌*◌}
-use native.Mathlib.Omega.{arith}
+use Rattle.std.proofs.Common.{ap, ◌∙◌}
 use Rattle.ring.specs.Element.{array}
-use Rattle.ring.specs.Laws.ElementPlaces.{place-below}
 use Rattle.checks.specs.Laws.PlaceLaws.{row-times}
 use Rattle.checks.proofs.outer.row_times.Goals as goal
-
-pub overflow_mul-row : goal.overflow_mul-row
-overflow_mul-row c =
-    let a = c.args in
-    omega (arith, place-below a.d (a.k * a.m + a.m) c.requires.degree.positive c.requires.d_in_bounds.0)
 
 pub returns : goal.returns
 returns c =

@@ -1,30 +1,19 @@
 -- `checks::recomposed::write_z` meets its contract. The first k elements are written.
-use mathlib.Core.Path.{sym, ap, ◌∙◌}
-use native.Mathlib.Nat.{zero-add}
+use Rattle.std.proofs.Common.{sym, ap, ◌∙◌, zero-add}
 use Rattle.ring.specs.Element.{array}
 use Rattle.fold.specs.Messages.{elements}
-use Rattle.ring.specs.Laws.Writers.{elements_start₀, elements-fit, elements-turn, elements_end₀}
-use Rattle.checks.specs.Laws.PlaceLaws.{z-recomposed, z-digit-fits}
+use Rattle.ring.specs.Laws.Writers.{elements_start₀, elements-turn, elements_end₀}
+use Rattle.checks.specs.Laws.PlaceLaws.{z-recomposed}
 use Rattle.checks.proofs.recomposed.write_z.Goals as goal
 
 pub loop-k-init : goal.loop-k-init
 loop-k-init c = elements_start₀ c.requires.d_in_bounds.1
 
-pub recompose-element-requires : goal.recompose-element-requires
-recompose-element-requires c =
-    record { degree = c.requires.degree; base = c.requires.base; t_nonzero = c.requires.tz_nonzero; d_in_bounds = z-digit-fits c.args.d c.args.n c.args.tz c.loop-k.k _ c.loop-k-test.true c.requires.tz_nonzero c.requires.d_in_bounds.0 }
-
-pub store-requires : goal.store-requires
-store-requires c = record { degree = c.requires.degree; d_in_bounds = elements-fit c.loop-k.invariant (sym (zero-add _)) c.loop-k-test.true }
-
 pub loop-k-preserved : goal.loop-k-preserved
 loop-k-preserved c =
     let a = c.args in
     elements-turn c.loop-k.invariant c.requires.degree (sym (zero-add _)) c.loop-k-test.true
-    (c.recompose-element.ensures ∙ ap (array a.d) (z-recomposed a.d a.n a.tz a.b _ c.loop-k.k)) c.store.ensures
-
-pub shape_of-z : goal.shape_of-z
-shape_of-z c = c.loop-k.invariant.same
+    (c.recompose.ensures ∙ ap (array a.d) (z-recomposed a.d a.n a.tz a.b _ c.loop-k.k)) c.store.ensures
 
 pub returns : goal.returns
 unfolding elements

@@ -1,7 +1,5 @@
 -- `checks::relation::diagonal_sum` meets its contract. The accumulator holds the summands so far, and q is the number of the next pair (i, i).
-use mathlib.Core.Path.{ap, ◌∙◌}
-use native.Mathlib.Omega.{arith}
-use native.Mathlib.Nat.{le_refl}
+use Rattle.std.proofs.Common.{ap, ◌∙◌, arith, le_refl}
 use Rattle.ring.specs.Element.{array}
 use Rattle.fold.specs.Opening.{block}
 use Rattle.checks.specs.Laws.PlaceLaws.{garbage-at}
@@ -12,15 +10,10 @@ use Rattle.checks.proofs.relation.diagonal_sum.Goals as goal
 pub loop-i-init : goal.loop-i-init
 loop-i-init c = (summed_start (c.additive_identity-acc.ensures _), pair-first _)
 
-pub garbage_of-h-requires : goal.garbage_of-h-requires
-garbage_of-h-requires c =
+pub garbage_of-requires-clause-d_in_bounds : goal.garbage_of-requires-clause-d_in_bounds
+garbage_of-requires-clause-d_in_bounds c =
     let a = c.args in
-    let g = c.requires in
-    let i = c.loop-i.i in
-    let fits = garbage-fits a.d a.r a.t a.place i i c.loop-i.q _ (le_refl _) c.loop-i-test.true c.loop-i.invariant.1 g.inside in record { degree = g.degree; base = g.base; t_nonzero = g.digits; d_in_bounds = fits }
-
-pub sum-acc-requires : goal.sum-acc-requires
-sum-acc-requires c = c.requires.degree
+    garbage-fits a.d a.r a.t a.place c.loop-i.i c.loop-i.i c.loop-i.q _ (le_refl _) c.loop-i-test.true c.loop-i.invariant.1 c.requires.inside
 
 pub overflow_add-q : goal.overflow_add-q
 overflow_add-q c =
@@ -33,7 +26,7 @@ loop-i-preserved c =
     let i = c.loop-i.i in
     let taken = c.loop-i-test.true in
     let place = garbage-at a.d a.r a.b a.t (block a.d a.opening.now a.place) i i c.loop-i.q c.loop-i.invariant.1 in
-    let value = c.garbage_of-h.ensures ∙ ap (array a.d) place in
+    let value = c.garbage_of.ensures ∙ ap (array a.d) place in
     (summed_step c.loop-i.invariant.0 c.requires.degree taken value c.sum-acc.ensures, pair-next-row a.r i c.loop-i.q taken c.loop-i.invariant.1)
 
 pub returns : goal.returns

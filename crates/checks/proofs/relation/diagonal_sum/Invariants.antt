@@ -1,5 +1,4 @@
-use mathlib.Core.Path.{◌≡◌}
-use Prim.Native.Nat.{◌-◌}
+use Rattle.std.proofs.Common.{◌≡◌}
 use Rattle.algebra.specs.Triangle.{pair}
 use Rattle.fold.specs.Opening.{block, garbage_of}
 use Rattle.ring.specs.Laws.Loops.{Summed}
@@ -8,6 +7,3 @@ use Rattle.checks.proofs.relation.diagonal_sum.Given as goal
 abbrev pub invariant-loop-i : goal.invariant-loop-i
 invariant-loop-i l = Summed l.d l.r (λ i. garbage_of l.d l.r l.b l.t (block l.d l.opening l.place) i i) l.i
     l.acc.coefficients × (l.q ≡ pair l.r l.i l.i)
-
-abbrev pub decreases-loop-i : goal.decreases-loop-i
-decreases-loop-i l = l.r - l.i

@@ -3,10 +3,10 @@ use Rattle.checks.specs.Laws.MixedLaws.{garbage-below}
 use Rattle.checks.specs.Laws.RelationLaws.{relation-summand}
 use Rattle.checks.proofs.relation.relation_summand.Goals as goal
 
-pub garbage_of-g-requires : goal.garbage_of-g-requires
-garbage_of-g-requires c =
+pub garbage_of-g-requires-clause-d_in_bounds : goal.garbage_of-g-requires-clause-d_in_bounds
+garbage_of-g-requires-clause-d_in_bounds c =
     let z = c.args.sizes in
-    let g = c.requires.garbage in record { degree = g.degree; base = g.base; t_nonzero = g.digits; d_in_bounds = garbage-below z.shape.d z.shape.r z.t2 c.args.place c.args.q _ c.requires.q_bound g.inside }
+    garbage-below z.shape.d z.shape.r z.t2 c.args.place c.args.q _ c.requires.q_bound c.requires.garbage.inside
 
 pub returns : goal.returns
 returns c =
