@@ -43,13 +43,10 @@ pub fn cut_of(sizes: Sizes, tz: usize, nu: usize, mu: usize) -> Cut
     let pairs = pair_count(parts);
     let size = function_size(rank, parts);
     let of_z = tz * sizes.shape.n;
-    let of_t = t_size(sizes.shape.r, sizes.kappa, sizes.t1);
-    let of_g = garbage_size(sizes.shape.r, sizes.t2);
-    let all = of_z + m;
-    let z = size - all;
+    let z = size - (of_z + m);
     let t = z + of_z;
-    let g = t + of_t;
-    let h = g + of_g;
+    let g = t + t_size(sizes.shape.r, sizes.kappa, sizes.t1);
+    let h = g + garbage_size(sizes.shape.r, sizes.t2);
     Cut {
         tz,
         nu,

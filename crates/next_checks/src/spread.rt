@@ -32,11 +32,9 @@ fn move_chunk(d: usize, rank: usize, from: usize, size: usize, out: &mut [i32], 
     requires at_le_from { (at ≤ from) × ((from + size) * d ≤ length out.old) × ((at + rank) * d ≤ length out.old) }
     ensures { out.new ≡ over out.old (at * d) (elements d rank (chunk_entry d out.old from size)) }
 {
-    let mut k = 0;
-    while k < rank {
+    for k in 0..rank {
         let element = chunk_entry(d, out, from, size, k);
         element.store(d, out, at + k);
-        k += 1;
     }
 }
 
@@ -48,17 +46,13 @@ fn spread(sizes: Sizes, cut: Cut, out: &mut [i32], at: usize)
     ensures { out.new ≡ over out.old ((at + cut.pairs) * sizes.shape.d)
         (flat cut.parts (λ s. elements sizes.shape.d cut.rank (spread_entry sizes cut out.old at s))) }
 {
-    let rank = cut.rank;
-    let parts = cut.parts;
     let mut start = at + cut.z;
     let mut place = at + cut.pairs;
-    let mut s = 0;
-    while s < parts {
+    for s in 0..cut.parts {
         let size = chunk_width(cut.tz, sizes.shape.n, cut.nu, cut.m, cut.mu, s);
-        move_chunk(sizes.shape.d, rank, start, size, out, place);
+        move_chunk(sizes.shape.d, cut.rank, start, size, out, place);
         start += size;
-        place += rank;
-        s += 1;
+        place += cut.rank;
     }
 }
 

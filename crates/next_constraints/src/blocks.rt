@@ -10,9 +10,11 @@ ghost use Rattle.ring.specs.Element.{R, Degree, el, array, number};
 ghost use Rattle.fold.specs.Sizes.{pairs, garbage_size};
 ghost use Rattle.fold.specs.Messages.{elements};
 ghost use Rattle.fold.specs.NextInstance.{z_table, t_table, garbage_table};
+ghost use Rattle.fold.specs.NextInstance as spec;
 ghost use Rattle.next_constraints.specs.Blocks.{numbers, digit_row};
 ghost use Rattle.fold.specs.Limits.{most_parts, most_digits};
 
+use crate::elements::{write_blocks, write_each};
 use fold::counts::pair_count;
 use residues::digits;
 use ring::element::Element;
@@ -22,13 +24,11 @@ pub fn power(base: usize, e: usize) -> i32
     requires { Base base }
     ensures { result ≡ centred (pos (base ^ e)) }
 {
-    let mut acc: i32 = 1;
-    let mut i = 0;
-    while i < e {
-        acc = digits::fold_digit(acc, base, 0);
-        i += 1;
+    let mut power = 1;
+    for _ in 0..e {
+        power = digits::fold_digit(power, base, 0);
     }
-    acc
+    power
 }
 
 pub fn write_zeros(d: usize, count: usize, out: &mut [i32], at: usize)
@@ -36,12 +36,16 @@ pub fn write_zeros(d: usize, count: usize, out: &mut [i32], at: usize)
     requires d_in_bounds { (at + count) * d ≤ length out.old }
     ensures { out.new ≡ over out.old (at * d) (elements d count (λ _. (R d).zero)) }
 {
-    let mut k = 0;
-    while k < count {
-        let element = Element::additive_identity();
-        element.store(d, out, at + k);
-        k += 1;
-    }
+    write_each(d, count, out, at, |_| Element::additive_identity());
+}
+
+// Element i of a list, times a number.
+fn weighted(d: usize, weight: i32, xs: &[i32], i: usize) -> Element
+    requires degree { Degree d }
+    requires d_in_bounds { i * d + d ≤ length xs.now }
+    ensures { result.coefficients ≡ array d ((R d).mul (number d weight) (el d xs.now i)) }
+{
+    Element::from_slice(d, xs, i).scale(d, weight)
 }
 
 // `count` elements of a list from element `from` on, times a number.
@@ -59,14 +63,7 @@ pub fn write_row(
     ensures { out.new ≡ over out.old (at * d)
         (elements d count (λ k. (R d).mul (number d weight) (el d xs.now (from + k)))) }
 {
-    let mut k = 0;
-    while k < count {
-        let place = from + k;
-        let entry = Element::from_slice(d, xs, place);
-        let weighted = entry.scale(d, weight);
-        weighted.store(d, out, at + k);
-        k += 1;
-    }
+    write_each(d, count, out, at, |k| weighted(d, weight, xs, from + k));
 }
 
 // Row k of a matrix with m columns.
@@ -75,8 +72,27 @@ pub fn write_matrix_row(d: usize, m: usize, xs: &[i32], k: usize, out: &mut [i32
     requires d_in_bounds { ((k * m + m) * d ≤ length xs.now) × ((at + m) * d ≤ length out.old) }
     ensures { out.new ≡ over out.old (at * d) (numbers d (tab m (λ y. el d xs.now (k * m + y)))) }
 {
-    let from = k * m;
-    write_row(d, m, 1, xs, from, out, at);
+    write_row(d, m, 1, xs, k * m, out, at);
+}
+
+// On digit e of z: the n elements from element `from` on, times b^e.
+fn write_z_digit(
+    d: usize,
+    n: usize,
+    b: usize,
+    e: usize,
+    xs: &[i32],
+    from: usize,
+    out: &mut [i32],
+    at: usize,
+)
+    requires degree { Degree d }
+    requires base { Base b }
+    requires d_in_bounds { ((from + n) * d ≤ length xs.now) × ((at + n) * d ≤ length out.old) }
+    ensures { out.new ≡ over out.old (at * d)
+        (numbers d (tab n (λ k. (R d).mul (spec.power d b e) (el d xs.now (from + k))))) }
+{
+    write_row(d, n, power(b, e), xs, from, out, at);
 }
 
 // On z: for each digit e of tz, the n elements from element `from` on, times b^e.
@@ -95,14 +111,9 @@ pub fn write_z(
     requires d_in_bounds { ((from + n) * d ≤ length xs.now) × ((at + tz * n) * d ≤ length out.old) }
     ensures { out.new ≡ over out.old (at * d) (numbers d (z_table d n tz b (λ k. el d xs.now (from + k)))) }
 {
-    let mut place = at;
-    let mut e = 0;
-    while e < tz {
-        let weight = power(b, e);
-        write_row(d, n, weight, xs, from, out, place);
-        place += n;
-        e += 1;
-    }
+    write_blocks(d, tz, n, out, at, |e, place, out| {
+        write_z_digit(d, n, b, e, xs, from, out, place)
+    });
 }
 
 // How the digits of an element stand: `count` of them to a base, each in row `row` of `rows`, the other rows zero.
@@ -122,26 +133,9 @@ fn digit_entry(d: usize, digits: Digits, xs: &[i32], i: usize, e: usize, j: usiz
     ensures { result.coefficients ≡ array d (digit_row d digits xs.now i e j) }
 {
     if j == digits.row {
-        let weight = power(digits.base, e);
-        let entry = Element::from_slice(d, xs, i);
-        return entry.scale(d, weight);
-    }
-    Element::additive_identity()
-}
-
-// Digit e of element i.
-fn write_digit(d: usize, digits: Digits, xs: &[i32], i: usize, e: usize, out: &mut [i32], at: usize)
-    requires degree { Degree d }
-    requires base { Base digits.base }
-    requires d_in_bounds { (i * d + d ≤ length xs.now) × ((at + digits.rows) * d ≤ length out.old) }
-    ensures { out.new ≡ over out.old (at * d) (elements d digits.rows (digit_row d digits xs.now i e)) }
-{
-    let rows = digits.rows;
-    let mut j = 0;
-    while j < rows {
-        let element = digit_entry(d, digits, xs, i, e, j);
-        element.store(d, out, at + j);
-        j += 1;
+        weighted(d, power(digits.base, e), xs, i)
+    } else {
+        Element::additive_identity()
     }
 }
 
@@ -153,15 +147,15 @@ fn write_digits(d: usize, digits: Digits, xs: &[i32], i: usize, out: &mut [i32],
     ensures { out.new ≡ over out.old (at * d)
         (numbers d (flat digits.count (λ e. tab digits.rows (digit_row d digits xs.now i e)))) }
 {
-    let count = digits.count;
-    let rows = digits.rows;
-    let mut place = at;
-    let mut e = 0;
-    while e < count {
-        write_digit(d, digits, xs, i, e, out, place);
-        place += rows;
-        e += 1;
-    }
+    write_blocks(d, digits.count, digits.rows, out, at, |e, place, out| {
+        write_each(
+            d,
+            digits.rows,
+            out,
+            place,
+            |j| digit_entry(d, digits, xs, i, e, j),
+        );
+    });
 }
 
 // The digits of the first m elements of a list.
@@ -173,13 +167,9 @@ pub fn write_parts(d: usize, digits: Digits, m: usize, xs: &[i32], out: &mut [i3
     ensures { out.new ≡ over out.old (at * d) (numbers d (t_table d m digits.rows digits.count (digit_row d digits xs.now))) }
 {
     let size = digits.count * digits.rows;
-    let mut place = at;
-    let mut i = 0;
-    while i < m {
+    write_blocks(d, m, size, out, at, |i, place, out| {
         write_digits(d, digits, xs, i, out, place);
-        place += size;
-        i += 1;
-    }
+    });
 }
 
 // On g or h: the elements of a list by pair, each with t digits.
@@ -199,12 +189,11 @@ pub fn write_garbage(
     ensures { out.new ≡ over out.old (at * d)
         (numbers d (garbage_table d r base t (λ i j. el d xs.now (pair r i j)))) }
 {
-    let count = pair_count(r);
     let digits = Digits {
         base,
         count: t,
         rows: 1,
         row: 0,
     };
-    write_parts(d, digits, count, xs, out, at);
+    write_parts(d, digits, pair_count(r), xs, out, at);
 }

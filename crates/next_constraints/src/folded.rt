@@ -21,14 +21,10 @@ fn add_multiples(d: usize, n: usize, list: &[i32], weight: Element, out: &mut [i
     ensures { out.new ≡ over out.old 0 (elements d n (plus_multiple d out.old list.now
         (lift d weight.coefficients))) }
 {
-    let mut k = 0;
-    while k < n {
-        let entry = Element::from_slice(d, list, k);
-        let multiple = entry.product(d, weight);
-        let before = Element::from_slice(d, &*out, k);
-        let sum = before.sum(d, multiple);
+    for k in 0..n {
+        let multiple = Element::from_slice(d, list, k).product(d, weight);
+        let sum = Element::from_slice(d, out, k).sum(d, multiple);
         sum.store(d, out, k);
-        k += 1;
     }
 }
 
@@ -56,12 +52,10 @@ pub fn write_folded(
     let mut omega_sums = [0i64; OMEGA_SUMS];
     row_groups::write_omega_sums(sizes.w, omega, &mut omega_sums);
     let d = sizes.shape.d;
-    let rank = sizes.shape.n;
-    let parts = sizes.shape.r;
-    write_zeros(d, rank, out, 0);
+    let n = sizes.shape.n;
+    write_zeros(d, n, out, 0);
     let mut phi = [0i32; PART_ROOM];
-    let mut i = 0;
-    while i < parts {
+    for i in 0..sizes.shape.r {
         write_phi_part(
             sizes,
             whole,
@@ -75,8 +69,6 @@ pub fn write_folded(
             i,
             &mut phi,
         );
-        let challenge = Element::from_slice(d, c, i);
-        add_multiples(d, rank, &phi, challenge, out);
-        i += 1;
+        add_multiples(d, n, &phi, Element::from_slice(d, c, i), out);
     }
 }

@@ -2,6 +2,7 @@
 #![tactic(auto)]
 
 pub mod blocks;
+pub mod elements;
 pub mod folded;
 pub mod lists;
 pub mod squares;

@@ -5,12 +5,12 @@ ghost use Rattle.residues.specs.Modulus.{centred};
 ghost use Rattle.residues.specs.Digits.{Base};
 ghost use Rattle.ring.specs.Element.{Degree, array};
 ghost use Rattle.fold.specs.Sizes.{pairs};
-ghost use Rattle.fold.specs.Messages.{elements};
 ghost use Rattle.fold.specs.PairElements.{pair_elements};
 ghost use Rattle.fold.specs.NextInstance.{squares};
 ghost use Rattle.fold.specs.Limits.{most_chunks};
 
 use crate::blocks::power;
+use crate::elements::write_pairs;
 use residues::modulus;
 use ring::element::Element;
 
@@ -20,12 +20,12 @@ fn square_weight(nu: usize, b: usize, s: usize, s2: usize) -> i32
     requires nu_nonzero { (0 < nu) × (s < most_chunks) × (s2 < most_chunks) }
     ensures { result ≡ centred (cond (eqb s s2) (pos 1) (pos 2) *ℤ pos (b ^ (s / nu + s2 / nu))) }
 {
-    let e = s / nu + s2 / nu;
-    let once = power(b, e);
+    let once = power(b, s / nu + s2 / nu);
     if s == s2 {
-        return once;
+        once
+    } else {
+        modulus::multiply(2, once)
     }
-    modulus::multiply(2, once)
 }
 
 // For parts s and s2: chunk i of one digit of z with chunk i of a digit.
@@ -37,44 +37,10 @@ fn square(d: usize, tz: usize, nu: usize, b: usize, s: usize, s2: usize) -> Elem
     ensures { result.coefficients ≡ array d (squares d tz nu b s s2) }
 {
     let both = tz * nu;
-    if both <= s {
-        return Element::additive_identity();
-    }
-    if both <= s2 {
-        return Element::additive_identity();
-    }
-    let left = s % nu;
-    let right = s2 % nu;
-    if left == right {
-        let weight = square_weight(nu, b, s, s2);
-        return Element::constant(weight);
-    }
-    Element::additive_identity()
-}
-
-// The elements of part s with the parts from s on, written from element `at` on.
-fn write_square_row(
-    d: usize,
-    tz: usize,
-    nu: usize,
-    b: usize,
-    parts: usize,
-    s: usize,
-    out: &mut [i32],
-    at: usize,
-)
-    requires degree { Degree d }
-    requires base { Base b }
-    requires nu_nonzero { (0 < nu) × (tz * nu ≤ most_chunks) × (parts ≤ most_chunks) × (s ≤ parts) }
-    requires d_in_bounds { (at + (parts - s)) * d ≤ length out.old }
-    ensures { out.new ≡ over out.old (at * d) (elements d (parts - s) (λ k. squares d tz nu b s (s + k))) }
-{
-    let count = parts - s;
-    let mut k = 0;
-    while k < count {
-        let element = square(d, tz, nu, b, s, s + k);
-        element.store(d, out, at + k);
-        k += 1;
+    if s < both && s2 < both && s % nu == s2 % nu {
+        Element::constant(square_weight(nu, b, s, s2))
+    } else {
+        Element::additive_identity()
     }
 }
 
@@ -86,11 +52,5 @@ pub fn write_squares(d: usize, tz: usize, nu: usize, b: usize, parts: usize, out
     requires d_in_bounds { pairs parts * d ≤ length out.old }
     ensures { out.new ≡ over out.old 0 (pair_elements d parts (squares d tz nu b)) }
 {
-    let mut at = 0;
-    let mut s = 0;
-    while s < parts {
-        write_square_row(d, tz, nu, b, parts, s, out, at);
-        at += parts - s;
-        s += 1;
-    }
+    write_pairs(d, parts, out, |s, s2| square(d, tz, nu, b, s, s2));
 }

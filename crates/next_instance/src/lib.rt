@@ -41,8 +41,7 @@ pub fn next_instance(
         (transcript_of u1.now p.now second_b.now u2.now) nu mu out.old
         result out.new }
 {
-    let z = sizes.z;
-    let tz = z.count();
+    let tz = sizes.z.count();
     let given = sizes.based();
     let refusal = next_refusal(
         tz,

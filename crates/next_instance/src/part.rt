@@ -33,18 +33,14 @@ fn place_of(tz: usize, sizes: PartSizes, part: usize, opening: &[i32]) -> Place
     let width = chunk_width(tz, sizes.shape.n, sizes.nu, m, sizes.mu, s);
     let start = at * sizes.shape.d;
     let length = width * sizes.shape.d;
-    Place {
-        start: start,
-        length: length,
-    }
+    Place { start, length }
 }
 
 // The place of part `part`, from 1, of the next witness without its padding.
 pub fn next_place(sizes: PartSizes, part: usize, opening: &[i32]) -> Place
     ensures { Placed sizes part opening.now result }
 {
-    let tz = count_if(sizes.one_digit);
-    place_of(tz, sizes, part, opening)
+    place_of(count_if(sizes.one_digit), sizes, part, opening)
 }
 
 // Part `part`, from 1, of the next witness without its padding; empty where it is refused.
@@ -52,7 +48,5 @@ pub fn next_part(sizes: PartSizes, part: usize, opening: &[i32]) -> &[i32]
     ensures { result.now ≡ next_part_of sizes part opening.now }
 {
     let place = next_place(sizes, part, opening);
-    let start = place.start;
-    let end = start + place.length;
-    &opening[start..end]
+    &opening[place.start..place.start + place.length]
 }

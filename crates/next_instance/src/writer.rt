@@ -17,6 +17,7 @@ use fold::limits::{PAIR_ROOM, PART_ROOM};
 use next_checks::cut::{Cut, cut_of};
 use next_checks::writers;
 use next_constraints::blocks::write_row;
+use next_constraints::elements::write_blocks;
 use next_constraints::lists::write_tables;
 use ring::element::Element;
 
@@ -29,15 +30,11 @@ fn write_rows5(sizes: Sizes, cut: Cut, a_matrix: &[i32], minus: &[i32], out: &mu
     ensures { out.new ≡ over out.old (at * sizes.shape.d)
         (flat sizes.kappa (λ k. laid sizes cut (check5 sizes cut.tz a_matrix.now minus.now k))) }
 {
-    let rows = sizes.kappa;
+    let d = sizes.shape.d;
     let size = cut.size + 1;
-    let mut place = at;
-    let mut k = 0;
-    while k < rows {
+    write_blocks(d, sizes.kappa, size, out, at, |k, place, out| {
         writers::write_check5(sizes, cut, a_matrix, minus, k, out, place);
-        place += size;
-        k += 1;
-    }
+    });
 }
 
 // Checks 6, 7 and 8. `b` is the aggregate's.
@@ -89,15 +86,11 @@ fn write_rows3(
     ensures { out.new ≡ over out.old (at * sizes.shape.d)
         (flat sizes.kappa1 (λ k. laid sizes cut (check3 sizes cut.tz b_matrix.now c_matrix.now u1.now k))) }
 {
-    let rows = sizes.kappa1;
+    let d = sizes.shape.d;
     let size = cut.size + 1;
-    let mut place = at;
-    let mut k = 0;
-    while k < rows {
+    write_blocks(d, sizes.kappa1, size, out, at, |k, place, out| {
         writers::write_check3(sizes, cut, b_matrix, c_matrix, u1, k, out, place);
-        place += size;
-        k += 1;
-    }
+    });
 }
 
 // The rows of check 4.
@@ -110,15 +103,11 @@ fn write_rows4(sizes: Sizes, cut: Cut, d_matrix: &[i32], u2: &[i32], out: &mut [
     ensures { out.new ≡ over out.old (at * sizes.shape.d)
         (flat sizes.kappa2 (λ k. laid sizes cut (check4 sizes cut.tz d_matrix.now u2.now k))) }
 {
-    let rows = sizes.kappa2;
+    let d = sizes.shape.d;
     let size = cut.size + 1;
-    let mut place = at;
-    let mut k = 0;
-    while k < rows {
+    write_blocks(d, sizes.kappa2, size, out, at, |k, place, out| {
         writers::write_check4(sizes, cut, d_matrix, u2, k, out, place);
-        place += size;
-        k += 1;
-    }
+    });
 }
 
 // The whole constraints of the next instance, where z has tz digits.

@@ -11,7 +11,7 @@ use Rattle.integers.specs.Laws.OverLaws.{over-is, drop-over, length_over}
 use Rattle.integers.specs.Laws.FlatLaws.{length-flat, flat_cong}
 use Rattle.algebra.specs.Sum.{sum}
 use Rattle.algebra.specs.Laws.SumLaws.{sum-one-more}
-use Rattle.ring.specs.Element.{R, Degree, lift, el, coeffs, array}
+use Rattle.ring.specs.Element.{R, lift, el, coeffs, array}
 use Rattle.ring.specs.Laws.ElementLaws.{length-coeffs}
 use Rattle.ring.specs.Laws.Loops.{held, held-sum}
 use Rattle.ring.specs.Laws.Writers.{Elements}

@@ -1,10 +1,6 @@
-use Prim.Native.Nat.{◌-◌}
 use Rattle.ring.specs.Laws.Writers.{Elements}
 use Rattle.next_checks.specs.Spread.{chunk_entry}
 use Rattle.next_checks.proofs.spread.move_chunk.Given as goal
 
 abbrev pub invariant-loop-k : goal.invariant-loop-k
 invariant-loop-k l = Elements l.d l.at l.rank (chunk_entry l.d l.initial.out l.from l.size) l.initial.out l.k l.out
-
-abbrev pub decreases-loop-k : goal.decreases-loop-k
-decreases-loop-k l = l.rank - l.k

@@ -1,4 +1,3 @@
-use Prim.Native.Nat.{◌-◌}
 use Rattle.ring.specs.Element.{lift}
 use Rattle.ring.specs.Laws.Writers.{Elements}
 use Rattle.next_constraints.specs.Folded.{plus_multiple}
@@ -6,6 +5,3 @@ use Rattle.next_constraints.proofs.folded.add_multiples.Given as goal
 
 abbrev pub invariant-loop-k : goal.invariant-loop-k
 invariant-loop-k l = Elements l.d 0 l.n (plus_multiple l.d l.initial.out l.list (lift l.d l.weight.coefficients)) l.initial.out l.k l.out
-
-abbrev pub decreases-loop-k : goal.decreases-loop-k
-decreases-loop-k l = l.n - l.k

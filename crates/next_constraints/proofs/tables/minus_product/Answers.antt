@@ -4,5 +4,5 @@ use Rattle.next_constraints.proofs.tables.minus_product.Goals as goal
 
 pub returns : goal.returns
 returns c =
-    product-end c.args.d _ c.args.i c.args.j _ c.requires.degree c.from_slice-left.ensures c.from_slice-right.ensures
-    c.product-once.ensures c.pair_factor-factor.ensures c.scale-counted.ensures c.negation.ensures
+    product-end c.args.d _ c.args.i c.args.j _ c.requires.degree c.from_slice.ensures c.from_slice-2.ensures
+    c.product-once.ensures c.pair_factor.ensures c.scale.ensures c.negation.ensures

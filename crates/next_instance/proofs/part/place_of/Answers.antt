@@ -3,9 +3,6 @@ use native.Mathlib.Omega.{arith}
 use Rattle.next_instance.specs.Laws.PartLaws.{part_known, part_cut, part-before, chunk-room, placed_refused, placed_found}
 use Rattle.next_instance.proofs.part.place_of.Goals as goal
 
-pub part_refusal-refusal-requires : goal.part_refusal-refusal-requires
-part_refusal-refusal-requires c = c.requires
-
 pub returns-then-refusal-ne0 : goal.returns-then-refusal-ne0
 returns-then-refusal-ne0 c =
     let a = c.args in
