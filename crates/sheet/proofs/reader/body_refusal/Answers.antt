@@ -1,5 +1,5 @@
 -- `sheet::reader::body_refusal` meets its contract.
-use Rattle.sheet.specs.Laws.ReadingLaws.{lines-positive, twelve, seven, later, laid-inside}
+use Rattle.sheet.specs.Laws.ReadingLaws.{lines-positive, twelve, seven, later}
 use Rattle.sheet.proofs.reader.body_refusal.Goals as goal
 
 pub laid_end-requires : goal.laid_end-requires
@@ -14,11 +14,6 @@ pub returns-then-room-count : goal.returns-then-room-count
 returns-then-room-count c =
     seven c.args.s c.args.text.now c.sections_of-q.result c.sections_of-q.ensures c.total_numbers-count.ensures
     c.laid_end.ensures c.ne.ensures c.args.room c.if-ne.false c.if-room-count.true
-
-pub number_refusal-requires : goal.number_refusal-requires
-number_refusal-requires c =
-    laid-inside c.args.s c.args.text.now c.sections_of-q.result c.sections_of-q.ensures c.total_numbers-count.ensures
-    c.laid_end.ensures c.ne.ensures c.requires c.if-ne.false
 
 pub returns : goal.returns
 returns c =

@@ -1,13 +1,9 @@
 -- `sheet::reader::number_refusal` meets its contract.
-use Rattle.std.proofs.Common.{sym, ◌∙◌}
 use Rattle.sheet.specs.Laws.ReadingLaws.{eight, nine_ten}
 use Rattle.sheet.proofs.reader.number_refusal.Goals as goal
 
 pub returns-then-not-numbers_ok : goal.returns-then-not-numbers_ok
 returns-then-not-numbers_ok c = eight _ _ c.numbers_ok.ensures c.if-not-numbers_ok.true
-
-pub challenges_ok-requires : goal.challenges_ok-requires
-challenges_ok-requires c = record { inside = c.requires; text_value = sym c.numbers_ok.ensures ∙ c.if-not-numbers_ok.false }
 
 pub returns : goal.returns
 returns c =
