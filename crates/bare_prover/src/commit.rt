@@ -10,12 +10,16 @@ pub fn write_t(shape: Shape, kappa: usize, a_matrix: &[i32], witness: &[i32], ou
     requires { BareCommitFacts shape kappa a_matrix.now witness.now out.old }
     ensures { out.new ≡ bare_t shape.d shape.n shape.r kappa a_matrix.now witness.now }
 {
-    let d = shape.d;
-    let n = shape.n;
-    let r = shape.r;
-    let mut i = 0;
-    while i < r {
-        write_products(d, n, kappa, a_matrix, witness, i, out, i * kappa);
-        i += 1;
+    for i in 0..shape.r {
+        write_products(
+            shape.d,
+            shape.n,
+            kappa,
+            a_matrix,
+            witness,
+            i,
+            out,
+            i * kappa,
+        );
     }
 }

@@ -25,11 +25,9 @@ pub fn write_phi(
 {
     let mut omega_sums = [0i64; OMEGA_SUMS];
     row_groups::write_omega_sums(sizes.w, omega, &mut omega_sums);
-    let r = sizes.shape.r;
     let width = sizes.shape.n * sizes.shape.d;
     let mut at = 0;
-    let mut i = 0;
-    while i < r {
+    for i in 0..sizes.shape.r {
         let next = at + width;
         write_phi_part(
             sizes,
@@ -45,6 +43,5 @@ pub fn write_phi(
             &mut out[at..next],
         );
         at = next;
-        i += 1;
     }
 }

@@ -21,10 +21,8 @@ fn part_product(shape: Shape, xs: &[i32], i: usize, ys: &[i32], j: usize) -> Ele
     ensures { result.coefficients ≡ array shape.d (inner (R shape.d) shape.n (part shape.d shape.n xs.now i)
         (part shape.d shape.n ys.now j)) }
 {
-    let left = i * shape.n;
-    let right = j * shape.n;
     Element {
-        coefficients: inner(shape.d, shape.n, xs, left, ys, right),
+        coefficients: inner(shape.d, shape.n, xs, i * shape.n, ys, j * shape.n),
     }
 }
 
@@ -58,13 +56,9 @@ fn mixed_phi(shape: Shape, phi: &[i32], c: &[i32], witness: &[i32], i: usize) ->
     ensures { result.coefficients ≡ array shape.d (mixedΦ shape.d shape.n (part shape.d shape.n phi.now) c.now
         witness.now i) }
 {
-    let d = shape.d;
     let mut acc = Element::additive_identity();
-    let mut j = 0;
-    while j < i {
-        let summand = crossed_summand(shape, phi, c, witness, i, j);
-        acc = acc.sum(d, summand);
-        j += 1;
+    for j in 0..i {
+        acc = acc.sum(shape.d, crossed_summand(shape, phi, c, witness, i, j));
     }
     acc
 }
@@ -75,10 +69,8 @@ fn earlier_summand(shape: Shape, c: &[i32], witness: &[i32], i: usize, j: usize)
     requires j_lt_i { (j < i) × (i * shape.d ≤ length c.now) }
     ensures { result.coefficients ≡ array shape.d (earlier_summand shape.d shape.n c.now witness.now i j) }
 {
-    let d = shape.d;
     let product = part_product(shape, witness, i, witness, j);
-    let challenge = Element::from_slice(d, c, j);
-    product.product(d, challenge)
+    product.product(shape.d, Element::from_slice(shape.d, c, j))
 }
 
 // Half of the mixed z of turn i.
@@ -87,13 +79,9 @@ fn earlier_z(shape: Shape, c: &[i32], witness: &[i32], i: usize) -> Element
     requires d_in_bounds { i * shape.d ≤ length c.now }
     ensures { result.coefficients ≡ array shape.d (sum (R shape.d) i (earlier_summand shape.d shape.n c.now witness.now i)) }
 {
-    let d = shape.d;
     let mut acc = Element::additive_identity();
-    let mut j = 0;
-    while j < i {
-        let summand = earlier_summand(shape, c, witness, i, j);
-        acc = acc.sum(d, summand);
-        j += 1;
+    for j in 0..i {
+        acc = acc.sum(shape.d, earlier_summand(shape, c, witness, i, j));
     }
     acc
 }
@@ -112,13 +100,9 @@ pub fn write_turn(
 {
     let d = shape.d;
     let i = turn - 1;
-    let mixed = mixed_phi(shape, phi, c, witness, i);
-    mixed.store(d, out, 0);
-    let own = part_product(shape, phi, i, witness, i);
-    own.store(d, out, 1);
+    mixed_phi(shape, phi, c, witness, i).store(d, out, 0);
+    part_product(shape, phi, i, witness, i).store(d, out, 1);
     let half = earlier_z(shape, c, witness, i);
-    let twice = half.sum(d, half);
-    twice.store(d, out, 2);
-    let square = part_product(shape, witness, i, witness, i);
-    square.store(d, out, 3);
+    half.sum(d, half).store(d, out, 2);
+    part_product(shape, witness, i, witness, i).store(d, out, 3);
 }

@@ -18,12 +18,8 @@ fn zeros(d: usize, xs: &[i32], place: usize, count: usize) -> bool
 {
     let zero = Element::additive_identity();
     let mut all = true;
-    let mut k = 0;
-    while k < count {
-        let element = Element::from_slice(d, xs, place + k);
-        let one = element.equals(d, zero);
-        all = all & one;
-        k += 1;
+    for k in 0..count {
+        all &= Element::from_slice(d, xs, place + k).equals(d, zero);
     }
     all
 }
@@ -36,12 +32,9 @@ fn function_unmixed(d: usize, r: usize, xs: &[i32]) -> bool
 {
     let mut all = true;
     let mut at = 0;
-    let mut i = 0;
-    while i < r {
-        let row = zeros(d, xs, at + 1, r - 1 - i);
-        all = all & row;
+    for i in 0..r {
+        all &= zeros(d, xs, at + 1, r - 1 - i);
         at += r - i;
-        i += 1;
     }
     all
 }
@@ -53,13 +46,8 @@ fn each_unmixed(d: usize, r: usize, step: usize, count: usize, xs: &[i32]) -> bo
     ensures { result ≡ every count (λ k. unmixed d r (drop (k * step) xs.now)) }
 {
     let mut all = true;
-    let mut at = 0;
-    let mut k = 0;
-    while k < count {
-        let one = function_unmixed(d, r, &xs[at..]);
-        all = all & one;
-        at += step;
-        k += 1;
+    for k in 0..count {
+        all &= function_unmixed(d, r, &xs[k * step..]);
     }
     all
 }
@@ -72,8 +60,6 @@ pub fn all_unmixed(sizes: ConstraintSizes, whole: &[i32], constant_terms: &[i32]
     let d = sizes.shape.d;
     let r = sizes.shape.r;
     let function = function_size(sizes.shape.n, r);
-    let whole_step = (function + 1) * d;
-    let term_step = function * d + 1;
-    each_unmixed(d, r, whole_step, sizes.k, whole)
-        & each_unmixed(d, r, term_step, sizes.l, constant_terms)
+    each_unmixed(d, r, (function + 1) * d, sizes.k, whole)
+        & each_unmixed(d, r, function * d + 1, sizes.l, constant_terms)
 }

@@ -125,8 +125,7 @@ fn diagonal_sum(
     let r = sizes.shape.r;
     let mut acc = Element::additive_identity();
     let mut q = 0;
-    let mut i = 0;
-    while i < r {
+    for i in 0..r {
         let summand = diagonal_summand(
             sizes,
             whole,
@@ -141,7 +140,6 @@ fn diagonal_sum(
         );
         acc = acc.sum(d, summand);
         q += r - i;
-        i += 1;
     }
     acc
 }

@@ -37,13 +37,9 @@ fn folded_row(sizes: BareSizes, c: &[i32], opening: &[i32], k: usize) -> Element
         (t_at sizes.shape.d sizes.shape.n sizes.shape.r sizes.kappa opening.now i k))) }
 {
     let d = sizes.shape.d;
-    let r = sizes.shape.r;
     let mut acc = Element::additive_identity();
-    let mut i = 0;
-    while i < r {
-        let summand = folded_summand(sizes, c, opening, i, k);
-        acc = acc.sum(d, summand);
-        i += 1;
+    for i in 0..sizes.shape.r {
+        acc = acc.sum(d, folded_summand(sizes, c, opening, i, k));
     }
     acc
 }
@@ -75,13 +71,9 @@ pub fn amortized(sizes: BareSizes, a_matrix: &[i32], c: &[i32], opening: &[i32])
         (z_at sizes.shape.d sizes.shape.n sizes.shape.r sizes.kappa opening.now)
         (t_at sizes.shape.d sizes.shape.n sizes.shape.r sizes.kappa opening.now) }
 {
-    let rows = sizes.kappa;
     let mut all = true;
-    let mut k = 0;
-    while k < rows {
-        let row = row_holds(sizes, a_matrix, c, opening, k);
-        all = all & row;
-        k += 1;
+    for k in 0..sizes.kappa {
+        all &= row_holds(sizes, a_matrix, c, opening, k);
     }
     all
 }

@@ -47,13 +47,9 @@ pub fn turn_sum(sizes: BareSizes, c: &[i32], opening: &[i32], e: usize) -> Eleme
         (turn_at sizes.shape.d sizes.shape.n sizes.shape.r sizes.kappa opening.now (e + 1)) (el sizes.shape.d c.now)) }
 {
     let d = sizes.shape.d;
-    let r = sizes.shape.r;
     let mut acc = Element::additive_identity();
-    let mut i = 0;
-    while i < r {
-        let summand = turn_summand(sizes, c, opening, e, i);
-        acc = acc.sum(d, summand);
-        i += 1;
+    for i in 0..sizes.shape.r {
+        acc = acc.sum(d, turn_summand(sizes, c, opening, e, i));
     }
     acc
 }
@@ -65,13 +61,9 @@ pub fn own_phi_sum(sizes: BareSizes, c: &[i32], opening: &[i32]) -> Element
         (turn_at sizes.shape.d sizes.shape.n sizes.shape.r sizes.kappa opening.now 1)) }
 {
     let d = sizes.shape.d;
-    let r = sizes.shape.r;
     let mut acc = Element::additive_identity();
-    let mut i = 0;
-    while i < r {
-        let own = turn_element(sizes, c, opening, 1, i);
-        acc = acc.sum(d, own);
-        i += 1;
+    for i in 0..sizes.shape.r {
+        acc = acc.sum(d, turn_element(sizes, c, opening, 1, i));
     }
     acc
 }

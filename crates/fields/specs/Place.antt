@@ -4,15 +4,13 @@
 --     field_width, feed            how many bytes a field takes, with a line feed if it ends a line, and that line feed
 --     place ends at i             the byte where number i starts
 --     laid ends at text n         the first n fields are numbers, with a line feed after the last of each line
---     number_at, numbers_from       the number at a place, and `count` numbers from number `from` on
+--     number_at, numbers_from       the number at a place, 0 where there is none, and `count` numbers from number `from` on
 --     line_fields ends x n         the text of the n numbers x 0, x 1, ..
-use Rattle.std.specs.Prelude.{◌≡◌, Bool, true, false, cond, List, [], ◌∷◌, ◌++◌, ℕ, zero, suc, ◌+◌, ◌≤◌, eqb, length, get_or, ℤ}
+use Rattle.std.specs.Prelude.{◌≡◌, Bool, true, false, cond, List, [], ◌∷◌, ◌++◌, ℕ, zero, suc, ◌+◌, ◌≤◌, eqb, length, get_or, ℤ, pos, Option, None, Some, is_some, unwrap_or}
 use Rattle.integers.specs.Lists.{tab}
 use Rattle.integers.specs.Flat.{flat}
 use Rattle.ring.specs.Element.{every}
-use Rattle.fields.specs.declared.walk.End.{End}
-use Rattle.fields.specs.declared.walk.End.TheVariants.{At, Broken}
-use Rattle.fields.specs.Fields.{field_at, is_number, number_in}
+use Rattle.fields.specs.Fields.{field_at}
 use Rattle.fields.specs.Field.{field_text, header_bytes}
 
 unfoldable pub blanks : ℕ → List ℕ
@@ -36,18 +34,18 @@ place ends at zero = at
 place ends at (suc i) = place ends at i + field_width (ends i)
 
 unfoldable pub laid_field : List ℕ → ℕ → Bool → Bool
-laid_field text at last = cond (is_number (field_at text at)) (cond last (eqb (get_or text (at + 16) 0) 10) true) false
+laid_field text at last = cond (is_some (field_at text at)) (cond last (eqb (get_or text (at + 16) 0) 10) true) false
 
 unfoldable pub laid : (ℕ → Bool) → ℕ → List ℕ → ℕ → Bool
 laid ends at text n = every n (λ i. laid_field text (place ends at i) (ends i))
 
 -- where the first n fields end
-abbrev pub end_if : Bool → ℕ → End
-end_if true at = At at
-end_if false at = Broken
+abbrev pub end_if : Bool → ℕ → Option ℕ
+end_if true at = Some at
+end_if false at = None
 
 unfoldable pub number_at : List ℕ → ℕ → ℤ
-number_at text at = number_in (field_at text at)
+number_at text at = unwrap_or (field_at text at) (pos 0)
 
 unfoldable pub numbers_from : (ℕ → Bool) → ℕ → List ℕ → ℕ → ℕ → List ℤ
 numbers_from ends at text from count = tab count (λ j. number_at text (place ends at (from + j)))

@@ -31,11 +31,7 @@ pub fn matrix_count(s: Sizes) -> usize
     let ts = t_size(s.shape.r, s.kappa, s.t1);
     let gs = garbage_size(s.shape.r, s.t2);
     let hs = garbage_size(s.shape.r, s.t1);
-    let a = s.kappa * s.shape.n;
-    let b = s.kappa1 * ts;
-    let c = s.kappa1 * gs;
-    let d = s.kappa2 * hs;
-    a + (b + (c + d))
+    s.kappa * s.shape.n + (s.kappa1 * ts + (s.kappa1 * gs + s.kappa2 * hs))
 }
 
 // Elements of the whole constraints.
@@ -43,8 +39,7 @@ pub fn whole_count(s: Sizes) -> usize
     requires { VerifySized s }
     ensures { (result ≡ whole_count s) × (result ≤ most_constraints * 4233) }
 {
-    let f = function_size(s.shape.n, s.shape.r);
-    s.k * (f + 1)
+    s.k * (function_size(s.shape.n, s.shape.r) + 1)
 }
 
 // Elements of u1 and the projection rows.
@@ -52,8 +47,7 @@ pub fn row_count(s: Sizes) -> usize
     requires { VerifySized s }
     ensures { (result ≡ row_count s) × (result ≤ 1048584) }
 {
-    let a = s.shape.r * s.shape.n;
-    s.kappa1 + s.w * a
+    s.kappa1 + s.w * (s.shape.r * s.shape.n)
 }
 
 // Elements of b'', α, δ, u2, c and the opening.
@@ -70,9 +64,7 @@ fn head_numbers(s: Sizes) -> usize
     requires { VerifySized s }
     ensures { (result ≡ (matrix_count s + whole_count s) * s.shape.d) × (result ≤ (27648 + most_constraints * 4233) * 64) }
 {
-    let a = matrix_count(s);
-    let b = whole_count(s);
-    (a + b) * s.shape.d
+    (matrix_count(s) + whole_count(s)) * s.shape.d
 }
 
 // Numbers of one constant-term constraint.
@@ -80,8 +72,7 @@ fn term_size(s: Sizes) -> usize
     requires { VerifySized s }
     ensures { (result ≡ term_size s) × (result ≤ 270849) }
 {
-    let f = function_size(s.shape.n, s.shape.r);
-    f * s.shape.d + 1
+    function_size(s.shape.n, s.shape.r) * s.shape.d + 1
 }
 
 // Numbers of u1 and the projection rows.
@@ -89,8 +80,7 @@ fn middle_numbers(s: Sizes) -> usize
     requires { VerifySized s }
     ensures { (result ≡ row_count s * s.shape.d) × (result ≤ 67109376) }
 {
-    let a = row_count(s);
-    a * s.shape.d
+    row_count(s) * s.shape.d
 }
 
 // The lines of the sheet after its header.
@@ -98,18 +88,14 @@ pub fn sections_of(s: Sizes) -> Sections
     requires { VerifySized s }
     ensures { Sectioned s result }
 {
-    let head = head_numbers(s);
     let period = term_size(s);
-    let middle = middle_numbers(s);
-    let terms = s.l * period;
-    let ones = s.w + (5 * s.l + 5 * s.w);
     Sections {
         d: s.shape.d,
-        head: head,
-        period: period,
-        terms: terms,
-        middle: middle,
-        ones: ones,
+        head: head_numbers(s),
+        period,
+        terms: s.l * period,
+        middle: middle_numbers(s),
+        ones: s.w + (5 * s.l + 5 * s.w),
     }
 }
 
@@ -119,9 +105,7 @@ pub fn total_numbers(s: Sizes) -> usize
     ensures { result ≡ total s }
 {
     let q = sections_of(s);
-    let a = last_count(s);
-    let tail = a * s.shape.d;
-    q.head + (q.terms + (q.middle + (q.ones + tail)))
+    q.head + (q.terms + (q.middle + (q.ones + last_count(s) * s.shape.d)))
 }
 
 // The numbers before the projection rows.
@@ -130,8 +114,7 @@ pub fn projections_from(s: Sizes) -> usize
     ensures { result ≡ projections_from s }
 {
     let q = sections_of(s);
-    let own = s.kappa1 * s.shape.d;
-    q.head + (q.terms + own)
+    q.head + (q.terms + s.kappa1 * s.shape.d)
 }
 
 // The numbers before the challenges c.
@@ -140,9 +123,8 @@ pub fn challenges_from(s: Sizes) -> usize
     ensures { result ≡ challenges_from s }
 {
     let q = sections_of(s);
-    let a = 5 + (s.k + (5 + s.kappa2));
-    let own = a * s.shape.d;
-    q.head + (q.terms + (q.middle + (q.ones + own)))
+    let before = (5 + (s.k + (5 + s.kappa2))) * s.shape.d;
+    q.head + (q.terms + (q.middle + (q.ones + before)))
 }
 
 // Number i of lines of d numbers is the last of its line.
@@ -159,10 +141,7 @@ fn ends_term(d: usize, period: usize, i: usize) -> bool
     ensures { result ≡ ends_term d period i }
 {
     let p = i % period;
-    if p + 1 == period {
-        return true;
-    }
-    ends_element(d, p)
+    p + 1 == period || ends_element(d, p)
 }
 
 // Number i of the sections is the last of its line.

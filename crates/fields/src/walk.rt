@@ -3,97 +3,56 @@ ghost use Rattle.std.specs.Prelude.{◌≡◌, ◌+◌, ◌*◌, ◌≤◌, ◌<
 ghost use Rattle.integers.specs.Over.{over};
 ghost use Rattle.residues.specs.Range.{all_within, coefficients, challenge};
 ghost use Rattle.fold.specs.Refusals.{challenges};
-ghost use Rattle.fields.specs.Fields.{field_at, is_number, number_in};
 ghost use Rattle.fields.specs.Sections.{ends_line};
 ghost use Rattle.fields.specs.Place.{field_width, place, laid_field, laid, end_if, number_at, numbers_from, Span};
 ghost use Rattle.fields.specs.Field.{header_bytes};
 ghost use Rattle.fold.specs.Limits.{most_parts};
 
-use crate::field::{Field, read_field};
+use crate::field::read_field;
 use crate::sizes::{Sections, ends_line};
 use residues::range::is_challenge;
 
-// Where fields end, or that they are broken.
-#[derive(Clone, Copy)]
-pub enum End {
-    At(usize),
-    Broken,
-}
-
-fn is_number(field: Field) -> bool
-    ensures { result ≡ is_number field }
-{
-    match field {
-        Field::Number(_) => true,
-        Field::Broken => false,
-    }
-}
-
-fn number_in(field: Field) -> i64
-    ensures { result ≡ number_in field }
-{
-    match field {
-        Field::Number(number) => number,
-        Field::Broken => 0,
-    }
-}
-
-// The number of a field, 0 where there is none.
+// The number at `at`, 0 where there is none.
 pub fn number_at(text: &[u8], at: usize) -> i64
     ensures { result ≡ number_at text.now at }
 {
-    number_in(read_field(text, at))
+    read_field(text, at).unwrap_or(0)
 }
 
 fn is_feed(text: &[u8], at: usize) -> bool
     ensures { result ≡ eqb (get_or text.now at 0) 10 }
 {
-    if at < text.len() {
-        return text[at] == 10;
-    }
-    false
+    at < text.len() && text[at] == b'\n'
 }
 
 // A number stands at `at`, and a line feed after it where it is the last of its line.
 fn is_laid(text: &[u8], at: usize, last: bool) -> bool
     ensures { result ≡ laid_field text.now at last }
 {
-    let number = is_number(read_field(text, at));
-    if !number {
-        return false;
-    }
-    if last {
-        return is_feed(text, at + 16);
-    }
-    true
+    read_field(text, at).is_some() && (!last || is_feed(text, at + 16))
 }
 
 // The bytes of a field, and of the line feed after it where it is the last of its line.
 pub fn field_width(last: bool) -> usize
     ensures { result ≡ field_width last }
 {
-    if last {
-        return 17;
-    }
-    16
+    if last { 17 } else { 16 }
 }
 
-// The first n fields from `at` on: where they end.
-pub fn laid_end(s: Sections, text: &[u8], at: usize, n: usize) -> End
+// Where the first n fields from `at` on end; None where they are not laid.
+pub fn laid_end(s: Sections, text: &[u8], at: usize, n: usize) -> Option<usize>
     requires { (0 < s.d) × (0 < s.period) }
     ensures { result ≡ end_if (laid (ends_line s) at text.now n) (place (ends_line s) at n) }
 {
     let mut here = at;
-    let mut i = 0;
-    while i < n {
+    for i in 0..n {
         let last = ends_line(s, i);
         if !is_laid(text, here, last) {
-            return End::Broken;
+            return None;
         }
         here += field_width(last);
-        i += 1;
     }
-    End::At(here)
+    Some(here)
 }
 
 // The place after `count` numbers from number `from` on, which starts at `start`.
@@ -103,39 +62,24 @@ pub fn place_after(s: Sections, text: &[u8], from: usize, start: usize, count: u
     ensures { result ≡ place (ends_line s) header_bytes (from + count) }
 {
     let mut here = start;
-    let mut j = 0;
-    while j < count {
-        let last = ends_line(s, from + j);
-        here += field_width(last);
-        j += 1;
+    for j in 0..count {
+        here += field_width(ends_line(s, from + j));
     }
     here
-}
-
-fn magnitude(x: i64) -> u64
-    requires { nat_abs x ≤ 10000000000000000 }
-    ensures { result ≡ nat_abs x }
-{
-    if x < 0 {
-        return (0 - x) as u64;
-    }
-    x as u64
 }
 
 // The absolute value of the number at `at`.
 pub fn number_size(text: &[u8], at: usize) -> u64
     ensures { result ≡ nat_abs (number_at text.now at) }
 {
-    let x = number_at(text, at);
-    magnitude(x)
+    number_at(text, at).unsigned_abs()
 }
 
 // The absolute value of the number at `at` is at most `bound`.
 fn is_within(text: &[u8], at: usize, bound: u64) -> bool
     ensures { result ≡ leb (nat_abs (number_at text.now at)) bound }
 {
-    let m = number_size(text, at);
-    m <= bound
+    number_size(text, at) <= bound
 }
 
 // `count` numbers from number `from` on have absolute values of at most `bound`.
@@ -152,14 +96,11 @@ pub fn all_within(
     ensures { result ≡ all_within bound (numbers_from (ends_line s) header_bytes text.now from count) }
 {
     let mut here = start;
-    let mut j = 0;
-    while j < count {
+    for j in 0..count {
         if !is_within(text, here, bound) {
             return false;
         }
-        let last = ends_line(s, from + j);
-        here += field_width(last);
-        j += 1;
+        here += field_width(ends_line(s, from + j));
     }
     true
 }
@@ -180,13 +121,9 @@ pub fn fill(s: Sections, text: &[u8], from: usize, start: usize, count: usize, o
     ensures { out.new ≡ over out.old 0 (numbers_from (ends_line s) header_bytes text.now from count) }
 {
     let mut here = start;
-    let mut j = 0;
-    while j < count {
-        let x = number_at(text, here);
-        out[j] = narrow(x);
-        let last = ends_line(s, from + j);
-        here += field_width(last);
-        j += 1;
+    for j in 0..count {
+        out[j] = narrow(number_at(text, here));
+        here += field_width(ends_line(s, from + j));
     }
 }
 
@@ -217,15 +154,12 @@ pub fn are_challenges(
     ensures { result ≡ challenges d r (numbers_from (ends_line s) header_bytes text.now from (r * d)) }
 {
     let mut here = start;
-    let mut at = from;
-    let mut e = 0;
-    while e < r {
+    for e in 0..r {
+        let at = from + e * d;
         if !challenge_at(s, text, at, here, d) {
             return false;
         }
         here = place_after(s, text, at, here, d);
-        at += d;
-        e += 1;
     }
     true
 }

@@ -11,10 +11,8 @@ fn write_blanks(text: &mut [u8], at: usize)
     requires { at + 16 ≤ length text.old }
     ensures { text.new ≡ over text.old at (blanks 16) }
 {
-    let mut k = 0;
-    while k < 16 {
-        text[at + k] = 32;
-        k += 1;
+    for k in 0..16 {
+        text[at + k] = b' ';
     }
 }
 
@@ -23,17 +21,14 @@ fn write_columns(text: &mut [u8], at: usize, minus: bool, m: u64)
     requires { (at + 15 ≤ length text.old) × (take 15 (drop at text.old) ≡ blanks 15) }
     ensures { text.new ≡ over text.old at (columns 15 minus m) }
 {
-    let sign = column_byte(minus, 0);
-    let mut left = 15;
     let mut rest = m;
-    while 0 < left {
+    for left in (0..15).rev() {
         if rest == 0 {
-            text[at + left - 1] = sign;
+            text[at + left] = column_byte(minus, 0);
             return;
         }
-        text[at + left - 1] = 48 + ((rest % 10) as u8);
-        rest = rest / 10;
-        left -= 1;
+        text[at + left] = b'0' + (rest % 10) as u8;
+        rest /= 10;
     }
 }
 
@@ -44,7 +39,7 @@ fn write_field(text: &mut [u8], at: usize, minus: bool, m: u64)
 {
     write_blanks(text, at);
     write_columns(text, at, minus, m / 10);
-    text[at + 15] = 48 + ((m % 10) as u8);
+    text[at + 15] = b'0' + (m % 10) as u8;
 }
 
 // The same, and a line feed after it where it is the last of its line.
@@ -54,6 +49,6 @@ pub fn write_laid(text: &mut [u8], at: usize, minus: bool, m: u64, last: bool)
 {
     write_field(text, at, minus, m);
     if last {
-        text[at + 16] = 10;
+        text[at + 16] = b'\n';
     }
 }

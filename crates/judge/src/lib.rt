@@ -32,19 +32,14 @@ fn judge_read(read: SheetAnswer, numbers: &[i32]) -> Answer
 fn judge_into(text: &[u8], numbers: &mut [i32]) -> Answer
     ensures { Into text.now numbers.old result numbers.new }
 {
-    let read = sheet::reader::read_sheet(text, numbers);
-    judge_read(read, numbers)
+    judge_read(sheet::reader::read_sheet(text, numbers), numbers)
 }
 
 // How many numbers are lent for a text: those that its header gives, at most 4096. 65536 bytes do not hold more.
 fn lent_count(text: &[u8]) -> usize
     ensures { result ≡ lent_count text.now }
 {
-    let count = sheet::reader::sheet_numbers(text);
-    if MOST_NUMBERS < count {
-        return MOST_NUMBERS;
-    }
-    count
+    sheet::reader::sheet_numbers(text).min(MOST_NUMBERS)
 }
 
 // The answer to a text: "at most 65536 bytes (longer: 12, before all else)". The verifier tests the reader's numbers once more, as it does for
@@ -64,6 +59,5 @@ pub fn judge_sheet(text: &[u8]) -> Answer
 pub fn judged_line(text: &[u8]) -> [u8; 33]
     ensures { result ≡ verdict_line (judged_text text.now) }
 {
-    let answer = judge_sheet(text);
-    line::verdict_line(answer)
+    line::verdict_line(judge_sheet(text))
 }

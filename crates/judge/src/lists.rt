@@ -4,17 +4,11 @@ ghost use Rattle.std.specs.Prelude.{◌≡◌, take, drop};
 pub fn front(xs: &[i32], m: usize) -> &[i32]
     ensures { result.now ≡ take m xs.now }
 {
-    if xs.len() < m {
-        return &xs[0..];
-    }
-    &xs[..m]
+    &xs[..m.min(xs.len())]
 }
 
 pub fn rest(xs: &[i32], m: usize) -> &[i32]
     ensures { result.now ≡ drop m xs.now }
 {
-    if xs.len() < m {
-        return &xs[0..0];
-    }
-    &xs[m..]
+    &xs[m.min(xs.len())..]
 }

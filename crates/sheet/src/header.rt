@@ -3,10 +3,9 @@ ghost use Rattle.std.specs.Prelude.{◌≡◌};
 ghost use Rattle.fold.specs.Answers.{first_failing};
 ghost use Rattle.fields.specs.Place.{number_at};
 ghost use Rattle.sheet.specs.Reading.{header_laid, header_numbers, front_tests, size, sheet_sizes_of};
-ghost use Rattle.sheet.specs.Known.Reading.{has_end};
 
 use fields::sizes::Sections;
-use fields::walk::{End, laid_end, number_at};
+use fields::walk::{laid_end, number_at};
 use fold::counts::Z_DIGITS;
 use fold::{Shape, Sizes};
 use limits::next::next_bounds;
@@ -20,15 +19,6 @@ pub struct SheetSizes {
     pub mu: usize,
 }
 
-fn has_end(end: End) -> bool
-    ensures { result ≡ has_end end }
-{
-    match end {
-        End::At(_) => true,
-        End::Broken => false,
-    }
-}
-
 fn header_laid(text: &[u8]) -> bool
     ensures { result ≡ header_laid text.now }
 {
@@ -40,17 +30,14 @@ fn header_laid(text: &[u8]) -> bool
         middle: 0,
         ones: 0,
     };
-    has_end(laid_end(line, text, 0, 18))
+    laid_end(line, text, 0, 18).is_some()
 }
 
 // A number as a size: one below zero is past every limit.
 fn size_of(x: i64) -> u64
     ensures { result ≡ size x }
 {
-    if x < 0 {
-        return 18446744073709551615;
-    }
-    x as u64
+    if x < 0 { u64::MAX } else { x as u64 }
 }
 
 fn bound_at(text: &[u8], at: usize) -> u64
@@ -69,13 +56,12 @@ fn size_at(text: &[u8], at: usize) -> usize
 pub fn sheet_sizes(text: &[u8]) -> SheetSizes
     ensures { result ≡ sheet_sizes_of (header_numbers text.now) }
 {
-    let shape = Shape {
-        d: size_at(text, 0),
-        n: size_at(text, 16),
-        r: size_at(text, 32),
-    };
     let sizes = Sizes {
-        shape,
+        shape: Shape {
+            d: size_at(text, 0),
+            n: size_at(text, 16),
+            r: size_at(text, 32),
+        },
         k: size_at(text, 48),
         l: size_at(text, 64),
         w: size_at(text, 80),

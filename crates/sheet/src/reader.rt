@@ -6,11 +6,11 @@ ghost use Rattle.fold.specs.Arguments.{VerifySized};
 ghost use Rattle.fold.specs.Refusals.{challenges};
 ghost use Rattle.fields.specs.Sections.{total};
 ghost use Rattle.sheet.specs.Reading.{number_count, body_numbers, projections_in, challenges_in, number_tests, body_tests, reading_tests, SheetRead};
-ghost use Rattle.sheet.specs.Known.Reading.{ends_at, Inside};
+ghost use Rattle.sheet.specs.Known.Reading.{Inside};
 
 use crate::header::{SheetSizes, header_refusal, sheet_sizes};
 use fields::sizes::{HEADER_BYTES, challenges_from, projections_from, sections_of, total_numbers};
-use fields::walk::{End, all_within, are_challenges, fill, laid_end, place_after};
+use fields::walk::{all_within, are_challenges, fill, laid_end, place_after};
 use fold::Sizes;
 use limits::rows::first;
 use limits::sizes::projection_length;
@@ -51,9 +51,14 @@ fn numbers_ok(s: Sizes, text: &[u8]) -> bool
     requires { Inside s text.now }
     ensures { result ≡ coefficients (body_numbers s text.now) }
 {
-    let q = sections_of(s);
-    let count = total_numbers(s);
-    all_within(q, text, 0, HEADER_BYTES, count, 2147483598)
+    all_within(
+        sections_of(s),
+        text,
+        0,
+        HEADER_BYTES,
+        total_numbers(s),
+        2147483598,
+    )
 }
 
 // Rows 8 to 10; 0 where the numbers pass.
@@ -64,19 +69,8 @@ fn number_refusal(s: Sizes, text: &[u8]) -> u8
     if !numbers_ok(s, text) {
         return 8;
     }
-    let challenges = challenges_ok(s, text);
-    let projections = projections_ok(s, text);
-    let ten = first(challenges, 10, 0);
-    first(projections, 9, ten)
-}
-
-fn ends_at(end: End, n: usize) -> bool
-    ensures { result ≡ ends_at end n }
-{
-    match end {
-        End::At(at) => at == n,
-        End::Broken => false,
-    }
+    let ten = first(challenges_ok(s, text), 10, 0);
+    first(projections_ok(s, text), 9, ten)
 }
 
 // The other lines, and the numbers on them; 0 where they pass.
@@ -86,9 +80,7 @@ fn body_refusal(s: Sizes, text: &[u8], room: usize) -> u8
 {
     let q = sections_of(s);
     let count = total_numbers(s);
-    let end = laid_end(q, text, HEADER_BYTES, count);
-    let size = text.len();
-    if !ends_at(end, size) {
+    if laid_end(q, text, HEADER_BYTES, count) != Some(text.len()) {
         return 12;
     }
     if room != count {
@@ -105,8 +97,7 @@ fn sheet_refusal(text: &[u8], room: usize) -> u8
     if 0 < header {
         return header;
     }
-    let s = sheet_sizes(text);
-    body_refusal(s.sizes, text, room)
+    body_refusal(sheet_sizes(text).sizes, text, room)
 }
 
 // How many numbers the header's sizes give, which is the length of the slice that `read_sheet` takes; 0 where the header is refused.
@@ -117,8 +108,7 @@ pub fn sheet_numbers(text: &[u8]) -> usize
     if 0 < header {
         return 0;
     }
-    let s = sheet_sizes(text);
-    total_numbers(s.sizes)
+    total_numbers(sheet_sizes(text).sizes)
 }
 
 // The numbers after the header, in the sheet's order.
@@ -128,9 +118,14 @@ fn store(s: Sizes, text: &[u8], numbers: &mut [i32])
     requires numbers_len { length numbers.old ≡ total s }
     ensures { numbers.new ≡ body_numbers s text.now }
 {
-    let q = sections_of(s);
-    let count = total_numbers(s);
-    fill(q, text, 0, HEADER_BYTES, count, numbers);
+    fill(
+        sections_of(s),
+        text,
+        0,
+        HEADER_BYTES,
+        total_numbers(s),
+        numbers,
+    );
 }
 
 // Reads a sheet: the sizes, and in `numbers` all numbers after the header, which it must have room for exactly. On a refusal they are

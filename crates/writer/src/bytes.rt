@@ -12,13 +12,8 @@ fn element_lines(s: Sizes) -> usize
     requires { VerifySized s }
     ensures { result ≡ element_lines s }
 {
-    let matrices = matrix_count(s);
-    let whole = whole_count(s);
-    let rows = row_count(s);
-    let last = last_count(s);
-    let function = function_size(s.shape.n, s.shape.r);
-    let terms = s.l * function;
-    matrices + (whole + (terms + (rows + last)))
+    let terms = s.l * function_size(s.shape.n, s.shape.r);
+    matrix_count(s) + (whole_count(s) + (terms + (row_count(s) + last_count(s))))
 }
 
 // The bytes of the header, of those lines, and of the lines of one number.
@@ -26,8 +21,7 @@ pub fn text_bytes(s: Sizes) -> usize
     requires { VerifySized s }
     ensures { result ≡ text_bytes s }
 {
-    let lines = element_lines(s);
     let line = 16 * s.shape.d + 1;
     let ones = 6 * (s.l + s.w);
-    HEADER_BYTES + (line * lines + 17 * ones)
+    HEADER_BYTES + (line * element_lines(s) + 17 * ones)
 }

@@ -41,9 +41,7 @@ pub fn write_header(h: SheetSizes, text: &mut [u8])
     ensures { text.new ≡ over text.old 0 (line_text (header_fields h)) }
 {
     let words = header_words(h);
-    let mut k = 0;
-    while k < 18 {
-        write_laid(text, 16 * k, false, words[k], k + 1 == 18);
-        k += 1;
+    for (k, word) in words.iter().enumerate() {
+        write_laid(text, 16 * k, false, *word, k + 1 == 18);
     }
 }

@@ -21,13 +21,10 @@ fn write_lines(q: Sections, numbers: &[i32], text: &mut [u8])
         (line_fields (ends_line q) (λ i. get_or numbers.now i (pos 0)) (length numbers.now)) }
 {
     let mut here = HEADER_BYTES;
-    let mut i = 0;
-    while i < numbers.len() {
-        let x = numbers[i];
+    for (i, x) in numbers.iter().enumerate() {
         let last = ends_line(q, i);
-        write_laid(text, here, x < 0, magnitude(x), last);
+        write_laid(text, here, *x < 0, magnitude(*x), last);
         here += field_width(last);
-        i += 1;
     }
 }
 
@@ -37,6 +34,5 @@ pub fn write_body(s: Sizes, numbers: &[i32], text: &mut [u8])
     requires lines_fit { LinesFit (ends_line (sections_of s)) (length numbers.now) text.old }
     ensures { text.new ≡ over text.old header_bytes (text_of (body_lines s) numbers.now) }
 {
-    let q = sections_of(s);
-    write_lines(q, numbers, text);
+    write_lines(sections_of(s), numbers, text);
 }

@@ -1,13 +1,12 @@
 -- The loop over the challenges of a sheet.
 --     filled-length, filled-part     an array that `fill` wrote from its start on
 --     Challenged                 the first e elements keep the rule: `are_challenges`
-use Rattle.std.specs.Prelude.{◌≡◌, Bool, not, List, length, take, drop}
+use Rattle.std.specs.Prelude.{◌≡◌, Bool, List, length, take, drop}
 use Rattle.std.proofs.Math.Path.{refl, sym, ap}
 use Rattle.std.proofs.Common.{◌∙◌, add-zero, zero-mul, add_assoc, suc-mul, mul-le-mul_right, add-one, arith, length-take}
 use Rattle.std.proofs.Math.Bool.{true, false}
 use Prim.Native.Nat.{ℕ, ◌+◌, ◌-◌, ◌*◌, ◌≤◌, ◌<◌}
 use Rattle.std.proofs.Math.IntN.{ℤ}
-use borrow.Author.Tests.{not-true, not-false}
 use Rattle.integers.specs.Laws.ListLaws.{take-tab, drop-tab, tab_cong}
 use Rattle.integers.specs.Over.{over}
 use Rattle.integers.specs.Laws.OverLaws.{length_over, part-over}
@@ -59,59 +58,54 @@ module _ (ends : ℕ → Bool) (text : List ℕ) (from : ℕ) where
       → coefficients (numbers_from ends header_bytes text (from + m) d) ≡ true
   part-coefficients count m d h e = rw (← numbers-part count m d h) (coefficients-part m d (numbers_from ends header_bytes text from count) e)
 
-pub record Challenged (ends : ℕ → Bool) (text : List ℕ) (from start d r here at e : ℕ) : Type 0 where
+pub record Challenged (ends : ℕ → Bool) (text : List ℕ) (from start d r here e : ℕ) : Type 0 where
   pub span : Span ends text from start (r * d)
   pub below : e ≤ r
-  pub at-is : at ≡ from + e * d
-  pub is : here ≡ place ends header_bytes at
+  pub is : here ≡ place ends header_bytes (from + e * d)
   pub passed : every e (λ i. challenge (take d (drop (i * d) (numbers_from ends header_bytes text from (r * d))))) ≡ true
 
 module _ {ends : ℕ → Bool} {text : List ℕ} {from start d r : ℕ} where
-  pub challenged_start : Span ends text from start (r * d) → Challenged ends text from start d r start from 0
+  pub challenged_start : Span ends text from start (r * d) → Challenged ends text from start d r start 0
   challenged_start span =
-      record {
-        span = span;
-        below = omega arith;
-        at-is = sym (ap (λ (x : ℕ). from + x) (zero-mul d) ∙ add-zero from);
-        is = span.is;
-        passed = every-zero _;
-      }
+      let first : from ≡ from + 0 * d = sym (ap (λ (x : ℕ). from + x) (zero-mul d) ∙ add-zero from) in
+      record { span = span; below = omega arith; is = span.is ∙ ap (place ends header_bytes) first; passed = every-zero _ }
 
-  module _ {here at e : ℕ} (inv : Challenged ends text from start d r here at e) (more : e < r) where
-    pub challenged_span : Span ends text at here d
-    challenged_span =
-        rw inv.at-is (part-span ends text from (e * d) d here inv.span (block-end e r d more) (inv.is ∙ ap (place ends header_bytes) inv.at-is))
+  module _ {here e : ℕ} (inv : Challenged ends text from start d r here e) (more : e < r) where
+    pub challenged_span : Span ends text (from + e * d) here d
+    challenged_span = part-span ends text from (e * d) d here inv.span (block-end e r d more) inv.is
 
-    pub challenged_range : coefficients (numbers_from ends header_bytes text from (r * d)) ≡ true → coefficients (numbers_from ends header_bytes text at d) ≡ true
-    challenged_range q = rw inv.at-is (part-coefficients ends text from (r * d) (e * d) d (block-end e r d more) q)
+    pub challenged_range : coefficients (numbers_from ends header_bytes text from (r * d)) ≡ true
+        → coefficients (numbers_from ends header_bytes text (from + e * d) d) ≡ true
+    challenged_range q = part-coefficients ends text from (r * d) (e * d) d (block-end e r d more) q
 
     -- the next place is no smaller than the index
-    pub challenged_index : at + d < length text
-    challenged_index = omega (arith, challenged_span.inside, place-index ends (at + d))
+    pub challenged_index : from + e * d + d < length text
+    challenged_index = omega (arith, challenged_span.inside, place-index ends (from + e * d + d))
 
-    module _ {good : Bool} (tested : good ≡ challenge (numbers_from ends header_bytes text at d)) where
+    module _ {good : Bool} (tested : good ≡ challenge (numbers_from ends header_bytes text (from + e * d) d)) where
       tested-part : good ≡ challenge (take d (drop (e * d) (numbers_from ends header_bytes text from (r * d))))
-      tested-part = tested ∙ ap challenge (rw inv.at-is (sym (numbers-part ends text from (r * d) (e * d) d (block-end e r d more))))
+      tested-part = tested ∙ ap challenge (sym (numbers-part ends text from (r * d) (e * d) d (block-end e r d more)))
 
-      pub challenged_false : not good ≡ true → false ≡ challenges d r (numbers_from ends header_bytes text from (r * d))
+      pub challenged_false : good ≡ false → false ≡ challenges d r (numbers_from ends header_bytes text from (r * d))
       unfolding challenges
       challenged_false t = step (every r (λ i. challenge (take d (drop (i * d) (numbers_from ends header_bytes text from (r * d)))))) refl
         where
           step : (s : Bool) → every r (λ i. challenge (take d (drop (i * d) (numbers_from ends header_bytes text from (r * d))))) ≡ s → false ≡ s
-          step true q = contradiction (every_true r _ q e more) (sym tested-part ∙ not-true good t)
+          step true q = contradiction (every_true r _ q e more) (sym tested-part ∙ t)
           step false q = refl
 
-      pub challenged_step : not good ≡ false → {next : ℕ} → next ≡ place ends header_bytes (at + d)
-          → Challenged ends text from start d r next (at + d) (e + 1)
-      challenged_step t q = record {
-        span = inv.span;
-        below = omega arith;
-        at-is = rw (inv.at-is, add-one e, suc-mul e d) (add_assoc from (e * d) d);
-        is = q;
-        passed = every-add-one e _ ∙ rw inv.passed (sym tested-part ∙ not-false good t);
-      }
+      pub challenged_step : good ≡ true → {next : ℕ} → next ≡ place ends header_bytes (from + e * d + d)
+          → Challenged ends text from start d r next (e + 1)
+      challenged_step t q =
+          let after : from + e * d + d ≡ from + (e + 1) * d = rw (add-one e, suc-mul e d) (add_assoc from (e * d) d) in
+          record {
+            span = inv.span;
+            below = omega arith;
+            is = q ∙ ap (place ends header_bytes) after;
+            passed = every-add-one e _ ∙ rw inv.passed (sym tested-part ∙ t);
+          }
 
-  pub challenged_end : {here at e : ℕ} → Challenged ends text from start d r here at e → r ≤ e
+  pub challenged_end : {here e : ℕ} → Challenged ends text from start d r here e → r ≤ e
       → true ≡ challenges d r (numbers_from ends header_bytes text from (r * d))
   unfolding challenges
   challenged_end {e} inv h = let same : e ≡ r = omega (arith, inv.below) in sym (rw same at inv.passed)

@@ -1,15 +1,13 @@
 -- Laws of fields: the reader takes exactly the fields of the numbers that fit, and gives them back.
---     field_given_back    read_field (field_text z) ≡ Number z, where z fits
---     field_is-text       read_field l ≡ Number z → l ≡ field_text z
---     read_fits           read_field l ≡ Number z → Fits16 z
-use Rattle.std.specs.Prelude.{◌≡◌, refl, Bool, true, false, cond, List, [], ◌∷◌, ◌++◌, ◌⊎◌, ℕ, zero, suc, ◌+◌, ◌*◌, ◌/◌, ◌%◌, ◌^◌, ◌≤◌, ◌<◌, T, ltb, eqb, length, ℤ, pos, negsuc, neg_ℤ, nat_abs}
+--     field_given_back    read_field (field_text z) ≡ Some z, where z fits
+--     field_is-text       read_field l ≡ Some z → l ≡ field_text z
+--     read_fits           read_field l ≡ Some z → Fits16 z
+use Rattle.std.specs.Prelude.{◌≡◌, refl, Bool, true, false, cond, List, [], ◌∷◌, ◌++◌, ◌⊎◌, ℕ, zero, suc, ◌+◌, ◌*◌, ◌/◌, ◌%◌, ◌^◌, ◌≤◌, ◌<◌, T, ltb, eqb, length, ℤ, pos, negsuc, neg_ℤ, nat_abs, Option, None, Some}
 use Rattle.std.proofs.Common.{sym, ap, ◌∙◌, subst, inl, inr, div-add-mod', mod-lt, div-lt_iff_lt-mul, le-div_iff_mul-le, pow-suc, zero-add, mul_assoc, arith, length-append, lt-ltb, le-ltb, ne_eqb, ltb-true, ltb-false}
 use Rattle.std.proofs.Math.Nat.{pow-succ', one-le-pow, zero-div}
 use Rattle.integers.specs.Laws.Bridge.{zarith, neg_pn}
-use Rattle.fields.specs.declared.field.Field.{Field}
-use Rattle.fields.specs.declared.field.Field.TheVariants.{Number, Broken}
 use Rattle.fields.specs.Field.{column_byte, minus_due, columns, negative, signed_text, field_text, Fits16}
-use Rattle.fields.specs.Fields.{digit_step, value_from, same_bytes, field_if, field_of, read_field}
+use Rattle.fields.specs.Fields.{digit_step, value_from, same_bytes, field_of, read_field}
 use Rattle.fields.specs.Laws.ByteLaws.{same_refl, same_equal, same_true, same_false, value_snoc, digit-step, other_step, step-bound}
 
 -- ---- the columns' value
@@ -159,15 +157,15 @@ signed_crowded m h =
     let rest : 10 ^ 14 ≤ m / 10 = (le-div_iff_mul-le {k = 10} {x = 10 ^ 14} {y = m} (omega arith)).1 h in
     rw (crowded 14 (m / 10) rest) refl
 
-pub field_of_same : (z : ℤ) (other : Field) → field_of (field_text z) z other ≡ Number z
+pub field_of_same : (z : ℤ) (other : Option ℤ) → field_of (field_text z) z other ≡ Some z
 unfolding field_of
 field_of_same z other = rw (same_refl (field_text z)) refl
 
-pub field_of_other : (l : List ℕ) (z : ℤ) (other : Field) → (l ≡ field_text z → ⊥) → field_of l z other ≡ other
+pub field_of_other : (l : List ℕ) (z : ℤ) (other : Option ℤ) → (l ≡ field_text z → ⊥) → field_of l z other ≡ other
 unfolding field_of
 field_of_other l z other differ = rw (same_false l (field_text z) differ) refl
 
-pub field_given_back : (z : ℤ) → Fits16 z → read_field (field_text z) ≡ Number z
+pub field_given_back : (z : ℤ) → Fits16 z → read_field (field_text z) ≡ Some z
 unfolding read_field field_text
 field_given_back (pos n) f =
     rw (value_signed false n (omega (zarith, f.most))) (field_of_same (pos n) _)
@@ -176,12 +174,12 @@ field_given_back (negsuc n) f =
     rw (
       value_signed true (suc n) (omega arith),
       field_of_other (field_text (negsuc n)) (pos (suc n))
-          (field_of (field_text (negsuc n)) (negsuc n) Broken) (signed_differ (suc n) small),
+          (field_of (field_text (negsuc n)) (negsuc n) None) (signed_differ (suc n) small),
     )
-    (field_of_same (negsuc n) Broken)
+    (field_of_same (negsuc n) None)
 
 -- what is read: the number without or with a minus
-read_cases : (l : List ℕ) (z : ℤ) → read_field l ≡ Number z
+read_cases : (l : List ℕ) (z : ℤ) → read_field l ≡ Some z
     → ((z ≡ pos (value_from 0 l)) × (l ≡ field_text z))
     ⊎ ((z ≡ neg_ℤ (pos (value_from 0 l))) × (l ≡ field_text z) × (l ≡ field_text (pos (value_from 0 l)) → ⊥))
 unfolding read_field field_of
@@ -194,18 +192,18 @@ read_cases l z e = first (same_bytes l (field_text plain)) refl e
     differs e f = subst T (sym e ∙ f) tt
 
     second : (t : Bool) → same_bytes l (field_text (neg_ℤ plain)) ≡ t → (l ≡ field_text plain → ⊥)
-        → field_if t (Number (neg_ℤ plain)) Broken ≡ Number z
+        → cond t (Some (neg_ℤ plain)) None ≡ Some z
         → ((z ≡ plain) × (l ≡ field_text z)) ⊎ ((z ≡ neg_ℤ plain) × (l ≡ field_text z) × (l ≡ field_text plain → ⊥))
     second true q differ e = let w : z ≡ neg_ℤ plain = cc in inr (w, rw w (same_true l _ q), differ)
     second false q differ e = let f : ◌≡◌ {A = ℕ} 0 1 = cc in absurd (omega arith)
 
     first : (t : Bool) → same_bytes l (field_text plain) ≡ t
-        → field_if t (Number plain) (field_if (same_bytes l (field_text (neg_ℤ plain))) (Number (neg_ℤ plain)) Broken) ≡ Number z
+        → cond t (Some plain) (cond (same_bytes l (field_text (neg_ℤ plain))) (Some (neg_ℤ plain)) None) ≡ Some z
         → ((z ≡ plain) × (l ≡ field_text z)) ⊎ ((z ≡ neg_ℤ plain) × (l ≡ field_text z) × (l ≡ field_text plain → ⊥))
     first true q e = let w : z ≡ plain = cc in inl (w, rw w (same_true l _ q))
     first false q e = second (same_bytes l (field_text (neg_ℤ plain))) refl (λ s. differs (same_equal l (field_text plain) s) q) e
 
-pub field_is-text : (l : List ℕ) (z : ℤ) → read_field l ≡ Number z → l ≡ field_text z
+pub field_is-text : (l : List ℕ) (z : ℤ) → read_field l ≡ Some z → l ≡ field_text z
 field_is-text l z e = text (read_cases l z e)
   where
     text : ((z ≡ pos (value_from 0 l)) × (l ≡ field_text z))
@@ -226,7 +224,7 @@ minus-small (suc n) differ = step (ltb (suc n) (10 ^ 15)) refl
     step true e = ltb-true (suc n) (10 ^ 15) e
     step false e = absurd (differ (signed_crowded (suc n) (ltb-false (suc n) (10 ^ 15) e)))
 
-pub read_fits : (l : List ℕ) (z : ℤ) → read_field l ≡ Number z → Fits16 z
+pub read_fits : (l : List ℕ) (z : ℤ) → read_field l ≡ Some z → Fits16 z
 read_fits l z e = fits (read_cases l z e)
   where
     fits : ((z ≡ pos (value_from 0 l)) × (l ≡ field_text z))

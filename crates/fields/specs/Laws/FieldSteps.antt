@@ -107,27 +107,24 @@ module _ (text : List ℕ) (at : ℕ) (inside : at + 16 ≤ length text) where
       (length-columns k (minus_due due rest) (rest / 10)) q
       ∙ sym inv.same
 
-  before : (k : ℕ) → at + suc k - 1 ≡ at + k
-  before k = omega arith
-
   less : (k : ℕ) → suc k - 1 ≡ k
   less k = omega arith
 
   -- the same over the loop's variables
   pub matching_step : (minus : Bool) (m left rest : ℕ) (due : Bool) {byte : ℕ} {next : Bool} → Matching text at minus m left rest due
       → 0 < left
-      → byte ≡ column_byte due rest → get_or text (at + left - 1) 0 ≡ byte → next ≡ minus_due due rest
+      → byte ≡ column_byte due rest → get_or text (at + (left - 1)) 0 ≡ byte → next ≡ minus_due due rest
       → Matching text at minus m (left - 1) (rest / 10) next
   matching_step minus m zero rest due inv h e q n = let never : ⊥ = omega arith in absurd never
   matching_step minus m (suc k) rest due inv h e q n =
-      rw (n, less k) (step_bytes minus m k rest due inv (rw (before k) at q ∙ e))
+      rw (n, less k) (step_bytes minus m k rest due inv (rw (less k) at q ∙ e))
 
   pub matching_other : (minus : Bool) (m left rest : ℕ) (due : Bool) {byte : ℕ} → Matching text at minus m left rest due → 0 < left
-      → byte ≡ column_byte due rest → (get_or text (at + left - 1) 0 ≡ byte → ⊥)
+      → byte ≡ column_byte due rest → (get_or text (at + (left - 1)) 0 ≡ byte → ⊥)
       → false ≡ same_bytes (take 16 (drop at text)) (signed_text minus m)
   matching_other minus m zero rest due inv h e q = let never : ⊥ = omega arith in absurd never
   matching_other minus m (suc k) rest due inv h e q =
-      other_bytes minus m k rest due inv (λ s. q (rw (before k) (s ∙ sym e)))
+      other_bytes minus m k rest due inv (λ s. q (rw (less k) (s ∙ sym e)))
 
   pub matching_end : (minus : Bool) (m left rest : ℕ) (due : Bool) → Matching text at minus m left rest due → left ≤ 0
       → true ≡ same_bytes (take 16 (drop at text)) (signed_text minus m)

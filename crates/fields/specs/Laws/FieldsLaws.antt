@@ -1,10 +1,9 @@
 -- Laws of fields by their place: what `read_field` finds on each of its ways.
-use Rattle.std.specs.Prelude.{◌≡◌, refl, Bool, true, false, List, ℕ, zero, suc, ◌+◌, ◌<◌, ltb, length, take, drop, ℤ, pos, neg_ℤ, ◌-ℤ◌}
+use Rattle.std.specs.Prelude.{◌≡◌, refl, Bool, true, false, List, ℕ, zero, suc, ◌+◌, ◌<◌, ltb, length, take, drop, ℤ, pos, neg_ℤ, ◌-ℤ◌, None, Some}
 use Rattle.std.proofs.Common.{sym, ap, ◌∙◌, arith, length-take, length-drop, lt-ltb, SFits, to_z, of_z, to_z-of_z}
 use Rattle.std.specs.Int.{w64}
 use Rattle.std.proofs.Math.Facts.{to_z_pos}
 use Rattle.integers.specs.Laws.Bridge.{zarith, sub_pn, neg_pn}
-use Rattle.fields.specs.declared.field.Field.TheVariants.{Number, Broken}
 use Rattle.fields.specs.Field.{signed_text, field_text}
 use Rattle.fields.specs.Fields.{value_from, same_bytes, field_of, read_field, field_at}
 use Rattle.fields.specs.Laws.FieldLaws.{length_field, field_of_other}
@@ -12,7 +11,7 @@ use Rattle.fields.specs.Laws.FieldSteps.{value-below}
 
 -- ---- the text ends before the field does
 
-read_short : (l : List ℕ) → length l < 16 → read_field l ≡ Broken
+read_short : (l : List ℕ) → length l < 16 → read_field l ≡ None
 unfolding read_field
 read_short l h =
     field_of_other l _ _ (λ e. shorter _ e) ∙ field_of_other l _ _ (λ e. shorter _ e)
@@ -20,7 +19,7 @@ read_short l h =
     shorter : (z : ℤ) → l ≡ field_text z → ⊥
     shorter z e = omega (arith, ap length e, length_field z)
 
-pub field_short : (text : List ℕ) (at : ℕ) → length text < at + 16 → Broken ≡ field_at text at
+pub field_short : (text : List ℕ) (at : ℕ) → length text < at + 16 → None ≡ field_at text at
 unfolding field_at
 field_short text at h = sym (read_short (take 16 (drop at text)) (omega (arith, length-take 16 (drop at text), length-drop at text)))
 
@@ -52,18 +51,18 @@ signed_plain m = refl
 
 module _ (text : List ℕ) (at v : ℕ) where
   pub field_plain : {z : ℤ} {first : Bool} → z ≡ pos v → v ≡ value_from 0 (take 16 (drop at text))
-      → first ≡ same_bytes (take 16 (drop at text)) (signed_text false v) → first ≡ true → Number z ≡ field_at text at
+      → first ≡ same_bytes (take 16 (drop at text)) (signed_text false v) → first ≡ true → Some z ≡ field_at text at
   unfolding field_at read_field field_of
   field_plain q e s t = rw (q, ← e) (rw (← signed_plain v, ← s, t) refl)
 
   pub field_minus : {z : ℤ} {first second : Bool} → z ≡ neg_ℤ (pos v) → v ≡ value_from 0 (take 16 (drop at text))
       → first ≡ same_bytes (take 16 (drop at text)) (signed_text false v) → first ≡ false
-      → second ≡ same_bytes (take 16 (drop at text)) (signed_text (ltb 0 v) v) → second ≡ true → Number z ≡ field_at text at
+      → second ≡ same_bytes (take 16 (drop at text)) (signed_text (ltb 0 v) v) → second ≡ true → Some z ≡ field_at text at
   unfolding field_at read_field field_of
   field_minus q e s t s' t' = rw (q, ← e) (rw (← signed_plain v, ← signed_opposite v, ← s, t, ← s', t') refl)
 
   pub field_neither : {first second : Bool} → v ≡ value_from 0 (take 16 (drop at text))
       → first ≡ same_bytes (take 16 (drop at text)) (signed_text false v) → first ≡ false
-      → second ≡ same_bytes (take 16 (drop at text)) (signed_text (ltb 0 v) v) → second ≡ false → Broken ≡ field_at text at
+      → second ≡ same_bytes (take 16 (drop at text)) (signed_text (ltb 0 v) v) → second ≡ false → None ≡ field_at text at
   unfolding field_at read_field field_of
   field_neither e s t s' t' = rw (← e) (rw (← signed_plain v, ← signed_opposite v, ← s, t, ← s', t') refl)

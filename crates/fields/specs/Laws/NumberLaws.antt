@@ -1,12 +1,10 @@
 -- Laws of the numbers that a field holds, as signed machine numbers.
-use Rattle.std.specs.Prelude.{◌≡◌, refl, true, false, List, ℕ, ◌≤◌, T, take, drop, ℤ, pos, nat_abs, ◌-ℤ◌}
+use Rattle.std.specs.Prelude.{◌≡◌, refl, true, false, List, ℕ, ◌≤◌, T, take, drop, ℤ, pos, nat_abs, ◌-ℤ◌, Option, None, Some, unwrap_or}
 use Rattle.std.proofs.Common.{arith, SFits}
 use Rattle.std.specs.Int.Signed.{non_neg, lt_z, yes_non_neg}
 use Rattle.std.specs.Int.{w32, w64}
 use Rattle.integers.specs.Laws.Bridge.{zarith, sub_pn, nat_abs_pn, pn_min}
-use Rattle.fields.specs.declared.field.Field.{Field}
-use Rattle.fields.specs.declared.field.Field.TheVariants.{Number, Broken}
-use Rattle.fields.specs.Fields.{read_field, field_at, number_in}
+use Rattle.fields.specs.Fields.{read_field, field_at}
 use Rattle.fields.specs.Laws.FieldLaws.{read_fits}
 use Rattle.fields.specs.Place.{number_at}
 
@@ -14,11 +12,11 @@ pub number_small : (text : List ℕ) (at : ℕ) → nat_abs (number_at text at) 
 unfolding number_at field_at
 number_small text at = step (read_field (take 16 (drop at text))) refl
   where
-    step : (f : Field) → read_field (take 16 (drop at text)) ≡ f → nat_abs (number_in f) ≤ 10000000000000000
-    step (Number z) e =
+    step : (f : Option ℤ) → read_field (take 16 (drop at text)) ≡ f → nat_abs (unwrap_or f (pos 0)) ≤ 10000000000000000
+    step (Some z) e =
         let fits = read_fits (take 16 (drop at text)) z e in
         omega (zarith, fits.least, fits.most, nat_abs_pn z, pn_min z)
-    step Broken e = omega arith
+    step None e = omega arith
 
 module _ (x : ℤ) (h : nat_abs x ≤ 10000000000000000) where
   pub minus-fits : SFits w64 (pos 0 -ℤ x)

@@ -1,19 +1,15 @@
 -- Laws of numbers on lines, by place: the tests of one field, and the loops that walk over fields.
-use Rattle.std.specs.Prelude.{◌≡◌, Bool, cond, not, List, ℕ, zero, suc, ◌+◌, ◌-◌, ◌≤◌, ◌<◌, T, eqb, ltb, length, get_or}
+use Rattle.std.specs.Prelude.{◌≡◌, Bool, cond, List, ℕ, zero, suc, ◌+◌, ◌-◌, ◌≤◌, ◌<◌, T, eqb, ltb, length, get_or, ℤ, Option, None, Some, is_some}
 use Rattle.std.proofs.Math.Path.{refl}
 use Rattle.std.proofs.Common.{sym, ap, ◌∙◌, subst, add-zero, le_refl}
 use Rattle.std.proofs.Math.Bool.{true, false}
 use Rattle.std.proofs.Math.Numerals.{add-one}
 use native.Mathlib.Omega.{arith}
 use Rattle.std.proofs.Math.ListN.{get_or-eq_default}
-use borrow.Author.Tests.{eqb-true, ltb-true, ltb-false, not-true, not-false}
+use borrow.Author.Tests.{eqb-true, ltb-true, ltb-false}
 use Rattle.ring.specs.Element.{every}
 use Rattle.ring.specs.Laws.ElementEquality.{every_true, every-zero, every-suc, every-add-one}
-use Rattle.fields.specs.declared.field.Field.{Field}
-use Rattle.fields.specs.declared.field.Field.TheVariants.{Broken}
-use Rattle.fields.specs.declared.walk.End.TheVariants.{At}
-use Rattle.fields.specs.declared.walk.End as end
-use Rattle.fields.specs.Fields.{field_at, is_number}
+use Rattle.fields.specs.Fields.{field_at}
 use Rattle.fields.specs.Laws.FieldsLaws.{field_short}
 use Rattle.fields.specs.Place.{field_width, place, laid_field, laid, end_if}
 
@@ -26,46 +22,46 @@ pub feed_outside : (text : List ℕ) (at : ℕ) → length text ≤ at → false
 feed_outside text at h = rw (get_or-eq_default text 0 {n = at} h) refl
 
 -- a field that is a number lies within the text
-pub field_inside : (text : List ℕ) (at : ℕ) → is_number (field_at text at) ≡ true → at + 16 ≤ length text
+pub field_inside : (text : List ℕ) (at : ℕ) → is_some (field_at text at) ≡ true → at + 16 ≤ length text
 field_inside text at e = step (ltb (length text) (at + 16)) refl
   where
     step : (t : Bool) → ltb (length text) (at + 16) ≡ t → at + 16 ≤ length text
-    step true l = contradiction e (ap is_number (sym (field_short text at (ltb-true (length text) (at + 16) l))))
+    step true l = contradiction e (ap is_some (sym (field_short text at (ltb-true (length text) (at + 16) l))))
     step false l = ltb-false (length text) (at + 16) l
 
-module _ (text : List ℕ) (at : ℕ) {field : Field} {number : Bool} (read : field ≡ field_at text at) (told : number ≡ is_number field) where
-  is-number : number ≡ is_number (field_at text at)
-  is-number = told ∙ ap is_number read
+module _ (text : List ℕ) (at : ℕ) {field : Option ℤ} {number : Bool} (read : field ≡ field_at text at) (told : number ≡ is_some field) where
+  is-number : number ≡ is_some (field_at text at)
+  is-number = told ∙ ap is_some read
 
-  pub number-inside : not number ≡ false → at + 16 ≤ length text
-  number-inside t = field_inside text at (sym is-number ∙ not-false number t)
+  pub number-inside : number ≡ true → at + 16 ≤ length text
+  number-inside t = field_inside text at (sym is-number ∙ t)
 
-module _ (text : List ℕ) (at : ℕ) (last : Bool) {field : Field} {number : Bool} (read : field ≡ field_at text at)
-    (told : number ≡ is_number field)
+module _ (text : List ℕ) (at : ℕ) (last : Bool) {field : Option ℤ} {number : Bool} (read : field ≡ field_at text at)
+    (told : number ≡ is_some field)
   where
-    pub laid_none : not number ≡ true → false ≡ laid_field text at last
+    pub laid_none : number ≡ false → false ≡ laid_field text at last
     unfolding laid_field
-    laid_none t = rw (← is-number text at read told, not-true number t) refl
+    laid_none t = rw (← is-number text at read told, t) refl
 
-    pub laid-feed : not number ≡ false → last ≡ true → {feed : Bool} → feed ≡ eqb (get_or text (at + 16) 0) 10 → feed ≡ laid_field text at last
+    pub laid-feed : number ≡ true → last ≡ true → {feed : Bool} → feed ≡ eqb (get_or text (at + 16) 0) 10 → feed ≡ laid_field text at last
     unfolding laid_field
-    laid-feed t l e = rw (← is-number text at read told, not-false number t, l) e
+    laid-feed t l e = rw (← is-number text at read told, t, l) e
 
-    pub laid-inner : not number ≡ false → last ≡ false → true ≡ laid_field text at last
+    pub laid-inner : number ≡ true → last ≡ false → true ≡ laid_field text at last
     unfolding laid_field
-    laid-inner t l = rw (← is-number text at read told, not-false number t, l) refl
+    laid-inner t l = rw (← is-number text at read told, t, l) refl
 
-pub laid_field-number : (text : List ℕ) (at : ℕ) (last : Bool) → laid_field text at last ≡ true → is_number (field_at text at) ≡ true
+pub laid_field-number : (text : List ℕ) (at : ℕ) (last : Bool) → laid_field text at last ≡ true → is_some (field_at text at) ≡ true
 unfolding laid_field
-laid_field-number text at last e = step (is_number (field_at text at)) refl e
+laid_field-number text at last e = step (is_some (field_at text at)) refl e
   where
-    step : (t : Bool) → is_number (field_at text at) ≡ t → cond t (cond last (eqb (get_or text (at + 16) 0) 10) true) false ≡ true → t ≡ true
+    step : (t : Bool) → is_some (field_at text at) ≡ t → cond t (cond last (eqb (get_or text (at + 16) 0) 10) true) false ≡ true → t ≡ true
     step true q e = refl
     step false q e = e
 
 pub laid_field-feed : (text : List ℕ) (at : ℕ) → laid_field text at true ≡ true → get_or text (at + 16) 0 ≡ 10
 unfolding laid_field
-laid_field-feed text at e = step (is_number (field_at text at)) e
+laid_field-feed text at e = step (is_some (field_at text at)) e
   where
     step : (t : Bool) → cond t (eqb (get_or text (at + 16) 0) 10) false ≡ true → get_or text (at + 16) 0 ≡ 10
     step true e = eqb-true (get_or text (at + 16) 0) 10 e
@@ -132,28 +128,28 @@ module _ (ends : ℕ → Bool) (at : ℕ) (text : List ℕ) (n here i : ℕ) (in
     tested-place : good ≡ laid_field text (place ends at i) (ends i)
     tested-place = tested ∙ rw (told, inv.is) refl
 
-    pub laid_broken : not good ≡ true → end.TheVariants.Broken ≡ end_if (laid ends at text n) (place ends at n)
+    pub laid_broken : good ≡ false → None ≡ end_if (laid ends at text n) (place ends at n)
     unfolding laid
     laid_broken t = step (every n (λ k. laid_field text (place ends at k) (ends k))) refl
       where
-        step : (t : Bool) → every n (λ k. laid_field text (place ends at k) (ends k)) ≡ t → end.TheVariants.Broken ≡ end_if t (place ends at n)
-        step true e = contradiction (every_true n _ e i more) (sym tested-place ∙ not-true good t)
+        step : (t : Bool) → every n (λ k. laid_field text (place ends at k) (ends k)) ≡ t → None ≡ end_if t (place ends at n)
+        step true e = contradiction (every_true n _ e i more) (sym tested-place ∙ t)
         step false e = refl
 
-    module _ (kept : not good ≡ false) {width : ℕ} (wide : width ≡ field_width last) where
+    module _ (kept : good ≡ true) {width : ℕ} (wide : width ≡ field_width last) where
       pub laid-fits : here + width ≤ length text
-      laid-fits = omega (arith, wide, laid_field-fits text here last (sym tested ∙ not-false good kept))
+      laid-fits = omega (arith, wide, laid_field-fits text here last (sym tested ∙ kept))
 
       pub laid-step : Laid ends at text n (here + width) (i + 1)
       unfolding laid
       laid-step = record {
         below = omega arith;
         is = rw (inv.is, wide, told) (sym (place-next ends at i));
-        passed = every-add-one i _ ∙ rw inv.passed (sym tested-place ∙ not-false good kept);
+        passed = every-add-one i _ ∙ rw inv.passed (sym tested-place ∙ kept);
       }
 
-  pub laid_end : n ≤ i → At here ≡ end_if (laid ends at text n) (place ends at n)
+  pub laid_end : n ≤ i → Some here ≡ end_if (laid ends at text n) (place ends at n)
   laid_end h =
       let e : i ≡ n = omega (arith, inv.below) in
       let passed : laid ends at text n ≡ true = rw (← e) inv.passed in
-      rw passed (ap At (inv.is ∙ ap (place ends at) e))
+      rw passed (ap Some (inv.is ∙ ap (place ends at) e))

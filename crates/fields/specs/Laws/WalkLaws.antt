@@ -2,14 +2,14 @@
 --     Walked        here is the place of number from + j: `place_after`
 --     Ranged        the first j numbers are within the bound: `all_within`
 --     Filled        the first j numbers are written: `fill`
-use Rattle.std.specs.Prelude.{◌≡◌, Bool, true, false, not, List, [], ◌∷◌, leb, get_or, pos, nat_abs}
+use Rattle.std.specs.Prelude.{◌≡◌, Bool, true, false, List, [], ◌∷◌, leb, get_or, pos, nat_abs}
 use Rattle.std.proofs.Math.Path.{refl, sym, ap}
 use Rattle.std.proofs.Common.{◌∙◌, subst, add-zero, add_assoc, add-one}
 use Prim.Native.Nat.{ℕ, ◌+◌, ◌≤◌, ◌<◌}
 use native.Mathlib.Omega.{arith}
 use Rattle.std.proofs.Math.ListN.{length, set, length-set}
 use Rattle.std.proofs.Math.IntN.{ℤ}
-use borrow.Author.Tests.{le-leb, leb-true, leb-false, not-true, not-false}
+use borrow.Author.Tests.{le-leb, leb-true, leb-false}
 use Rattle.integers.specs.Lists.{tab, all}
 use Rattle.integers.specs.Laws.ListLaws.{length-tab, get_d_tab, tab-suc}
 use Rattle.integers.specs.Over.{over}
@@ -82,17 +82,17 @@ module _ {ends : ℕ → Bool} {text : List ℕ} {from start count bound : ℕ} 
     here-number : nat_abs (number_at text here) ≡ nat_abs (number_at text (place ends header_bytes (from + j)))
     here-number = ap (λ (p : ℕ). nat_abs (number_at text p)) inv.walk.is
 
-    pub ranged_false : not good ≡ true → false ≡ all_within bound (numbers_from ends header_bytes text from count)
+    pub ranged_false : good ≡ false → false ≡ all_within bound (numbers_from ends header_bytes text from count)
     ranged_false t =
-        let above = leb-false (nat_abs (number_at text here)) bound (sym tested ∙ not-true good t) in
+        let above = leb-false (nat_abs (number_at text here)) bound (sym tested ∙ t) in
         sym (all_within_false bound (numbers_from ends header_bytes text from count) j
         (rw (number_of ends text from count j more) (omega (arith, above, here-number))))
 
-    pub ranged_step : not good ≡ false → {last : Bool} {width : ℕ} → last ≡ ends (from + j) → width ≡ field_width last
+    pub ranged_step : good ≡ true → {last : Bool} {width : ℕ} → last ≡ ends (from + j) → width ≡ field_width last
         → Ranged ends text from start count bound (here + width) (j + 1)
     unfolding numbers_from
     ranged_step t told wide =
-        let within = leb-true (nat_abs (number_at text here)) bound (sym tested ∙ not-false good t) in
+        let within = leb-true (nat_abs (number_at text here)) bound (sym tested ∙ t) in
         let f : ℕ → ℤ = λ k. number_at text (place ends header_bytes (from + k)) in
         record {
           walk = walked_step inv.walk more told wide;

@@ -127,12 +127,11 @@ module _ (out₀ : List ℕ) (at : ℕ) (minus : Bool) (m : ℕ) (inside : at + 
   }
 
   pub columns-step : (out : List ℕ) (left rest : ℕ) → Columns out₀ out at minus m left rest → 0 < left → 0 < rest
-      → Columns out₀ (set out (at + left - 1) (48 + rest % 10)) at minus m (left - 1) (rest / 10)
+      → Columns out₀ (set out (at + (left - 1)) (48 + rest % 10)) at minus m (left - 1) (rest / 10)
   columns-step out zero rest inv h k = let never : ⊥ = omega arith in absurd never
   columns-step out (suc k) rest inv h some =
-      let place-k : at + suc k - 1 ≡ at + k = omega arith in
       let less : suc k - 1 ≡ k = omega arith in
-      rw (place-k, less) (step_left out k rest inv some)
+      rw less (step_left out k rest inv some)
 
   -- the digits end: the sign, and the blanks that are there
   sign-left : (out : List ℕ) (k : ℕ) → Columns out₀ out at minus m (suc k) 0 → take 15 (drop at out₀) ≡ blanks 15
@@ -148,11 +147,11 @@ module _ (out₀ : List ℕ) (at : ℕ) (minus : Bool) (m : ℕ) (inside : at + 
       ∙ ap (over out₀ at) (sym all)
 
   pub columns-sign : (out : List ℕ) (left rest : ℕ) {sign : ℕ} → Columns out₀ out at minus m left rest → 0 < left → rest ≡ 0
-      → take 15 (drop at out₀) ≡ blanks 15 → sign ≡ column_byte minus 0 → set out (at + left - 1) sign ≡ over out₀ at (columns 15 minus m)
+      → take 15 (drop at out₀) ≡ blanks 15 → sign ≡ column_byte minus 0 → set out (at + (left - 1)) sign ≡ over out₀ at (columns 15 minus m)
   columns-sign out zero rest inv h e blank s = let never : ⊥ = omega arith in absurd never
   columns-sign out (suc k) rest inv h e blank s =
-      let place-k : at + suc k - 1 ≡ at + k = omega arith in
-      rw (place-k, s) (sign-left out k (rw e at inv) blank)
+      let less : suc k - 1 ≡ k = omega arith in
+      rw (less, s) (sign-left out k (rw e at inv) blank)
 
   pub columns-end : (out : List ℕ) (left rest : ℕ) → Columns out₀ out at minus m left rest → left ≤ 0 → out ≡ over out₀ at (columns 15 minus m)
   unfolding columns

@@ -4,4 +4,4 @@ use Rattle.judge.specs.Judging.{verdict_line}
 use Rattle.judge.proofs.judged_line.Goals as goal
 
 pub returns : goal.returns
-returns c = c.verdict_line.ensures ∙ ap verdict_line c.judge_sheet-answer.ensures
+returns c = c.verdict_line.ensures ∙ ap verdict_line c.judge_sheet.ensures

@@ -9,7 +9,6 @@ use Rattle.fold.specs.declared.Answer.{Answer}
 use Rattle.fold.specs.declared.Answer.TheVariants as answer
 use Rattle.fold.specs.Answers.{written}
 use Rattle.sheet.specs.declared.reader.SheetAnswer.{SheetAnswer}
-use Rattle.sheet.specs.declared.reader.SheetAnswer.TheVariants.{Refused}
 use Rattle.sheet.specs.Reading.{header_numbers, sheet_sizes_of, sheet_if, reading, reading_refusal, SheetRead}
 use Rattle.sheet.specs.Laws.AnswerLaws.{reading-passed, read_is}
 use Rattle.sheet.specs.Laws.HeaderLaws.{header-bounded}

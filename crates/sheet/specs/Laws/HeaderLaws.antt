@@ -3,7 +3,7 @@
 --     size-test, chunks_size       one test of one number, and of ν and μ
 --     header-sizes                 all tests
 --     header-passes, header-bounded     what a header that is not refused says of its sizes
-use Rattle.std.specs.Prelude.{◌≡◌, Bool, true, false, List, ℕ, T, get_or, ℤ, pos, negsuc, nat_abs}
+use Rattle.std.specs.Prelude.{◌≡◌, Bool, true, false, List, ℕ, T, get_or, ℤ, pos, negsuc, nat_abs, is_some}
 use Rattle.std.proofs.Math.Path.{refl}
 use Rattle.std.proofs.Common.{sym, subst, ◌∙◌, arith, ltb-true}
 use Rattle.std.specs.Int.Signed.{non_neg, lt_z}
@@ -18,7 +18,6 @@ use Rattle.limits.specs.Known.StageLimits.{next-sized}
 use Rattle.fields.specs.Place.{end_if}
 use Rattle.fields.specs.Laws.PlaceLaws.{contradiction}
 use Rattle.sheet.specs.Reading.{header_tests, size, sizes_of, sheet_sizes_of}
-use Rattle.sheet.specs.Known.Reading.{has_end}
 
 -- ---- a number as the reader forms its size
 
@@ -125,6 +124,6 @@ module _ (h : List ℤ) where
 
 -- ---- the layout
 
-pub has-end-is : (t : Bool) (at : ℕ) → has_end (end_if t at) ≡ t
+pub has-end-is : (t : Bool) (at : ℕ) → is_some (end_if t at) ≡ t
 has-end-is true at = refl
 has-end-is false at = refl

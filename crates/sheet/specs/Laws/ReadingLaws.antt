@@ -1,6 +1,7 @@
 -- Laws of the tests of the lines after the header and of their numbers, as the reader's functions form them.
 --     front-span, later-span, body-part    some of the numbers after the header
-use Rattle.std.specs.Prelude.{◌≡◌, Bool, true, false, cond, not, List, ℕ, ◌+◌, ◌*◌, ◌≤◌, ◌<◌, eqb, length, take, drop, ℤ}
+use Rattle.std.specs.Prelude.{◌≡◌, Bool, true, false, cond, not, List, ℕ, ◌+◌, ◌*◌, ◌≤◌, ◌<◌, eqb, length, take, drop, ℤ, Option, Some}
+use Rattle.std.specs.Option.{option_eq}
 use Rattle.std.proofs.Math.Path.{refl, sym, ap}
 use Rattle.std.proofs.Common.{◌∙◌, arith}
 use Rattle.std.proofs.Math.Nat.{zero-add}
@@ -12,13 +13,12 @@ use Rattle.fold.specs.Answers.{first_failing}
 use Rattle.fold.specs.Refusals.{challenges, projection_length}
 use Rattle.fold.specs.declared.Sizes.{Sizes}
 use Rattle.fields.specs.declared.sizes.Sections.{Sections}
-use Rattle.fields.specs.declared.walk.End.{End}
 use Rattle.fields.specs.Sections.{Sectioned, sections_of, term_size, row_count, last_count, total, projections_from, challenges_from, ends_line}
 use Rattle.fields.specs.Place.{place, laid, end_if, numbers_from, Span}
 use Rattle.fields.specs.Laws.PlaceLaws.{contradiction, place_mono}
 use Rattle.fields.specs.Laws.ChallengeLaws.{numbers-part}
 use Rattle.sheet.specs.Reading.{body_laid, body_numbers, projections_in, challenges_in, number_tests, body_tests}
-use Rattle.sheet.specs.Known.Reading.{ends_at, Inside}
+use Rattle.sheet.specs.Known.Reading.{Inside}
 use Rattle.fields.specs.Field.{header_bytes}
 
 pub lines-positive : {s : Sizes} {q : Sections} → VerifySized s → Sectioned s q → (0 < q.d) × (0 < q.period)
@@ -64,16 +64,16 @@ unfolding challenges_from total last_count
 challenges-end s = omega arith
 
 module _ (s : Sizes) (xs : List ℤ) where
-  pub eight : {good : Bool} → good ≡ coefficients xs → not good ≡ true → 8 ≡ first_failing (number_tests s xs)
+  pub eight : {good : Bool} → good ≡ coefficients xs → good ≡ false → 8 ≡ first_failing (number_tests s xs)
   unfolding first_failing number_tests
-  eight {good} e t = rw (← e, not-true good t) refl
+  eight {good} e t = rw (← e, t) refl
 
-  pub nine_ten : {good projections ok : Bool} {r₉ r₁₀ : ℕ} → good ≡ coefficients xs → not good ≡ false
+  pub nine_ten : {good projections ok : Bool} {r₉ r₁₀ : ℕ} → good ≡ coefficients xs → good ≡ true
       → r₉ ≡ cond projections r₁₀ 9 → projections ≡ projection_entries (projections_in s xs)
       → r₁₀ ≡ cond ok 0 10 → ok ≡ challenges s.shape.d s.shape.r (challenges_in s xs)
       → r₉ ≡ first_failing (number_tests s xs)
   unfolding first_failing number_tests
-  nine_ten {good} e t e₉ f₉ e₁₀ f₁₀ = rw (← e, not-false good t, e₉, f₉, e₁₀, f₁₀) refl
+  nine_ten {good} e t e₉ f₉ e₁₀ f₁₀ = rw (← e, t, e₉, f₉, e₁₀, f₁₀) refl
 
 pub body-within : (s : Sizes) (text : List ℕ) → body_laid s text ≡ true → place (ends_line (sections_of s)) header_bytes (total s) ≤ length text
 unfolding body_laid
@@ -84,29 +84,32 @@ body-within s text e = step (laid (ends_line (sections_of s)) header_bytes text 
     step true q = omega (arith, eqb-true (place (ends_line (sections_of s)) header_bytes (total s)) (length text) q)
     step false q = contradiction q refl
 
-module _ (s : Sizes) (text : List ℕ) (q : Sections) (e : Sectioned s q) {count : ℕ} (c : count ≡ total s) {end : End}
-    (l : end ≡ end_if (laid (ends_line q) header_bytes text count) (place (ends_line q) header_bytes count)) {good : Bool}
-    (g : good ≡ ends_at end (length text)) where
-  ends_is : (t : Bool) (p n : ℕ) → ends_at (end_if t p) n ≡ cond t (eqb p n) false
+module _ (s : Sizes) (text : List ℕ) (q : Sections) (e : Sectioned s q) {count : ℕ} (c : count ≡ total s) {end : Option ℕ}
+    (l : end ≡ end_if (laid (ends_line q) header_bytes text count) (place (ends_line q) header_bytes count)) {other : Bool}
+    (g : other ≡ not (option_eq eqb end (Some (length text)))) where
+  ends_is : (t : Bool) (p n : ℕ) → option_eq eqb (end_if t p) (Some n) ≡ cond t (eqb p n) false
   ends_is true p n = refl
   ends_is false p n = refl
 
-  laid-is : good ≡ body_laid s text
+  laid-is : other ≡ not (body_laid s text)
   unfolding body_laid
   laid-is = g ∙ rw (l, ends_is (laid (ends_line q) header_bytes text count) (place (ends_line q) header_bytes count) (length text), e.is, c) refl
 
-  pub twelve : (room : ℕ) → not good ≡ true → 12 ≡ first_failing (body_tests room s text)
-  unfolding first_failing body_tests
-  twelve room t = rw (← laid-is, not-true good t) refl
+  laid-here : other ≡ false → body_laid s text ≡ true
+  laid-here t = not-false _ (sym laid-is ∙ t)
 
-  pub seven : (room : ℕ) → not good ≡ false → (room ≡ count → ⊥) → 7 ≡ first_failing (body_tests room s text)
+  pub twelve : (room : ℕ) → other ≡ true → 12 ≡ first_failing (body_tests room s text)
   unfolding first_failing body_tests
-  seven room t h = rw (← laid-is, not-false good t, ne_eqb room (total s) (λ e. h (e ∙ sym c))) refl
+  twelve room t = rw (not-true _ (sym laid-is ∙ t)) refl
 
-  pub later : (room : ℕ) → not good ≡ false → room ≡ count → {r : ℕ} → r ≡ first_failing (number_tests s (body_numbers s text))
+  pub seven : (room : ℕ) → other ≡ false → (room ≡ count → ⊥) → 7 ≡ first_failing (body_tests room s text)
+  unfolding first_failing body_tests
+  seven room t h = rw (laid-here t, ne_eqb room (total s) (λ e. h (e ∙ sym c))) refl
+
+  pub later : (room : ℕ) → other ≡ false → room ≡ count → {r : ℕ} → r ≡ first_failing (number_tests s (body_numbers s text))
       → r ≡ first_failing (body_tests room s text)
   unfolding first_failing body_tests
-  later room t h n = rw (← laid-is, not-false good t, eq-eqb room (total s) (h ∙ c)) n
+  later room t h n = rw (laid-here t, eq-eqb room (total s) (h ∙ c)) n
 
-  pub laid-inside : VerifySized s → not good ≡ false → Inside s text
-  laid-inside b t = record { bounded = b; inside = body-within s text (sym laid-is ∙ not-false good t) }
+  pub laid-inside : VerifySized s → other ≡ false → Inside s text
+  laid-inside b t = record { bounded = b; inside = body-within s text (laid-here t) }

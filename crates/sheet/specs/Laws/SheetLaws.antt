@@ -1,6 +1,6 @@
 -- A text whose lines are laid is the text of its numbers, and the text of numbers that fit is laid and gives them back:
 -- for the header's line, and for the lines after it.
-use Rattle.std.specs.Prelude.{◌≡◌, refl, Bool, true, ℕ, zero, suc, ◌*◌, ◌≤◌, ◌<◌, take, drop, ℤ, pos}
+use Rattle.std.specs.Prelude.{◌≡◌, refl, Bool, true, ℕ, zero, suc, ◌*◌, ◌≤◌, ◌<◌, take, drop, ℤ, pos, Option, None, Some, is_some, unwrap_or}
 use Rattle.std.proofs.Math.Path.{sym, ap}
 use Rattle.std.proofs.Common.{ap₂, ◌∙◌, zero-add}
 use mathlib.Core.List.{List, [], ◌++◌, append-nil}
@@ -15,11 +15,9 @@ use Rattle.integers.specs.Laws.Bridge.{zarith, nat_abs_pn}
 use Rattle.ring.specs.Laws.ElementEquality.{every_true}
 use Rattle.residues.specs.Range.{coefficients}
 use Rattle.residues.proofs.Laws.RangeLaws.{coefficients-at}
-use Rattle.fields.specs.declared.field.Field.{Field}
-use Rattle.fields.specs.declared.field.Field.TheVariants.{Number, Broken}
 use Rattle.fold.specs.declared.Sizes.{Sizes}
 use Rattle.fields.specs.Field.{Fits16, header_bytes}
-use Rattle.fields.specs.Fields.{read_field, field_at, is_number, number_in}
+use Rattle.fields.specs.Fields.{read_field, field_at}
 use Rattle.fields.specs.Laws.FieldLaws.{read_fits}
 use Rattle.fields.specs.Sections.{sections_of, total, ends_line}
 use Rattle.fields.specs.Place.{place, line_fields, laid_field, laid, number_at}
@@ -33,13 +31,13 @@ use Rattle.sheet.specs.Laws.BodyLaws.{body-total, body-positive}
 use Rattle.sheet.specs.Laws.EndLaws.{body_ends, header_ends, header-place, header-end}
 
 -- a number that was read fits
-number_fits : (text : List ℕ) (p : ℕ) → is_number (field_at text p) ≡ true → Fits16 (number_at text p)
+number_fits : (text : List ℕ) (p : ℕ) → is_some (field_at text p) ≡ true → Fits16 (number_at text p)
 unfolding field_at number_at
 number_fits text p e = step (read_field (take 16 (drop p text))) refl e
   where
-    step : (f : Field) → read_field (take 16 (drop p text)) ≡ f → is_number f ≡ true → Fits16 (number_in f)
-    step (Number z) q e = read_fits (take 16 (drop p text)) z q
-    step Broken q e = contradiction e refl
+    step : (f : Option ℤ) → read_field (take 16 (drop p text)) ≡ f → is_some f ≡ true → Fits16 (unwrap_or f (pos 0))
+    step (Some z) q e = read_fits (take 16 (drop p text)) z q
+    step None q e = contradiction e refl
 
 laid-at : (ends : ℕ → Bool) (at : ℕ) (text : List ℕ) (n : ℕ) → laid ends at text n ≡ true → (i : ℕ) → i < n
     → laid_field text (place ends at i) (ends i) ≡ true

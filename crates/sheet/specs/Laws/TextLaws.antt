@@ -1,30 +1,28 @@
 -- Laws that join a text and the numbers on its lines, by place.
 --     laid-text                  fields that are laid are the text of their numbers
 --     text-held, text-number     and the text of numbers that fit is laid, and gives them back
-use Rattle.std.specs.Prelude.{◌≡◌, refl, Bool, true, false, ◌⊎◌, List, ◌∷◌, ◌++◌, ℕ, zero, suc, ◌+◌, ◌<◌, length, get_or, take, drop, ℤ}
+use Rattle.std.specs.Prelude.{◌≡◌, refl, Bool, true, false, ◌⊎◌, List, ◌∷◌, ◌++◌, ℕ, zero, suc, ◌+◌, ◌<◌, length, get_or, take, drop, ℤ, pos, Option, None, Some, is_some, unwrap_or}
 use Rattle.std.proofs.Common.{sym, ◌∙◌, inl, inr, append_assoc, add-zero, lt-suc_self, eq-or-lt_of_le, arith, take-append-drop, drop-drop, drop-cons, get_or-drop, drop_at, eq-eqb}
 use Rattle.std.proofs.Math.Path.{ap}
 use Rattle.std.proofs.Math.Nat.{le_step}
 use Rattle.std.proofs.Math.Seq.{take_at}
 use Rattle.integers.specs.Laws.AllLaws.{both_left, both_right}
 use Rattle.integers.specs.Flat.{flat}
-use Rattle.fields.specs.declared.field.Field.{Field}
-use Rattle.fields.specs.declared.field.Field.TheVariants.{Number, Broken}
 use Rattle.fields.specs.Field.{field_text, Fits16}
-use Rattle.fields.specs.Fields.{read_field, field_at, is_number, number_in}
+use Rattle.fields.specs.Fields.{read_field, field_at}
 use Rattle.fields.specs.Laws.FieldLaws.{field_is-text, field_given_back, length_field}
 use Rattle.fields.specs.Place.{field_width, feed, line_fields, place, laid_field, laid, number_at}
 use Rattle.fields.specs.Laws.PlaceLaws.{contradiction, laid_field-number, laid_field-feed, laid_field-fits, laid-zero, laid-suc}
 
 -- ---- one field
 
-number-text : (text : List ℕ) (p : ℕ) → is_number (field_at text p) ≡ true → take 16 (drop p text) ≡ field_text (number_at text p)
+number-text : (text : List ℕ) (p : ℕ) → is_some (field_at text p) ≡ true → take 16 (drop p text) ≡ field_text (number_at text p)
 unfolding field_at number_at
 number-text text p e = step (read_field (take 16 (drop p text))) refl e
   where
-    step : (f : Field) → read_field (take 16 (drop p text)) ≡ f → is_number f ≡ true → take 16 (drop p text) ≡ field_text (number_in f)
-    step (Number z) q e = field_is-text (take 16 (drop p text)) z q
-    step Broken q e = contradiction e refl
+    step : (f : Option ℤ) → read_field (take 16 (drop p text)) ≡ f → is_some f ≡ true → take 16 (drop p text) ≡ field_text (unwrap_or f (pos 0))
+    step (Some z) q e = field_is-text (take 16 (drop p text)) z q
+    step None q e = contradiction e refl
 
 after_field : (text : List ℕ) (p : ℕ) (last : Bool) → laid_field text p last ≡ true
     → drop (p + 16) text ≡ feed last ++ drop (p + field_width last) text
@@ -49,13 +47,13 @@ module _ (text : List ℕ) (p : ℕ) (last : Bool) (z : ℤ) (rest : List ℕ) (
   split : drop p text ≡ field_text z ++ (feed last ++ rest)
   split = e ∙ append_assoc (field_text z) (feed last) rest
 
-  field_is : field_at text p ≡ Number z
+  field_is : field_at text p ≡ Some z
   unfolding field_at
   field_is = rw (split, take_at (field_text z) (feed last ++ rest) 16 (length_field z)) (field_given_back z fits)
 
   pub text-number : number_at text p ≡ z
   unfolding number_at
-  text-number = ap number_in field_is
+  text-number = ap (λ (f : Option ℤ). unwrap_or f (pos 0)) field_is
 
   rest-is : drop (p + 16) text ≡ feed last ++ rest
   rest-is = sym (drop-drop 16 p text) ∙ rw split (drop_at (field_text z) (feed last ++ rest) 16 (length_field z))

@@ -1,8 +1,8 @@
 -- `bare_prover::commit::write_t` meets its contract. The loop's invariant: t_i of the first i parts is written. Assumes nothing.
 use Prim.Native.Nat.{◌*◌}
-use native.Mathlib.Nat.{zero-mul, mul_assoc, mul-le-mul}
+use native.Mathlib.Nat.{zero-mul, mul_assoc}
 use native.Mathlib.Omega.{arith}
-use Rattle.ring.specs.Laws.ElementPlaces.{block-before, row_fits}
+use Rattle.ring.specs.Laws.ElementPlaces.{row_fits}
 use Rattle.ring.specs.Laws.Writers.{blocks_start, blocks_over, blocks_all}
 use Rattle.fold.proofs.Laws.WriterLaws.{length-elements}
 use Rattle.prover.specs.Known.Facts.{PartFacts}
@@ -13,10 +13,6 @@ pub loop-i-init : goal.loop-i-init
 loop-i-init c =
     let a = c.args in
     rw (zero-mul (a.kappa * a.shape.d)) (blocks_start (omega (arith, c.requires.ts_length)))
-
-pub overflow_mul-i : goal.overflow_mul-i
-overflow_mul-i c =
-    omega (arith, block-before c.args.kappa c.loop-i.i c.args.shape.r c.loop-i-test.true, mul-le-mul c.requires.shaped.parts-small c.requires.κ-small)
 
 pub write_products-requires : goal.write_products-requires
 write_products-requires c =
@@ -33,9 +29,6 @@ loop-i-preserved c =
     let i = c.loop-i.i in
     blocks_over c.loop-i.invariant (λ i. length-elements a.shape.d a.kappa _) c.loop-i-test.true
     (mul_assoc i a.kappa a.shape.d) (omega arith) c.write_products.ensures
-
-pub shape_of-out : goal.shape_of-out
-shape_of-out c = c.loop-i.invariant.same
 
 pub returns : goal.returns
 unfolding bare_t

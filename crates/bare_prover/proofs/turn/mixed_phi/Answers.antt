@@ -7,17 +7,10 @@ use Rattle.bare_prover.proofs.turn.mixed_phi.Goals as goal
 pub loop-j-init : goal.loop-j-init
 loop-j-init c = summed_start (c.additive_identity-acc.ensures _)
 
-pub crossed_summand-summand-requires : goal.crossed_summand-summand-requires
-crossed_summand-summand-requires c =
-    let phi = c.requires.parts in let witness = c.requires.parts_2 in let room = c.requires.d_in_bounds in record { parts = phi; parts_2 = (witness, c.loop-j-test.true); d_in_bounds = room }
-
-pub sum-acc-requires : goal.sum-acc-requires
-sum-acc-requires c = c.requires.parts.0.shaped.degree
-
 pub loop-j-preserved : goal.loop-j-preserved
 loop-j-preserved c =
     summed_step c.loop-j.invariant c.requires.parts.0.shaped.degree c.loop-j-test.true
-    c.crossed_summand-summand.ensures c.sum-acc.ensures
+    c.crossed_summand.ensures c.sum-acc.ensures
 
 pub returns : goal.returns
 unfolding mixedΦ crossed_summand

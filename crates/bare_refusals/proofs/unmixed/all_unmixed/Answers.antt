@@ -10,17 +10,17 @@ use Rattle.bare.specs.Refusals.{all_unmixed}
 use Rattle.bare_refusals.specs.Laws.RowLaws.{pairs_in_whole, pairs_in_term, step_small}
 use Rattle.bare_refusals.proofs.unmixed.all_unmixed.Goals as goal
 
-pub overflow_add-whole_step : goal.overflow_add-whole_step
-overflow_add-whole_step c = omega (arith, step_small c.requires.limits.shaped c.function_size-function.ensures)
+pub overflow_add-function : goal.overflow_add-function
+overflow_add-function c = omega (arith, step_small c.requires.limits.shaped c.function_size-function.ensures)
 
-pub overflow_mul-whole_step : goal.overflow_mul-whole_step
-overflow_mul-whole_step c = omega (arith, step_small c.requires.limits.shaped c.function_size-function.ensures)
+pub overflow_mul-function : goal.overflow_mul-function
+overflow_mul-function c = omega (arith, step_small c.requires.limits.shaped c.function_size-function.ensures)
 
-pub overflow_mul-term_step : goal.overflow_mul-term_step
-overflow_mul-term_step c = omega (arith, step_small c.requires.limits.shaped c.function_size-function.ensures)
+pub overflow_mul-function-2 : goal.overflow_mul-function-2
+overflow_mul-function-2 c = omega (arith, step_small c.requires.limits.shaped c.function_size-function.ensures)
 
-pub overflow_add-term_step : goal.overflow_add-term_step
-overflow_add-term_step c = omega (arith, step_small c.requires.limits.shaped c.function_size-function.ensures)
+pub overflow_add-function-2 : goal.overflow_add-function-2
+overflow_add-function-2 c = omega (arith, step_small c.requires.limits.shaped c.function_size-function.ensures)
 
 pub each_unmixed-requires : goal.each_unmixed-requires
 unfolding whole_length

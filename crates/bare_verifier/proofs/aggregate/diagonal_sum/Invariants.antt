@@ -1,5 +1,4 @@
 use mathlib.Core.Path.{◌≡◌}
-use Prim.Native.Nat.{◌-◌}
 use Rattle.algebra.specs.Triangle.{pair}
 use Rattle.ring.specs.Laws.Loops.{Summed}
 use Rattle.bare_verifier.specs.Summands.{diagonal_summand}
@@ -8,6 +7,3 @@ use Rattle.bare_verifier.proofs.aggregate.diagonal_sum.Given as goal
 abbrev pub invariant-loop-i : goal.invariant-loop-i
 invariant-loop-i l = Summed l.d l.r (diagonal_summand l.d l.sizes.shape.n l.r l.sizes.k l.sizes.l l.sizes.kappa l.whole l.constant_terms l.psi l.alpha l.delta l.opening) l.i l.acc.coefficients
     × (l.q ≡ pair l.r l.i l.i)
-
-abbrev pub decreases-loop-i : goal.decreases-loop-i
-decreases-loop-i l = l.r - l.i

@@ -6,11 +6,8 @@ use Rattle.bare_verifier.proofs.folded.amortized.Goals as goal
 pub loop-k-init : goal.loop-k-init
 loop-k-init c = tested-start
 
-pub row_holds-row-requires : goal.row_holds-row-requires
-row_holds-row-requires c = record { bare_folded_facts = c.requires; k_lt_kappa = c.loop-k-test.true }
-
 pub loop-k-preserved : goal.loop-k-preserved
-loop-k-preserved c = tested-step c.loop-k.invariant c.loop-k-test.true c.row_holds-row.ensures
+loop-k-preserved c = tested-step c.loop-k.invariant c.loop-k-test.true c.row_holds-all.ensures
 
 pub returns : goal.returns
 unfolding check₅

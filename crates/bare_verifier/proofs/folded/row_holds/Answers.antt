@@ -1,21 +1,14 @@
 -- `bare_verifier::folded::row_holds` meets its contract. Assumes nothing.
 use mathlib.Core.Path.{ap₂, ◌∙◌}
 use native.Mathlib.Omega.{arith}
-use native.Mathlib.Nat.{mul-le-mul}
 use Rattle.algebra.specs.DotProduct.{inner}
 use Rattle.ring.specs.Element.{same}
-use Rattle.ring.specs.Laws.ElementPlaces.{block-before, row_fits}
+use Rattle.ring.specs.Laws.ElementPlaces.{row_fits}
 use Rattle.ring.specs.Laws.Loops.{held}
 use Rattle.fold.specs.Messages.{times}
 use Rattle.bare.specs.Opening.{z_at}
 use Rattle.bare_verifier.specs.Known.Facts.{z-fits}
 use Rattle.bare_verifier.proofs.folded.row_holds.Goals as goal
-
-pub overflow_mul-row : goal.overflow_mul-row
-overflow_mul-row c =
-    let m = c.args.sizes in
-    let o = c.requires.bare_folded_facts.opened in
-    omega (arith, block-before m.shape.n c.args.k m.kappa c.requires.k_lt_kappa, mul-le-mul o.κ-small o.shaped.rank-small)
 
 pub inner-requires : goal.inner-requires
 inner-requires c =
@@ -28,12 +21,6 @@ inner-requires c =
         rw c.z_place-start.ensures (z-fits m o),
       );
     }
-
-pub folded_row-right-requires : goal.folded_row-right-requires
-folded_row-right-requires c = record { bare_opening_facts = c.requires.bare_folded_facts.opened; k_lt_kappa = c.requires.k_lt_kappa }
-
-pub equals-requires : goal.equals-requires
-equals-requires c = c.requires.bare_folded_facts.opened.shaped.degree
 
 pub returns : goal.returns
 unfolding times inner z_at

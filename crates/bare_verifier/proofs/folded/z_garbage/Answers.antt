@@ -13,12 +13,6 @@ pub inner-requires : goal.inner-requires
 inner-requires c =
     let fits = z-fits c.args.sizes c.requires in record { degree = c.requires.shaped.degree; n_bound = (omega (arith, c.requires.shaped.rank-small), rw c.z_place-start.ensures fits, rw c.z_place-start.ensures fits) }
 
-pub turn_sum-right-requires : goal.turn_sum-right-requires
-turn_sum-right-requires c = record { bare_opening_facts = c.requires; e_bound = omega arith }
-
-pub equals-requires : goal.equals-requires
-equals-requires c = c.requires.shaped.degree
-
 pub returns : goal.returns
 unfolding garbage_of_z inner z_at
 returns c =

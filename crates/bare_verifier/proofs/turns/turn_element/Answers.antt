@@ -8,12 +8,6 @@ use Rattle.bare.specs.Opening.{turn_at}
 use Rattle.bare_verifier.specs.Known.Facts.{turn-fits}
 use Rattle.bare_verifier.proofs.turns.turn_element.Goals as goal
 
-pub overflow_mul-place : goal.overflow_mul-place
-overflow_mul-place c = omega (arith, c.requires.bare_opening_facts.shaped.parts-small, c.requires.e_bound.1)
-
-pub overflow_add-place : goal.overflow_add-place
-overflow_add-place c = omega (arith, c.requires.bare_opening_facts.shaped.parts-small, c.requires.e_bound)
-
 pub overflow_add-place-2 : goal.overflow_add-place-2
 overflow_add-place-2 c =
     let m = c.args.sizes in

@@ -7,16 +7,10 @@ use Rattle.bare_verifier.proofs.turns.turn_sum.Goals as goal
 pub loop-i-init : goal.loop-i-init
 loop-i-init c = summed_start (c.additive_identity-acc.ensures _)
 
-pub turn_summand-summand-requires : goal.turn_summand-summand-requires
-turn_summand-summand-requires c = record { bare_opening_facts = c.requires.bare_opening_facts; e_bound = (c.requires.e_bound, c.loop-i-test.true) }
-
-pub sum-acc-requires : goal.sum-acc-requires
-sum-acc-requires c = c.requires.bare_opening_facts.shaped.degree
-
 pub loop-i-preserved : goal.loop-i-preserved
 loop-i-preserved c =
     summed_step c.loop-i.invariant c.requires.bare_opening_facts.shaped.degree c.loop-i-test.true
-    c.turn_summand-summand.ensures c.sum-acc.ensures
+    c.turn_summand.ensures c.sum-acc.ensures
 
 pub returns : goal.returns
 unfolding in_turn turn_summand

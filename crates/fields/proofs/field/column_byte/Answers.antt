@@ -8,5 +8,5 @@ returns-then-m-gt0 c = sym (byte_digit c.args.minus c.args.m c.if-m-gt0.true)
 pub returns-then-minus : goal.returns-then-minus
 returns-then-minus c = byte_none c.args.minus c.args.m c.if-m-gt0.false c.if-minus.true
 
-pub returns : goal.returns
-returns c = byte_none c.args.minus c.args.m c.if-m-gt0.false c.if-minus.false
+pub returns-else-minus : goal.returns-else-minus
+returns-else-minus c = byte_none c.args.minus c.args.m c.if-m-gt0.false c.if-minus.false

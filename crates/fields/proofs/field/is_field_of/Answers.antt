@@ -11,12 +11,12 @@ loop-left-init c = matching_start c.args.text.now c.args.at c.requires _ _ c.if-
 pub returns-then-text-at-2 : goal.returns-then-text-at-2
 returns-then-text-at-2 c =
     matching_other _ _ c.requires _ _ _ _ _ c.loop-left.invariant c.loop-left-test.true
-    c.column_byte-byte.ensures c.if-text-at-2.true
+    c.column_byte.ensures c.if-text-at-2.true
 
 pub loop-left-preserved : goal.loop-left-preserved
 loop-left-preserved c =
     matching_step _ _ c.requires _ _ _ _ _ c.loop-left.invariant c.loop-left-test.true
-    c.column_byte-byte.ensures c.if-text-at-2.false c.minus_due-due.ensures
+    c.column_byte.ensures c.if-text-at-2.false c.minus_due-due.ensures
 
 pub returns : goal.returns
 returns c = matching_end _ _ c.requires _ _ _ _ _ c.loop-left.invariant c.loop-left-test.false

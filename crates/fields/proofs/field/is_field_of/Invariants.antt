@@ -3,6 +3,3 @@ use Rattle.fields.proofs.field.is_field_of.Given as goal
 
 abbrev pub invariant-loop-left : goal.invariant-loop-left
 invariant-loop-left l = Matching l.text l.at l.minus l.m l.left l.rest l.due
-
-abbrev pub decreases-loop-left : goal.decreases-loop-left
-decreases-loop-left l = l.left

@@ -8,6 +8,6 @@ pub returns-then-m-gt0 : goal.returns-then-m-gt0
 unfolding minus_due
 returns-then-m-gt0 c = rw (lt-ltb 0 c.args.m c.if-m-gt0.true) refl
 
-pub returns : goal.returns
+pub returns-else-m-gt0 : goal.returns-else-m-gt0
 unfolding minus_due
-returns c = rw (le-ltb 0 c.args.m c.if-m-gt0.false) refl
+returns-else-m-gt0 c = rw (le-ltb 0 c.args.m c.if-m-gt0.false) refl

@@ -5,27 +5,24 @@ use native.Mathlib.Omega.{arith}
 use Rattle.fields.specs.Sections.{ones_count, sections_of}
 use Rattle.fields.proofs.sizes.sections_of.Goals as goal
 
-pub overflow_mul-terms : goal.overflow_mul-terms
-overflow_mul-terms c = omega (arith, mul-le-mul c.requires.L-small c.term_size-period.ensures.1)
-
 pub returns : goal.returns
 unfolding sections_of ones_count
 returns c =
     record {
       is =
           rw (
-            c.head_numbers-head.ensures.0,
+            c.head_numbers.ensures.0,
             c.term_size-period.ensures.0,
-            c.middle_numbers-middle.ensures.0,
+            c.middle_numbers.ensures.0,
           ) refl;
-      head = c.head_numbers-head.ensures.1;
+      head = c.head_numbers.ensures.1;
       terms =
           omega (
             arith,
             mul-le-mul c.requires.L-small
                 c.term_size-period.ensures.1,
           );
-      middle = c.middle_numbers-middle.ensures.1;
+      middle = c.middle_numbers.ensures.1;
       ones =
           omega (
             arith,

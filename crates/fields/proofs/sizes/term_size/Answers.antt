@@ -10,17 +10,17 @@ pub overflow_mul-result : goal.overflow_mul-result
 overflow_mul-result c =
     let s = c.args.s in
     let b = c.requires in
-    omega (arith, mul-le-mul (function-few s b c.function_size-f.ensures) b.shaped.degree.small)
+    omega (arith, mul-le-mul (function-few s b c.function_size.ensures) b.shaped.degree.small)
 
 pub overflow_add-result : goal.overflow_add-result
 overflow_add-result c =
     let s = c.args.s in
     let b = c.requires in
-    omega (arith, mul-le-mul (function-few s b c.function_size-f.ensures) b.shaped.degree.small)
+    omega (arith, mul-le-mul (function-few s b c.function_size.ensures) b.shaped.degree.small)
 
 pub returns : goal.returns
 unfolding term_size
 returns c =
     let s = c.args.s in
     let b = c.requires in
-    (rw c.function_size-f.ensures refl, le-one (mul-le-mul (function-few s b c.function_size-f.ensures) b.shaped.degree.small))
+    (rw c.function_size.ensures refl, le-one (mul-le-mul (function-few s b c.function_size.ensures) b.shaped.degree.small))

@@ -2,13 +2,8 @@
 use mathlib.Core.Path.{refl, ap, ◌∙◌}
 use Rattle.residues.specs.Range.{challenge}
 use Rattle.fields.specs.Sections.{ends_line}
-use Rattle.fields.specs.Laws.ChallengeLaws.{filled-length, filled-part}
+use Rattle.fields.specs.Laws.ChallengeLaws.{filled-part}
 use Rattle.fields.proofs.walk.challenge_at.Goals as goal
-
-pub slice_bounds-is_challenge-end : goal.slice_bounds-is_challenge-end
-slice_bounds-is_challenge-end c =
-    filled-length _ c.fill.new.out (ends_line c.args.s) c.args.text.now
-    c.args.from c.args.d refl c.requires.d_nonzero.2 c.fill.ensures
 
 pub returns : goal.returns
 returns c =

@@ -7,6 +7,6 @@ pub returns-then-last : goal.returns-then-last
 unfolding field_width
 returns-then-last c = rw c.if-last.true refl
 
-pub returns : goal.returns
+pub returns-else-last : goal.returns-else-last
 unfolding field_width
-returns c = rw c.if-last.false refl
+returns-else-last c = rw c.if-last.false refl

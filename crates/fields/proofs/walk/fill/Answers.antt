@@ -2,7 +2,7 @@
 use native.Mathlib.Omega.{arith}
 use mathlib.Core.Path.{◌∙◌}
 use mir.Facts.{to_z-of_z}
-use Rattle.fields.specs.Laws.WalkLaws.{walked_index, walked_fits, filled-start, filled-small, filled-step, filled-end}
+use Rattle.fields.specs.Laws.WalkLaws.{walked_index, walked_fits, filled-start, filled-small, filled-step}
 use mir.Syntax.{w32}
 use mir.Syntax.{w64}
 use Rattle.fields.proofs.walk.fill.Goals as goal
@@ -12,33 +12,18 @@ loop-j-init c = filled-start c.requires.span
 
 pub narrow-requires : goal.narrow-requires
 narrow-requires c =
-    rw (to_z-of_z {w = w64} (record { sfits = c.number_at-x.type_inv }), c.number_at-x.ensures)
+    rw (to_z-of_z {w = w64} (record { sfits = c.number_at.type_inv }), c.number_at.ensures)
     (filled-small c.loop-j.invariant c.loop-j-test.true c.requires.count_value)
-
-pub bounds-out-j : goal.bounds-out-j
-bounds-out-j c = omega (arith, c.loop-j.invariant.size, c.requires.count_in_bounds)
 
 pub overflow_add-from : goal.overflow_add-from
 overflow_add-from c = omega (arith, walked_index c.loop-j.invariant.walk c.loop-j-test.true)
 
-pub ends_line-last-requires : goal.ends_line-last-requires
-ends_line-last-requires c = c.requires.d_nonzero
-
 pub overflow_add-here : goal.overflow_add-here
-overflow_add-here c = omega (arith, walked_fits c.loop-j.invariant.walk c.loop-j-test.true c.ends_line-last.ensures c.field_width-here.ensures)
-
-pub overflow_add-j : goal.overflow_add-j
-overflow_add-j c = omega (arith, c.loop-j-test.true)
+overflow_add-here c = omega (arith, walked_fits c.loop-j.invariant.walk c.loop-j-test.true c.ends_line.ensures c.field_width-here.ensures)
 
 pub loop-j-preserved : goal.loop-j-preserved
 loop-j-preserved c =
     let number = to_z-of_z {w = w32} (record { sfits = c.narrow.type_inv }) ∙ c.narrow.ensures
-    ∙ to_z-of_z {w = w64} (record { sfits = c.number_at-x.type_inv }) ∙ c.number_at-x.ensures in
+    ∙ to_z-of_z {w = w64} (record { sfits = c.number_at.type_inv }) ∙ c.number_at.ensures in
     filled-step c.loop-j.invariant c.loop-j-test.true c.requires.count_in_bounds number
-    c.ends_line-last.ensures c.field_width-here.ensures
-
-pub shape_of-out : goal.shape_of-out
-shape_of-out c = c.loop-j.invariant.size
-
-pub returns : goal.returns
-returns c = filled-end c.loop-j.invariant c.loop-j-test.false
+    c.ends_line.ensures c.field_width-here.ensures

@@ -1,25 +1,16 @@
 -- `fields::walk::is_laid` meets its contract.
-use native.Mathlib.Omega.{arith}
+use Rattle.std.proofs.Common.{not, ap, ◌∙◌, arith}
 use Rattle.fields.specs.Laws.PlaceLaws.{number-inside, laid_none, laid-feed, laid-inner}
 use Rattle.fields.proofs.walk.is_laid.Goals as goal
 
-pub returns-then-not-number : goal.returns-then-not-number
-returns-then-not-number c = laid_none _ _ _ c.read_field.ensures c.is_number-number.ensures c.if-not-number.true-raw
+pub returns-else-is_some : goal.returns-else-is_some
+returns-else-is_some c = c.if-is_some.false ∙ laid_none _ _ _ c.read_field.ensures c.is_some.ensures c.if-is_some.false
 
 pub overflow_add-at : goal.overflow_add-at
-overflow_add-at c =
-    omega (
-      arith,
-      number-inside _ _ c.read_field.ensures c.is_number-number.ensures
-          c.if-not-number.false-raw,
-    )
+overflow_add-at c = omega (arith, number-inside _ _ c.read_field.ensures c.is_some.ensures c.if-is_some.true)
 
-pub returns-then-last : goal.returns-then-last
-returns-then-last c =
-    laid-feed _ _ _ c.read_field.ensures c.is_number-number.ensures
-    c.if-not-number.false-raw c.if-last.true c.is_feed.ensures
+pub returns-then-not-last : goal.returns-then-not-last
+returns-then-not-last c = ap not c.if-not-last.true ∙ laid-inner _ _ _ c.read_field.ensures c.is_some.ensures c.if-is_some.true c.if-not-last.true
 
-pub returns : goal.returns
-returns c =
-    laid-inner _ _ _ c.read_field.ensures c.is_number-number.ensures c.if-not-number.false-raw
-    c.if-last.false
+pub returns-else-not-last : goal.returns-else-not-last
+returns-else-not-last c = laid-feed _ _ _ c.read_field.ensures c.is_some.ensures c.if-is_some.true c.if-not-last.false c.is_feed.ensures

@@ -3,6 +3,3 @@ use Rattle.fields.proofs.write.write_columns.Given as goal
 
 abbrev pub invariant-loop-left : goal.invariant-loop-left
 invariant-loop-left l = Columns l.initial.text l.text l.at l.minus l.m l.left l.rest
-
-abbrev pub decreases-loop-left : goal.decreases-loop-left
-decreases-loop-left l = l.left

@@ -1,20 +1,11 @@
 -- `fields::write::write_field` meets its contract.
-use mathlib.Core.Path.{◌∙◌}
-use lib.ListN.{length-set}
-use Rattle.fields.specs.Laws.WriteLaws.{blank-front, same-room, field_written}
+use Rattle.fields.specs.Laws.WriteLaws.{blank-front, field_written}
 use Rattle.fields.proofs.write.write_field.Goals as goal
 
 pub write_columns-requires : goal.write_columns-requires
 write_columns-requires c =
     let a = c.args in
     blank-front a.text.now a.at a.minus a.m c.requires c.write_blanks.ensures
-
-pub shape_of-text : goal.shape_of-text
-shape_of-text c =
-    let a = c.args in
-    length-set c.write_columns.new.text _ _
-    ∙ same-room a.text.now a.at a.minus a.m c.requires c.write_blanks.ensures
-    c.write_columns.ensures
 
 pub returns : goal.returns
 returns c =

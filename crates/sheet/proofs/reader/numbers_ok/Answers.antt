@@ -5,19 +5,13 @@ use Rattle.residues.specs.Range.{all_within, coefficients}
 use Rattle.sheet.specs.Laws.ReadingLaws.{lines-positive, front-span, all-numbers}
 use Rattle.sheet.proofs.reader.numbers_ok.Goals as goal
 
-pub sections_of-q-requires : goal.sections_of-q-requires
-sections_of-q-requires c = c.requires.bounded
-
-pub total_numbers-count-requires : goal.total_numbers-count-requires
-total_numbers-count-requires c = c.requires.bounded
-
 pub all_within-requires : goal.all_within-requires
 all_within-requires c =
     let pre = c.requires in
-    let lines = c.sections_of-q.ensures in record { d_nonzero = lines-positive pre.bounded lines; span = front-span pre lines _ (omega (arith, c.total_numbers-count.ensures)) }
+    let lines = c.sections_of.ensures in record { d_nonzero = lines-positive pre.bounded lines; span = front-span pre lines _ (omega (arith, c.total_numbers.ensures)) }
 
 pub returns : goal.returns
 unfolding coefficients
 returns c =
     c.all_within.ensures ∙ ap (all_within 2147483598)
-    (all-numbers c.requires c.sections_of-q.ensures c.total_numbers-count.ensures)
+    (all-numbers c.requires c.sections_of.ensures c.total_numbers.ensures)

@@ -8,9 +8,9 @@ returns-then-header-gt0 c = count-refused c.args.text.now c.header_refusal-heade
 pub total_numbers-requires : goal.total_numbers-requires
 total_numbers-requires c =
     good_header 0 c.args.text.now c.header_refusal-header.ensures c.if-header-gt0.false
-    c.sheet_sizes-s.ensures
+    c.sheet_sizes.ensures
 
 pub returns : goal.returns
 returns c =
     count_good c.args.text.now c.header_refusal-header.ensures c.if-header-gt0.false
-    c.sheet_sizes-s.ensures c.total_numbers.ensures
+    c.sheet_sizes.ensures c.total_numbers.ensures

@@ -8,9 +8,9 @@ returns-then-header-gt0 c = refused-header c.args.room c.args.text.now c.header_
 pub body_refusal-requires : goal.body_refusal-requires
 body_refusal-requires c =
     good_header c.args.room c.args.text.now c.header_refusal-header.ensures c.if-header-gt0.false
-    c.sheet_sizes-s.ensures
+    c.sheet_sizes.ensures
 
 pub returns : goal.returns
 returns c =
     rest_refusal c.args.room c.args.text.now c.header_refusal-header.ensures
-    c.if-header-gt0.false c.sheet_sizes-s.ensures c.body_refusal.ensures
+    c.if-header-gt0.false c.sheet_sizes.ensures c.body_refusal.ensures

@@ -6,20 +6,14 @@ use Rattle.sheet.specs.Laws.ReadingLaws.{lines-positive, front-span, all-numbers
 use Rattle.sheet.specs.Laws.AnswerLaws.{stored}
 use Rattle.sheet.proofs.reader.store.Goals as goal
 
-pub sections_of-q-requires : goal.sections_of-q-requires
-sections_of-q-requires c = c.requires.inside.bounded
-
-pub total_numbers-count-requires : goal.total_numbers-count-requires
-total_numbers-count-requires c = c.requires.inside.bounded
-
 pub fill-requires : goal.fill-requires
 fill-requires c =
-    let lines = c.sections_of-q.ensures in
-    let count = c.total_numbers-count.ensures in record { d_nonzero = lines-positive c.requires.inside.bounded lines; span = front-span c.requires.inside lines _ (omega (arith, count)); count_value = ap coefficients (all-numbers c.requires.inside lines count) ∙ c.requires.text_value; count_in_bounds = omega (arith, count, c.requires.numbers_len) }
+    let lines = c.sections_of.ensures in
+    let count = c.total_numbers.ensures in record { d_nonzero = lines-positive c.requires.inside.bounded lines; span = front-span c.requires.inside lines _ (omega (arith, count)); count_value = ap coefficients (all-numbers c.requires.inside lines count) ∙ c.requires.text_value; count_in_bounds = omega (arith, count, c.requires.numbers_len) }
 
 pub returns : goal.returns
 returns c =
-    let sections = c.sections_of-q in
-    let count = c.total_numbers-count.ensures in
+    let sections = c.sections_of in
+    let count = c.total_numbers.ensures in
     stored c.args.s c.args.text.now sections.result c.requires.inside sections.ensures count
     c.args.numbers.now c.requires.numbers_len c.fill.ensures

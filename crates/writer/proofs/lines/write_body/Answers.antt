@@ -8,9 +8,9 @@ use Rattle.writer.proofs.lines.write_body.Goals as goal
 
 pub write_lines-requires : goal.write_lines-requires
 write_lines-requires c =
-    let sections = c.sections_of-q.ensures in record { d_nonzero = lines-positive c.requires.counted.bounded sections; lines_fit = rw sections.is c.requires.lines_fit }
+    let sections = c.sections_of.ensures in record { d_nonzero = lines-positive c.requires.counted.bounded sections; lines_fit = rw sections.is c.requires.lines_fit }
 
 pub returns : goal.returns
 returns c =
     c.write_lines.ensures
-    ∙ ap (over c.args.text.now header_bytes) (body-lines _ _ c.sections_of-q.ensures _ c.requires.counted)
+    ∙ ap (over c.args.text.now header_bytes) (body-lines _ _ c.sections_of.ensures _ c.requires.counted)
