@@ -2,6 +2,7 @@
 #![tactic(auto)]
 
 pub mod input;
+pub mod lines;
 pub mod lists;
 pub mod numbers;
 pub mod printing;

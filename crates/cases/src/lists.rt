@@ -46,7 +46,7 @@ pub fn past_lists(xs: &[i32], count: usize) -> &[i32]
     ensures { result.now ≡ past_lists count xs.now }
 {
     let mut rest = xs;
-    for i in 0..count {
+    for _i in 0..count {
         rest = past_list(rest);
     }
     rest

@@ -20,6 +20,14 @@ pub fn print_decimal(stdout: Stdout, x: u64) -> u64
     x
 }
 
+// The kind and number of an answer; the number is what it answers.
+pub fn print_answer(stdout: Stdout, kind: u8, number: u64) -> u64
+    ensures { result ≡ number }
+{
+    let _ = print!(stdout; "{kind} {number}");
+    number
+}
+
 // A blank between two results, and none before the first.
 pub fn print_gap(stdout: Stdout, place: usize) -> usize
     ensures { result ≡ min 1 place }

@@ -1,7 +1,9 @@
 // Numbers in a text: decimal, with a minus sign or without, each ended by one blank or line feed. One case is one line.
-ghost use Rattle.std.specs.Prelude.{◌≡◌, ◌≤◌, pos, length, replicate};
-ghost use Rattle.cases.specs.Numbers.{padded};
+ghost use Rattle.std.specs.Prelude.{◌≡◌, ◌≤◌, map, pos, length, replicate};
+ghost use Rattle.cases.specs.Numbers.{padded, word};
 ghost use Rattle.cases.specs.Text.{with_digit, with_sign, line_numbers, line_length};
+
+use crate::numbers::narrow;
 
 // The largest magnitude of a negative number of 64 bits.
 const MOST: u64 = 1 << 63;
@@ -53,6 +55,18 @@ pub fn scan(line: &[u8], numbers: &mut [i64])
             magnitude = 0;
         }
     }
+}
+
+// The first N numbers of a line, zeros after them, with all their bits and as numbers of 32 bits.
+pub fn numbers_of<const N: usize>(line: &[u8]) -> ([i64; N], [i32; N])
+    ensures wides { result.0 ≡ padded N (line_numbers line.now) }
+    ensures words { result.1 ≡ map word (padded N (line_numbers line.now)) }
+{
+    let mut wides = [0; N];
+    let mut words = [0; N];
+    scan(line, &mut wides);
+    narrow(&wides, &mut words);
+    (wides, words)
 }
 
 // How many bytes the first line has, its line feed included.

@@ -9,4 +9,4 @@ loop-i-init c = refl
 
 pub loop-i-preserved : goal.loop-i-preserved
 unfolding past_lists
-loop-i-preserved c = rw (add-one c.loop-i.i) (c.past_list-rest.ensures ∙ ap past_list c.loop-i.invariant)
+loop-i-preserved c = rw (add-one c.loop-i._i) (c.past_list-rest.ensures ∙ ap past_list c.loop-i.invariant)
