@@ -1,6 +1,7 @@
 // What the test programs over the layers share: the numbers and lists of a case, which is one line of a text, and results printed.
 #![tactic(auto)]
 
+pub mod corpus;
 pub mod input;
 pub mod lines;
 pub mod lists;
