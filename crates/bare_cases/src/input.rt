@@ -37,9 +37,8 @@ pub fn read_sizes(wides: &[i64]) -> CBareSizes
 pub fn constraint_sizes(sizes: CBareSizes) -> CConstraintSizes
     ensures { constraint_sizes_from result ≡ constraint_sizes_of (bare_sizes_from sizes) }
 {
-    let shape = sizes.shape;
     CConstraintSizes {
-        shape,
+        shape: sizes.shape,
         k: sizes.k,
         l: sizes.l,
         w: sizes.w,

@@ -9,10 +9,5 @@ use std::io::Stdout;
 pub fn print_answer(stdout: Stdout, answer: CAnswer) -> u64
     ensures { result ≡ answer.number }
 {
-    let kind = answer.kind;
-    let number = answer.number;
-    printing::print_decimal(stdout, kind as u64);
-    printing::print_gap(stdout, 1);
-    printing::print_decimal(stdout, number);
-    number
+    printing::print_answer(stdout, answer.kind, answer.number)
 }

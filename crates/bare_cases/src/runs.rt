@@ -1,7 +1,7 @@
 // The cases one after another.
-ghost use Rattle.std.specs.Prelude.{◌≡◌, []};
+ghost use Rattle.std.specs.Prelude.{◌≡◌};
 ghost use Rattle.capi.specs.Codes.{code_of};
-ghost use Rattle.cases.specs.Text.{past_lines, Lines};
+ghost use Rattle.cases.specs.Text.{Lines};
 ghost use Rattle.bare_cases.specs.Answers.{call_answer, case_answer, line_answer};
 
 use crate::{input, messages, verification};
@@ -9,8 +9,7 @@ use capi::sizes::CBareSizes;
 use capi::types::CAnswer;
 use cases::input::size_at;
 use cases::lists::past_numbers;
-use cases::reading::read_full;
-use cases::{numbers, printing, text};
+use cases::{lines, numbers, text};
 use std::io::{Stdin, Stdout};
 
 // A call by its number: every other than 1 to 3 is the verifier's.
@@ -39,33 +38,15 @@ fn run_case(stdout: Stdout, wides: &[i64], words: &[i32]) -> CAnswer
 fn run_line(stdout: Stdout, line: &[u8]) -> CAnswer
     ensures { result ≡ code_of (line_answer line.now) }
 {
-    let mut wides = [0i64; 16384];
-    let mut words = [0i32; 16384];
-    text::scan(line, &mut wides);
-    numbers::narrow(&wides, &mut words);
+    let (wides, words) = text::numbers_of::<16384>(line);
     run_case(stdout, &wides, &words)
 }
 
-// Every line of a text; the answer is how many there are.
-fn run_all(stdout: Stdout, lines: &[u8]) -> usize
-    ensures { past_lines result lines.now ≡ [] }
-{
-    let mut at = 0;
-    let mut count = 0;
-    while at < lines.len() {
-        let end = at + text::line_length(&lines[at..]);
-        run_line(stdout, &lines[at..end]);
-        printing::print_line_end(stdout);
-        at = end;
-        count += 1;
-    }
-    count
-}
-
 // Reads a text into the buffer and runs its lines; the answer is how many there are.
-pub fn run_text(mut stdin: Stdin, stdout: Stdout, buffer: &mut [u8]) -> usize
+pub fn run_text(stdin: Stdin, stdout: Stdout, buffer: &mut [u8]) -> usize
     ensures { Lines buffer.new result }
 {
-    let length = read_full(&mut stdin, buffer);
-    run_all(stdout, &buffer[..length])
+    lines::run_text(stdin, stdout, buffer, |line| {
+        run_line(stdout, line);
+    })
 }

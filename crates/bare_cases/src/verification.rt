@@ -14,32 +14,20 @@ use std::io::Stdout;
 pub fn run_verify(stdout: Stdout, sizes: CBareSizes, lists: &[i32]) -> CAnswer
     ensures { result ≡ code_of (verify_answer sizes lists.now) }
 {
-    let a_matrix = nth_list(lists, 0);
-    let whole = nth_list(lists, 1);
-    let constant_terms = nth_list(lists, 2);
-    let projections = nth_list(lists, 3);
-    let p = nth_list(lists, 4);
-    let psi = nth_list(lists, 5);
-    let omega = nth_list(lists, 6);
-    let second_b = nth_list(lists, 7);
-    let alpha = nth_list(lists, 8);
-    let delta = nth_list(lists, 9);
-    let c = nth_list(lists, 10);
-    let opening = nth_list(lists, 11);
     let answer = bare_level::lizkarg_bare_verify(
         sizes,
-        a_matrix,
-        whole,
-        constant_terms,
-        projections,
-        p,
-        psi,
-        omega,
-        second_b,
-        alpha,
-        delta,
-        c,
-        opening,
+        nth_list(lists, 0),
+        nth_list(lists, 1),
+        nth_list(lists, 2),
+        nth_list(lists, 3),
+        nth_list(lists, 4),
+        nth_list(lists, 5),
+        nth_list(lists, 6),
+        nth_list(lists, 7),
+        nth_list(lists, 8),
+        nth_list(lists, 9),
+        nth_list(lists, 10),
+        nth_list(lists, 11),
     );
     output::print_answer(stdout, answer);
     answer

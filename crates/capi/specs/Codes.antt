@@ -15,7 +15,7 @@ use Rattle.fold.specs.declared.PartSizes.{PartSizes}
 use Rattle.bare.specs.declared.BareSizes.{BareSizes}
 use Rattle.next_instance.specs.declared.part.Place.{Place}
 use Rattle.sheet.specs.declared.header.SheetSizes.{SheetSizes}
-use Rattle.sheet.specs.declared.reader.SheetAnswer.{SheetAnswer}
+use Rattle.sheet.specs.SheetAnswer.{SheetAnswer}
 use Rattle.sheet.specs.Reading.{header_numbers, sizes_of, body_numbers, reading, reading_refusal, answer_of, header_of}
 use Rattle.writer.specs.declared.WriteAnswer.{WriteAnswer}
 use Rattle.writer.specs.Writing.{written_text, writing_refusal, length_answer, length_of}

@@ -8,7 +8,7 @@ use std::io::Stdout;
 pub fn print_bytes(stdout: Stdout, bytes: &[u8]) -> usize
     ensures { result ≡ length bytes.now }
 {
-    let _written = stdout.write_all(bytes).is_ok();
+    let _ = stdout.write_all(bytes);
     bytes.len()
 }
 
@@ -16,47 +16,43 @@ pub fn print_bytes(stdout: Stdout, bytes: &[u8]) -> usize
 pub fn print_decimal(stdout: Stdout, x: u64) -> u64
     ensures { result ≡ x }
 {
-    let _written = stdout.print(x).is_ok();
+    let _ = print!(stdout; "{x}");
     x
 }
 
-fn print_word(stdout: Stdout, x: i32) -> u64
-    ensures { result ≡ nat_abs x }
+// The kind and number of an answer; the number is what it answers.
+pub fn print_answer(stdout: Stdout, kind: u8, number: u64) -> u64
+    ensures { result ≡ number }
 {
-    if x < 0 {
-        print_bytes(stdout, b"-");
-    }
-    print_decimal(stdout, residues::range::magnitude(x))
+    let _ = print!(stdout; "{kind} {number}");
+    number
 }
 
 // A blank between two results, and none before the first.
 pub fn print_gap(stdout: Stdout, place: usize) -> usize
     ensures { result ≡ min 1 place }
 {
-    if place > 0 {
-        print_bytes(stdout, b" ");
-        return 1;
+    if place == 0 {
+        0
+    } else {
+        print_bytes(stdout, b" ")
     }
-    0
 }
 
 pub fn print_line_end(stdout: Stdout) -> usize
     ensures { result ≡ 1 }
 {
-    print_bytes(stdout, b"\n");
-    1
+    print_bytes(stdout, b"\n")
 }
 
 pub fn print_words(stdout: Stdout, xs: &[i32]) -> usize
     ensures { result ≡ length xs.now }
 {
-    let mut i = 0;
-    while i < xs.len() {
+    for (i, x) in xs.iter().enumerate() {
         print_gap(stdout, i);
-        print_word(stdout, xs[i]);
-        i += 1;
+        let _ = print!(stdout; "{x}");
     }
-    i
+    xs.len()
 }
 
 // The numbers of a list, a blank before each.

@@ -3,7 +3,7 @@ ghost use Rattle.std.specs.Prelude.{◌≡◌, ◌<◌, pos, ◌+ℤ◌, ◌*ℤ
 ghost use Rattle.integers.specs.Remainder.{emod};
 ghost use Rattle.cases.specs.Sums.{checksum};
 
-use crate::printing::{print_decimal, print_gap, print_list};
+use crate::printing::print_list;
 use residues::range;
 use std::io::Stdout;
 
@@ -19,9 +19,10 @@ fn residue(x: i32) -> u64
 {
     let rest = range::magnitude(x) % MODULUS;
     if x < 0 {
-        return (MODULUS - rest) % MODULUS;
+        (MODULUS - rest) % MODULUS
+    } else {
+        rest
     }
-    rest
 }
 
 // The sum with the number x, counted `times` times, modulo the checksums' modulus.
@@ -29,21 +30,16 @@ pub fn with_number(sum: u64, times: u64, x: i32) -> u64
     requires { sum < 2147483647 }
     ensures { result ≡ emod (pos sum +ℤ pos times *ℤ x) 2147483647 }
 {
-    let factor = times % MODULUS;
-    let product = factor * residue(x);
-    (sum + product) % MODULUS
+    (sum + times % MODULUS * residue(x)) % MODULUS
 }
 
 // The first number once, the second twice, and so on, modulo 2^31 - 1.
 fn checksum(xs: &[i32]) -> u64
     ensures { result ≡ checksum xs.now }
 {
-    let mut sum: u64 = 0;
-    let mut i = 0;
-    while i < xs.len() {
-        let x = xs[i];
-        i += 1;
-        sum = with_number(sum, i as u64, x);
+    let mut sum = 0;
+    for (i, x) in xs.iter().enumerate() {
+        sum = with_number(sum, i as u64 + 1, *x);
     }
     sum
 }
@@ -52,22 +48,17 @@ fn checksum(xs: &[i32]) -> u64
 pub fn print_sum(stdout: Stdout, xs: &[i32]) -> usize
     ensures { result ≡ length xs.now }
 {
-    let count = xs.len();
-    print_gap(stdout, 1);
-    print_decimal(stdout, count as u64);
-    print_gap(stdout, 1);
-    print_decimal(stdout, checksum(xs));
-    count
+    let _ = print!(stdout; " {} {}", xs.len(), checksum(xs));
+    xs.len()
 }
 
 // The same, and after it the numbers of a list that is not too long.
 pub fn print_shown(stdout: Stdout, xs: &[i32]) -> usize
     ensures { result ≡ length xs.now }
 {
-    let count = print_sum(stdout, xs);
-    if count > SHOWN {
-        return count;
+    print_sum(stdout, xs);
+    if xs.len() <= SHOWN {
+        print_list(stdout, xs);
     }
-    print_list(stdout, xs);
-    count
+    xs.len()
 }

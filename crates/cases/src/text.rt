@@ -1,27 +1,25 @@
 // Numbers in a text: decimal, with a minus sign or without, each ended by one blank or line feed. One case is one line.
-ghost use Rattle.std.specs.Prelude.{◌≡◌, ◌≤◌, pos, length, replicate};
-ghost use Rattle.cases.specs.Numbers.{padded};
+ghost use Rattle.std.specs.Prelude.{◌≡◌, ◌≤◌, map, pos, length, replicate};
+ghost use Rattle.cases.specs.Numbers.{padded, word};
 ghost use Rattle.cases.specs.Text.{with_digit, with_sign, line_numbers, line_length};
+
+use crate::numbers::narrow;
+
+// The largest magnitude of a negative number of 64 bits.
+const MOST: u64 = 1 << 63;
 
 // A magnitude with one more byte, at most 2^63. Bytes that are no digits, such as the sign, change nothing.
 fn with_digit(magnitude: u64, byte: u8) -> u64
     requires { magnitude ≤ 9223372036854775808 }
     ensures { result ≡ with_digit magnitude byte }
 {
-    if byte < 48 {
-        return magnitude;
+    match byte {
+        b'0'..=b'9' => magnitude
+            .saturating_mul(10)
+            .saturating_add(u64::from(byte - b'0'))
+            .min(MOST),
+        _ => magnitude,
     }
-    if 57 < byte {
-        return magnitude;
-    }
-    if 922337203685477580 < magnitude {
-        return 9223372036854775808;
-    }
-    let longer = magnitude * 10 + (byte - 48) as u64;
-    if 9223372036854775808 < longer {
-        return 9223372036854775808;
-    }
-    longer
 }
 
 // The number with this sign and magnitude, or the nearest that 64 bits hold.
@@ -29,17 +27,10 @@ fn with_sign(minus: bool, magnitude: u64) -> i64
     requires { magnitude ≤ 9223372036854775808 }
     ensures { result ≡ with_sign minus magnitude }
 {
-    if 9223372036854775807 < magnitude {
-        if minus {
-            return -9223372036854775808;
-        }
-        return 9223372036854775807;
+    match i64::try_from(magnitude) {
+        Ok(x) => if minus { -x } else { x },
+        Err(_) => if minus { i64::MIN } else { i64::MAX },
     }
-    let wide = magnitude as i64;
-    if minus {
-        return -wide;
-    }
-    wide
 }
 
 // The numbers of a line, over a list of zeros. It stops where the list is full.
@@ -48,15 +39,12 @@ pub fn scan(line: &[u8], numbers: &mut [i64])
     ensures { numbers.new ≡ padded (length numbers.old) (line_numbers line.now) }
 {
     let mut minus = false;
-    let mut magnitude: u64 = 0;
+    let mut magnitude = 0;
     let mut count = 0;
-    let mut i = 0;
-    while i < line.len() {
-        let byte = line[i];
-        i += 1;
-        if 32 < byte {
-            minus = minus | (byte == 45);
-            magnitude = with_digit(magnitude, byte);
+    for byte in line {
+        if *byte > b' ' {
+            minus |= *byte == b'-';
+            magnitude = with_digit(magnitude, *byte);
         } else {
             if numbers.len() <= count {
                 return;
@@ -69,17 +57,26 @@ pub fn scan(line: &[u8], numbers: &mut [i64])
     }
 }
 
+// The first N numbers of a line, zeros after them, with all their bits and as numbers of 32 bits.
+pub fn numbers_of<const N: usize>(line: &[u8]) -> ([i64; N], [i32; N])
+    ensures wides { result.0 ≡ padded N (line_numbers line.now) }
+    ensures words { result.1 ≡ map word (padded N (line_numbers line.now)) }
+{
+    let mut wides = [0; N];
+    let mut words = [0; N];
+    scan(line, &mut wides);
+    narrow(&wides, &mut words);
+    (wides, words)
+}
+
 // How many bytes the first line has, its line feed included.
 pub fn line_length(text: &[u8]) -> usize
     ensures { result ≡ line_length text.now }
 {
-    let mut i = 0;
-    while i < text.len() {
-        let byte = text[i];
-        i += 1;
-        if byte == 10 {
-            return i;
+    for (i, byte) in text.iter().enumerate() {
+        if *byte == b'\n' {
+            return i + 1;
         }
     }
-    i
+    text.len()
 }

@@ -45,9 +45,8 @@ pub fn read_sizes(wides: &[i64], one_digit: u8) -> CSizes
 pub fn commit_sizes(sizes: CSizes) -> CCommitSizes
     ensures { commit_sizes_from result ≡ commit_sizes_of (sizes_from sizes) }
 {
-    let shape = sizes.shape;
     CCommitSizes {
-        shape,
+        shape: sizes.shape,
         kappa: sizes.kappa,
         kappa1: sizes.kappa1,
         b1: sizes.b1,
@@ -60,9 +59,8 @@ pub fn commit_sizes(sizes: CSizes) -> CCommitSizes
 pub fn garbage_sizes(sizes: CSizes) -> CGarbageSizes
     ensures { garbage_sizes_from result ≡ garbage_sizes_of (sizes_from sizes) }
 {
-    let shape = sizes.shape;
     CGarbageSizes {
-        shape,
+        shape: sizes.shape,
         k: sizes.k,
         l: sizes.l,
         w: sizes.w,

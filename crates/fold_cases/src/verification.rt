@@ -14,42 +14,25 @@ use std::io::Stdout;
 pub fn run_verify(stdout: Stdout, sizes: CSizes, lists: &[i32]) -> CAnswer
     ensures { result ≡ code_of (verify_answer sizes lists.now) }
 {
-    let a_matrix = nth_list(lists, 0);
-    let b_matrix = nth_list(lists, 1);
-    let c_matrix = nth_list(lists, 2);
-    let d_matrix = nth_list(lists, 3);
-    let whole = nth_list(lists, 4);
-    let constant_terms = nth_list(lists, 5);
-    let u1 = nth_list(lists, 6);
-    let projections = nth_list(lists, 7);
-    let p = nth_list(lists, 8);
-    let psi = nth_list(lists, 9);
-    let omega = nth_list(lists, 10);
-    let second_b = nth_list(lists, 11);
-    let alpha = nth_list(lists, 12);
-    let delta = nth_list(lists, 13);
-    let u2 = nth_list(lists, 14);
-    let c = nth_list(lists, 15);
-    let opening = nth_list(lists, 16);
     let answer = capi::lizkarg_verify(
         sizes,
-        a_matrix,
-        b_matrix,
-        c_matrix,
-        d_matrix,
-        whole,
-        constant_terms,
-        u1,
-        projections,
-        p,
-        psi,
-        omega,
-        second_b,
-        alpha,
-        delta,
-        u2,
-        c,
-        opening,
+        nth_list(lists, 0),
+        nth_list(lists, 1),
+        nth_list(lists, 2),
+        nth_list(lists, 3),
+        nth_list(lists, 4),
+        nth_list(lists, 5),
+        nth_list(lists, 6),
+        nth_list(lists, 7),
+        nth_list(lists, 8),
+        nth_list(lists, 9),
+        nth_list(lists, 10),
+        nth_list(lists, 11),
+        nth_list(lists, 12),
+        nth_list(lists, 13),
+        nth_list(lists, 14),
+        nth_list(lists, 15),
+        nth_list(lists, 16),
     );
     output::print_answer(stdout, answer);
     answer

@@ -13,7 +13,7 @@ use Rattle.fold.specs.Answers.{kind_of, number_of}
 use Rattle.fold.specs.Verification.{verification}
 use Rattle.fold.specs.Refusals.{narrow}
 use Rattle.fold.specs.declared.Sizes.{Sizes}
-use Rattle.sheet.specs.declared.reader.SheetAnswer.{SheetAnswer}
+use Rattle.sheet.specs.SheetAnswer.{SheetAnswer}
 use Rattle.fields.specs.Sections.{total}
 use Rattle.sheet.specs.Lists.{list_lengths, list_at}
 use Rattle.sheet.specs.Reading.{header_numbers, sizes_of, body_numbers, reading, answer_of, header_of}

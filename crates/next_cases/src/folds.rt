@@ -29,18 +29,14 @@ fn commit(
     ensures { Committing sizes lists.now witness.now lengths.now messages.old result
         messages.new }
 {
-    let t_count = size(lengths, T, ROOM);
-    let g_count = size(lengths, G, ROOM);
-    let u1_count = size(lengths, U1, ROOM);
     let mut t_room = [FILL; ROOM];
     let mut g_room = [FILL; ROOM];
     let mut u1_room = [FILL; ROOM];
-    let t = &mut t_room[..t_count];
-    let g = &mut g_room[..g_count];
-    let u1 = &mut u1_room[..u1_count];
-    let shape = sizes.shape;
+    let t = &mut t_room[..size(lengths, T, ROOM)];
+    let g = &mut g_room[..size(lengths, G, ROOM)];
+    let u1 = &mut u1_room[..size(lengths, U1, ROOM)];
     let its = CCommitSizes {
-        shape,
+        shape: sizes.shape,
         kappa: sizes.kappa,
         kappa1: sizes.kappa1,
         b1: sizes.b1,
@@ -76,9 +72,8 @@ fn project(
     ensures { Projecting sizes lists.now witness.now lengths.now messages.old result
         messages.new }
 {
-    let count = size(lengths, P, ROOM);
     let mut room = [FILL; ROOM];
-    let p = &mut room[..count];
+    let p = &mut room[..size(lengths, P, ROOM)];
     let answer = capi::lizkarg_project(sizes.shape, sizes.w, nth_list(lists, 6), witness, p);
     print_answer(stdout, 1, answer);
     keep(stdout, messages, lengths, P, p);
@@ -96,9 +91,8 @@ fn aggregate(
     ensures { Aggregating sizes lists.now witness.now lengths.now messages.old result
         messages.new }
 {
-    let count = size(lengths, SECOND_B, ROOM);
     let mut room = [FILL; ROOM];
-    let second_b = &mut room[..count];
+    let second_b = &mut room[..size(lengths, SECOND_B, ROOM)];
     let answer = capi::lizkarg_aggregate(
         sizes.shape,
         sizes.l,
@@ -127,15 +121,12 @@ fn commit_garbage(
     ensures { GarbageCommitting sizes lists.now whole.now witness.now lengths.now
         messages.old result messages.new }
 {
-    let h_count = size(lengths, H, ROOM);
-    let u2_count = size(lengths, U2, ROOM);
     let mut h_room = [FILL; ROOM];
     let mut u2_room = [FILL; ROOM];
-    let h = &mut h_room[..h_count];
-    let u2 = &mut u2_room[..u2_count];
-    let shape = sizes.shape;
+    let h = &mut h_room[..size(lengths, H, ROOM)];
+    let u2 = &mut u2_room[..size(lengths, U2, ROOM)];
     let its = CGarbageSizes {
-        shape,
+        shape: sizes.shape,
         k: sizes.k,
         l: sizes.l,
         w: sizes.w,
@@ -169,9 +160,10 @@ fn call_amortize(sizes: CSizes, c: &[i32], witness: &[i32], z: &mut [i32]) -> CA
         z.old answer z.new) result }
 {
     if sizes.one_digit == 0 {
-        return capi::lizkarg_amortize(sizes.shape, sizes.b, c, witness, z);
+        capi::lizkarg_amortize(sizes.shape, sizes.b, c, witness, z)
+    } else {
+        capi::lizkarg_amortize_one_digit(sizes.shape, c, witness, z)
     }
-    capi::lizkarg_amortize_one_digit(sizes.shape, c, witness, z)
 }
 
 fn amortize(
@@ -185,11 +177,9 @@ fn amortize(
     ensures { Amortizing sizes lists.now witness.now lengths.now messages.old result
         messages.new }
 {
-    let count = size(lengths, Z, ROOM);
     let mut room = [FILL; ROOM];
-    let z = &mut room[..count];
-    let c = nth_list(lists, 11);
-    let answer = call_amortize(sizes, c, witness, z);
+    let z = &mut room[..size(lengths, Z, ROOM)];
+    let answer = call_amortize(sizes, nth_list(lists, 11), witness, z);
     print_answer(stdout, 1, answer);
     keep(stdout, messages, lengths, Z, z);
     answer

@@ -56,8 +56,5 @@ pub fn read_sizes(wides: &[i64], one_digit: u8) -> CSizes
 pub fn fitting(count: usize) -> usize
     ensures { result ≡ size_of 32768 (pos count) }
 {
-    if count > ROOM {
-        return 0;
-    }
-    count
+    if count > ROOM { 0 } else { count }
 }

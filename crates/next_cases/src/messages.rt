@@ -30,10 +30,8 @@ fn total(lengths: &[i32], lists: usize, room: usize) -> usize
     ensures { result ≡ start_of room lengths.now lists }
 {
     let mut sum = 0;
-    let mut i = 0;
-    while i < lists {
+    for i in 0..lists {
         sum += size(lengths, i, room - sum);
-        i += 1;
     }
     sum
 }
@@ -42,8 +40,7 @@ fn total(lengths: &[i32], lists: usize, room: usize) -> usize
 pub fn opening<'a>(messages: &'a [i32], lengths: &[i32]) -> &'a [i32]
     ensures { result.now ≡ opening_of messages.now lengths.now }
 {
-    let end = total(lengths, U1, messages.len());
-    &messages[0..end]
+    &messages[..total(lengths, U1, messages.len())]
 }
 
 // The list of this number.

@@ -19,9 +19,8 @@ const OPENING: usize = 20;
 pub fn part_sizes(sizes: CSizes, nu: usize, mu: usize) -> CPartSizes
     ensures { result ≡ part_sizes_of sizes nu mu }
 {
-    let shape = sizes.shape;
     CPartSizes {
-        shape,
+        shape: sizes.shape,
         kappa: sizes.kappa,
         t1: sizes.t1,
         t2: sizes.t2,

@@ -19,10 +19,7 @@ pub fn write_witness(
         (take (length out.old) (next_witness sizes parts width opening.now)) }
 {
     let mut at = 0;
-    let mut i = 0;
-    while i < parts {
-        i += 1;
-        let part = next_part(sizes, i, opening);
-        at = put(out, at, part, width);
+    for i in 0..parts {
+        at = put(out, at, next_part(sizes, i + 1, opening), width);
     }
 }

@@ -16,8 +16,7 @@ pub fn write_number_digits(xs: &[i32], out: &mut [i32]) -> usize
 {
     let base = base_at(xs, 1);
     let count = count_at(xs, 2);
-    let x = number_at(xs, 3);
-    out[count - 1] = x;
+    out[count - 1] = number_at(xs, 3);
     digits::split_digits(base, count, 1, &mut out[0..count]);
     count
 }

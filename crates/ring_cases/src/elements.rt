@@ -14,26 +14,22 @@ fn of_one(operation: usize, d: usize, a: Element) -> Element
     requires { Degree d }
     ensures { result.coefficients ≡ array d (of_one operation d (lift d a.coefficients)) }
 {
-    if operation == 4 {
-        return a.negation(d);
+    match operation {
+        4 => a.negation(d),
+        6 => a.conjugate(d),
+        _ => a.half(d),
     }
-    if operation == 6 {
-        return a.conjugate(d);
-    }
-    a.half(d)
 }
 
 fn of_two(operation: usize, d: usize, a: Element, b: Element) -> Element
     requires { Degree d }
     ensures { result.coefficients ≡ array d (of_two operation d (lift d a.coefficients) (lift d b.coefficients)) }
 {
-    if operation == 2 {
-        return a.sum(d, b);
+    match operation {
+        2 => a.sum(d, b),
+        3 => a.difference(d, b),
+        _ => a.product(d, b),
     }
-    if operation == 3 {
-        return a.difference(d, b);
-    }
-    a.product(d, b)
 }
 
 // Operations 4, 6 and 8: `d a[d]`.
@@ -42,8 +38,7 @@ fn one(operation: usize, d: usize, xs: &[i32]) -> Element
     requires xs_len { length xs.now ≡ 2048 }
     ensures { result.coefficients ≡ array d (one_at operation d xs.now) }
 {
-    let a = Element::from_slice(d, past_numbers(xs, 2), 0);
-    of_one(operation, d, a)
+    of_one(operation, d, Element::from_slice(d, past_numbers(xs, 2), 0))
 }
 
 // Operations 2, 3 and 5: `d a[d] b[d]`.
@@ -65,8 +60,7 @@ fn scaled(d: usize, xs: &[i32]) -> Element
     ensures { result.coefficients ≡ array d (scaled_at d xs.now) }
 {
     let a = Element::from_slice(d, past_numbers(xs, 3), 0);
-    let factor = number_at(xs, 2);
-    a.scale(d, factor)
+    a.scale(d, number_at(xs, 2))
 }
 
 // Operation 12: `d n u[n*d] v[n*d]`.
@@ -93,16 +87,12 @@ fn element_of(operation: usize, d: usize, xs: &[i32]) -> Element
     requires xs_len { length xs.now ≡ 2048 }
     ensures { result.coefficients ≡ array d (element_of operation d xs.now) }
 {
-    if operation == 7 {
-        return scaled(d, xs);
+    match operation {
+        7 => scaled(d, xs),
+        12 => inner(d, xs),
+        _ if is_two(operation) => two(operation, d, xs),
+        _ => one(operation, d, xs),
     }
-    if operation == 12 {
-        return inner(d, xs);
-    }
-    if is_two(operation) {
-        return two(operation, d, xs);
-    }
-    one(operation, d, xs)
 }
 
 // The numbers of the result, and how many they are.
@@ -111,7 +101,6 @@ pub fn write_element(operation: usize, xs: &[i32], out: &mut [i32]) -> usize
     ensures { Results (element_numbers operation xs.now) out.old out.new result }
 {
     let d = degree_at(xs);
-    let element = element_of(operation, d, xs);
-    element.store(d, out, 0);
+    element_of(operation, d, xs).store(d, out, 0);
     d
 }

@@ -23,25 +23,18 @@ fn product(xs: &[i32], wides: &[i64]) -> CProduct
     ensures { result ≡ product_at xs.now wides.now }
 {
     let d = natural(wide_at(wides, 1)) as usize;
-    let x = element(past_numbers(xs, 2));
-    let y = element(past_numbers(xs, 66));
-    capi::multiply::lizkarg_multiply(d, x, y)
-}
-
-fn word(x: u8) -> i32
-    ensures { result ≡ pos x }
-{
-    x as i32
+    capi::multiply::lizkarg_multiply(
+        d,
+        element(past_numbers(xs, 2)),
+        element(past_numbers(xs, 66)),
+    )
 }
 
 // A number, at most the largest of 32 bits.
 fn capped(x: u64) -> i32
     ensures { result ≡ pos (min x 2147483647) }
 {
-    if x < 2147483647 {
-        return x as i32;
-    }
-    2147483647
+    i32::try_from(x).unwrap_or(i32::MAX)
 }
 
 // The answer's kind and number, and then the sixty-four numbers of the element.
@@ -50,10 +43,6 @@ pub fn write_product(xs: &[i32], wides: &[i64], out: &mut [i32]) -> usize
     ensures { Results (product_numbers (product_at xs.now wides.now)) out.old out.new result }
 {
     let answer = product(xs, wides);
-    let kind = word(answer.kind);
-    let number = capped(answer.number);
-    let head = [kind, number];
-    let numbers = answer.element.coefficients;
-    put(out, 0, &head, 2);
-    put(out, 2, &numbers, 64)
+    put(out, 0, &[i32::from(answer.kind), capped(answer.number)], 2);
+    put(out, 2, &answer.element.coefficients, 64)
 }

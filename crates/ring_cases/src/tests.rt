@@ -11,22 +11,17 @@ fn part(xs: &[i32], place: usize, n: usize) -> &[i32]
     ensures { result.now ≡ list_at n place xs.now }
 {
     let rest = past_numbers(xs, place);
-    if rest.len() < n {
-        return rest;
-    }
-    &rest[0..n]
+    &rest[..n.min(rest.len())]
 }
 
 fn list_test(operation: usize, xs: &[i32]) -> bool
     ensures { result ≡ list_test operation xs.now }
 {
-    if operation == 13 {
-        return range::are_coefficients(xs);
+    match operation {
+        13 => range::are_coefficients(xs),
+        14 => range::are_projection_entries(xs),
+        _ => range::is_challenge(xs),
     }
-    if operation == 14 {
-        return range::are_projection_entries(xs);
-    }
-    range::is_challenge(xs)
 }
 
 // Operation 16: `bound n x[n]`.
@@ -35,8 +30,7 @@ fn norm(xs: &[i32], wides: &[i64]) -> bool
 {
     let bound = natural(wide_at(wides, 1));
     let n = size(xs, 2, 64);
-    let margin = length::compare(bound, part(xs, 3, n));
-    length::is_within(margin)
+    length::is_within(length::compare(bound, part(xs, 3, n)))
 }
 
 // Operation 17: `bound n m x[n] y[m]`.
@@ -47,20 +41,16 @@ fn two_norms(xs: &[i32], wides: &[i64]) -> bool
     let n = size(xs, 2, 64);
     let m = size(xs, 3, 64);
     let margin = length::compare(bound, part(xs, 4, n));
-    let both = length::lessen(margin, part(xs, 4 + n, m));
-    length::is_within(both)
+    length::is_within(length::lessen(margin, part(xs, 4 + n, m)))
 }
 
 // Operations 13, 14 and 15 besides: `n x[n]`.
 pub fn test_of(operation: usize, xs: &[i32], wides: &[i64]) -> bool
     ensures { result ≡ test_of operation xs.now wides.now }
 {
-    if operation == 16 {
-        return norm(xs, wides);
+    match operation {
+        16 => norm(xs, wides),
+        17 => two_norms(xs, wides),
+        _ => list_test(operation, part(xs, 2, size(xs, 1, 64))),
     }
-    if operation == 17 {
-        return two_norms(xs, wides);
-    }
-    let n = size(xs, 1, 64);
-    list_test(operation, part(xs, 2, n))
 }

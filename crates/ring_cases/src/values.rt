@@ -1,5 +1,5 @@
 // The operations whose result is one number; yes is 1 and no is 0.
-ghost use Rattle.std.specs.Prelude.{◌≡◌, cond, ◌∷◌, [], ◌<◌, length, pos};
+ghost use Rattle.std.specs.Prelude.{◌≡◌, ◌∷◌, [], ◌<◌, length};
 ghost use Rattle.ring_cases.specs.Results.{recomposed_at, constant_at, value_of, Results};
 
 use crate::input::{base_at, count_at, degree_at};
@@ -8,15 +8,6 @@ use cases::lists::past_numbers;
 use cases::numbers::wide_at;
 use residues::{digits, modulus};
 use ring::element::Element;
-
-fn flag(yes: bool) -> i32
-    ensures { result ≡ cond yes (pos 1) (pos 0) }
-{
-    if yes {
-        return 1;
-    }
-    0
-}
 
 // Operation 11: `B t digits[t]`.
 fn recomposed(xs: &[i32]) -> i32
@@ -34,8 +25,7 @@ fn constant(xs: &[i32]) -> i32
     ensures { result ≡ constant_at xs.now }
 {
     let d = degree_at(xs);
-    let a = Element::from_slice(d, past_numbers(xs, 2), 0);
-    a.constant_term()
+    Element::from_slice(d, past_numbers(xs, 2), 0).constant_term()
 }
 
 // Operation 1 besides: `x`.
@@ -43,16 +33,12 @@ fn value_of(operation: usize, xs: &[i32], wides: &[i64]) -> i32
     requires { length xs.now ≡ 2048 }
     ensures { result ≡ value_of operation xs.now wides.now }
 {
-    if operation == 1 {
-        return modulus::centre(wide_at(wides, 1));
+    match operation {
+        1 => modulus::centre(wide_at(wides, 1)),
+        11 => recomposed(xs),
+        18 => constant(xs),
+        _ => i32::from(test_of(operation, xs, wides)),
     }
-    if operation == 11 {
-        return recomposed(xs);
-    }
-    if operation == 18 {
-        return constant(xs);
-    }
-    flag(test_of(operation, xs, wides))
 }
 
 // One number as the results.
@@ -68,6 +54,5 @@ pub fn write_value(operation: usize, xs: &[i32], wides: &[i64], out: &mut [i32])
     requires { (length xs.now ≡ 2048) × (length out.old ≡ 512) }
     ensures { Results (value_of operation xs.now wides.now ∷ []) out.old out.new result }
 {
-    let x = value_of(operation, xs, wides);
-    write_one(x, out)
+    write_one(value_of(operation, xs, wides), out)
 }

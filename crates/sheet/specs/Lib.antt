@@ -1,5 +1,6 @@
 -- Definitions
 pub mod Lists
+pub mod SheetAnswer
 pub mod Reading
 pub mod Layout
 -- What a call that is not refused knows

@@ -20,8 +20,8 @@ use Rattle.fold.specs.Sizes.{z_count}
 use Rattle.fold.specs.Refusals.{size_rows, bound_rows, chunks, challenges}
 use Rattle.sheet.specs.declared.header.SheetSizes.{SheetSizes}
 use Rattle.fields.specs.declared.sizes.Sections.{Sections}
-use Rattle.sheet.specs.declared.reader.SheetAnswer.{SheetAnswer}
-use Rattle.sheet.specs.declared.reader.SheetAnswer.TheVariants.{Sheet, Refused}
+use Rattle.sheet.specs.SheetAnswer.{SheetAnswer}
+use Rattle.sheet.specs.SheetAnswer.{Sheet, Refused}
 use Rattle.sheet.specs.Lists.{list_lengths, list_at}
 use Rattle.fields.specs.Sections.{sections_of, total, ends_line}
 use Rattle.fields.specs.Place.{place, laid, number_at, numbers_from}

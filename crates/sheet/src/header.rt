@@ -1,15 +1,16 @@
 // The header: its layout, its numbers as sizes, and their tests, which are those that the library makes of the same sizes.
 ghost use Rattle.std.specs.Prelude.{◌≡◌};
+ghost use Rattle.fold.specs.Rows.{row_of, failure};
 ghost use Rattle.fold.specs.Answers.{first_failing};
 ghost use Rattle.fields.specs.Place.{number_at};
 ghost use Rattle.sheet.specs.Reading.{header_laid, header_numbers, front_tests, size, sheet_sizes_of};
 
 use fields::sizes::Sections;
 use fields::walk::{laid_end, number_at};
+use fold::answers::{Refusal, require};
 use fold::counts::Z_DIGITS;
 use fold::{Shape, Sizes};
 use limits::next::next_bounds;
-use limits::rows::first;
 
 // The header's numbers: the fold's sizes, and into how many chunks z and the rest are cut, ν and μ.
 #[derive(Clone, Copy)]
@@ -83,11 +84,11 @@ pub fn sheet_sizes(text: &[u8]) -> SheetSizes
     }
 }
 
-// 12, then 1 to 6; 0 where the header passes.
-pub fn header_refusal(text: &[u8]) -> u8
-    ensures { result ≡ first_failing (front_tests text.now) }
+// 12, then 1 to 6.
+pub fn header_refusal(text: &[u8]) -> Result<(), Refusal>
+    ensures { failure row_of result ≡ first_failing (front_tests text.now) }
 {
+    require(header_laid(text), Refusal::Layout)?;
     let s = sheet_sizes(text);
-    let refusal = next_bounds(Z_DIGITS, s.sizes, s.nu, s.mu);
-    first(header_laid(text), 12, refusal)
+    next_bounds(Z_DIGITS, s.sizes, s.nu, s.mu)
 }

@@ -1,10 +1,12 @@
 // The reader of a sheet: SPECIFICATION 10. Every test comes before the first number is written.
 ghost use Rattle.std.specs.Prelude.{◌≡◌, true, length};
 ghost use Rattle.residues.specs.Range.{coefficients, projection_entries};
+ghost use Rattle.fold.specs.Rows.{row_of, failure};
 ghost use Rattle.fold.specs.Answers.{first_failing};
 ghost use Rattle.fold.specs.Arguments.{VerifySized};
 ghost use Rattle.fold.specs.Refusals.{challenges};
 ghost use Rattle.fields.specs.Sections.{total};
+ghost use Rattle.sheet.specs.SheetAnswer.{read_of};
 ghost use Rattle.sheet.specs.Reading.{number_count, body_numbers, projections_in, challenges_in, number_tests, body_tests, reading_tests, SheetRead};
 ghost use Rattle.sheet.specs.Known.Reading.{Inside};
 
@@ -12,15 +14,8 @@ use crate::header::{SheetSizes, header_refusal, sheet_sizes};
 use fields::sizes::{HEADER_BYTES, challenges_from, projections_from, sections_of, total_numbers};
 use fields::walk::{all_within, are_challenges, fill, laid_end, place_after};
 use fold::Sizes;
-use limits::rows::first;
+use fold::answers::{Refusal, require};
 use limits::sizes::projection_length;
-
-// A sheet's sizes, or the number of the refusal.
-#[derive(Clone, Copy)]
-pub enum SheetAnswer {
-    Sheet(SheetSizes),
-    Refused(u8),
-}
 
 // Row 9.
 fn projections_ok(s: Sizes, text: &[u8]) -> bool
@@ -61,42 +56,34 @@ fn numbers_ok(s: Sizes, text: &[u8]) -> bool
     )
 }
 
-// Rows 8 to 10; 0 where the numbers pass.
-fn number_refusal(s: Sizes, text: &[u8]) -> u8
+// Rows 8 to 10.
+fn number_refusal(s: Sizes, text: &[u8]) -> Result<(), Refusal>
     requires { Inside s text.now }
-    ensures { result ≡ first_failing (number_tests s (body_numbers s text.now)) }
+    ensures { failure row_of result ≡ first_failing (number_tests s (body_numbers s text.now)) }
 {
-    if !numbers_ok(s, text) {
-        return 8;
-    }
-    let ten = first(challenges_ok(s, text), 10, 0);
-    first(projections_ok(s, text), 9, ten)
+    require(numbers_ok(s, text), Refusal::Coefficient)?;
+    require(projections_ok(s, text), Refusal::ProjectionEntry)?;
+    require(challenges_ok(s, text), Refusal::Challenge)
 }
 
-// The other lines, and the numbers on them; 0 where they pass.
-fn body_refusal(s: Sizes, text: &[u8], room: usize) -> u8
+// The other lines, and the numbers on them.
+fn body_refusal(s: Sizes, text: &[u8], room: usize) -> Result<(), Refusal>
     requires { VerifySized s }
-    ensures { result ≡ first_failing (body_tests room s text.now) }
+    ensures { failure row_of result ≡ first_failing (body_tests room s text.now) }
 {
     let q = sections_of(s);
     let count = total_numbers(s);
-    if laid_end(q, text, HEADER_BYTES, count) != Some(text.len()) {
-        return 12;
-    }
-    if room != count {
-        return 7;
-    }
+    let laid = laid_end(q, text, HEADER_BYTES, count) == Some(text.len());
+    require(laid, Refusal::Layout)?;
+    require(room == count, Refusal::SliceLength)?;
     number_refusal(s, text)
 }
 
-// Every test, for a slice of `room` numbers; 0 where the text is a sheet.
-fn sheet_refusal(text: &[u8], room: usize) -> u8
-    ensures { result ≡ first_failing (reading_tests room text.now) }
+// Every test, for a slice of `room` numbers.
+fn sheet_refusal(text: &[u8], room: usize) -> Result<(), Refusal>
+    ensures { failure row_of result ≡ first_failing (reading_tests room text.now) }
 {
-    let header = header_refusal(text);
-    if 0 < header {
-        return header;
-    }
+    header_refusal(text)?;
     body_refusal(sheet_sizes(text).sizes, text, room)
 }
 
@@ -104,9 +91,9 @@ fn sheet_refusal(text: &[u8], room: usize) -> u8
 pub fn sheet_numbers(text: &[u8]) -> usize
     ensures { result ≡ number_count text.now }
 {
-    let header = header_refusal(text);
-    if 0 < header {
-        return 0;
+    match header_refusal(text) {
+        Err(_) => return 0,
+        Ok(()) => {}
     }
     total_numbers(sheet_sizes(text).sizes)
 }
@@ -130,14 +117,11 @@ fn store(s: Sizes, text: &[u8], numbers: &mut [i32])
 
 // Reads a sheet: the sizes, and in `numbers` all numbers after the header, which it must have room for exactly. On a refusal they are
 // left as they are.
-pub fn read_sheet(text: &[u8], numbers: &mut [i32]) -> SheetAnswer
-    ensures { SheetRead text.now numbers.old result numbers.new }
+pub fn read_sheet(text: &[u8], numbers: &mut [i32]) -> Result<SheetSizes, Refusal>
+    ensures { SheetRead text.now numbers.old (read_of result) numbers.new }
 {
-    let refusal = sheet_refusal(text, numbers.len());
-    if 0 < refusal {
-        return SheetAnswer::Refused(refusal);
-    }
+    sheet_refusal(text, numbers.len())?;
     let s = sheet_sizes(text);
     store(s.sizes, text, numbers);
-    SheetAnswer::Sheet(s)
+    Ok(s)
 }

@@ -17,7 +17,7 @@ use Rattle.fold.specs.Verification.{verification}
 use Rattle.fold.specs.NextCall.{next_answer, next_out, part_refusal, next_part}
 use Rattle.fold.specs.declared.PartSizes.{PartSizes}
 use Rattle.fold.specs.Arguments.{count_of, base_of, part_refusal_of, next_part_of}
-use Rattle.sheet.specs.declared.reader.SheetAnswer.{SheetAnswer}
+use Rattle.sheet.specs.SheetAnswer.{SheetAnswer}
 use Rattle.sheet.specs.Reading.{header_tests, number_tests, body_tests, reading_tests, answer_of, SheetRead}
 use Rattle.sheet.specs.declared.header.SheetSizes.{SheetSizes}
 use Rattle.writer.specs.declared.WriteAnswer.{WriteAnswer}

@@ -6,8 +6,7 @@ ghost use Rattle.std.specs.Counts.{IsPrefixLen};
 ghost use Rattle.std.specs.IoError.{error_kind};
 ghost use Rattle.verdict.specs.Reads.{Moved, TookInto, TookBetween, number_of, place_after, interrupted};
 
-use std::io;
-use std::io::{ErrorKind, Read};
+use std::io::{self, ErrorKind, Read};
 
 // C's number of the error of an interrupted call.
 const EINTR: i32 = 4;
@@ -16,10 +15,7 @@ const EINTR: i32 = 4;
 fn interrupted(got: isize, error: i32) -> bool
     ensures { result ≡ interrupted got error }
 {
-    if got < 0 {
-        return error == EINTR;
-    }
-    false
+    got < 0 && error == EINTR
 }
 
 // C's number of a read's error where a signal interrupted it, and 0 where the read failed otherwise.
@@ -49,13 +45,11 @@ fn read_once<R: Read>(input: &mut R, part: &mut [u8]) -> isize
     ensures moved { Moved (length part.old) result }
     ensures bytes { TookInto (R.remaining input.old) (R.remaining input.new) result part.new }
 {
-    let mut tries = 18446744073709551615u64;
-    while tries > 0 {
+    for _ in 0..u64::MAX {
         let (got, error) = read_into(input, part);
         if !interrupted(got, error) {
             return got;
         }
-        tries -= 1;
     }
     -1
 }
@@ -65,14 +59,10 @@ fn after(got: isize, from: usize, size: usize) -> usize
     requires { from ≤ size }
     ensures { result ≡ place_after got from size }
 {
-    if got < 0 {
-        return size;
+    match usize::try_from(got) {
+        Ok(count) => from + count.min(size - from),
+        Err(_) => size,
     }
-    let count = got as usize;
-    if size - from < count {
-        return size;
-    }
-    from + count
 }
 
 // One read into `text` from place `from` on: the place after the bytes that it put there. Where the read fails it is the end of `text`.

@@ -3,8 +3,8 @@ use Rattle.std.specs.Prelude.{◌≡◌, List, ℕ, length, ℤ}
 use Rattle.fold.specs.Arguments.{VerifySized}
 use Rattle.fold.specs.Answers.{Answer}
 use Rattle.fold.specs.Answers.{written}
-use Rattle.sheet.specs.declared.reader.SheetAnswer.{SheetAnswer}
-use Rattle.sheet.specs.declared.reader.SheetAnswer.TheVariants.{Sheet, Refused}
+use Rattle.sheet.specs.SheetAnswer.{SheetAnswer}
+use Rattle.sheet.specs.SheetAnswer.{Sheet, Refused}
 use Rattle.sheet.specs.Reading.{header_numbers, sizes_of, body_numbers, reading, reading_refusal}
 use Rattle.judge.specs.Judging.{judged_by}
 

@@ -8,7 +8,7 @@ use Rattle.std.proofs.lemmas.Bool.{lt-leb}
 use Rattle.fold.specs.Answers.{Answer}
 use Rattle.fold.specs.Answers as answer
 use Rattle.fold.specs.Answers.{written}
-use Rattle.sheet.specs.declared.reader.SheetAnswer.{SheetAnswer}
+use Rattle.sheet.specs.SheetAnswer.{SheetAnswer}
 use Rattle.sheet.specs.Reading.{header_numbers, sheet_sizes_of, sheet_if, reading, reading_refusal, SheetRead}
 use Rattle.sheet.specs.Laws.AnswerLaws.{reading-passed, read_is}
 use Rattle.sheet.specs.Laws.HeaderLaws.{header-bounded}

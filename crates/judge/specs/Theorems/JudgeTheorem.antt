@@ -19,7 +19,7 @@ use Rattle.fold.specs.Laws.RefusalLaws.{numbered, refusal_passes, passes_refusal
 use Rattle.fold.specs.Laws.TestLaws.{passed, failed, none-fails, stops, after-passes}
 use Rattle.fold.specs.declared.Sizes.{Sizes}
 use Rattle.sheet.specs.declared.header.SheetSizes.{SheetSizes}
-use Rattle.sheet.specs.declared.reader.SheetAnswer as reader
+use Rattle.sheet.specs.SheetAnswer as reader
 use Rattle.fields.specs.Sections.{total}
 use Rattle.sheet.specs.Reading.{header_numbers, header_tests, sizes_of, sheet_sizes_of, body_numbers, number_tests, body_tests}
 use Rattle.sheet.specs.Reading.{reading_tests, sheet_if, reading}
@@ -126,18 +126,18 @@ pub refused-longer : (text : List ℕ) → 65536 < length text → judged_text t
 unfolding judged_text
 refused-longer text h = rw (lt-leb (length text) 65536 h) refl
 
-pub refused-text : (text : List ℕ) → length text ≤ 65536 → (n : ℕ) → reading (room_of text) text ≡ reader.TheVariants.Refused n
+pub refused-text : (text : List ℕ) → length text ≤ 65536 → (n : ℕ) → reading (room_of text) text ≡ reader.Refused n
     → judged_text text ≡ Refused n
 unfolding judged
 refused-text text h n e = short text h ∙ rw e refl
 
 -- ---- a sheet
 
-none_if : (k : ℕ) (s t : SheetSizes) → sheet_if k s ≡ reader.TheVariants.Sheet t → k ≡ 0
+none_if : (k : ℕ) (s t : SheetSizes) → sheet_if k s ≡ reader.Sheet t → k ≡ 0
 none_if zero s t e = refl
 none_if (suc k) s t e = let f : ◌≡◌ {A = ℕ} 0 1 = cc in absurd (omega arith)
 
-no_refusal : (room : ℕ) (text : List ℕ) (s : SheetSizes) → reading room text ≡ reader.TheVariants.Sheet s
+no_refusal : (room : ℕ) (text : List ℕ) (s : SheetSizes) → reading room text ≡ reader.Sheet s
     → first_failing (reading_tests room text) ≡ 0
 unfolding reading
 no_refusal room text s e = none_if (first_failing (reading_tests room text)) (sheet_sizes_of (header_numbers text)) s e
@@ -204,7 +204,7 @@ judged_sheet text v = by_text_length (λ (a : Answer). a ≡ Judged v → Sheet 
     within h e =
         let (none, same) = judgement_of (first_failing (text_tests text)) v _ e in
         let (read, thin) = read_and_narrow text none in
-        let answer : reading (room_of text) text ≡ reader.TheVariants.Sheet (sheet_sizes_of (header_numbers text)) = rw read refl in
+        let answer : reading (room_of text) text ≡ reader.Sheet (sheet_sizes_of (header_numbers text)) = rw read refl in
         let exactly = (sheet_exactly (room_of text) text (header_numbers text) (numbers_of text)).0
         (record { answer = answer; header = refl; numbers = refl }) in
         record { text-is = exactly.0; numbers = exactly.1; digits-narrow = thin; verdict-is = same }

@@ -4,7 +4,8 @@
 --     count-refused, count_good      how many numbers a header gives
 --     read-refused, read_sheet       the reader's promise, refused or not
 --     read_is                        the promise fixes the answer
-use Rattle.std.specs.Prelude.{◌≡◌, Bool, true, false, cond, List, [], ◌∷◌, ◌++◌, length, ℤ}
+--     refused_read                   a refused result is that answer
+use Rattle.std.specs.Prelude.{◌≡◌, Bool, true, false, cond, List, [], ◌∷◌, ◌++◌, length, ℤ, Result, Ok, Err, IsErrAnd}
 use Rattle.std.proofs.Math.Path.{refl, sym, ap}
 use Rattle.std.proofs.Common.{◌∙◌}
 use Prim.Native.Nat.{ℕ, zero, suc, ◌≤◌, ◌<◌}
@@ -13,14 +14,17 @@ use borrow.Author.Tests.{eqb-true, eq-eqb, ne_eqb}
 use Rattle.integers.specs.Over.{over}
 use Rattle.integers.specs.Laws.OverLaws.{over-all}
 use Rattle.residues.specs.Range.{coefficients}
+use Rattle.fold.specs.declared.answers.Refusal.{Refusal}
+use Rattle.fold.specs.Rows.{row_of}
+use Rattle.fold.specs.Laws.ResultLaws.{row_nonzero}
 use Rattle.fold.specs.Arguments.{VerifySized}
 use Rattle.fold.specs.Answers as answer
 use Rattle.fold.specs.Answers.{kind_of, number_of, first_failing, answered, written}
 use Rattle.fold.specs.Laws.RefusalLaws.{Passes, refusal_passes, passes_refusal, passes-front, passes-back, passes-join}
 use Rattle.fold.specs.declared.Sizes.{Sizes}
 use Rattle.sheet.specs.declared.header.SheetSizes.{SheetSizes}
-use Rattle.sheet.specs.declared.reader.SheetAnswer.{SheetAnswer}
-use Rattle.sheet.specs.declared.reader.SheetAnswer.TheVariants.{Sheet, Refused}
+use Rattle.sheet.specs.SheetAnswer.{SheetAnswer}
+use Rattle.sheet.specs.SheetAnswer.{Sheet, Refused, read_of}
 use Rattle.fields.specs.declared.sizes.Sections.{Sections}
 use Rattle.fields.specs.Sections.{Sectioned, total, ends_line}
 use Rattle.fields.specs.Place.{numbers_from}
@@ -32,6 +36,14 @@ use Rattle.sheet.specs.Laws.ReadingLaws.{body-within, all-numbers}
 use Rattle.sheet.specs.Laws.BodyLaws.{body-total}
 use Rattle.sheet.specs.Laws.SheetLaws.{length-body}
 use Rattle.fields.specs.Field.{header_bytes}
+
+-- every row has a number above 0
+pub row_positive : (r : Refusal) → 0 < row_of r
+row_positive r = step (row_of r) (row_nonzero r)
+  where
+    step : (n : ℕ) → (n ≡ 0 → ⊥) → 0 < n
+    step zero some = absurd (some refl)
+    step (suc n) some = omega arith
 
 -- ---- two lists of tests, one after the other
 
@@ -177,3 +189,8 @@ read_is text before {read} p = step (reading_refusal text before) read p.answer-
     step zero (Refused m) a h = let f : ◌≡◌ {A = ℕ} 2 3 = ap kind_of a in absurd (omega arith)
     step (suc n) (Refused m) a h = ap Refused (ap number_of a)
     step (suc n) (Sheet s) a h = let f : ◌≡◌ {A = ℕ} 3 2 = ap kind_of a in absurd (omega arith)
+
+-- a result that hands a refusal on
+pub refused_read : (r : Result SheetSizes Refusal) (e : Refusal) → IsErrAnd r (λ x. x ≡ e) → read_of r ≡ Refused (row_of e)
+refused_read (Ok s) e told = absurd told
+refused_read (Err x) e told = ap (λ y. Refused (row_of y)) told

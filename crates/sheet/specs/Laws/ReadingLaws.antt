@@ -63,18 +63,6 @@ pub challenges-end : (s : Sizes) → challenges_from s + s.shape.r * s.shape.d �
 unfolding challenges_from total last_count
 challenges-end s = omega arith
 
-module _ (s : Sizes) (xs : List ℤ) where
-  pub eight : {good : Bool} → good ≡ coefficients xs → good ≡ false → 8 ≡ first_failing (number_tests s xs)
-  unfolding first_failing number_tests
-  eight {good} e t = rw (← e, t) refl
-
-  pub nine_ten : {good projections ok : Bool} {r₉ r₁₀ : ℕ} → good ≡ coefficients xs → good ≡ true
-      → r₉ ≡ cond projections r₁₀ 9 → projections ≡ projection_entries (projections_in s xs)
-      → r₁₀ ≡ cond ok 0 10 → ok ≡ challenges s.shape.d s.shape.r (challenges_in s xs)
-      → r₉ ≡ first_failing (number_tests s xs)
-  unfolding first_failing number_tests
-  nine_ten {good} e t e₉ f₉ e₁₀ f₁₀ = rw (← e, t, e₉, f₉, e₁₀, f₁₀) refl
-
 pub body-within : (s : Sizes) (text : List ℕ) → body_laid s text ≡ true → place (ends_line (sections_of s)) header_bytes (total s) ≤ length text
 unfolding body_laid
 body-within s text e = step (laid (ends_line (sections_of s)) header_bytes text (total s)) e
@@ -85,31 +73,15 @@ body-within s text e = step (laid (ends_line (sections_of s)) header_bytes text 
     step false q = contradiction q refl
 
 module _ (s : Sizes) (text : List ℕ) (q : Sections) (e : Sectioned s q) {count : ℕ} (c : count ≡ total s) {end : Option ℕ}
-    (l : end ≡ end_if (laid (ends_line q) header_bytes text count) (place (ends_line q) header_bytes count)) {other : Bool}
-    (g : other ≡ not (option_eq eqb end (Some (length text)))) where
+    (l : end ≡ end_if (laid (ends_line q) header_bytes text count) (place (ends_line q) header_bytes count)) where
   ends_is : (t : Bool) (p n : ℕ) → option_eq eqb (end_if t p) (Some n) ≡ cond t (eqb p n) false
   ends_is true p n = refl
   ends_is false p n = refl
 
-  laid-is : other ≡ not (body_laid s text)
+  -- the text ends where its last line does
+  pub laid-is : option_eq eqb end (Some (length text)) ≡ body_laid s text
   unfolding body_laid
-  laid-is = g ∙ rw (l, ends_is (laid (ends_line q) header_bytes text count) (place (ends_line q) header_bytes count) (length text), e.is, c) refl
+  laid-is = rw (l, ends_is (laid (ends_line q) header_bytes text count) (place (ends_line q) header_bytes count) (length text), e.is, c) refl
 
-  laid-here : other ≡ false → body_laid s text ≡ true
-  laid-here t = not-false _ (sym laid-is ∙ t)
-
-  pub twelve : (room : ℕ) → other ≡ true → 12 ≡ first_failing (body_tests room s text)
-  unfolding first_failing body_tests
-  twelve room t = rw (not-true _ (sym laid-is ∙ t)) refl
-
-  pub seven : (room : ℕ) → other ≡ false → (room ≡ count → ⊥) → 7 ≡ first_failing (body_tests room s text)
-  unfolding first_failing body_tests
-  seven room t h = rw (laid-here t, ne_eqb room (total s) (λ e. h (e ∙ sym c))) refl
-
-  pub later : (room : ℕ) → other ≡ false → room ≡ count → {r : ℕ} → r ≡ first_failing (number_tests s (body_numbers s text))
-      → r ≡ first_failing (body_tests room s text)
-  unfolding first_failing body_tests
-  later room t h n = rw (laid-here t, eq-eqb room (total s) (h ∙ c)) n
-
-  pub laid-inside : VerifySized s → other ≡ false → Inside s text
-  laid-inside b t = record { bounded = b; inside = body-within s text (laid-here t) }
+  pub laid-inside : VerifySized s → body_laid s text ≡ true → Inside s text
+  laid-inside b t = record { bounded = b; inside = body-within s text t }

@@ -14,7 +14,7 @@ use Rattle.fold.specs.Answers.{first_failing}
 use Rattle.fold.specs.Laws.RefusalLaws.{refusal_passes, passes_refusal}
 use Rattle.fold.specs.declared.Sizes.{Sizes}
 use Rattle.sheet.specs.declared.header.SheetSizes.{SheetSizes}
-use Rattle.sheet.specs.declared.reader.SheetAnswer.TheVariants.{Sheet, Refused}
+use Rattle.sheet.specs.SheetAnswer.{Sheet, Refused}
 use Rattle.fields.specs.Sections.{total}
 use Rattle.sheet.specs.Reading.{header_laid, header_numbers, header_tests, sizes_of, sheet_sizes_of, body_laid, body_numbers, number_tests, body_tests}
 use Rattle.sheet.specs.Reading.{front_tests, number_count, reading_tests, sheet_if, reading}

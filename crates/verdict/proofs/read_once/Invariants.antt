@@ -4,9 +4,5 @@ use Rattle.std.proofs.Common.{◌≡◌, length}
 use Rattle.std.specs.Io.KnownBytes.{Keeps}
 use Rattle.verdict.proofs.read_once.Given as goal
 
-abbrev pub invariant-loop-tries : goal.invariant-loop-tries
-invariant-loop-tries g l =
-    (length l.part ≡ length l.fn.part) × Keeps (g.R.Read.remaining l.fn.input) (g.R.Read.remaining l.input)
-
-abbrev pub decreases-loop-tries : goal.decreases-loop-tries
-decreases-loop-tries g l = l.tries
+abbrev pub invariant-loop : goal.invariant-loop
+invariant-loop g l = (length l.part ≡ length l.fn.part) × Keeps (g.R.Read.remaining l.fn.input) (g.R.Read.remaining l.input)

@@ -8,7 +8,7 @@ use Rattle.std.proofs.Common.{arith}
 use Rattle.fold.specs.Answers as answer
 use Rattle.fold.specs.Answers.{kind_of, answered, written}
 use Rattle.sheet.specs.declared.header.SheetSizes.{SheetSizes}
-use Rattle.sheet.specs.declared.reader.SheetAnswer.TheVariants.{Sheet}
+use Rattle.sheet.specs.SheetAnswer.{Sheet}
 use Rattle.sheet.specs.Reading.{header_numbers, sizes_of, sheet_sizes_of, body_numbers, reading_refusal, SheetRead}
 
 module _ {text : List ℕ} {numbers : List ℤ} {h : SheetSizes} {xs : List ℤ} (call : SheetRead text numbers (Sheet h) xs) where

@@ -9,9 +9,9 @@ use Rattle.fold.specs.Answers.{first_failing}
 use Rattle.fold.specs.Laws.RefusalLaws.{refusal_passes}
 use Rattle.fields.specs.Sections.{total}
 use Rattle.sheet.specs.declared.header.SheetSizes.{SheetSizes}
-use Rattle.sheet.specs.declared.reader.SheetAnswer.{SheetAnswer}
-use Rattle.sheet.specs.declared.reader.SheetAnswer.TheVariants.{Sheet}
-use Rattle.sheet.specs.declared.reader.SheetAnswer.TheVariants as reader
+use Rattle.sheet.specs.SheetAnswer.{SheetAnswer}
+use Rattle.sheet.specs.SheetAnswer.{Sheet}
+use Rattle.sheet.specs.SheetAnswer as reader
 use Rattle.sheet.specs.Reading.{header_tests, sizes_of, sheet_sizes_of, number_tests, slice_tests, reading, SheetRead}
 use Rattle.sheet.specs.Layout.{fields, body_lines, text_of, sheet_text, AllFit, SheetNumbers}
 use Rattle.sheet.specs.Laws.AnswerLaws.{read_is, refusal_first, refusal_rest}

@@ -19,8 +19,8 @@ use Rattle.fold.specs.Answers.{first_failing, written}
 use Rattle.fold.specs.Laws.TestLaws.{rising}
 use Rattle.fold.specs.Laws.RefusalLaws.{refusal_passes}
 use Rattle.sheet.specs.declared.header.SheetSizes.{SheetSizes}
-use Rattle.sheet.specs.declared.reader.SheetAnswer.{SheetAnswer}
-use Rattle.sheet.specs.declared.reader.SheetAnswer.TheVariants.{Sheet}
+use Rattle.sheet.specs.SheetAnswer.{SheetAnswer}
+use Rattle.sheet.specs.SheetAnswer.{Sheet}
 use Rattle.sheet.specs.Reading.{header_numbers, header_tests, sizes_of, body_numbers, number_tests, number_count, SheetRead}
 use Rattle.sheet.specs.Layout.{SheetNumbers}
 use Rattle.sheet.specs.Laws.AnswerLaws.{read_is}

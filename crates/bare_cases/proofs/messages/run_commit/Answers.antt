@@ -1,19 +1,18 @@
 -- `bare_cases::messages::run_commit` meets its contract. Assumes nothing.
-use mathlib.Core.Path.{ap, ◌∙◌}
+use Rattle.std.proofs.Common.{ap, ◌∙◌}
 use Rattle.capi.specs.Codes.{code_of}
-use Rattle.cases.specs.Laws.InputLaws.{count_fits, room-is}
+use Rattle.cases.specs.Laws.InputLaws.{room-is}
 use Rattle.bare_cases.specs.Answers.{commit_answer}
 use Rattle.bare_cases.proofs.messages.run_commit.Goals as goal
-
-pub slice_bounds-t-end : goal.slice_bounds-t-end
-slice_bounds-t-end c = count_fits _ _ c.count_at-t_count.ensures.0
-
-pub slice_bounds-commit-end : goal.slice_bounds-commit-end
-slice_bounds-commit-end c = c.count_at-t_count.ensures.1
 
 pub returns : goal.returns
 unfolding commit_answer
 returns c =
     let lists = c.args.lists.now in
-    rw (← room-is 2 0 lists c.past_lists-lengths.ensures c.count_at-t_count.ensures.0)
-    (c.commit.ensures.code_is ∙ ap code_of c.commit.ensures.promised.answer-is)
+    let call = c.lizkarg_bare_commit-answer.ensures in
+    rw (
+      ← room-is 2 0 lists c.past_lists.ensures c.count_at.ensures.0,
+      ← c.nth_list.ensures,
+      ← c.nth_list-2.ensures,
+    )
+    (call.code_is ∙ ap code_of call.promised.answer-is)

@@ -1,19 +1,23 @@
 -- `bare_cases::messages::run_phi` meets its contract. Assumes nothing.
-use mathlib.Core.Path.{ap, ◌∙◌}
+use Rattle.std.proofs.Common.{ap, ◌∙◌}
 use Rattle.capi.specs.Codes.{code_of}
-use Rattle.cases.specs.Laws.InputLaws.{count_fits, room-is}
+use Rattle.cases.specs.Laws.InputLaws.{room-is}
 use Rattle.bare_cases.specs.Answers.{phi_answer}
 use Rattle.bare_cases.proofs.messages.run_phi.Goals as goal
-
-pub slice_bounds-phi-end : goal.slice_bounds-phi-end
-slice_bounds-phi-end c = count_fits _ _ c.count_at-phi_count.ensures.0
-
-pub slice_bounds-form_phi-end : goal.slice_bounds-form_phi-end
-slice_bounds-form_phi-end c = c.count_at-phi_count.ensures.1
 
 pub returns : goal.returns
 unfolding phi_answer
 returns c =
     let lists = c.args.lists.now in
-    rw (← room-is 7 0 lists c.past_lists-lengths.ensures c.count_at-phi_count.ensures.0)
-    (c.form_phi.ensures.code_is ∙ ap code_of c.form_phi.ensures.promised.answer-is)
+    let call = rw c.constraint_sizes.ensures at c.lizkarg_bare_phi-answer.ensures in
+    rw (
+      ← room-is 7 0 lists c.past_lists.ensures c.count_at.ensures.0,
+      ← c.nth_list.ensures,
+      ← c.nth_list-2.ensures,
+      ← c.nth_list-3.ensures,
+      ← c.nth_list-4.ensures,
+      ← c.nth_list-5.ensures,
+      ← c.nth_list-6.ensures,
+      ← c.nth_list-7.ensures,
+    )
+    (call.code_is ∙ ap code_of call.promised.answer-is)

@@ -6,17 +6,17 @@ pub returns : goal.returns
 unfolding verify_answer
 returns c =
     rw (
-      ← c.nth_list-a_matrix.ensures,
-      ← c.nth_list-whole.ensures,
-      ← c.nth_list-constant_terms.ensures,
-      ← c.nth_list-projections.ensures,
-      ← c.nth_list-p.ensures,
-      ← c.nth_list-psi.ensures,
-      ← c.nth_list-omega.ensures,
-      ← c.nth_list-second_b.ensures,
-      ← c.nth_list-alpha.ensures,
-      ← c.nth_list-delta.ensures,
-      ← c.nth_list-c.ensures,
-      ← c.nth_list-opening.ensures,
+      ← c.nth_list.ensures,
+      ← c.nth_list-2.ensures,
+      ← c.nth_list-3.ensures,
+      ← c.nth_list-4.ensures,
+      ← c.nth_list-5.ensures,
+      ← c.nth_list-6.ensures,
+      ← c.nth_list-7.ensures,
+      ← c.nth_list-8.ensures,
+      ← c.nth_list-9.ensures,
+      ← c.nth_list-10.ensures,
+      ← c.nth_list-11.ensures,
+      ← c.nth_list-12.ensures,
     )
     c.lizkarg_bare_verify-answer.ensures

@@ -1,30 +1,39 @@
 -- `cases::numbers::size` meets its contract. Assumes nothing.
-use mathlib.Core.Path.{ap, ◌∙◌}
-use lib.IntN.{nat_abs}
-use mir.Syntax.{w32}
-use mir.Facts.{to_z-of_z}
-use Rattle.cases.specs.Numbers.{size_at}
-use Rattle.cases.specs.Laws.NumberLaws.{size-negative, size_large, size_fits}
+use Rattle.std.proofs.Common.{◌≡◌, refl, ℕ, ◌≤◌, ◌<◌, ℤ, pos, negsuc, nat_abs, SFits, arith, to_z-of_z, le-leb}
+use Rattle.std.proofs.lemmas.Bool.{lt-leb}
+use Rattle.std.specs.Int.{w32, FitsUnsignedBits}
+use Rattle.cases.specs.Numbers.{size_of, size_at}
 use Rattle.cases.proofs.numbers.size.Goals as goal
 
-pub returns-then-x-lt0 : goal.returns-then-x-lt0
-unfolding size_at
-returns-then-x-lt0 c =
-    let is = to_z-of_z {w = w32} (record { sfits = c.number_at-x.type_inv }) ∙ c.number_at-x.ensures in
-    size-negative c.args.most _ (rw is at c.if-x-lt0.true)
+fitting : (most : ℕ) (x : ℤ) {n : ℕ} → FitsUnsignedBits 64 x × (n ≡ nat_abs x) → n ≤ most → n ≡ size_of most x
+unfolding size_of
+fitting most (pos k) {n} h le = let small : k ≤ most = omega (arith, h.1) in rw (le-leb k most small) h.1
+fitting most (negsuc k) h le = absurd h.0
 
-pub returns-then-most-number : goal.returns-then-most-number
-unfolding size_at
-returns-then-most-number c =
-    let number = c.number_at-x in
-    let is = to_z-of_z {w = w32} (record { sfits = number.type_inv }) ∙ number.ensures in
-    let size = c.magnitude-number.ensures ∙ ap nat_abs is in
-    size_large c.args.most _ (rw is at c.if-x-lt0.false) (rw size at c.if-most-number.true)
+large : (most : ℕ) (x : ℤ) {n : ℕ} → FitsUnsignedBits 64 x × (n ≡ nat_abs x) → most < n → 0 ≡ size_of most x
+unfolding size_of
+large most (pos k) {n} h lt = let over : most < k = omega (arith, h.1) in rw (lt-leb k most over) refl
+large most (negsuc k) h lt = refl
 
-pub returns : goal.returns
+negative : (most : ℕ) (x : ℤ) → SFits w32 x → (FitsUnsignedBits 64 x → ⊥) → 0 ≡ size_of most x
+unfolding size_of
+negative most (pos k) f h = absurd (h (omega (arith, f.sfits)))
+negative most (negsuc k) f h = refl
+
+pub returns-in-Ok : goal.returns-in-Ok
 unfolding size_at
-returns c =
-    let number = c.number_at-x in
-    let is = to_z-of_z {w = w32} (record { sfits = number.type_inv }) ∙ number.ensures in
-    let size = c.magnitude-number.ensures ∙ ap nat_abs is in
-    size ∙ size_fits c.args.most _ (rw is at c.if-x-lt0.false) (rw size at c.if-most-number.false)
+returns-in-Ok c =
+    let fits : SFits w32 c.number_at.result = record { sfits = c.number_at.type_inv } in
+    rw (← c.number_at.ensures) (fitting c.args.most c.number_at.result (rw (to_z-of_z fits) at c.in-Ok.ensures) c.if-number-most.true)
+
+pub returns-in_default : goal.returns-in_default
+unfolding size_at
+returns-in_default c =
+    let fits : SFits w32 c.number_at.result = record { sfits = c.number_at.type_inv } in
+    rw (← c.number_at.ensures) (large c.args.most c.number_at.result (rw (to_z-of_z fits) at c.in-Ok.ensures) c.if-number-most.false)
+
+pub returns-in_default-2 : goal.returns-in_default-2
+unfolding size_at
+returns-in_default-2 c =
+    let fits : SFits w32 c.number_at.result = record { sfits = c.number_at.type_inv } in
+    rw (← c.number_at.ensures) (negative c.args.most c.number_at.result fits (rw (to_z-of_z fits) at c.in_default.ensures))

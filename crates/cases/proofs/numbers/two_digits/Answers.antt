@@ -1,17 +1,11 @@
--- `cases::numbers::two_digits` meets its contract: by whether the number is past the last. Assumes nothing.
-use mathlib.Core.Path.{refl}
-use native.Mathlib.Omega.{arith}
-use borrow.Author.Tests.{lt-ltb, le-ltb}
+use Rattle.std.proofs.Common.{rules}
 use Rattle.cases.specs.Numbers.{two_digits}
 use Rattle.cases.proofs.numbers.two_digits.Goals as goal
 
-pub overflow_sub-result : goal.overflow_sub-result
-overflow_sub-result c = omega (arith, c.requires, c.if-last-number.true)
-
 pub returns-then-last-number : goal.returns-then-last-number
 unfolding two_digits
-returns-then-last-number c = rw (lt-ltb _ _ c.if-last-number.true) refl
+returns-then-last-number c = search rules
 
-pub returns : goal.returns
+pub returns-else-last-number : goal.returns-else-last-number
 unfolding two_digits
-returns c = rw (le-ltb _ _ c.if-last-number.false) refl
+returns-else-last-number c = search rules

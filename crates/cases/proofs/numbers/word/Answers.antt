@@ -1,26 +1,22 @@
 -- `cases::numbers::word` meets its contract. Assumes nothing.
-use mathlib.Core.Path.{◌∙◌}
-use mir.Facts.{to_z-of_z}
-use Rattle.cases.specs.Laws.NumberLaws.{word-high, word_low, word-itself, word_fits}
+use Rattle.std.proofs.Common.{◌≡◌, ◌∙◌, refl, Bool, true, false, cond, ℤ, pos, negsuc, arith, of_z, to_z, to_z-of_z}
+use Rattle.std.proofs.lemmas.Int.{ints}
+use Rattle.std.specs.Int.{w32, w64, int_max, int_min}
+use Rattle.std.specs.Int.Signed.{lt_z}
+use Rattle.cases.specs.Numbers.{word}
 use Rattle.cases.proofs.numbers.word.Goals as goal
 
-pub returns-then-x-gt2147483647 : goal.returns-then-x-gt2147483647
-returns-then-x-gt2147483647 c = word-high c.args.x (rw (to_z-of_z c.ranges.x) at c.if-x-gt2147483647.true)
-
-pub returns-then-x-ltminus2147483648 : goal.returns-then-x-ltminus2147483648
-returns-then-x-ltminus2147483648 c =
-    let is = to_z-of_z c.ranges.x in
-    word_low c.args.x (rw is at c.if-x-gt2147483647.false) (rw is at c.if-x-ltminus2147483648.true)
-
-pub overflow_cast-result : goal.overflow_cast-result
-overflow_cast-result c =
-    let is = to_z-of_z c.ranges.x in
-    rw is (word_fits c.args.x (rw is at c.if-x-gt2147483647.false) (rw is at c.if-x-ltminus2147483648.false))
+clamped : (x : ℤ) → int_max (negsuc 2147483647) (int_min x (pos 2147483647)) ≡ word x
+unfolding word
+clamped x = step (lt_z (pos 2147483647) x)
+  where
+    step : (t : Bool) → cond (lt_z (cond t (pos 2147483647) x) (negsuc 2147483647)) (negsuc 2147483647) (cond t (pos 2147483647) x)
+        ≡ cond t (pos 2147483647) (cond (lt_z x (negsuc 2147483647)) (negsuc 2147483647) x)
+    step true = refl
+    step false = refl
 
 pub returns : goal.returns
 returns c =
-    let x = c.args.x in
-    let is = to_z-of_z c.ranges.x in
-    let high = rw is at c.if-x-gt2147483647.false in
-    let low = rw is at c.if-x-ltminus2147483648.false in
-    rw is (to_z-of_z (word_fits x high low) ∙ word-itself x high low)
+    let narrow : to_z w32 (of_z w32 (to_z w64 (of_z w64 c.clamp.result))) ≡ c.clamp.result = omega (arith, ints) in
+    let value = rw (c.from.ensures, c.from-2.ensures, to_z-of_z c.ranges.x) at c.clamp.ensures.value in
+    narrow ∙ value ∙ clamped c.args.x

@@ -16,8 +16,8 @@ small times x {r} e =
     let other : r ≤ 2147483647 = omega (arith, e, emod-lt 2147483647 (omega arith) x) in
     mul-le-mul factor other
 
-pub overflow_mul-product : goal.overflow_mul-product
-overflow_mul-product c = omega (arith, small c.args.times _ c.residue.ensures)
+pub overflow_mul-result : goal.overflow_mul-result
+overflow_mul-result c = omega (arith, small c.args.times _ c.residue.ensures)
 
 pub overflow_add-result : goal.overflow_add-result
 overflow_add-result c = omega (arith, small c.args.times _ c.residue.ensures)

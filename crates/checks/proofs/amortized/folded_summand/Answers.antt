@@ -2,7 +2,6 @@
 use Rattle.std.proofs.Common.{ap, ◌∙◌, ℕ}
 use Rattle.ring.specs.Element.{array}
 use Rattle.fold.specs.Opening.{block, t_of}
-use Rattle.checks.specs.Laws.PlaceLaws.{element-fits}
 use Rattle.checks.specs.Laws.SizeLaws.{t-part-within}
 use Rattle.checks.specs.Laws.Rows.{folded-summand}
 use Rattle.checks.proofs.amortized.folded_summand.Goals as goal
@@ -10,9 +9,6 @@ use Rattle.checks.proofs.amortized.folded_summand.Goals as goal
 pub t_of-t-requires-clause-d_in_bounds : goal.t_of-t-requires-clause-d_in_bounds
 t_of-t-requires-clause-d_in_bounds c =
     t-part-within c.args.tz c.args.sizes _ c.requires.folded_facts.o-length c.args.i _ c.requires.i_lt_r.0 c.t_place-start.ensures
-
-pub from_slice-requires-clause-d_in_bounds : goal.from_slice-requires-clause-d_in_bounds
-from_slice-requires-clause-d_in_bounds c = element-fits _ _ c.args.i _ c.requires.folded_facts.c-length c.requires.i_lt_r.0
 
 pub returns : goal.returns
 returns c =

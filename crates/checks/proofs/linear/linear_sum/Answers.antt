@@ -1,22 +1,12 @@
 -- `checks::linear::linear_sum` meets its contract. The accumulator holds the sum of the summands so far.
 use Rattle.std.proofs.Common.{◌≡◌, ◌∙◌, length, pos}
 use lib.ListN.{length-replicate}
-use Rattle.constraints.specs.Laws.SizeLaws.{phi-room}
 use Rattle.checks.specs.Laws.RelationLaws.{linear_written}
 use Rattle.ring.specs.Laws.Loops.{summed_start, summed_step, summed_end}
 use Rattle.checks.proofs.linear.linear_sum.Goals as goal
 
 pub loop-i-init : goal.loop-i-init
 loop-i-init c = (length-replicate 16384 (pos 0), summed_start (c.additive_identity-acc.ensures _))
-
-pub write_phi_part-requires-clause-i_lt_r : goal.write_phi_part-requires-clause-i_lt_r
-write_phi_part-requires-clause-i_lt_r c =
-    (c.loop-i-test.true, rw c.loop-i.invariant.0 (phi-room c.requires.aggregate_facts.wholes.shaped))
-
-pub linear_summand-requires-clause-d_in_bounds : goal.linear_summand-requires-clause-d_in_bounds
-linear_summand-requires-clause-d_in_bounds c =
-    let kept : length c.write_phi_part.new.out ≡ 16384 = c.write_phi_part.auto.out ∙ c.loop-i.invariant.0 in
-    (rw kept (phi-room c.requires.aggregate_facts.wholes.shaped), c.requires.d_in_bounds)
 
 pub loop-i-preserved : goal.loop-i-preserved
 loop-i-preserved c =

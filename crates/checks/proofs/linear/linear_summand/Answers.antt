@@ -1,10 +1,6 @@
 -- `checks::linear::linear_summand` meets its contract.
-use Rattle.checks.specs.Laws.PlaceLaws.{element-fits}
 use Rattle.checks.specs.Laws.RelationLaws.{linear_summand_lem}
 use Rattle.checks.proofs.linear.linear_summand.Goals as goal
-
-pub from_slice-requires-clause-d_in_bounds : goal.from_slice-requires-clause-d_in_bounds
-from_slice-requires-clause-d_in_bounds c = element-fits _ _ c.args.i _ c.requires.holds.0 c.requires.holds.1
 
 pub returns : goal.returns
 returns c =

@@ -1,6 +1,6 @@
 -- `checks::outer::second_row` meets its contract.
 use Rattle.std.proofs.Common.{arith}
-use Rattle.checks.specs.Laws.PlaceLaws.{row_fits, part-fits, element-fits}
+use Rattle.checks.specs.Laws.PlaceLaws.{row_fits, part-fits}
 use Rattle.fold.proofs.Laws.PlaceBounds.{h-size-bound}
 use Rattle.checks.specs.Laws.SizeLaws.{h-within}
 use Rattle.checks.specs.Laws.Rows.{second-row}
@@ -18,9 +18,6 @@ row_times-row-requires-clause-d_in_bounds c =
       row_fits z.shape.d _ z.kappa2 c.args.k _ _ c.garbage_size-count.ensures f.D-length c.requires.k_lt_kappa2,
       part-fits z.shape.d c.h_place-start.ensures c.garbage_size-count.ensures (h-within c.args.tz z _ f.o-length),
     )
-
-pub from_slice-requires-clause-d_in_bounds : goal.from_slice-requires-clause-d_in_bounds
-from_slice-requires-clause-d_in_bounds c = element-fits _ _ c.args.k _ c.requires.second_outer_facts.u₂-length c.requires.k_lt_kappa2
 
 pub returns : goal.returns
 returns c =

@@ -4,18 +4,6 @@ use Rattle.ring.specs.Element.{array}
 use Rattle.checks.specs.Laws.PlaceLaws.{t-recomposed, t-digit-fits, t-first-within}
 use Rattle.checks.proofs.recomposed.t_of.Goals as goal
 
-pub overflow_mul-first : goal.overflow_mul-first
-overflow_mul-first c =
-    let a = c.args in
-    let h = c.requires in
-    omega (arith, t-first-within a.d a.kappa a.t1 a.place a.i a.k _ h.degree.positive h.t1_nonzero.1 h.t1_nonzero.0 h.d_in_bounds)
-
-pub overflow_mul-first-2 : goal.overflow_mul-first-2
-overflow_mul-first-2 c =
-    let a = c.args in
-    let h = c.requires in
-    omega (arith, t-first-within a.d a.kappa a.t1 a.place a.i a.k _ h.degree.positive h.t1_nonzero.1 h.t1_nonzero.0 h.d_in_bounds)
-
 pub overflow_add-first : goal.overflow_add-first
 overflow_add-first c =
     let a = c.args in

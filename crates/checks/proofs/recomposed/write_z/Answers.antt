@@ -2,19 +2,12 @@
 use Rattle.std.proofs.Common.{sym, ap, ◌∙◌, zero-add}
 use Rattle.ring.specs.Element.{array}
 use Rattle.fold.specs.Messages.{elements}
-use Rattle.ring.specs.Laws.Writers.{elements_start₀, elements-fit, elements-turn, elements_end₀}
-use Rattle.checks.specs.Laws.PlaceLaws.{z-recomposed, z-digit-fits}
+use Rattle.ring.specs.Laws.Writers.{elements_start₀, elements-turn, elements_end₀}
+use Rattle.checks.specs.Laws.PlaceLaws.{z-recomposed}
 use Rattle.checks.proofs.recomposed.write_z.Goals as goal
 
 pub loop-k-init : goal.loop-k-init
 loop-k-init c = elements_start₀ c.requires.d_in_bounds.1
-
-pub recompose-requires-clause-d_in_bounds : goal.recompose-requires-clause-d_in_bounds
-recompose-requires-clause-d_in_bounds c =
-    z-digit-fits c.args.d c.args.n c.args.tz c.loop-k.k _ c.loop-k-test.true c.requires.tz_nonzero c.requires.d_in_bounds.0
-
-pub store-requires-clause-d_in_bounds : goal.store-requires-clause-d_in_bounds
-store-requires-clause-d_in_bounds c = elements-fit c.loop-k.invariant (sym (zero-add _)) c.loop-k-test.true
 
 pub loop-k-preserved : goal.loop-k-preserved
 loop-k-preserved c =

@@ -4,7 +4,6 @@ use Rattle.std.specs.Int.Signed.{mag}
 use Rattle.residues.proofs.Laws.Words.{held, wide}
 use Rattle.residues.proofs.Laws.Centring.{product-fits}
 use Rattle.constraints.specs.Laws.AccumulatorLaws.{five_fits, five_more, entry-summand}
-use Rattle.ring.specs.Laws.Loops.{counted_step}
 use Rattle.constraints.proofs.projected_rows.add_entry.Goals as goal
 
 -- the product of a weight and an entry, read back from its bits
@@ -17,14 +16,13 @@ product ω i x read fits =
 pub overflow_add-acc-in-loop-k-2 : goal.overflow_add-acc-in-loop-k-2
 overflow_add-acc-in-loop-k-2 c =
     let place = c.loop-k.k * c.args.w + c.args.j in
-    five_fits c.loop-k.invariant.held c.requires.five_room c.loop-k-test.true c.acc-in-loop-k-1.given
+    five_fits c.loop-k.invariant c.requires.five_room c.loop-k-test.true c.acc-in-loop-k-1.given
     (product c.args.omega.now place c.args.x c.acc-1.given c.ranges.x)
     (rw (to_z-of_z c.ranges.x) (entry-summand c.args.omega.now place c.args.x c.acc-1.given c.requires.x_bound refl).1) (omega arith)
 
 pub loop-k-preserved : goal.loop-k-preserved
 loop-k-preserved c =
     let place = c.loop-k.k * c.args.w + c.args.j in
-    counted_step c.loop-k-test.true
-    (five_more c.loop-k.invariant.held c.requires.five_room c.loop-k-test.true c.acc-in-loop-k-1.given
+    five_more c.loop-k.invariant c.requires.five_room c.loop-k-test.true c.acc-in-loop-k-1.given
     (product c.args.omega.now place c.args.x c.acc-1.given c.ranges.x)
-    (rw (to_z-of_z c.ranges.x) (entry-summand c.args.omega.now place c.args.x c.acc-1.given c.requires.x_bound refl).1) (omega arith))
+    (rw (to_z-of_z c.ranges.x) (entry-summand c.args.omega.now place c.args.x c.acc-1.given c.requires.x_bound refl).1) (omega arith)

@@ -1,28 +1,26 @@
 -- `fold_cases::messages::run_commit_garbage` meets its contract. Assumes nothing.
-use mathlib.Core.Path.{ap, ◌∙◌}
+use Rattle.std.proofs.Common.{ap, ◌∙◌}
 use Rattle.capi.specs.Codes.{code_of}
-use Rattle.cases.specs.Laws.InputLaws.{count_fits, room-is}
+use Rattle.cases.specs.Laws.InputLaws.{room-is}
 use Rattle.fold_cases.specs.Answers.{garbage_answer}
 use Rattle.fold_cases.proofs.messages.run_commit_garbage.Goals as goal
-
-pub slice_bounds-h-end : goal.slice_bounds-h-end
-slice_bounds-h-end c = count_fits _ _ c.count_at-h_count.ensures.0
-
-pub slice_bounds-commit_garbage-end : goal.slice_bounds-commit_garbage-end
-slice_bounds-commit_garbage-end c = c.count_at-h_count.ensures.1
-
-pub slice_bounds-u2-end : goal.slice_bounds-u2-end
-slice_bounds-u2-end c = count_fits _ _ c.count_at-u2_count.ensures.0
-
-pub slice_bounds-commit_garbage-end-2 : goal.slice_bounds-commit_garbage-end-2
-slice_bounds-commit_garbage-end-2 c = c.count_at-u2_count.ensures.1
 
 pub returns : goal.returns
 unfolding garbage_answer
 returns c =
     let lists = c.args.lists.now in
+    let call = rw c.garbage_sizes.ensures at c.lizkarg_commit_garbage-answer.ensures in
     rw (
-      ← room-is 9 0 lists c.past_lists-lengths.ensures c.count_at-h_count.ensures.0,
-      ← room-is 9 1 lists c.past_lists-lengths.ensures c.count_at-u2_count.ensures.0,
+      ← room-is 9 0 lists c.past_lists-lengths.ensures c.count_at.ensures.0,
+      ← room-is 9 1 lists c.past_lists-lengths.ensures c.count_at-2.ensures.0,
+      ← c.nth_list.ensures,
+      ← c.nth_list-2.ensures,
+      ← c.nth_list-3.ensures,
+      ← c.nth_list-4.ensures,
+      ← c.nth_list-5.ensures,
+      ← c.nth_list-6.ensures,
+      ← c.nth_list-7.ensures,
+      ← c.nth_list-8.ensures,
+      ← c.nth_list-9.ensures,
     )
-    (c.commit_garbage.ensures.code_is ∙ ap code_of c.commit_garbage.ensures.promised.answer-is)
+    (call.code_is ∙ ap code_of call.promised.answer-is)

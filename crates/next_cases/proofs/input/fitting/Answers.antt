@@ -6,5 +6,5 @@ use Rattle.next_cases.proofs.input.fitting.Goals as goal
 pub returns-then-count-gt-ROOM : goal.returns-then-count-gt-ROOM
 returns-then-count-gt-ROOM c = fitting_large 32768 c.args.count (omega arith)
 
-pub returns : goal.returns
-returns c = fitting-small 32768 c.args.count (omega arith)
+pub returns-else-count-gt-ROOM : goal.returns-else-count-gt-ROOM
+returns-else-count-gt-ROOM c = fitting-small 32768 c.args.count (omega arith)

@@ -7,25 +7,25 @@ use Rattle.next_cases.specs.Laws.MessageLaws.{start-inside, start_fits, start_no
 use Rattle.next_cases.proofs.messages.total.Goals as goal
 
 pub loop-i-init : goal.loop-i-init
-loop-i-init c = (omega arith, start_none _ _)
+loop-i-init c = start_none _ _
 
 pub overflow_sub-room : goal.overflow_sub-room
-overflow_sub-room c = start_fits c.args.room c.args.lengths.now c.loop-i.i c.loop-i.invariant.1
+overflow_sub-room c = start_fits c.args.room c.args.lengths.now c.loop-i.i c.loop-i.invariant
 
 pub overflow_add-sum : goal.overflow_add-sum
 overflow_add-sum c =
     let a = c.args in
     let i = c.loop-i.i in
-    let next = start-next a.room a.lengths.now i c.loop-i.invariant.1 c.size-sum.ensures in
+    let next = start-next a.room a.lengths.now i c.loop-i.invariant c.size-sum.ensures in
     omega (arith, next, start-inside a.room a.lengths.now (i + 1))
 
 pub loop-i-preserved : goal.loop-i-preserved
 loop-i-preserved c =
     let a = c.args in
-    (omega arith, start-next a.room a.lengths.now c.loop-i.i c.loop-i.invariant.1 c.size-sum.ensures)
+    start-next a.room a.lengths.now c.loop-i.i c.loop-i.invariant c.size-sum.ensures
 
 pub returns : goal.returns
 returns c =
     let a = c.args in
     let all : c.loop-i.i ≡ a.lists = omega arith in
-    c.loop-i.invariant.1 ∙ ap (λ (k : ℕ). start_of a.room a.lengths.now k) all
+    c.loop-i.invariant ∙ ap (λ (k : ℕ). start_of a.room a.lengths.now k) all

@@ -1,21 +1,23 @@
 -- `next_cases::runs::run_case` meets its contract. Assumes nothing.
+use Rattle.std.proofs.Common.{arith}
 use Rattle.next_cases.specs.Laws.RunLaws.{case-instance, case-part, case_twice, case-none}
 use Rattle.next_cases.proofs.runs.run_case.Goals as goal
 
-pub returns-then-kind-eq1 : goal.returns-then-kind-eq1
-returns-then-kind-eq1 c =
+pub returns-in-1 : goal.returns-in-1
+returns-in-1 c =
     case-instance c.args.wides.now c.args.one_digit c.past_wides.ensures c.read_sizes-sizes.ensures c.size_at-nu.ensures
-    c.size_at-mu.ensures c.if-kind-eq1.true c.run_instance-answer.ensures
+    c.size_at-mu.ensures c.in-1.is c.run_instance.ensures
 
-pub returns-then-kind-eq2 : goal.returns-then-kind-eq2
-returns-then-kind-eq2 c =
-    case-part c.args.wides.now c.args.one_digit c.past_wides.ensures c.read_sizes-sizes.ensures c.size_at-nu.ensures
-    c.size_at-mu.ensures c.if-kind-eq2.true c.size_at-number.ensures c.run_part.ensures
+pub returns-in-2 : goal.returns-in-2
+returns-in-2 c =
+    rw c.from.ensures
+    (case-part c.args.wides.now c.args.one_digit c.past_wides.ensures c.read_sizes-sizes.ensures c.size_at-nu.ensures
+    c.size_at-mu.ensures c.in-2.is c.size_at.ensures c.run_part.ensures)
 
-pub returns-then-kind-eq3 : goal.returns-then-kind-eq3
-returns-then-kind-eq3 c =
+pub returns-in-3 : goal.returns-in-3
+returns-in-3 c =
     case_twice c.args.wides.now c.args.one_digit c.past_wides.ensures c.read_sizes-sizes.ensures c.size_at-nu.ensures
-    c.size_at-mu.ensures c.if-kind-eq3.true c.run_twice-answer.ensures
+    c.size_at-mu.ensures c.in-3.is c.run_twice.ensures
 
-pub returns : goal.returns
-returns c = case-none c.if-kind-eq1.false c.if-kind-eq2.false c.if-kind-eq3.false
+pub returns-in_default : goal.returns-in_default
+returns-in_default c = case-none (omega arith) (omega arith) (omega arith)

@@ -11,7 +11,7 @@ put-at-requires c = place_inside c.loop-i.invariant
 
 pub loop-i-preserved : goal.loop-i-preserved
 loop-i-preserved c =
-    writing_next c.loop-i.invariant (omega arith) c.next_part-part.ensures c.put-at.ensures.0
+    writing_next c.loop-i.invariant (omega arith) c.next_part.ensures c.put-at.ensures.0
     c.put-at.ensures.1
 
 pub shape_of-out : goal.shape_of-out

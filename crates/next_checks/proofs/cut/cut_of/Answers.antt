@@ -14,13 +14,6 @@ next_rank-rank-requires c =
     cut-sizes c.args.tz _ _ _ _ c.requires.tz_nonzero.0 limits.shaped.rank-small limits.shaped.parts-small limits.κ-small limits.t₁-most limits.t₂-most
     c.requires.chunk_limits c.rest_size-m.ensures
 
-pub function_size-size-requires : goal.function_size-size-requires
-function_size-size-requires c = (rw (c.next_rank-rank.ensures, c.rest_size-m.ensures) c.requires.mu_bound, c.requires.chunk_limits.parts-small)
-
-pub overflow_mul-of_z : goal.overflow_mul-of_z
-overflow_mul-of_z c =
-    omega (arith, product-bound c.args.tz c.args.sizes.shape.n 2 256 c.requires.tz_nonzero.1 c.requires.verify_sized.shaped.rank-small)
-
 pub overflow_add-z : goal.overflow_add-z
 overflow_add-z c =
     omega (
@@ -34,17 +27,25 @@ pub overflow_sub-z : goal.overflow_sub-z
 overflow_sub-z c =
     (room_of c.args.sizes.shape.n c.requires.chunk_limits c.requires.mu_bound c.rest_size-m.ensures c.next_rank-rank.ensures c.function_size-size.ensures).0
 
-pub overflow_add-t : goal.overflow_add-t
-overflow_add-t c =
-    let room = room_of c.args.sizes.shape.n c.requires.chunk_limits c.requires.mu_bound c.rest_size-m.ensures c.next_rank-rank.ensures c.function_size-size.ensures in omega (arith, room.0, room.1)
-
 pub overflow_add-g : goal.overflow_add-g
 overflow_add-g c =
-    let room = room_of c.args.sizes.shape.n c.requires.chunk_limits c.requires.mu_bound c.rest_size-m.ensures c.next_rank-rank.ensures c.function_size-size.ensures in omega (arith, room.0, room.1, c.t_size.ensures, t-size-bound c.args.sizes c.requires.verify_sized)
+    let limits = c.requires.chunk_limits in
+    let room = room_of c.args.sizes.shape.n limits c.requires.mu_bound c.rest_size-m.ensures c.next_rank-rank.ensures c.function_size-size.ensures in
+    omega (arith, room.0, room.1, c.t_size.ensures, t-size-bound c.args.sizes c.requires.verify_sized)
 
 pub overflow_add-h : goal.overflow_add-h
 overflow_add-h c =
-    let room = room_of c.args.sizes.shape.n c.requires.chunk_limits c.requires.mu_bound c.rest_size-m.ensures c.next_rank-rank.ensures c.function_size-size.ensures in omega (arith, room.0, room.1, c.t_size.ensures, t-size-bound c.args.sizes c.requires.verify_sized, c.garbage_size.ensures, g-size-bound c.args.sizes c.requires.verify_sized)
+    let limits = c.requires.chunk_limits in
+    let room = room_of c.args.sizes.shape.n limits c.requires.mu_bound c.rest_size-m.ensures c.next_rank-rank.ensures c.function_size-size.ensures in
+    omega (
+      arith,
+      room.0,
+      room.1,
+      c.t_size.ensures,
+      c.garbage_size.ensures,
+      t-size-bound c.args.sizes c.requires.verify_sized,
+      g-size-bound c.args.sizes c.requires.verify_sized,
+    )
 
 pub returns : goal.returns
 unfolding next_parts

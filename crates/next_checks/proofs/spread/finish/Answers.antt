@@ -8,12 +8,9 @@ use Rattle.integers.specs.Flat.{flat}
 use Rattle.integers.specs.Laws.OverLaws.{over-over}
 use Rattle.fold.specs.Messages.{elements}
 use Rattle.next_checks.specs.Spread.{spread_entry}
-use Rattle.next_checks.specs.Laws.CutLaws.{end_below, pairs-room}
+use Rattle.next_checks.specs.Laws.CutLaws.{pairs-room}
 use Rattle.next_checks.specs.Laws.SpreadLaws.{length_spread}
 use Rattle.next_checks.proofs.spread.finish.Goals as goal
-
-pub overflow_add-at : goal.overflow_add-at
-overflow_add-at c = omega (arith, end_below c.args.sizes c.args.cut c.requires.verify_sized c.requires.cut_facts c.args.at c.requires.d_in_bounds)
 
 pub returns : goal.returns
 returns c =

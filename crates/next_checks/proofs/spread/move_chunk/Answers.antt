@@ -4,7 +4,7 @@ use Prim.Native.Nat.{◌*◌, ◌≤◌}
 use native.Mathlib.Omega.{arith}
 use lib.ListN.{length}
 use Rattle.ring.specs.Element.{array}
-use Rattle.ring.specs.Laws.Writers.{elements-start, elements-below, elements-fit, elements-turn, elements-end}
+use Rattle.ring.specs.Laws.Writers.{elements-start, elements-turn, elements-end}
 use Rattle.fold.specs.Messages.{elements}
 use Rattle.fold.proofs.Laws.WriterLaws.{length-elements}
 use Rattle.next_checks.specs.Spread.{chunk_entry}
@@ -13,15 +13,6 @@ use Rattle.next_checks.proofs.spread.move_chunk.Goals as goal
 
 pub loop-k-init : goal.loop-k-init
 loop-k-init c = elements-start c.requires.at_le_from.2
-
-pub chunk_entry-element-requires : goal.chunk_entry-element-requires
-chunk_entry-element-requires c = record { degree = c.requires.degree; d_in_bounds = rw c.loop-k.invariant.same c.requires.at_le_from.1 }
-
-pub overflow_add-at : goal.overflow_add-at
-overflow_add-at c = omega (arith, elements-below c.loop-k.invariant c.requires.degree)
-
-pub store-requires : goal.store-requires
-store-requires c = record { degree = c.requires.degree; d_in_bounds = elements-fit c.loop-k.invariant refl c.loop-k-test.true }
 
 pub loop-k-preserved : goal.loop-k-preserved
 unfolding elements
@@ -33,9 +24,6 @@ loop-k-preserved c =
     (length-elements a.d c.loop-k.k x) in
     elements-turn c.loop-k.invariant c.requires.degree refl c.loop-k-test.true
     (c.chunk_entry-element.ensures ∙ ap (array a.d) kept) c.store.ensures
-
-pub shape_of-out : goal.shape_of-out
-shape_of-out c = c.loop-k.invariant.same
 
 pub returns : goal.returns
 unfolding elements

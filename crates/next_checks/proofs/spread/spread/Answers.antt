@@ -2,37 +2,32 @@
 use native.Mathlib.Omega.{arith}
 use Rattle.ring.specs.Laws.ElementPlaces.{place-below}
 use Rattle.next_checks.specs.Laws.CutLaws.{cut-sizes, parts-few, short, chunk-within, part-within, pairs-room}
-use Rattle.next_checks.specs.Laws.SpreadLaws.{spreading_start, spreading_order, spreading_chunk, spreading_part, spreading_below, spreading_turn, spreading_end}
+use Rattle.next_checks.specs.Laws.SpreadLaws.{spreading_start, spreading_order, spreading_chunk, spreading_part, spreading_below, spreading_turn}
 use Rattle.next_checks.proofs.spread.spread.Goals as goal
-
-pub overflow_add-start : goal.overflow_add-start
-overflow_add-start c =
-    omega (arith, place-below c.args.sizes.shape.d _ c.requires.verify_sized.shaped.degree.positive c.requires.d_in_bounds, c.requires.cut_facts.z-is)
 
 pub overflow_add-place : goal.overflow_add-place
 overflow_add-place c =
-    omega (arith, place-below c.args.sizes.shape.d _ c.requires.verify_sized.shaped.degree.positive c.requires.d_in_bounds, pairs-room c.args.sizes c.args.cut c.requires.cut_facts)
+    let below = place-below c.args.sizes.shape.d _ c.requires.verify_sized.shaped.degree.positive c.requires.d_in_bounds in
+    omega (arith, below, pairs-room c.args.sizes c.args.cut c.requires.cut_facts)
 
 pub loop-s-init : goal.loop-s-init
 loop-s-init c = spreading_start _ _ c.requires.d_in_bounds
 
-pub chunk_width-size-requires : goal.chunk_width-size-requires
-chunk_width-size-requires c =
-    let a = c.args in
-    let cut = c.requires.cut_facts in record { tz_bound = cut.tz-small; cut_sizes = cut-sizes a.sizes a.cut cut c.requires.verify_sized; s_le_most_chunks = omega (arith, c.loop-s-test.true, parts-few a.sizes a.cut cut) }
+pub chunk_width-size-requires-clause-cut_sizes : goal.chunk_width-size-requires-clause-cut_sizes
+chunk_width-size-requires-clause-cut_sizes c = cut-sizes c.args.sizes c.args.cut c.requires.cut_facts c.requires.verify_sized
 
-pub move_chunk-requires : goal.move_chunk-requires
-move_chunk-requires c =
+pub chunk_width-size-requires-clause-s_le_most_chunks : goal.chunk_width-size-requires-clause-s_le_most_chunks
+chunk_width-size-requires-clause-s_le_most_chunks c = omega (arith, c.loop-s-test.true, parts-few c.args.sizes c.args.cut c.requires.cut_facts)
+
+pub move_chunk-requires-clause-at_le_from : goal.move_chunk-requires-clause-at_le_from
+move_chunk-requires-clause-at_le_from c =
     let a = c.args in
     let cut = c.requires.cut_facts in
-    let inside = c.loop-s-test.true in record {
-      degree = c.requires.verify_sized.shaped.degree;
-      at_le_from = (
-        spreading_order a.sizes a.cut cut c.loop-s.invariant,
-        spreading_chunk a.sizes a.cut cut c.loop-s.invariant c.chunk_width-size.ensures inside,
-        spreading_part a.sizes a.cut cut c.loop-s.invariant inside,
-      );
-    }
+    let inside = c.loop-s-test.true in (
+      spreading_order a.sizes a.cut cut c.loop-s.invariant,
+      spreading_chunk a.sizes a.cut cut c.loop-s.invariant c.chunk_width-size.ensures inside,
+      spreading_part a.sizes a.cut cut c.loop-s.invariant inside,
+    )
 
 pub overflow_add-start-in-loop-s : goal.overflow_add-start-in-loop-s
 overflow_add-start-in-loop-s c =
@@ -63,9 +58,3 @@ pub loop-s-preserved : goal.loop-s-preserved
 loop-s-preserved c =
     spreading_turn c.args.sizes c.args.cut c.requires.cut_facts c.loop-s.invariant c.chunk_width-size.ensures c.loop-s-test.true
     c.move_chunk.auto.out c.move_chunk.ensures
-
-pub shape_of-out : goal.shape_of-out
-shape_of-out c = c.loop-s.invariant.same
-
-pub returns : goal.returns
-returns c = spreading_end c.args.sizes c.args.cut c.requires.cut_facts c.loop-s.invariant c.loop-s-test.false

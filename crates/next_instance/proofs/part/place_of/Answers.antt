@@ -4,9 +4,6 @@ use Rattle.fold.specs.Laws.ResultLaws.{row_nonzero}
 use Rattle.next_instance.specs.Laws.PartLaws.{part_known, part_cut, part-before, chunk-room, placed_refused, placed_found}
 use Rattle.next_instance.proofs.part.place_of.Goals as goal
 
-pub part_refusal-requires : goal.part_refusal-requires
-part_refusal-requires c = c.requires
-
 pub returns-in-Err : goal.returns-in-Err
 returns-in-Err c =
     let a = c.args in

@@ -1,12 +1,8 @@
 -- `next_instance::writer::write_rows5` meets its contract.
-use Rattle.std.proofs.Common.{ℕ, arith, rules}
+use Rattle.std.proofs.Common.{ℕ, rules}
 use Rattle.next_checks.specs.Checks.{laid, check5}
-use Rattle.next_checks.specs.Laws.CutLaws.{size_small}
 use Rattle.next_instance.specs.Laws.Instance.{length-laid}
 use Rattle.next_instance.proofs.writer.write_rows5.Goals as goal
-
-pub overflow_add-size : goal.overflow_add-size
-overflow_add-size c = omega (arith, size_small c.args.sizes c.args.cut c.requires.cut_facts)
 
 pub returns : goal.returns
 returns c =

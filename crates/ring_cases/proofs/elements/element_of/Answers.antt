@@ -1,35 +1,36 @@
 -- `ring_cases::elements::element_of` meets its contract. Assumes nothing.
+use Rattle.std.proofs.Common.{arith}
 use mathlib.Core.Path.{sym, ◌∙◌}
 use borrow.Author.Tests.{ne_eqb}
 use Rattle.ring_cases.specs.Results.{element_of}
 use Rattle.ring_cases.proofs.elements.element_of.Goals as goal
 
-pub returns-then-operation-eq7 : goal.returns-then-operation-eq7
+pub returns-in-7 : goal.returns-in-7
 unfolding element_of
-returns-then-operation-eq7 c = rw c.if-operation-eq7.true c.scaled.ensures
+returns-in-7 c = rw c.in-7.is c.scaled.ensures
 
-pub returns-then-operation-eq12 : goal.returns-then-operation-eq12
+pub returns-in-12 : goal.returns-in-12
 unfolding element_of
-returns-then-operation-eq12 c = rw c.if-operation-eq12.true c.inner.ensures
+returns-in-12 c = rw c.in-12.is c.inner.ensures
 
-pub returns-then-is_two : goal.returns-then-is_two
+pub returns-in_default : goal.returns-in_default
 unfolding element_of
-returns-then-is_two c =
+returns-in_default c =
     let op = c.args.operation in
     rw (
-      ne_eqb op 7 c.if-operation-eq7.false,
-      ne_eqb op 12 c.if-operation-eq12.false,
+      ne_eqb op 7 (omega arith),
+      ne_eqb op 12 (omega arith),
       sym c.is_two.ensures ∙ c.if-is_two.true,
     )
     c.two.ensures
 
-pub returns : goal.returns
+pub returns-in_default-2 : goal.returns-in_default-2
 unfolding element_of
-returns c =
+returns-in_default-2 c =
     let op = c.args.operation in
     rw (
-      ne_eqb op 7 c.if-operation-eq7.false,
-      ne_eqb op 12 c.if-operation-eq12.false,
+      ne_eqb op 7 (omega arith),
+      ne_eqb op 12 (omega arith),
       sym c.is_two.ensures ∙ c.if-is_two.false,
     )
     c.one.ensures

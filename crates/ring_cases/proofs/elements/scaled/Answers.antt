@@ -15,6 +15,6 @@ from_slice-a-requires c =
 pub returns : goal.returns
 unfolding scaled_at
 returns c =
-    let is = to_z-of_z {w = w32} (record { sfits = c.number_at-factor.type_inv }) ∙ c.number_at-factor.ensures in
+    let is = to_z-of_z {w = w32} (record { sfits = c.number_at.type_inv }) ∙ c.number_at.ensures in
     c.scale.ensures
     ∙ rw (is, c.from_slice-a.ensures, lift-array c.args.d _ c.requires.degree.small, c.past_numbers.ensures) refl

@@ -3,8 +3,8 @@ use native.Mathlib.Omega.{arith}
 use Rattle.ring_cases.specs.Laws.ResultLaws.{degree-fits, element-out}
 use Rattle.ring_cases.proofs.elements.write_element.Goals as goal
 
-pub element_of-element-requires : goal.element_of-element-requires
-element_of-element-requires c = record { degree = degree-fits c.args.xs.now c.degree_at-d.ensures; xs_len = c.requires.0 }
+pub element_of-requires : goal.element_of-requires
+element_of-requires c = record { degree = degree-fits c.args.xs.now c.degree_at-d.ensures; xs_len = c.requires.0 }
 
 pub store-requires : goal.store-requires
 store-requires c =
@@ -13,4 +13,4 @@ store-requires c =
 pub returns : goal.returns
 returns c =
     element-out c.args.operation c.args.xs.now c.args.out.now _ _
-    c.degree_at-d.ensures c.element_of-element.ensures c.store.ensures
+    c.degree_at-d.ensures c.element_of.ensures c.store.ensures

@@ -13,8 +13,8 @@ returns c =
     rw (
       ← degree-is,
       ← c.past_numbers.ensures,
-      ← c.element-x.ensures,
+      ← c.element.ensures,
       ← c.past_numbers-2.ensures,
-      ← c.element-y.ensures,
+      ← c.element-2.ensures,
     )
     c.lizkarg_multiply.ensures

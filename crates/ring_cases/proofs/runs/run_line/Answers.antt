@@ -1,46 +1,19 @@
 -- `ring_cases::runs::run_line` meets its contract. Assumes nothing.
-use mathlib.Core.Path.{◌≡◌, refl, sym}
-use lib.ListN.{length}
-use lib.IntN.{ℤ, pos}
-use Rattle.ring_cases.specs.Laws.ResultLaws.{line_results_lem}
-use Rattle.cases.specs.Laws.TextLaws.{zeros, filled, read_length, words-length}
+use Rattle.std.proofs.Common.{◌≡◌, List, ℕ, ℤ, pos, get_or, ap, ◌∙◌, length}
+use Rattle.std.proofs.lemmas.List.{length-map}
+use Rattle.integers.specs.Laws.ListLaws.{length-tab}
+use Rattle.cases.specs.Numbers.{padded, word}
+use Rattle.ring_cases.specs.Results.{line_results}
 use Rattle.ring_cases.proofs.runs.run_line.Goals as goal
 
-pub slice_bounds-scan-end : goal.slice_bounds-scan-end
-slice_bounds-scan-end c = filled ℤ 2048 (pos 0)
-
-pub scan-requires : goal.scan-requires
-scan-requires c = zeros 2048
-
-pub slice_bounds-narrow-end : goal.slice_bounds-narrow-end
-slice_bounds-narrow-end c = sym (read_length 2048 _ _ c.scan.ensures)
-
-pub slice_bounds-narrow-end-2 : goal.slice_bounds-narrow-end-2
-slice_bounds-narrow-end-2 c = filled ℤ 2048 (pos 0)
-
-pub narrow-requires : goal.narrow-requires
-narrow-requires c = read_length 2048 _ _ c.scan.ensures
-
-pub slice_bounds-size-end : goal.slice_bounds-size-end
-slice_bounds-size-end c =
-    let words : length c.narrow.new.words ≡ 2048 = words-length 2048 c.scan.new.numbers _ (read_length 2048 _ _ c.scan.ensures) c.narrow.ensures in
-    sym words
-
-pub slice_bounds-run-end : goal.slice_bounds-run-end
-slice_bounds-run-end c =
-    let words : length c.narrow.new.words ≡ 2048 = words-length 2048 c.scan.new.numbers _ (read_length 2048 _ _ c.scan.ensures) c.narrow.ensures in
-    sym words
-
-pub slice_bounds-run-end-2 : goal.slice_bounds-run-end-2
-slice_bounds-run-end-2 c = sym (read_length 2048 _ _ c.scan.ensures)
+padded-length : (n : ℕ) (xs : List ℤ) → length (padded n xs) ≡ n
+unfolding padded
+padded-length n xs = length-tab n (λ i. get_or xs i (pos 0))
 
 pub run-requires : goal.run-requires
 run-requires c =
-    let words : length c.narrow.new.words ≡ 2048 = words-length 2048 c.scan.new.numbers _ (read_length 2048 _ _ c.scan.ensures) c.narrow.ensures in
-    (words, c.requires)
-
-pub shape_of-out : goal.shape_of-out
-shape_of-out c = c.run.auto.out
+    (ap (λ (l : List ℤ). length l) c.numbers_of.ensures.words ∙ length-map (padded 2048 _) word ∙ padded-length 2048 _, c.requires)
 
 pub returns : goal.returns
-returns c = rw (← line_results_lem 2048 refl _ _ _ c.scan.ensures c.narrow.ensures c.size-operation.ensures) c.run.ensures
+unfolding line_results
+returns c = rw (← c.numbers_of.ensures.words, ← c.numbers_of.ensures.wides, ← c.size-operation.ensures) c.run.ensures

@@ -1,9 +1,12 @@
 -- `ring_cases::tests::part` meets its contract. Assumes nothing.
-use Rattle.ring_cases.specs.Laws.ResultLaws.{list-short, list-whole}
+use Rattle.std.proofs.Common.{◌≡◌, List, ℕ, ℤ, min, length, take, arith}
+use Rattle.std.proofs.lemmas.Grind.{common_steps}
+use Rattle.ring_cases.specs.Results.{list_at}
 use Rattle.ring_cases.proofs.tests.part.Goals as goal
 
-pub returns-then-rest-n : goal.returns-then-rest-n
-returns-then-rest-n c = list-short c.args.n c.args.place c.args.xs.now c.past_numbers-rest.ensures c.if-rest-n.true
+take-min : (n : ℕ) (xs : List ℤ) → take (min n (length xs)) xs ≡ take n xs
+take-min n xs = grind (arith, common_steps)
 
 pub returns : goal.returns
-returns c = list-whole c.args.n c.args.place c.args.xs.now c.past_numbers-rest.ensures
+unfolding list_at
+returns c = rw (← c.past_numbers-rest.ensures, c.min.ensures) (take-min c.args.n _)

@@ -1,24 +1,25 @@
 -- `ring_cases::tests::test_of` meets its contract. Assumes nothing.
+use Rattle.std.proofs.Common.{arith}
 use borrow.Author.Tests.{ne_eqb}
 use Rattle.ring_cases.specs.Results.{test_of}
 use Rattle.ring_cases.proofs.tests.test_of.Goals as goal
 
-pub returns-then-operation-eq16 : goal.returns-then-operation-eq16
+pub returns-in-16 : goal.returns-in-16
 unfolding test_of
-returns-then-operation-eq16 c = rw c.if-operation-eq16.true c.norm.ensures
+returns-in-16 c = rw c.in-16.is c.norm.ensures
 
-pub returns-then-operation-eq17 : goal.returns-then-operation-eq17
+pub returns-in-17 : goal.returns-in-17
 unfolding test_of
-returns-then-operation-eq17 c = rw c.if-operation-eq17.true c.two_norms.ensures
+returns-in-17 c = rw c.in-17.is c.two_norms.ensures
 
-pub returns : goal.returns
+pub returns-in_default : goal.returns-in_default
 unfolding test_of
-returns c =
+returns-in_default c =
     let op = c.args.operation in
     rw (
-      ne_eqb op 16 c.if-operation-eq16.false,
-      ne_eqb op 17 c.if-operation-eq17.false,
-      ← c.size-n.ensures,
+      ne_eqb op 16 (omega arith),
+      ne_eqb op 17 (omega arith),
+      ← c.size.ensures,
       ← c.part.ensures,
     )
     c.list_test.ensures

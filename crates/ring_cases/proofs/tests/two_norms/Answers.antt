@@ -22,6 +22,6 @@ returns c =
       ← c.part.ensures,
       ← c.compare-margin.ensures,
       ← c.part-2.ensures,
-      ← c.lessen-both.ensures,
+      ← c.lessen.ensures,
     )
     c.is_within.ensures

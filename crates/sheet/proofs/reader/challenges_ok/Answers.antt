@@ -8,12 +8,6 @@ use Rattle.sheet.specs.Laws.ListLaws.{challenges-part}
 use Rattle.sheet.specs.Laws.ReadingLaws.{lines-positive, front-span, later-span, body-part, body-coefficients, challenges-end}
 use Rattle.sheet.proofs.reader.challenges_ok.Goals as goal
 
-pub sections_of-q-requires : goal.sections_of-q-requires
-sections_of-q-requires c = c.requires.inside.bounded
-
-pub challenges_from-from-requires : goal.challenges_from-from-requires
-challenges_from-from-requires c = c.requires.inside.bounded
-
 pub place_after-start-requires : goal.place_after-start-requires
 place_after-start-requires c =
     let lines = c.sections_of-q.ensures in record { d_nonzero = lines-positive c.requires.inside.bounded lines; span = front-span c.requires.inside lines _ (omega (arith, c.challenges_from-from.ensures, challenges-end c.args.s)) }

@@ -6,18 +6,9 @@ use Rattle.sheet.specs.Laws.ListLaws.{rows-part}
 use Rattle.sheet.specs.Laws.ReadingLaws.{lines-positive, front-span, later-span, body-part, projections-end}
 use Rattle.sheet.proofs.reader.projections_ok.Goals as goal
 
-pub sections_of-q-requires : goal.sections_of-q-requires
-sections_of-q-requires c = c.requires.bounded
-
-pub projections_from-from-requires : goal.projections_from-from-requires
-projections_from-from-requires c = c.requires.bounded
-
 pub place_after-start-requires : goal.place_after-start-requires
 place_after-start-requires c =
     let lines = c.sections_of-q.ensures in record { d_nonzero = lines-positive c.requires.bounded lines; span = front-span c.requires lines _ (omega (arith, c.projections_from-from.ensures, projections-end c.args.s)) }
-
-pub projection_length-count-requires : goal.projection_length-count-requires
-projection_length-count-requires c = let b = c.requires.bounded in (b.shaped.degree.small, b.shaped.rank-small, b.shaped.parts-small, b.w-small)
 
 pub all_within-requires : goal.all_within-requires
 all_within-requires c =

@@ -1,5 +1,0 @@
--- `bare_cases::messages::commit` meets its contract. Assumes nothing.
-use Rattle.bare_cases.proofs.messages.commit.Goals as goal
-
-pub returns : goal.returns
-returns c = rw (← c.nth_list-a_matrix.ensures, ← c.nth_list-witness.ensures) c.lizkarg_bare_commit-answer.ensures

@@ -1,0 +1,27 @@
+// A corpus on standard input: a line with the number of its cases, and for each a line with its number of bytes, the bytes, and a line feed. These
+// numbers stand in 16 columns, as on a sheet.
+ghost use Rattle.std.specs.Prelude.{◌≤◌};
+
+use crate::reading::read_full;
+use fields::walk::number_size;
+use std::io::Stdin;
+
+// Reads a line of one number: the number, or `most` where it is more; 0 where there is none.
+pub fn read_number(mut stdin: Stdin, most: usize) -> usize
+    ensures { result ≤ most }
+{
+    let mut line = [0; 17];
+    read_full(&mut stdin, &mut line);
+    most.min(number_size(&line, 0) as usize)
+}
+
+// Reads a case of `count` bytes and its line feed into `text`: the case, or None where `text` has no room for both or the input ends before.
+pub fn read_case(mut stdin: Stdin, text: &mut [u8], count: usize) -> Option<&[u8]> {
+    if count >= text.len() {
+        return None;
+    }
+    if read_full(&mut stdin, &mut text[..count + 1]) <= count {
+        return None;
+    }
+    Some(&text[..count])
+}
