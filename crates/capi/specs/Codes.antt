@@ -17,10 +17,10 @@ use Rattle.next_instance.specs.declared.part.Place.{Place}
 use Rattle.sheet.specs.declared.header.SheetSizes.{SheetSizes}
 use Rattle.sheet.specs.SheetAnswer.{SheetAnswer}
 use Rattle.sheet.specs.Reading.{header_numbers, sizes_of, body_numbers, reading, reading_refusal, answer_of, header_of}
-use Rattle.writer.specs.declared.WriteAnswer.{WriteAnswer}
+use Rattle.writer.specs.WriteAnswer.{WriteAnswer}
 use Rattle.writer.specs.Writing.{written_text, writing_refusal, length_answer, length_of}
 use Rattle.writer.specs.Writing as writing
-use Rattle.lizkarg.specs.declared.Product.{Product}
+use Rattle.lizkarg.specs.Calls.{Product}
 use Rattle.capi.specs.declared.sizes.CShape.{CShape}
 use Rattle.capi.specs.declared.sizes.CCommitSizes.{CCommitSizes}
 use Rattle.capi.specs.declared.sizes.CGarbageSizes.{CGarbageSizes}

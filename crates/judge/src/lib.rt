@@ -2,12 +2,13 @@
 #![tactic(auto)]
 
 ghost use Rattle.std.specs.Prelude.{◌≡◌};
-ghost use Rattle.judge.specs.Judging.{judged_by, judged_text, verdict_line};
-ghost use Rattle.judge.specs.Known.Read.{ReadBounded, Into};
+ghost use Rattle.fold.specs.Rows.{check_number};
+ghost use Rattle.fold.specs.Answers.{judgement_of};
+ghost use Rattle.judge.specs.Judging.{judged_text, verdict_line};
+ghost use Rattle.judge.specs.Known.Read.{Into};
 ghost use Rattle.judge.specs.Room.{lent_count};
 
-use fold::Answer;
-use sheet::reader::SheetAnswer;
+use fold::answers::{Refusal, Verdict};
 
 // The numbers that a text of 65536 bytes can hold: each takes 16 columns.
 const MOST_NUMBERS: usize = 4096;
@@ -17,22 +18,12 @@ pub mod line;
 mod lists;
 mod numbers;
 
-// The answer to what was read.
-fn judge_read(read: SheetAnswer, numbers: &[i32]) -> Answer
-    requires { ReadBounded read }
-    ensures { result ≡ judged_by read numbers.now }
-{
-    match read {
-        SheetAnswer::Sheet(s) => numbers::judge_sheet_numbers(s.sizes, numbers),
-        SheetAnswer::Refused(number) => Answer::Refused(number),
-    }
-}
-
 // Reads a text into a slice for its numbers, and answers to them.
-fn judge_into(text: &[u8], numbers: &mut [i32]) -> Answer
-    ensures { Into text.now numbers.old result numbers.new }
+fn judge_into(text: &[u8], numbers: &mut [i32]) -> Result<Verdict, Refusal>
+    ensures { Into text.now numbers.old (judgement_of check_number result) numbers.new }
 {
-    judge_read(sheet::reader::read_sheet(text, numbers), numbers)
+    let s = sheet::reader::read_sheet(text, numbers)?;
+    numbers::judge_sheet_numbers(s.sizes, numbers)
 }
 
 // How many numbers are lent for a text: those that its header gives, at most 4096. 65536 bytes do not hold more.
@@ -44,11 +35,11 @@ fn lent_count(text: &[u8]) -> usize
 
 // The answer to a text: "at most 65536 bytes (longer: 12, before all else)". The verifier tests the reader's numbers once more, as it does for
 // every caller, and refuses them by row 15 only: `after-reading` (specs/Laws/PassLaws.antt).
-pub fn judge_sheet(text: &[u8]) -> Answer
-    ensures { result ≡ judged_text text.now }
+pub fn judge_sheet(text: &[u8]) -> Result<Verdict, Refusal>
+    ensures { judgement_of check_number result ≡ judged_text text.now }
 {
     if 65536 < text.len() {
-        return Answer::Refused(12);
+        return Err(Refusal::Layout);
     }
     let mut numbers = [0i32; MOST_NUMBERS];
     let count = lent_count(text);

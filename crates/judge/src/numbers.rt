@@ -1,13 +1,16 @@
 // The numbers of a sheet, cut into the lists that the verifier takes, in four stages: the check of a function grows with the parts that it
 // cuts, and seventeen in one are too many. Each stage is handed the lists cut so far and the numbers that are left.
 ghost use Rattle.std.specs.Prelude.{◌≡◌};
+ghost use Rattle.fold.specs.Rows.{check_number};
+ghost use Rattle.fold.specs.Answers.{judgement_of};
 ghost use Rattle.fold.specs.Arguments.{VerifySized};
 ghost use Rattle.judge.specs.Judging.{judged_numbers};
 ghost use Rattle.judge.specs.Stages.{last_stage, number_stage, constraint_stage};
 
 use crate::lengths;
 use crate::lists::{front, rest};
-use fold::{Answer, Sizes};
+use fold::Sizes;
+use fold::answers::{Refusal, Verdict};
 use limits::sizes::list_length;
 
 // α, δ, u2, c and the opening.
@@ -26,9 +29,9 @@ fn judge_last(
     omega: &[i32],
     second_b: &[i32],
     xs: &[i32],
-) -> Answer
+) -> Result<Verdict, Refusal>
     requires { VerifySized s }
-    ensures { result ≡ last_stage s a_matrix.now b_matrix.now c_matrix.now d_matrix.now
+    ensures { judgement_of check_number result ≡ last_stage s a_matrix.now b_matrix.now c_matrix.now d_matrix.now
         whole.now constant_terms.now u1.now projections.now p.now psi.now
         omega.now second_b.now xs.now }
 {
@@ -76,9 +79,9 @@ fn judge_numbers(
     u1: &[i32],
     projections: &[i32],
     xs: &[i32],
-) -> Answer
+) -> Result<Verdict, Refusal>
     requires { VerifySized s }
-    ensures { result ≡ number_stage s a_matrix.now b_matrix.now c_matrix.now d_matrix.now
+    ensures { judgement_of check_number result ≡ number_stage s a_matrix.now b_matrix.now c_matrix.now d_matrix.now
         whole.now constant_terms.now u1.now projections.now xs.now }
 {
     let p_length = s.w;
@@ -115,9 +118,9 @@ fn judge_constraints(
     c_matrix: &[i32],
     d_matrix: &[i32],
     xs: &[i32],
-) -> Answer
+) -> Result<Verdict, Refusal>
     requires { VerifySized s }
-    ensures { result ≡ constraint_stage s a_matrix.now b_matrix.now c_matrix.now d_matrix.now
+    ensures { judgement_of check_number result ≡ constraint_stage s a_matrix.now b_matrix.now c_matrix.now d_matrix.now
         xs.now }
 {
     let whole_length = lengths::whole_length(s);
@@ -143,9 +146,9 @@ fn judge_constraints(
 }
 
 // A, B, C and D. The answer to all numbers of a sheet.
-pub fn judge_sheet_numbers(s: Sizes, xs: &[i32]) -> Answer
+pub fn judge_sheet_numbers(s: Sizes, xs: &[i32]) -> Result<Verdict, Refusal>
     requires { VerifySized s }
-    ensures { result ≡ judged_numbers s xs.now }
+    ensures { judgement_of check_number result ≡ judged_numbers s xs.now }
 {
     let a_matrix_length = lengths::a_matrix_length(s);
     let b_matrix_length = lengths::b_matrix_length(s);

@@ -1,20 +1,32 @@
 -- What the ring product answers, and what each message's call promises: its answer, and every lent number afterwards. "Nothing lent is
 -- written" on a refusal.
 -- A list is followed by a mark, as t', where it stands for the lent numbers after the call.
-use Rattle.std.specs.Prelude.{◌≡◌, List, ℕ, ℤ, pos, replicate}
+use Rattle.std.specs.Prelude.{◌≡◌, Result, Ok, Err, List, ℕ, ℤ, pos, replicate}
 use Rattle.fold.specs.Answers.{Answer}
-use Rattle.fold.specs.Answers.{Written}
+use Rattle.fold.specs.declared.answers.Refusal.{Refusal}
+use Rattle.fold.specs.Rows.{row_of}
+use Rattle.fold.specs.Answers.{Refused, Written}
 use Rattle.fold.specs.declared.CommitSizes.{CommitSizes}
 use Rattle.fold.specs.declared.GarbageSizes.{GarbageSizes}
 use Rattle.fold.specs.declared.Shape.{Shape}
 use Rattle.fold.specs.declared.ZDigits.{ZDigits}
+use Rattle.ring.specs.declared.element.Element.{Element}
 use Rattle.ring.specs.Element.{R, lift, array}
 use Rattle.fold.specs.Answers.{answered, written}
 use Rattle.fold.specs.Arguments.{product_refusal, commit_refusal, project_refusal, aggregate_refusal, garbage_refusal, amortize_refusal}
 use Rattle.fold.specs.Arguments.{count_of, base_of}
 use Rattle.fold.specs.Messages.{p, b'', aggregate, h_digits, u₂, z_digits}
 use Rattle.prover.specs.Outputs.{t_of, g_of, u₁_of}
-use Rattle.lizkarg.specs.declared.Product.{Product}
+
+-- An answer and a ring element
+pub record Product : Type 0 where
+  pub answer : Answer
+  pub element : Element
+
+-- those of a result: the element is zero where the call is refused
+abbrev pub product_in : Result Element Refusal → Product
+product_in (Ok x) = record { answer = Written; element = x }
+product_in (Err r) = record { answer = Refused (row_of r); element = record { coefficients = replicate 64 (pos 0) } }
 
 -- The ring product of elements by value: the sixty-four numbers of the product, or zeros where the call is refused
 abbrev pub product_of : ℕ → (x y : List ℤ) → Product

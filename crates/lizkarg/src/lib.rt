@@ -3,11 +3,13 @@
 #![tactic(auto)]
 
 ghost use Rattle.std.specs.Prelude.{◌≡◌};
+ghost use Rattle.fold.specs.Answers.{written_of};
 ghost use Rattle.bare.specs.Calls.{BareCommitted, BarePhiFormed, BareTurned};
-ghost use Rattle.lizkarg.specs.Calls.{product_of, Committed, Projected, Aggregated, GarbageCommitted, Amortized};
+ghost use Rattle.lizkarg.specs.Calls.{product_in, product_of, Committed, Projected, Aggregated, GarbageCommitted, Amortized};
 
 pub use bare_verifier::bare_verify;
-use fold::{Answer, CommitSizes, ConstraintSizes, GarbageSizes, Shape, ZDigits};
+use fold::answers::Refusal;
+use fold::{CommitSizes, ConstraintSizes, GarbageSizes, Shape, ZDigits};
 pub use judge::judge_sheet;
 pub use next_instance::next_instance;
 pub use next_instance::part::next_part;
@@ -17,28 +19,12 @@ pub use sheet::reader::{read_sheet, sheet_numbers};
 pub use verifier::verify;
 pub use writer::{sheet_bytes, write_sheet};
 
-// An answer and a ring element, which is zero where the call is refused.
-#[derive(Clone, Copy)]
-pub struct Product {
-    pub answer: Answer,
-    pub element: Element,
-}
-
 // The product of two ring elements in Z_q[X]/(X^d+1).
-pub fn multiply(d: usize, x: Element, y: Element) -> Product
-    ensures { result ≡ product_of d x.coefficients y.coefficients }
+pub fn multiply(d: usize, x: Element, y: Element) -> Result<Element, Refusal>
+    ensures { product_in result ≡ product_of d x.coefficients y.coefficients }
 {
-    let refusal = refusals::product_refusal(d, x, y);
-    if refusal != 0 {
-        return Product {
-            answer: Answer::Refused(refusal),
-            element: Element::ZERO,
-        };
-    }
-    Product {
-        answer: Answer::Written,
-        element: x.product(d, y),
-    }
+    refusals::product_refusal(d, x, y)?;
+    Ok(x.product(d, y))
 }
 
 // Message 1: the inner commitments t and the products g, in digits, and the outer commitment u1.
@@ -51,18 +37,15 @@ pub fn commit(
     t: &mut [i32],
     g: &mut [i32],
     u1: &mut [i32],
-) -> Answer
+) -> Result<(), Refusal>
     ensures { Committed sizes a_matrix.now b_matrix.now c_matrix.now witness.now t.old
-        g.old u1.old result t.new g.new u1.new }
+        g.old u1.old (written_of result) t.new g.new u1.new }
 {
-    let refusal = refusals::commit_refusal(sizes, a_matrix, b_matrix, c_matrix, witness, t, g, u1);
-    if refusal != 0 {
-        return Answer::Refused(refusal);
-    }
+    refusals::commit_refusal(sizes, a_matrix, b_matrix, c_matrix, witness, t, g, u1)?;
     prover::commit::write_t(sizes, a_matrix, witness, t);
     prover::commit::write_g(sizes, witness, g);
     prover::commit::write_u1(sizes, b_matrix, c_matrix, t, g, u1);
-    Answer::Written
+    Ok(())
 }
 
 // Message 2: the projections p.
@@ -72,15 +55,12 @@ pub fn project(
     projections: &[i32],
     witness: &[i32],
     p: &mut [i32],
-) -> Answer
-    ensures { Projected shape w projections.now witness.now p.old result p.new }
+) -> Result<(), Refusal>
+    ensures { Projected shape w projections.now witness.now p.old (written_of result) p.new }
 {
-    let refusal = refusals::project_refusal(shape, w, projections, witness, p);
-    if refusal != 0 {
-        return Answer::Refused(refusal);
-    }
+    refusals::project_refusal(shape, w, projections, witness, p)?;
     prover::project::write_p(shape, w, projections, witness, p);
-    Answer::Written
+    Ok(())
 }
 
 // Message 3: the values b'' of the five second functions, here second_b.
@@ -94,11 +74,11 @@ pub fn aggregate(
     omega: &[i32],
     witness: &[i32],
     second_b: &mut [i32],
-) -> Answer
+) -> Result<(), Refusal>
     ensures { Aggregated shape l w constant_terms.now projections.now psi.now omega.now
-        witness.now second_b.old result second_b.new }
+        witness.now second_b.old (written_of result) second_b.new }
 {
-    let refusal = refusals::aggregate_refusal(
+    refusals::aggregate_refusal(
         shape,
         l,
         w,
@@ -108,10 +88,7 @@ pub fn aggregate(
         omega,
         witness,
         second_b,
-    );
-    if refusal != 0 {
-        return Answer::Refused(refusal);
-    }
+    )?;
     aggregation::second::write_second_b(
         shape,
         l,
@@ -123,7 +100,7 @@ pub fn aggregate(
         witness,
         second_b,
     );
-    Answer::Written
+    Ok(())
 }
 
 // Message 4: the garbage h of the aggregate, in digits, and its commitment u2.
@@ -140,12 +117,12 @@ pub fn commit_garbage(
     witness: &[i32],
     h: &mut [i32],
     u2: &mut [i32],
-) -> Answer
+) -> Result<(), Refusal>
     ensures { GarbageCommitted sizes whole.now constant_terms.now projections.now psi.now omega.now
         alpha.now delta.now d_matrix.now witness.now h.old
-        u2.old result h.new u2.new }
+        u2.old (written_of result) h.new u2.new }
 {
-    let refusal = refusals::garbage_refusal(
+    refusals::garbage_refusal(
         sizes,
         whole,
         constant_terms,
@@ -158,10 +135,7 @@ pub fn commit_garbage(
         witness,
         h,
         u2,
-    );
-    if refusal != 0 {
-        return Answer::Refused(refusal);
-    }
+    )?;
     aggregation::garbage::write_h(
         sizes,
         whole,
@@ -175,21 +149,18 @@ pub fn commit_garbage(
         h,
     );
     aggregation::garbage::write_u2(sizes, d_matrix, h, u2);
-    Answer::Written
+    Ok(())
 }
 
 // Message 5: z, in two digits to a base, or in one.
-pub fn amortize(shape: Shape, digits: ZDigits, c: &[i32], witness: &[i32], z: &mut [i32]) -> Answer
-    ensures { Amortized shape digits c.now witness.now z.old result z.new }
+pub fn amortize(shape: Shape, digits: ZDigits, c: &[i32], witness: &[i32], z: &mut [i32]) -> Result<(), Refusal>
+    ensures { Amortized shape digits c.now witness.now z.old (written_of result) z.new }
 {
     let tz = digits.count();
     let b = digits.base();
-    let refusal = refusals::amortize_refusal(tz, shape, b, c, witness, z);
-    if refusal != 0 {
-        return Answer::Refused(refusal);
-    }
+    refusals::amortize_refusal(tz, shape, b, c, witness, z)?;
     prover::amortize::write_z(tz, shape, b, c, witness, z);
-    Answer::Written
+    Ok(())
 }
 
 // The bare level: t, in the clear.
@@ -199,15 +170,12 @@ pub fn bare_commit(
     a_matrix: &[i32],
     witness: &[i32],
     t: &mut [i32],
-) -> Answer
-    ensures { BareCommitted shape kappa a_matrix.now witness.now t.old result t.new }
+) -> Result<(), Refusal>
+    ensures { BareCommitted shape kappa a_matrix.now witness.now t.old (written_of result) t.new }
 {
-    let refusal = bare_refusals::bare_commit_refusal(shape, kappa, a_matrix, witness, t);
-    if refusal != 0 {
-        return Answer::Refused(refusal);
-    }
+    bare_refusals::bare_commit_refusal(shape, kappa, a_matrix, witness, t)?;
     bare_prover::commit::write_t(shape, kappa, a_matrix, witness, t);
-    Answer::Written
+    Ok(())
 }
 
 // The bare level: the φ of the aggregate, which the turns are lent.
@@ -221,11 +189,11 @@ pub fn bare_phi(
     alpha: &[i32],
     delta: &[i32],
     phi: &mut [i32],
-) -> Answer
+) -> Result<(), Refusal>
     ensures { BarePhiFormed sizes whole.now constant_terms.now projections.now psi.now omega.now
-        alpha.now delta.now phi.old result phi.new }
+        alpha.now delta.now phi.old (written_of result) phi.new }
 {
-    let refusal = bare_refusals::bare_phi_refusal(
+    bare_refusals::bare_phi_refusal(
         sizes,
         whole,
         constant_terms,
@@ -235,10 +203,7 @@ pub fn bare_phi(
         alpha,
         delta,
         phi,
-    );
-    if refusal != 0 {
-        return Answer::Refused(refusal);
-    }
+    )?;
     bare_prover::phi::write_phi(
         sizes,
         whole,
@@ -250,7 +215,7 @@ pub fn bare_phi(
         delta,
         phi,
     );
-    Answer::Written
+    Ok(())
 }
 
 // The bare level: the four elements of a turn, from the challenges before it.
@@ -261,13 +226,10 @@ pub fn bare_turn(
     c: &[i32],
     witness: &[i32],
     garbage: &mut [i32],
-) -> Answer
-    ensures { BareTurned shape turn phi.now c.now witness.now garbage.old result garbage.new }
+) -> Result<(), Refusal>
+    ensures { BareTurned shape turn phi.now c.now witness.now garbage.old (written_of result) garbage.new }
 {
-    let refusal = bare_refusals::bare_turn_refusal(shape, turn, phi, c, witness, garbage);
-    if refusal != 0 {
-        return Answer::Refused(refusal);
-    }
+    bare_refusals::bare_turn_refusal(shape, turn, phi, c, witness, garbage)?;
     bare_prover::turn::write_turn(shape, turn, phi, c, witness, garbage);
-    Answer::Written
+    Ok(())
 }

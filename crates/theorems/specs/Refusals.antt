@@ -20,7 +20,7 @@ use Rattle.fold.specs.Arguments.{count_of, base_of, part_refusal_of, next_part_o
 use Rattle.sheet.specs.SheetAnswer.{SheetAnswer}
 use Rattle.sheet.specs.Reading.{header_tests, number_tests, body_tests, reading_tests, answer_of, SheetRead}
 use Rattle.sheet.specs.declared.header.SheetSizes.{SheetSizes}
-use Rattle.writer.specs.declared.WriteAnswer.{WriteAnswer}
+use Rattle.writer.specs.WriteAnswer.{WriteAnswer}
 use Rattle.writer.specs.Writing.{writing_tests, SheetWritten}
 use Rattle.writer.specs.Writing as writing
 use Rattle.lizkarg.specs.Calls.{product_of, Committed, Projected, Aggregated, GarbageCommitted, Amortized}

@@ -17,7 +17,7 @@ use Rattle.fold.proofs.Theorems.FirstRefusal.{Refuses, judgement_refuses}
 use Rattle.sheet.specs.Layout.{fields, body_lines, sheet_text, SheetNumbers}
 use Rattle.sheet.specs.Reading.{header_tests, sizes_of, number_tests, body_tests, reading_tests}
 use Rattle.sheet.specs.declared.header.SheetSizes.{SheetSizes}
-use Rattle.writer.specs.declared.WriteAnswer.TheVariants.{Length}
+use Rattle.writer.specs.WriteAnswer.{Length}
 use Rattle.writer.specs.Writing.{header_fields, written_text, SheetWritten}
 use Rattle.writer.proofs.Laws.LengthLaws.{sizes-given}
 use Rattle.writer.proofs.Theorems.WriterTheorems.{written-exactly, text-put}

@@ -20,8 +20,8 @@ use Rattle.fields.specs.Field.{header_bytes}
 use Rattle.sheet.specs.declared.header.SheetSizes.{SheetSizes}
 use Rattle.sheet.specs.Layout.{sheet_text}
 use Rattle.sheet.specs.Reading.{header_tests, slice_tests}
-use Rattle.writer.specs.declared.WriteAnswer.{WriteAnswer}
-use Rattle.writer.specs.declared.WriteAnswer.TheVariants.{Length, Refused}
+use Rattle.writer.specs.WriteAnswer.{WriteAnswer}
+use Rattle.writer.specs.WriteAnswer.{Length, Refused}
 
 -- ---- the text
 

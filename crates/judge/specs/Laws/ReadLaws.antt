@@ -1,13 +1,16 @@
 -- What the judge makes of the reader's answer and the numbers that it wrote.
 --     text-judged      with a slice of `lent_count` numbers it is the answer to the text
-use Rattle.std.specs.Prelude.{◌≡◌, List, length, ℤ}
-use Rattle.std.proofs.Math.Path.{refl, ap₂}
+use Rattle.std.specs.Prelude.{◌≡◌, Result, Ok, Err, IsErrAnd, List, length, ℤ}
+use Rattle.std.proofs.Math.Path.{refl, ap, ap₂}
 use Rattle.std.proofs.Common.{◌∙◌, le-leb}
 use Prim.Native.Nat.{ℕ, zero, suc, ◌≤◌, ◌<◌}
 use Rattle.std.proofs.lemmas.Bool.{lt-leb}
 use Rattle.fold.specs.Answers.{Answer}
 use Rattle.fold.specs.Answers as answer
-use Rattle.fold.specs.Answers.{written}
+use Rattle.fold.specs.declared.answers.Refusal.{Refusal}
+use Rattle.fold.specs.declared.answers.Check.{Check}
+use Rattle.fold.specs.Rows.{row_of, check_number}
+use Rattle.fold.specs.Answers.{written, judgement_of}
 use Rattle.sheet.specs.SheetAnswer.{SheetAnswer}
 use Rattle.sheet.specs.Reading.{header_numbers, sheet_sizes_of, sheet_if, reading, reading_refusal, SheetRead}
 use Rattle.sheet.specs.Laws.AnswerLaws.{reading-passed, read_is}
@@ -49,3 +52,9 @@ pub text-judged : (text : List ℕ) → length text ≤ 65536 → (before : List
     → Into text before r after → r ≡ judged_text text
 unfolding judged_text judged
 text-judged text fits before e p = p.answer-is ∙ rw (e, le-leb (length text) 65536 fits, same-reading text fits) refl
+
+-- a result that hands a refusal on
+pub refused_judging : (r : Result (Result ℕ Check) Refusal) (e : Refusal) → IsErrAnd r (λ x. x ≡ e)
+    → judgement_of check_number r ≡ answer.Refused (row_of e)
+refused_judging (Ok verdict) e told = absurd told
+refused_judging (Err x) e told = ap (λ y. answer.Refused (row_of y)) told

@@ -6,7 +6,7 @@ use Rattle.fold.specs.Answers.{Refused, Written}
 use Rattle.fold.specs.Answers.{answered, written}
 use Rattle.fold_values.specs.Cases.Computing.{fold_computes}
 use Rattle.fold_values.specs.Cases.ProductCases.{one, third, from}
-use Rattle.lizkarg.specs.declared.Product.{Product}
+use Rattle.lizkarg.specs.Calls.{Product}
 use Rattle.lizkarg.specs.Calls.{product_of}
 
 abbrev pub result : Answer → List ℤ → Product

@@ -1,9 +1,11 @@
 -- An answer and what was written, by the number of the refusal.
-use Rattle.std.specs.Prelude.{◌≡◌, refl, List, ℕ, zero, suc, length, replicate, ℤ, pos}
+use Rattle.std.specs.Prelude.{◌≡◌, refl, Result, Ok, Err, IsErrAnd, List, ℕ, zero, suc, length, replicate, ℤ, pos}
 use Rattle.std.proofs.Common.{sym, ap, ap₂, ◌∙◌}
 use Rattle.ring.specs.declared.element.Element.{Element}
 use Rattle.ring.specs.Element.{R, lift, array}
-use Rattle.fold.specs.Answers.{Answer}
+use Rattle.fold.specs.declared.answers.Refusal.{Refusal}
+use Rattle.fold.specs.Rows.{row_of}
+use Rattle.fold.specs.Answers.{Answer, written_of}
 use Rattle.fold.specs.Answers.{Refused}
 use Rattle.fold.specs.Answers.{Written}
 use Rattle.fold.specs.declared.CommitSizes.{CommitSizes}
@@ -18,8 +20,8 @@ use Rattle.fold.specs.Messages.{p, b'', u₂, z_digits}
 use Rattle.fold.specs.Known.CallFacts.{CommitFacts, ProjectFacts, AggregateCallFacts, GarbageFacts, AmortizeFacts, written-digits, written-h}
 use Rattle.fold.specs.Known.WorkFacts.{TFacts, GFacts, U₁Facts, HFacts, U₂Facts}
 use Rattle.prover.specs.Outputs.{t_of, g_of, u₁_of}
-use Rattle.lizkarg.specs.declared.Product.{Product}
-use Rattle.lizkarg.specs.Calls.{product_of, Committed, Projected, Aggregated, GarbageCommitted, Amortized, h_of}
+use Rattle.lizkarg.specs.Calls.{Product}
+use Rattle.lizkarg.specs.Calls.{product_in, product_of, Committed, Projected, Aggregated, GarbageCommitted, Amortized, h_of}
 
 -- where the number is not 0, the call refuses with it and writes nothing
 refused-number : (n : ℕ) (answer : Answer) → (n ≡ 0 → ⊥) → Refused n ≡ answered n answer
@@ -175,3 +177,13 @@ module _ (shape : Shape) (digits : ZDigits) {c s v : List ℤ} {x : ℕ} (number
 
   pub amortize-written : {v' : List ℤ} → x ≡ 0 → v' ≡ z_digits shape.d shape.n shape.r (count_of digits) (base_of digits) c s → Amortized shape digits c s v Written v'
   amortize-written none new = record { answer-is = answers Written (sym number ∙ none); z-is = writes v (sym number ∙ none) new }
+
+-- ---- results that hand a refusal on
+
+pub refused_call : (r : Result Unit Refusal) (e : Refusal) → IsErrAnd r (λ x. x ≡ e) → written_of r ≡ Refused (row_of e)
+refused_call (Ok done) e told = absurd told
+refused_call (Err x) e told = ap (λ y. Refused (row_of y)) told
+
+pub refused_product : (r : Result Element Refusal) (e : Refusal) → IsErrAnd r (λ x. x ≡ e) → product_in r ≡ product_in (Err e)
+refused_product (Ok x) e told = absurd told
+refused_product (Err x) e told = ap (λ (y : Refusal). product_in (Err y)) told

@@ -13,8 +13,8 @@ use Rattle.fields.specs.Sections.{matrix_count, whole_count, row_count, last_cou
 use Rattle.sheet.specs.Reading.{header_tests, size, sizes_of, sheet_sizes_of}
 use Rattle.sheet.specs.Layout.{line_text, SheetNumbers}
 use Rattle.sheet.specs.Cases.WholeSheet.{header, numbers, whole_numbers, second}
-use Rattle.writer.specs.declared.WriteAnswer.{WriteAnswer}
-use Rattle.writer.specs.declared.WriteAnswer.TheVariants.{Length, Refused}
+use Rattle.writer.specs.WriteAnswer.{WriteAnswer}
+use Rattle.writer.specs.WriteAnswer.{Length, Refused}
 use Rattle.writer.specs.Writing.{header_words, header_fields, element_lines, text_bytes, sheet_bytes, SheetWritten}
 use Rattle.writer.proofs.Theorems.WriterTheorems.{least_buffer}
 

@@ -36,8 +36,8 @@ use Rattle.sheet.specs.Reading.{header_tests, size, sizes_of, sheet_sizes_of, nu
 use Rattle.sheet.specs.Layout.{fields, body_lines, AllFit, SheetNumbers}
 use Rattle.sheet.specs.Laws.BodyLaws.{body-total}
 use Rattle.sheet.specs.Laws.AnswerLaws.{refusal_first, refusal_rest}
-use Rattle.writer.specs.declared.WriteAnswer.{WriteAnswer}
-use Rattle.writer.specs.declared.WriteAnswer.TheVariants.{Length, Refused}
+use Rattle.writer.specs.WriteAnswer.{WriteAnswer}
+use Rattle.writer.specs.WriteAnswer.{Length, Refused}
 use Rattle.writer.specs.Writing.{header_words, header_fields, written_text, writing_tests, writing_refusal}
 use Rattle.writer.specs.Writing.{length_answer, answer_of, length_of, length_if, SheetWritten}
 use Rattle.writer.proofs.Laws.LengthLaws.{length_fields, sizes-given}

@@ -1,18 +1,19 @@
 -- Laws of the writer's tests, as its functions make them.
 --     rows_inside, challenges-inside, rows_are, challenges_are    the projection rows and the challenges among the numbers
---     numbers_refusal, other-count, right-count                   rows 7 to 10
 --     good_sizes, refused-header, refused_slice, last_refusal     all tests, one after the other
 --     bytes_refused, bytes_good                                   `sheet_bytes`
 --     write_refused, written-counted, written-room, write_done    the writer's promise, refused or not
-use Rattle.std.specs.Prelude.{◌≡◌, Bool, cond, leb, length, take, drop, ℤ}
+use Rattle.std.specs.Prelude.{◌≡◌, Result, Ok, Err, IsErrAnd, leb, length, take, drop, ℤ}
 use Rattle.std.proofs.Math.Path.{refl, sym}
 use Rattle.std.proofs.Common.{ap, ◌∙◌}
-use mathlib.Core.List.{List, []}
+use mathlib.Core.List.{List, [], ◌∷◌}
 use Prim.Native.Nat.{ℕ, zero, suc, ◌+◌, ◌*◌, ◌-◌, ◌≤◌, ◌<◌}
 use native.Mathlib.Omega.{arith}
 use borrow.Author.Tests.{eq-eqb, ne_eqb}
 use Rattle.integers.specs.Over.{over}
 use Rattle.residues.specs.Range.{coefficients, projection_entries}
+use Rattle.fold.specs.declared.answers.Refusal.{Refusal}
+use Rattle.fold.specs.Rows.{row_of}
 use Rattle.fold.specs.Answers as answer
 use Rattle.fold.specs.Answers.{first_failing, answered, written}
 use Rattle.fold.specs.Arguments.{VerifySized}
@@ -30,15 +31,15 @@ use Rattle.sheet.specs.Laws.AnswerLaws.{refusal_first, refusal_rest}
 use Rattle.sheet.specs.Laws.HeaderLaws.{header-sizes, header-bounded}
 use Rattle.sheet.specs.Laws.ListLaws.{rows-part, challenges-part}
 use Rattle.sheet.specs.Laws.ReadingLaws.{projections-end, challenges-end}
-use Rattle.writer.specs.declared.WriteAnswer.{WriteAnswer}
-use Rattle.writer.specs.declared.WriteAnswer.TheVariants.{Length, Refused}
+use Rattle.writer.specs.WriteAnswer.{WriteAnswer}
+use Rattle.writer.specs.WriteAnswer.{Length, Refused, wrote_of}
 use Rattle.writer.specs.Writing.{header_fields, written_text, text_bytes, sheet_bytes, writing_tests, writing_refusal}
 use Rattle.writer.specs.Writing.{answer_of, length_of, length_if, SheetWritten}
 use Rattle.writer.specs.Known.Writing.{Counted}
 use Rattle.writer.proofs.Laws.LengthLaws.{sizes-back, sizes-given, text-length}
 use Rattle.writer.proofs.Laws.AnswerLaws.{all_number_tests, numbers-passed, count-total, early-first, room_refusal, writing_passed}
 
--- ---- rows 7 to 10
+-- ---- the lists of rows 9 and 10
 
 module _ (s : Sizes) (xs : List ℤ) where
   module _ (c : Counted s xs) {start count : ℕ} where
@@ -60,21 +61,6 @@ module _ (s : Sizes) (xs : List ℤ) where
   challenges_are {start} {count} e f =
       let same : start + count - start ≡ count = omega arith in
       rw (same, e, f) (sym (challenges-part s xs))
-
-  pub numbers_refusal : {eight nine ten : Bool} {r₈ r₉ r₁₀ : ℕ} → eight ≡ coefficients xs → nine ≡ projection_entries (projections_in s xs)
-      → ten ≡ challenges s.shape.d s.shape.r (challenges_in s xs) → r₁₀ ≡ cond ten 0 10 → r₉ ≡ cond nine r₁₀ 9 → r₈ ≡ cond eight r₉ 8
-      → r₈ ≡ first_failing (number_tests s xs)
-  unfolding first_failing number_tests
-  numbers_refusal e₈ e₉ e₁₀ f₁₀ f₉ f₈ = rw (f₈, f₉, f₁₀, e₈, e₉, e₁₀) refl
-
-  pub other-count : {count : ℕ} → count ≡ total s → (length xs ≡ count → ⊥) → 7 ≡ first_failing (slice_tests (length xs) s xs)
-  unfolding first_failing
-  other-count e ne = rw (ne_eqb (length xs) (total s) (λ f. ne (f ∙ sym e))) refl
-
-  pub right-count : {count : ℕ} → count ≡ total s → length xs ≡ count → {r : ℕ} → r ≡ first_failing (number_tests s xs)
-      → r ≡ first_failing (slice_tests (length xs) s xs)
-  unfolding first_failing
-  right-count e f g = rw (eq-eqb (length xs) (total s) (f ∙ e)) g
 
 -- ---- all tests
 
@@ -104,8 +90,9 @@ module _ (room : ℕ) (h : SheetSizes) (xs : List ℤ) {header : ℕ} (e : heade
     pub refused_slice : 0 < slice → slice ≡ first_failing (writing_tests room h xs)
     refused_slice some = sym numbers_are ∙ early-first room h xs (omega (arith, numbers_are, some))
 
-    pub last_refusal : slice ≤ 0 → {bytes r : ℕ} → bytes ≡ text_bytes h.sizes → r ≡ cond (leb bytes room) 0 13
+    pub last_refusal : slice ≤ 0 → {bytes r : ℕ} → bytes ≡ text_bytes h.sizes → r ≡ first_failing ((13, leb bytes room) ∷ [])
         → r ≡ first_failing (writing_tests room h xs)
+    unfolding first_failing
     last_refusal few b g =
         let n = numbers-passed h xs (numbers_are ∙ omega (arith, few)) in
         g ∙ rw (b ∙ sym (text-length h xs (count-total h xs n))) refl ∙ sym (room_refusal room h xs n)
@@ -160,3 +147,8 @@ module _ (h : SheetSizes) {header : ℕ} (e : header ≡ first_failing (next_bou
   pub bytes_good : header ≤ 0 → {m : ℕ} → m ≡ text_bytes h.sizes → m ≡ sheet_bytes h
   unfolding sheet_bytes
   bytes_good none f = let zero-header : header ≡ 0 = omega arith in f ∙ rw (← header_is 0 h [] e, eq-eqb header 0 zero-header) refl
+
+-- a result that hands a refusal on
+pub refused_write : (r : Result ℕ Refusal) (e : Refusal) → IsErrAnd r (λ x. x ≡ e) → wrote_of r ≡ Refused (row_of e)
+refused_write (Ok m) e told = absurd told
+refused_write (Err x) e told = ap (λ y. Refused (row_of y)) told

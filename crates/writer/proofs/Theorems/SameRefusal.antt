@@ -17,8 +17,8 @@ use Rattle.sheet.specs.Layout.{fields, body_lines, text_of, sheet_text, AllFit, 
 use Rattle.sheet.specs.Laws.AnswerLaws.{read_is, refusal_first, refusal_rest}
 use Rattle.sheet.specs.Laws.BodyLaws.{body-total}
 use Rattle.sheet.specs.Theorems.SheetTheorems.{sheet_exactly, refused-header, refused-numbers}
-use Rattle.writer.specs.declared.WriteAnswer.{WriteAnswer}
-use Rattle.writer.specs.declared.WriteAnswer.TheVariants.{Refused}
+use Rattle.writer.specs.WriteAnswer.{WriteAnswer}
+use Rattle.writer.specs.WriteAnswer.{Refused}
 use Rattle.writer.specs.Writing.{header_fields, written_text, writing_refusal, SheetWritten}
 use Rattle.writer.proofs.Laws.LengthLaws.{sizes-given, length_fields}
 use Rattle.writer.proofs.Laws.AnswerLaws.{is-refused, write_is, all_number_tests, early_refusal, room_alone}

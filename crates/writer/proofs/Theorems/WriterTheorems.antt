@@ -26,8 +26,8 @@ use Rattle.sheet.specs.Layout.{SheetNumbers}
 use Rattle.sheet.specs.Laws.AnswerLaws.{read_is}
 use Rattle.sheet.specs.Laws.HeaderLaws.{header-bounded}
 use Rattle.sheet.specs.Theorems.SheetTheorems.{Read, sheet_exactly, sheet_count}
-use Rattle.writer.specs.declared.WriteAnswer.{WriteAnswer}
-use Rattle.writer.specs.declared.WriteAnswer.TheVariants.{Length, Refused}
+use Rattle.writer.specs.WriteAnswer.{WriteAnswer}
+use Rattle.writer.specs.WriteAnswer.{Length, Refused}
 use Rattle.writer.specs.Writing.{header_fields, written_text, sheet_bytes, writing_tests, writing_refusal, length_answer, SheetWritten}
 use Rattle.writer.proofs.Laws.LengthLaws.{sizes-back, sizes-given, text-length, bytes_most}
 use Rattle.writer.proofs.Laws.AnswerLaws.{is-length, is-refused, write_is, fields_back, count-total}

@@ -1,5 +1,6 @@
 -- `judge::line::verdict_line` meets its contract: its bytes are those of the two fields and the line feed.
-use mathlib.Core.Path.{◌≡◌, refl, sym}
+use mathlib.Core.Path.{◌≡◌, refl, sym, ap}
+use Rattle.fold.specs.declared.answers.Code.{Code}
 use native.Mathlib.Omega.{arith}
 use lib.ListN.{length}
 use Rattle.fields.specs.Place.{field_width}
@@ -26,5 +27,5 @@ write_laid-requires-2 c =
 
 pub returns : goal.returns
 returns c =
-    line-written c.args.answer _ refl c.kind.ensures c.number.ensures
+    line-written _ _ refl (ap (λ (code : Code). code.kind) c.from-code.ensures) (ap (λ (code : Code). code.number) c.from-code.ensures)
     c.write_laid.ensures c.write_laid-2.ensures

@@ -1,11 +1,13 @@
 -- `writer::refusal::slice_refusal` meets its contract.
-use Rattle.writer.proofs.Laws.RefusalLaws.{other-count, right-count}
+use Rattle.fold.specs.Rows.{row_of}
+use Rattle.fold.specs.Laws.TestLaws.{passing, failing}
+use Rattle.fold.specs.Laws.ResultLaws.{required}
 use Rattle.writer.proofs.refusal.slice_refusal.Goals as goal
 
-pub returns-then-numbers-total_numbers : goal.returns-then-numbers-total_numbers
-returns-then-numbers-total_numbers c = other-count c.args.s c.args.numbers.now c.total_numbers.ensures c.if-numbers-total_numbers.true
+pub returns-in_err-require : goal.returns-in_err-require
+returns-in_err-require c =
+    required row_of _ c.from_residual.ensures.1 c.in_err-require.ensures.told
+    (failing 7 _ (rw c.total_numbers.ensures at c.in_err-require.ensures.told.0))
 
 pub returns : goal.returns
-returns c =
-    let a = c.args in
-    right-count a.s a.numbers.now c.total_numbers.ensures c.if-numbers-total_numbers.false c.number_refusal.ensures
+returns c = passing 7 _ (rw c.total_numbers.ensures at c.in_ok-require.ensures.told) c.number_refusal.ensures
