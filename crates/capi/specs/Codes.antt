@@ -2,6 +2,8 @@
 use Rattle.std.specs.Prelude.{◌≡◌, List, Bool, true, false, ℕ, zero, suc, length, ℤ}
 use Rattle.integers.specs.Over.{over}
 use Rattle.fold.specs.Answers.{Answer}
+use Rattle.fold.specs.declared.answers.Code.{Code}
+use Rattle.fold.specs.Codes.{coded}
 use Rattle.fold.specs.Answers.{kind_of, number_of, written}
 use Rattle.fold.specs.declared.Shape.{Shape}
 use Rattle.fold.specs.declared.CommitSizes.{CommitSizes}
@@ -37,8 +39,11 @@ use Rattle.capi.specs.declared.write.CText.{CText}
 
 -- ---- what C is told
 
+abbrev pub c_answer : Code → CAnswer
+c_answer code = record { kind = code.kind; number = code.number }
+
 abbrev pub code_of : Answer → CAnswer
-code_of answer = record { kind = kind_of answer; number = number_of answer }
+code_of answer = c_answer (coded answer)
 
 -- a product: its answer, and the sixty-four numbers of its element
 abbrev pub product_code : Product → CProduct

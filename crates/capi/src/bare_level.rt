@@ -6,8 +6,11 @@ ghost use Rattle.bare.specs.Calls.{BareCommitted, BarePhiFormed, BareTurned};
 ghost use Rattle.capi.specs.Codes.{shape_from, constraint_sizes_from, bare_sizes_from, Coded, code_of};
 
 use crate::sizes::{CBareSizes, CConstraintSizes, CShape};
+use crate::types;
 use crate::types::CAnswer;
-use crate::{sizes, types};
+use bare::BareSizes;
+use fold::answers::Code;
+use fold::{ConstraintSizes, Shape};
 
 // t: `lizkarg::bare_commit`.
 pub fn lizkarg_bare_commit(
@@ -19,9 +22,9 @@ pub fn lizkarg_bare_commit(
 ) -> CAnswer
     ensures { Coded (λ answer. BareCommitted (shape_from shape) kappa a_matrix.now witness.now t.old answer t.new) result }
 {
-    let given = sizes::shape(shape);
+    let given = Shape::from(shape);
     let answer = lizkarg::bare_commit(given, kappa, a_matrix, witness, t);
-    types::code(answer)
+    types::code(Code::from(answer))
 }
 
 // φ: `lizkarg::bare_phi`.
@@ -39,7 +42,7 @@ pub fn lizkarg_bare_phi(
     ensures { Coded (λ answer. BarePhiFormed (constraint_sizes_from sizes) whole.now constant_terms.now projections.now psi.now
         omega.now alpha.now delta.now phi.old answer phi.new) result }
 {
-    let given = sizes::constraint_sizes(sizes);
+    let given = ConstraintSizes::from(sizes);
     let answer = lizkarg::bare_phi(
         given,
         whole,
@@ -51,7 +54,7 @@ pub fn lizkarg_bare_phi(
         delta,
         phi,
     );
-    types::code(answer)
+    types::code(Code::from(answer))
 }
 
 // A turn: `lizkarg::bare_turn`.
@@ -66,9 +69,9 @@ pub fn lizkarg_bare_turn(
     ensures { Coded (λ answer. BareTurned (shape_from shape) turn phi.now c.now witness.now garbage.old answer
         garbage.new) result }
 {
-    let given = sizes::shape(shape);
+    let given = Shape::from(shape);
     let answer = lizkarg::bare_turn(given, turn, phi, c, witness, garbage);
-    types::code(answer)
+    types::code(Code::from(answer))
 }
 
 // The verifier: `lizkarg::bare_verify`.
@@ -91,7 +94,7 @@ pub fn lizkarg_bare_verify(
         (draws_of projections.now psi.now omega.now alpha.now delta.now c.now)
         (bare_transcript_of p.now second_b.now) opening.now) }
 {
-    let given = sizes::bare_sizes(sizes);
+    let given = BareSizes::from(sizes);
     let answer = lizkarg::bare_verify(
         given,
         a_matrix,
@@ -107,5 +110,5 @@ pub fn lizkarg_bare_verify(
         c,
         opening,
     );
-    types::code(answer)
+    types::code(Code::from(answer))
 }

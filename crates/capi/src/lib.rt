@@ -11,7 +11,8 @@ ghost use Rattle.sheet.specs.Reading.{number_count};
 ghost use Rattle.judge.specs.Judging.{judged_text};
 ghost use Rattle.capi.specs.Codes.{shape_from, commit_sizes_from, garbage_sizes_from, sizes_from, Coded, code_of, SheetCoded};
 
-use fold::ZDigits;
+use fold::answers::Code;
+use fold::{CommitSizes, GarbageSizes, Shape, StatementSizes, ZDigits};
 use sizes::{CCommitSizes, CGarbageSizes, CShape, CSizes};
 use types::{CAnswer, CSheet};
 
@@ -36,9 +37,9 @@ pub fn lizkarg_commit(
     ensures { Coded (λ answer. Committed (commit_sizes_from sizes) a_matrix.now b_matrix.now c_matrix.now witness.now
         t.old g.old u1.old answer t.new g.new u1.new) result }
 {
-    let given = sizes::commit_sizes(sizes);
+    let given = CommitSizes::from(sizes);
     let answer = lizkarg::commit(given, a_matrix, b_matrix, c_matrix, witness, t, g, u1);
-    types::code(answer)
+    types::code(Code::from(answer))
 }
 
 // Message 2: `lizkarg::project`.
@@ -52,9 +53,9 @@ pub fn lizkarg_project(
     ensures { Coded (λ answer. Projected (shape_from shape) w projections.now witness.now p.old answer
         p.new) result }
 {
-    let given = sizes::shape(shape);
+    let given = Shape::from(shape);
     let answer = lizkarg::project(given, w, projections, witness, p);
-    types::code(answer)
+    types::code(Code::from(answer))
 }
 
 // Message 3: `lizkarg::aggregate`.
@@ -72,7 +73,7 @@ pub fn lizkarg_aggregate(
     ensures { Coded (λ answer. Aggregated (shape_from shape) l w constant_terms.now projections.now psi.now omega.now
         witness.now second_b.old answer second_b.new) result }
 {
-    let given = sizes::shape(shape);
+    let given = Shape::from(shape);
     let answer = lizkarg::aggregate(
         given,
         l,
@@ -84,7 +85,7 @@ pub fn lizkarg_aggregate(
         witness,
         second_b,
     );
-    types::code(answer)
+    types::code(Code::from(answer))
 }
 
 // Message 4: `lizkarg::commit_garbage`.
@@ -106,7 +107,7 @@ pub fn lizkarg_commit_garbage(
         psi.now omega.now alpha.now delta.now d_matrix.now
         witness.now h.old u2.old answer h.new u2.new) result }
 {
-    let given = sizes::garbage_sizes(sizes);
+    let given = GarbageSizes::from(sizes);
     let answer = lizkarg::commit_garbage(
         given,
         whole,
@@ -121,7 +122,7 @@ pub fn lizkarg_commit_garbage(
         h,
         u2,
     );
-    types::code(answer)
+    types::code(Code::from(answer))
 }
 
 // Message 5: `lizkarg::amortize`, two digits to base b.
@@ -135,9 +136,9 @@ pub fn lizkarg_amortize(
     ensures { Coded (λ answer. Amortized (shape_from shape) (Two b) c.now witness.now z.old answer
         z.new) result }
 {
-    let given = sizes::shape(shape);
+    let given = Shape::from(shape);
     let answer = lizkarg::amortize(given, ZDigits::Two(b), c, witness, z);
-    types::code(answer)
+    types::code(Code::from(answer))
 }
 
 // Message 5: `lizkarg::amortize`, one digit.
@@ -150,9 +151,9 @@ pub fn lizkarg_amortize_one_digit(
     ensures { Coded (λ answer. Amortized (shape_from shape) One c.now witness.now z.old answer
         z.new) result }
 {
-    let given = sizes::shape(shape);
+    let given = Shape::from(shape);
     let answer = lizkarg::amortize(given, ZDigits::One, c, witness, z);
-    types::code(answer)
+    types::code(Code::from(answer))
 }
 
 // The verifier: `lizkarg::verify`.
@@ -182,7 +183,7 @@ pub fn lizkarg_verify(
         c.now) (transcript_of u1.now p.now second_b.now u2.now)
         opening.now) }
 {
-    let given = sizes::sizes(sizes);
+    let given = StatementSizes::from(sizes);
     let answer = lizkarg::verify(
         given,
         a_matrix,
@@ -203,7 +204,7 @@ pub fn lizkarg_verify(
         c,
         opening,
     );
-    types::code(answer)
+    types::code(Code::from(answer))
 }
 
 // How many numbers a sheet holds: `lizkarg::sheet_numbers`.
@@ -226,5 +227,5 @@ pub fn lizkarg_judge_sheet(text: &[u8]) -> CAnswer
     ensures { result ≡ code_of (judged_text text.now) }
 {
     let answer = lizkarg::judge_sheet(text);
-    types::code(answer)
+    types::code(Code::from(answer))
 }

@@ -7,8 +7,10 @@ ghost use Rattle.next_instance.specs.Parts.{Placed};
 ghost use Rattle.capi.specs.Codes.{Coded, sizes_from, part_sizes_from, place_from};
 
 use crate::sizes::{CPartSizes, CSizes};
+use crate::types;
 use crate::types::CAnswer;
-use crate::{sizes, types};
+use fold::answers::Code;
+use fold::{PartSizes, StatementSizes};
 use lizkarg::next_part_refusal;
 use next_instance::part::next_place;
 
@@ -49,7 +51,7 @@ pub fn lizkarg_next_instance(
         c.now) (transcript_of u1.now p.now second_b.now u2.now) nu mu
         out.old answer out.new) result }
 {
-    let given = sizes::sizes(sizes);
+    let given = StatementSizes::from(sizes);
     let answer = lizkarg::next_instance(
         given,
         nu,
@@ -72,22 +74,25 @@ pub fn lizkarg_next_instance(
         c,
         out,
     );
-    types::code(answer)
+    types::code(Code::from(answer))
 }
 
 // The number with which part `part`, from 1, is refused, else 0: `lizkarg::next_part_refusal`.
 pub fn lizkarg_next_part_refusal(sizes: CPartSizes, part: usize, opening: &[i32]) -> u8
     ensures { result ≡ part_refusal_of (part_sizes_from sizes) part opening.now }
 {
-    let given = sizes::part_sizes(sizes);
-    next_part_refusal(given, part, opening)
+    let given = PartSizes::from(sizes);
+    match next_part_refusal(given, part, opening) {
+        Ok(()) => 0,
+        Err(refusal) => refusal.number(),
+    }
 }
 
 // The place in the opening of what `lizkarg::next_part` hands back.
 pub fn lizkarg_next_part(sizes: CPartSizes, part: usize, opening: &[i32]) -> CPart
     ensures { Placed (part_sizes_from sizes) part opening.now (place_from result) }
 {
-    let given = sizes::part_sizes(sizes);
+    let given = PartSizes::from(sizes);
     let place = next_place(given, part, opening);
     CPart {
         start: place.start,

@@ -101,49 +101,47 @@ pub struct CBareSizes {
     pub z_bound: u64,
 }
 
-pub fn shape(c: CShape) -> Shape
-    ensures { result ≡ shape_from c }
-{
-    Shape {
-        d: c.d,
-        n: c.n,
-        r: c.r,
+impl From<CShape> for Shape {
+    ghost from_gives = { λ c r. r ≡ shape_from c };
+
+    fn from(c: CShape) -> Shape {
+        Shape {
+            d: c.d,
+            n: c.n,
+            r: c.r,
+        }
     }
 }
 
-pub fn commit_sizes(c: CCommitSizes) -> CommitSizes
-    ensures { result ≡ commit_sizes_from c }
-{
-    CommitSizes {
-        shape: Shape {
-            d: c.shape.d,
-            n: c.shape.n,
-            r: c.shape.r,
-        },
-        kappa: c.kappa,
-        kappa1: c.kappa1,
-        b1: c.b1,
-        b2: c.b2,
-        t1: c.t1,
-        t2: c.t2,
+impl From<CCommitSizes> for CommitSizes {
+    ghost from_gives = { λ c r. r ≡ commit_sizes_from c };
+
+    fn from(c: CCommitSizes) -> CommitSizes {
+        CommitSizes {
+            shape: c.shape.into(),
+            kappa: c.kappa,
+            kappa1: c.kappa1,
+            b1: c.b1,
+            b2: c.b2,
+            t1: c.t1,
+            t2: c.t2,
+        }
     }
 }
 
-pub fn garbage_sizes(c: CGarbageSizes) -> GarbageSizes
-    ensures { result ≡ garbage_sizes_from c }
-{
-    GarbageSizes {
-        shape: Shape {
-            d: c.shape.d,
-            n: c.shape.n,
-            r: c.shape.r,
-        },
-        k: c.k,
-        l: c.l,
-        w: c.w,
-        kappa2: c.kappa2,
-        b1: c.b1,
-        t1: c.t1,
+impl From<CGarbageSizes> for GarbageSizes {
+    ghost from_gives = { λ c r. r ≡ garbage_sizes_from c };
+
+    fn from(c: CGarbageSizes) -> GarbageSizes {
+        GarbageSizes {
+            shape: c.shape.into(),
+            k: c.k,
+            l: c.l,
+            w: c.w,
+            kappa2: c.kappa2,
+            b1: c.b1,
+            t1: c.t1,
+        }
     }
 }
 
@@ -151,120 +149,107 @@ fn z_from(one_digit: u8, b: usize) -> ZDigits
     ensures { result ≡ z_from one_digit b }
 {
     if one_digit == 0 {
-        return ZDigits::Two(b);
+        ZDigits::Two(b)
+    } else {
+        ZDigits::One
     }
-    ZDigits::One
 }
 
-pub fn sizes(c: CSizes) -> StatementSizes
-    ensures { result ≡ sizes_from c }
-{
-    StatementSizes {
-        shape: Shape {
-            d: c.shape.d,
-            n: c.shape.n,
-            r: c.shape.r,
-        },
-        k: c.k,
-        l: c.l,
-        w: c.w,
-        kappa: c.kappa,
-        kappa1: c.kappa1,
-        kappa2: c.kappa2,
-        z: z_from(c.one_digit, c.b),
-        b1: c.b1,
-        b2: c.b2,
-        t1: c.t1,
-        t2: c.t2,
-        bound: c.bound,
-        target: c.target,
+impl From<CSizes> for StatementSizes {
+    ghost from_gives = { λ c r. r ≡ sizes_from c };
+
+    fn from(c: CSizes) -> StatementSizes {
+        StatementSizes {
+            shape: c.shape.into(),
+            k: c.k,
+            l: c.l,
+            w: c.w,
+            kappa: c.kappa,
+            kappa1: c.kappa1,
+            kappa2: c.kappa2,
+            z: z_from(c.one_digit, c.b),
+            b1: c.b1,
+            b2: c.b2,
+            t1: c.t1,
+            t2: c.t2,
+            bound: c.bound,
+            target: c.target,
+        }
     }
 }
 
 // Those of a sheet, which keeps two digits: `one_digit` is not looked at.
-pub fn sheet_sizes(sheet: CSizes) -> Sizes
-    ensures { result ≡ sheet_sizes_from sheet }
-{
-    Sizes {
-        shape: Shape {
-            d: sheet.shape.d,
-            n: sheet.shape.n,
-            r: sheet.shape.r,
-        },
-        k: sheet.k,
-        l: sheet.l,
-        w: sheet.w,
-        kappa: sheet.kappa,
-        kappa1: sheet.kappa1,
-        kappa2: sheet.kappa2,
-        b: sheet.b,
-        b1: sheet.b1,
-        b2: sheet.b2,
-        t1: sheet.t1,
-        t2: sheet.t2,
-        bound: sheet.bound,
-        target: sheet.target,
+impl From<CSizes> for Sizes {
+    ghost from_gives = { λ sheet r. r ≡ sheet_sizes_from sheet };
+
+    fn from(sheet: CSizes) -> Sizes {
+        Sizes {
+            shape: sheet.shape.into(),
+            k: sheet.k,
+            l: sheet.l,
+            w: sheet.w,
+            kappa: sheet.kappa,
+            kappa1: sheet.kappa1,
+            kappa2: sheet.kappa2,
+            b: sheet.b,
+            b1: sheet.b1,
+            b2: sheet.b2,
+            t1: sheet.t1,
+            t2: sheet.t2,
+            bound: sheet.bound,
+            target: sheet.target,
+        }
     }
 }
 
 fn one_from(one_digit: u8) -> bool
     ensures { result ≡ one_from one_digit }
 {
-    if one_digit == 0 {
-        return false;
-    }
-    true
+    one_digit != 0
 }
 
-pub fn part_sizes(c: CPartSizes) -> PartSizes
-    ensures { result ≡ part_sizes_from c }
-{
-    PartSizes {
-        shape: Shape {
-            d: c.shape.d,
-            n: c.shape.n,
-            r: c.shape.r,
-        },
-        kappa: c.kappa,
-        t1: c.t1,
-        t2: c.t2,
-        nu: c.nu,
-        mu: c.mu,
-        one_digit: one_from(c.one_digit),
+impl From<CPartSizes> for PartSizes {
+    ghost from_gives = { λ c r. r ≡ part_sizes_from c };
+
+    fn from(c: CPartSizes) -> PartSizes {
+        PartSizes {
+            shape: c.shape.into(),
+            kappa: c.kappa,
+            t1: c.t1,
+            t2: c.t2,
+            nu: c.nu,
+            mu: c.mu,
+            one_digit: one_from(c.one_digit),
+        }
     }
 }
 
-pub fn constraint_sizes(c: CConstraintSizes) -> ConstraintSizes
-    ensures { result ≡ constraint_sizes_from c }
-{
-    ConstraintSizes {
-        shape: Shape {
-            d: c.shape.d,
-            n: c.shape.n,
-            r: c.shape.r,
-        },
-        k: c.k,
-        l: c.l,
-        w: c.w,
+impl From<CConstraintSizes> for ConstraintSizes {
+    ghost from_gives = { λ c r. r ≡ constraint_sizes_from c };
+
+    fn from(c: CConstraintSizes) -> ConstraintSizes {
+        ConstraintSizes {
+            shape: c.shape.into(),
+            k: c.k,
+            l: c.l,
+            w: c.w,
+        }
     }
 }
 
-pub fn bare_sizes(c: CBareSizes) -> BareSizes
-    ensures { result ≡ bare_sizes_from c }
-{
-    let bound = c.bound;
-    let z_bound = c.z_bound;
-    BareSizes {
-        shape: Shape {
-            d: c.shape.d,
-            n: c.shape.n,
-            r: c.shape.r,
-        },
-        k: c.k,
-        l: c.l,
-        w: c.w,
-        kappa: c.kappa,
-        bound,
-        z_bound,
+impl From<CBareSizes> for BareSizes {
+    ghost from_gives = { λ c r. r ≡ bare_sizes_from c };
+
+    fn from(c: CBareSizes) -> BareSizes {
+        let CBareSizes { bound, z_bound, .. } = c;
+        BareSizes {
+            shape: c.shape.into(),
+            k: c.k,
+            l: c.l,
+            w: c.w,
+            kappa: c.kappa,
+            bound,
+            z_bound,
+        }
     }
 }

@@ -1,12 +1,13 @@
 // What C is answered: kind and number, and what comes with them.
 ghost use Rattle.std.specs.Prelude.{◌≡◌};
 ghost use Rattle.sheet.specs.Reading.{empty_header};
-ghost use Rattle.capi.specs.Codes.{code_of, product_code, header_code, sheet_code};
+ghost use Rattle.sheet.specs.SheetAnswer.{read_of};
+ghost use Rattle.lizkarg.specs.Calls.{product_in};
+ghost use Rattle.capi.specs.Codes.{c_answer, product_code, header_code, sheet_code};
 
-use fold::Answer;
-use lizkarg::Product;
+use fold::answers::{Code, Refusal};
+use ring::element::Element;
 use sheet::header::SheetSizes;
-use sheet::reader::SheetAnswer;
 
 // An answer: kind 0 accepted, 1 failed, 2 refused, 3 written; the margin, the number of the check or that of the refusal, else 0.
 #[repr(C)]
@@ -65,28 +66,38 @@ pub struct CProduct {
     pub element: CElement,
 }
 
-pub fn code(answer: Answer) -> CAnswer
-    ensures { result ≡ code_of answer }
+// An answer's code.
+pub fn code(answer: Code) -> CAnswer
+    ensures { result ≡ c_answer answer }
 {
     CAnswer {
-        kind: answer.kind(),
-        number: answer.number(),
+        kind: answer.kind,
+        number: answer.number,
     }
 }
 
-pub fn product_code(product: Product) -> CProduct
-    ensures { result ≡ product_code product }
+pub fn product_code(product: Result<Element, Refusal>) -> CProduct
+    ensures { result ≡ product_code (product_in product) }
 {
-    let answer = product.answer;
-    let element = product.element;
-    let numbers = element.coefficients;
-    let coded = code(answer);
-    CProduct {
-        kind: coded.kind,
-        number: coded.number,
-        element: CElement {
-            coefficients: numbers,
-        },
+    match product {
+        Ok(element) => {
+            let Code { kind, number } = Code::WRITTEN;
+            let Element { coefficients } = element;
+            CProduct {
+                kind,
+                number,
+                element: CElement { coefficients },
+            }
+        }
+        Err(refusal) => {
+            let Code { kind, number } = Code::refused(refusal);
+            let coefficients = [0i32; 64];
+            CProduct {
+                kind,
+                number,
+                element: CElement { coefficients },
+            }
+        }
     }
 }
 
@@ -142,19 +153,19 @@ fn empty_header() -> CHeader
     }
 }
 
-pub fn sheet_code(answer: SheetAnswer) -> CSheet
-    ensures { result ≡ sheet_code answer }
+pub fn sheet_code(answer: Result<SheetSizes, Refusal>) -> CSheet
+    ensures { result ≡ sheet_code (read_of answer) }
 {
     match answer {
-        SheetAnswer::Refused(number) => CSheet {
-            kind: 2,
-            number: number as u64,
-            header: empty_header(),
-        },
-        SheetAnswer::Sheet(header) => CSheet {
+        Ok(header) => CSheet {
             kind: 3,
             number: 0,
             header: header_code(header),
+        },
+        Err(refusal) => CSheet {
+            kind: 2,
+            number: refusal.number() as u64,
+            header: empty_header(),
         },
     }
 }

@@ -1,12 +1,13 @@
 // The writer of a sheet for C.
 ghost use Rattle.std.specs.Prelude.{◌≡◌};
+ghost use Rattle.writer.specs.WriteAnswer.{wrote_of};
 ghost use Rattle.writer.specs.Writing.{sheet_bytes};
 ghost use Rattle.capi.specs.Codes.{sheet_sizes_from, text_code, TextCoded};
 
-use crate::sizes;
 use crate::sizes::CSizes;
+use fold::Sizes;
+use fold::answers::Refusal;
 use sheet::header::SheetSizes;
-use writer::WriteAnswer;
 
 // An answer and the text's length in bytes, which is 0 where the call is refused.
 #[repr(C)]
@@ -17,19 +18,19 @@ pub struct CText {
     pub length: usize,
 }
 
-fn text_code(answer: WriteAnswer) -> CText
-    ensures { result ≡ text_code answer }
+fn text_code(answer: Result<usize, Refusal>) -> CText
+    ensures { result ≡ text_code (wrote_of answer) }
 {
     match answer {
-        WriteAnswer::Refused(number) => CText {
-            kind: 2,
-            number: number as u64,
-            length: 0,
-        },
-        WriteAnswer::Length(length) => CText {
+        Ok(length) => CText {
             kind: 3,
             number: 0,
-            length: length,
+            length,
+        },
+        Err(refusal) => CText {
+            kind: 2,
+            number: refusal.number() as u64,
+            length: 0,
         },
     }
 }
@@ -38,7 +39,7 @@ fn text_code(answer: WriteAnswer) -> CText
 pub fn lizkarg_sheet_bytes(sizes: CSizes, nu: usize, mu: usize) -> usize
     ensures { result ≡ sheet_bytes (record { sizes = sheet_sizes_from sizes; nu = nu; mu = mu }) }
 {
-    let given = sizes::sheet_sizes(sizes);
+    let given = Sizes::from(sizes);
     lizkarg::sheet_bytes(SheetSizes {
         sizes: given,
         nu,
@@ -56,7 +57,7 @@ pub fn lizkarg_write_sheet(
 ) -> CText
     ensures { TextCoded (record { sizes = sheet_sizes_from sizes; nu = nu; mu = mu }) numbers.now text.old result text.new }
 {
-    let given = sizes::sheet_sizes(sizes);
+    let given = Sizes::from(sizes);
     let answer = lizkarg::write_sheet(
         SheetSizes {
             sizes: given,

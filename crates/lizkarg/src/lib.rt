@@ -153,7 +153,13 @@ pub fn commit_garbage(
 }
 
 // Message 5: z, in two digits to a base, or in one.
-pub fn amortize(shape: Shape, digits: ZDigits, c: &[i32], witness: &[i32], z: &mut [i32]) -> Result<(), Refusal>
+pub fn amortize(
+    shape: Shape,
+    digits: ZDigits,
+    c: &[i32],
+    witness: &[i32],
+    z: &mut [i32],
+) -> Result<(), Refusal>
     ensures { Amortized shape digits c.now witness.now z.old (written_of result) z.new }
 {
     let tz = digits.count();

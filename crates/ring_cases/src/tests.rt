@@ -30,7 +30,7 @@ fn norm(xs: &[i32], wides: &[i64]) -> bool
 {
     let bound = natural(wide_at(wides, 1));
     let n = size(xs, 2, 64);
-    length::is_within(length::compare(bound, part(xs, 3, n)))
+    length::compare(bound, part(xs, 3, n)).is_some()
 }
 
 // Operation 17: `bound n m x[n] y[m]`.
@@ -41,7 +41,7 @@ fn two_norms(xs: &[i32], wides: &[i64]) -> bool
     let n = size(xs, 2, 64);
     let m = size(xs, 3, 64);
     let margin = length::compare(bound, part(xs, 4, n));
-    length::is_within(length::lessen(margin, part(xs, 4 + n, m)))
+    length::lessen(margin, part(xs, 4 + n, m)).is_some()
 }
 
 // Operations 13, 14 and 15 besides: `n x[n]`.

@@ -1,6 +1,7 @@
 -- `capi::next::lizkarg_next_instance` meets its contract: the library call's. Assumes nothing.
-use borrow.Author.Rules.{rules}
+use Rattle.std.proofs.Common.{ap, ◌∙◌}
+use Rattle.capi.specs.Codes.{c_answer}
 use Rattle.capi.proofs.next.lizkarg_next_instance.Goals as goal
 
 pub returns : goal.returns
-returns c = record { answer = _; code_is = c.code.ensures; promised = rw c.sizes-given.ensures at c.next_instance-answer.ensures }
+returns c = record { answer = _; code_is = c.code.ensures ∙ ap c_answer c.from.ensures; promised = rw c.from-given.ensures at c.next_instance-answer.ensures }

@@ -3,4 +3,4 @@ use borrow.Author.Rules.{rules}
 use Rattle.capi.proofs.write.lizkarg_sheet_bytes.Goals as goal
 
 pub returns : goal.returns
-returns c = rw c.sheet_sizes-given.ensures at c.sheet_bytes.ensures
+returns c = rw c.from-given.ensures at c.sheet_bytes.ensures

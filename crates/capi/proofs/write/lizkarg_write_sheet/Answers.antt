@@ -10,7 +10,7 @@ pub returns : goal.returns
 returns c =
     let a = c.args in
     let h : SheetSizes = record { sizes = sheet_sizes_from a.sizes; nu = a.nu; mu = a.mu } in
-    let written = rw c.sheet_sizes-given.ensures at c.write_sheet-answer.ensures in
+    let written = rw c.from-given.ensures at c.write_sheet-answer.ensures in
     record {
       code_is = c.text_code.ensures ∙ ap text_code (write_is h a.numbers.now a.text.now written);
       bytes_are = written.bytes_are;

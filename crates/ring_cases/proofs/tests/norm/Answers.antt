@@ -10,4 +10,4 @@ pub returns : goal.returns
 unfolding norm_at
 returns c =
     let bound-is = c.natural-bound.ensures ∙ ap P (to_z-of_z {w = w64} (record { sfits = c.wide_at.type_inv }) ∙ c.wide_at.ensures) in
-    rw (← bound-is, ← c.size-n.ensures, ← c.part.ensures, ← c.compare.ensures) c.is_within.ensures
+    rw (← bound-is, ← c.size-n.ensures, ← c.part.ensures, ← c.compare.ensures) c.is_some.ensures

@@ -24,4 +24,4 @@ returns c =
       ← c.part-2.ensures,
       ← c.lessen.ensures,
     )
-    c.is_within.ensures
+    c.is_some.ensures

@@ -1,5 +1,5 @@
 -- `writer::refusal::write_refusal` meets its contract.
-use Rattle.std.proofs.Common.{arith}
+use Rattle.std.proofs.Common.{refl, arith}
 use Rattle.fold.specs.declared.answers.Refusal.TheVariants.{Buffer}
 use Rattle.fold.specs.Rows.{row_of}
 use Rattle.fold.specs.Answers.{first_failing}
