@@ -7,6 +7,7 @@ ghost use Rattle.ring.specs.Element.{R, Degree, lift, el, array, number, same};
 ghost use Rattle.residues.specs.Digits.{Base};
 ghost use Rattle.ring.specs.Joined.{joined};
 
+use crate::table::tabulated;
 use residues::modulus;
 
 // Element p of a list with d numbers to an element. The numbers are centred on the way in.
@@ -16,15 +17,7 @@ pub fn loaded(d: usize, xs: &[i32], p: usize) -> [i32; 64]
     ensures { result ≡ array d (el d xs.now p) }
 {
     let start = p * d;
-    let mut out = [0i32; 64];
-    let mut k = 0;
-    while k < d {
-        let place = start + k;
-        let x = xs[place];
-        out[k] = modulus::add(x, 0);
-        k += 1;
-    }
-    out
+    tabulated(d, |k| modulus::add(xs[start + k], 0))
 }
 
 // The sum of two elements.
@@ -32,15 +25,7 @@ pub fn added(d: usize, a: [i32; 64], b: [i32; 64]) -> [i32; 64]
     requires { Degree d }
     ensures { result ≡ array d ((R d).add (lift d a) (lift d b)) }
 {
-    let mut out = [0i32; 64];
-    let mut k = 0;
-    while k < d {
-        let x = a[k];
-        let y = b[k];
-        out[k] = modulus::add(x, y);
-        k += 1;
-    }
-    out
+    tabulated(d, |k| modulus::add(a[k], b[k]))
 }
 
 // A number times an element.
@@ -48,14 +33,7 @@ pub fn scaled(d: usize, c: i32, a: [i32; 64]) -> [i32; 64]
     requires { Degree d }
     ensures { result ≡ array d ((R d).mul (number d c) (lift d a)) }
 {
-    let mut out = [0i32; 64];
-    let mut k = 0;
-    while k < d {
-        let x = a[k];
-        out[k] = modulus::multiply(c, x);
-        k += 1;
-    }
-    out
+    tabulated(d, |k| modulus::multiply(c, a[k]))
 }
 
 // σ(a): the constant term stays, and the coefficient of X^k is the one of X^(d-k) with its sign changed.
@@ -63,16 +41,14 @@ pub fn conjugated(d: usize, a: [i32; 64]) -> [i32; 64]
     requires { Degree d }
     ensures { result ≡ array d (conjugate Zq (lift d a)) }
 {
-    let mut out = [0i32; 64];
-    let first = a[0];
-    out[0] = modulus::add(first, 0);
-    let mut k = 1;
-    while k < d {
-        let x = a[d - k];
-        out[k] = modulus::multiply(-1, x);
-        k += 1;
-    }
-    out
+    tabulated(
+        d,
+        |k| if k == 0 {
+            modulus::add(a[0], 0)
+        } else {
+            modulus::multiply(-1, a[d - k])
+        },
+    )
 }
 
 // Whether two elements are the same: their numbers are congruent modulo q, one by one.
@@ -81,12 +57,8 @@ pub fn equal(d: usize, a: [i32; 64], b: [i32; 64]) -> bool
     ensures { result ≡ same d (lift d a) (lift d b) }
 {
     let mut all = true;
-    let mut k = 0;
-    while k < d {
-        let x = a[k];
-        let y = b[k];
-        all = all & (modulus::residue(x) == modulus::residue(y));
-        k += 1;
+    for k in 0..d {
+        all &= modulus::residue(a[k]) == modulus::residue(b[k]);
     }
     all
 }
@@ -98,13 +70,7 @@ pub fn stored(d: usize, a: [i32; 64], out: &mut [i32], p: usize)
     ensures { out.new ≡ over out.old (p * d) (take d a) }
 {
     let start = p * d;
-    let mut k = 0;
-    while k < d {
-        let x = a[k];
-        let place = start + k;
-        out[place] = x;
-        k += 1;
-    }
+    out[start..start + d].copy_from_slice(&a[..d]);
 }
 
 // The element with t digits to a base, digit e of which is element p + e * stride of xs: Horner's rule from the top digit down.
@@ -115,15 +81,11 @@ pub fn recomposed(d: usize, base: usize, t: usize, xs: &[i32], p: usize, stride:
     requires d_in_bounds { (p + (t - 1) * stride) * d + d ≤ length xs.now }
     ensures { result ≡ array d (joined d base t (λ e. el d xs.now (p + e * stride))) }
 {
-    let factor = base as i32;
-    let mut e = t - 1;
-    let top = p + e * stride;
-    let mut sum = loaded(d, xs, top);
-    while 0 < e {
-        e -= 1;
-        let place = p + e * stride;
-        let digit = loaded(d, xs, place);
-        let high = scaled(d, factor, sum);
+    let top = t - 1;
+    let mut sum = loaded(d, xs, p + top * stride);
+    for e in (0..top).rev() {
+        let digit = loaded(d, xs, p + e * stride);
+        let high = scaled(d, base as i32, sum);
         sum = added(d, high, digit);
     }
     sum

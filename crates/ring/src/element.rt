@@ -52,11 +52,9 @@ impl Element {
     pub fn constant(c: i32) -> Element
         ensures { (d : ℕ) → 0 < d → result.coefficients ≡ array d (number d c) }
     {
-        let mut numbers = [0i32; 64];
-        numbers[0] = modulus::add(c, 0);
-        Element {
-            coefficients: numbers,
-        }
+        let mut coefficients = [0i32; 64];
+        coefficients[0] = modulus::add(c, 0);
+        Element { coefficients }
     }
 
     // Element p of a list with d numbers to an element. The numbers are centred on the way in.
@@ -74,10 +72,8 @@ impl Element {
         requires { Degree d }
         ensures { result.coefficients ≡ array d ((R d).add (lift d self.coefficients) (lift d other.coefficients)) }
     {
-        let a = self.coefficients;
-        let b = other.coefficients;
         Element {
-            coefficients: coefficients::added(d, a, b),
+            coefficients: coefficients::added(d, self.coefficients, other.coefficients),
         }
     }
 
@@ -85,9 +81,8 @@ impl Element {
         requires { Degree d }
         ensures { result.coefficients ≡ array d ((R d).mul (number d c) (lift d self.coefficients)) }
     {
-        let a = self.coefficients;
         Element {
-            coefficients: coefficients::scaled(d, c, a),
+            coefficients: coefficients::scaled(d, c, self.coefficients),
         }
     }
 
@@ -95,9 +90,8 @@ impl Element {
         requires { Degree d }
         ensures { result.coefficients ≡ array d ((R d).neg (lift d self.coefficients)) }
     {
-        let a = self.coefficients;
         Element {
-            coefficients: coefficients::scaled(d, -1, a),
+            coefficients: coefficients::scaled(d, -1, self.coefficients),
         }
     }
 
@@ -105,11 +99,9 @@ impl Element {
         requires { Degree d }
         ensures { result.coefficients ≡ array d ((R d).add (lift d self.coefficients) ((R d).neg (lift d other.coefficients))) }
     {
-        let a = self.coefficients;
-        let b = other.coefficients;
-        let minus = coefficients::scaled(d, -1, b);
+        let minus = coefficients::scaled(d, -1, other.coefficients);
         Element {
-            coefficients: coefficients::added(d, a, minus),
+            coefficients: coefficients::added(d, self.coefficients, minus),
         }
     }
 
@@ -118,9 +110,8 @@ impl Element {
         requires { Degree d }
         ensures { result.coefficients ≡ array d ((R d).mul (number d (pos 2147483599)) (lift d self.coefficients)) }
     {
-        let a = self.coefficients;
         Element {
-            coefficients: coefficients::scaled(d, modulus::HALF, a),
+            coefficients: coefficients::scaled(d, modulus::HALF, self.coefficients),
         }
     }
 
@@ -128,10 +119,8 @@ impl Element {
         requires { Degree d }
         ensures { result.coefficients ≡ array d ((R d).mul (lift d self.coefficients) (lift d other.coefficients)) }
     {
-        let a = self.coefficients;
-        let b = other.coefficients;
         Element {
-            coefficients: product::multiply(d, a, b),
+            coefficients: product::multiply(d, self.coefficients, other.coefficients),
         }
     }
 
@@ -139,27 +128,22 @@ impl Element {
         requires { Degree d }
         ensures { result.coefficients ≡ array d (conjugate Zq (lift d self.coefficients)) }
     {
-        let a = self.coefficients;
         Element {
-            coefficients: coefficients::conjugated(d, a),
+            coefficients: coefficients::conjugated(d, self.coefficients),
         }
     }
 
     pub fn constant_term(self) -> i32
         ensures { result ≡ centred (slice_index_or self.coefficients 0 (pos 0)) }
     {
-        let a = self.coefficients;
-        let first = a[0];
-        modulus::add(first, 0)
+        modulus::add(self.coefficients[0], 0)
     }
 
     pub fn equals(self, d: usize, other: Element) -> bool
         requires { Degree d }
         ensures { result ≡ same d (lift d self.coefficients) (lift d other.coefficients) }
     {
-        let a = self.coefficients;
-        let b = other.coefficients;
-        coefficients::equal(d, a, b)
+        coefficients::equal(d, self.coefficients, other.coefficients)
     }
 
     // Writes the element's d numbers as element p of a list.
@@ -168,8 +152,7 @@ impl Element {
         requires d_in_bounds { p * d + d ≤ length out.old }
         ensures { out.new ≡ over out.old (p * d) (take d self.coefficients) }
     {
-        let a = self.coefficients;
-        coefficients::stored(d, a, out, p)
+        coefficients::stored(d, self.coefficients, out, p)
     }
 
     // The element with t digits to a base, digit e of which is element p + e * stride of xs.

@@ -6,3 +6,4 @@ pub mod constants;
 pub mod element;
 pub mod product;
 mod short;
+mod table;

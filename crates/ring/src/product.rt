@@ -6,11 +6,11 @@ ghost use Rattle.integers.specs.Lists.{tab, upto};
 ghost use Rattle.algebra.specs.Sum.{sum};
 ghost use Rattle.residues.specs.Modulus.{centred};
 ghost use Rattle.ring.specs.Element.{Degree, R, lift, el, array};
-ghost use Rattle.ring.specs.Product.{Residues, Extended, column, TwoColumns, Room, Added, Gained};
+ghost use Rattle.ring.specs.Product.{Residues, Extended, column, most, TwoColumns, Room, Added, Gained};
 
 use crate::short;
+use crate::table::tabulated;
 use residues::modulus::{from_residue, residue};
-use std::num;
 
 // The coefficients of element p of u.
 fn load(d: usize, u: &[i32], p: usize, a: &mut [u64; 64])
@@ -19,10 +19,8 @@ fn load(d: usize, u: &[i32], p: usize, a: &mut [u64; 64])
     ensures { Residues d (el d u.now p) d a.new }
 {
     let at = p * d;
-    let mut i = 0;
-    while i < d {
+    for i in 0..d {
         a[i] = residue(u[at + i]);
-        i += 1;
     }
 }
 
@@ -33,12 +31,10 @@ fn extend(d: usize, v: &[i32], p: usize, e: &mut [u64; 129])
     ensures { Extended d (el d v.now p) d e.new }
 {
     let last = p * d + (d - 1);
-    let mut i = 0;
-    while i < d {
+    for i in 0..d {
         let x = residue(v[last - i]);
         e[i + 1] = x;
         e[d + i + 1] = 4294967197 - x;
-        i += 1;
     }
 }
 
@@ -60,42 +56,42 @@ fn columns(d: usize, start: usize, other: usize, a: &[u64; 64], e: &[u64; 129]) 
     let mut high: u64 = 0;
     let mut sum2: u64 = 0;
     let mut high2: u64 = 0;
-    let mut i = 0;
-    while i < d {
+    for i in 0..d {
         let x = a[i] % 4294967296;
         let y = e[start + i] % 4294967296;
         let z = e[other + i] % 4294967296;
         let product = x * y;
         let product2 = x * z;
-        sum = num::wrapping_add_u64(sum, product);
-        sum2 = num::wrapping_add_u64(sum2, product2);
-        high = high + product / 4294967296;
-        high2 = high2 + product2 / 4294967296;
-        i += 1;
+        sum = sum.wrapping_add(product);
+        sum2 = sum2.wrapping_add(product2);
+        high += product / 4294967296;
+        high2 += product2 / 4294967296;
     }
-    let low = num::wrapping_sub_u64(sum, (high % 4294967296) * 4294967296);
-    let low2 = num::wrapping_sub_u64(sum2, (high2 % 4294967296) * 4294967296);
-    let first = low + 99 * high;
-    let second = low2 + 99 * high2;
-    ColumnPair { first, second }
+    let low = sum.wrapping_sub((high % 4294967296) * 4294967296);
+    let low2 = sum2.wrapping_sub((high2 % 4294967296) * 4294967296);
+    ColumnPair {
+        first: low + 99 * high,
+        second: low2 + 99 * high2,
+    }
 }
 
-// Adds the columns of one product to an accumulator: column k and column half + k together. For odd d there is one column too many,
-// past those that count.
-fn add_pair(d: usize, a: &[u64; 64], e: &[u64; 129], acc: &mut [u64; 64])
+// Adds the columns of one product to an accumulator: column k and column half + k together, which `pair` gives by their starts. For odd d
+// there is one column too many, past those that count.
+fn add_pairs<F: Fn(usize, usize) -> ColumnPair>(d: usize, pair: F, acc: &mut [u64; 64])
     requires degree { Degree d }
+    requires calls { (start other : ℕ) → start ≤ d → other ≤ d → F.pre pair start other }
+    requires columns { (col : ℕ → ℕ) × ((start : ℕ) → start ≤ d → col start ≤ most)
+        × ((start other : ℕ) (found : ColumnPair) → F.post pair start other found → TwoColumns col start other found.first found.second) }
     requires room { Room acc.old }
-    ensures { Added d (column d a.now e.now) acc.old acc.new }
+    ensures { (col : ℕ → ℕ) → ((start : ℕ) → start ≤ d → col start ≤ most)
+        → ((start other : ℕ) (found : ColumnPair) → F.post pair start other found → TwoColumns col start other found.first found.second)
+        → Added d col acc.old acc.new }
 {
     let half = (d + 1) / 2;
-    let mut k = 0;
-    while k < half {
-        let found = columns(d, d - k, d - k - half, a, e);
-        let first = found.first;
-        let second = found.second;
-        acc[k] = acc[k] + first;
-        acc[half + k] = acc[half + k] + second;
-        k += 1;
+    for k in 0..half {
+        let found = pair(d - k, d - k - half);
+        acc[k] += found.first;
+        acc[half + k] += found.second;
     }
 }
 
@@ -104,13 +100,7 @@ fn finish(d: usize, acc: &[u64; 64]) -> [i32; 64]
     requires { Degree d }
     ensures { result ≡ tab 64 (upto d (λ k. centred (pos (slice_index acc.now k))) (pos 0)) }
 {
-    let mut out = [0i32; 64];
-    let mut k = 0;
-    while k < d {
-        out[k] = from_residue(acc[k]);
-        k += 1;
-    }
-    out
+    tabulated(d, |k| from_residue(acc[k]))
 }
 
 // Adds the product of element p of u and element s of v to an accumulator, with a and e for the operands.
@@ -131,15 +121,20 @@ fn add_product(
         × Gained d ((R d).mul (el d u.now p) (el d v.now s)) acc.old acc.new }
 {
     load(d, u, p, a);
-    let small = short::is_short(d, v, s);
-    if small {
+    if short::is_short(d, v, s) {
         short::raise(d, v, s, e);
-        let weight = short::raised_weight(d, &*a);
-        short::add_pair(d, weight, &*a, &*e, acc);
-        return;
+        let (a, e) = (&*a, &*e);
+        let weight = short::raised_weight(d, a);
+        add_pairs(
+            d,
+            |start, other| short::columns(d, start, other, weight, a, e),
+            acc,
+        );
+    } else {
+        extend(d, v, s, e);
+        let (a, e) = (&*a, &*e);
+        add_pairs(d, |start, other| columns(d, start, other, a, e), acc);
     }
-    extend(d, v, s, e);
-    add_pair(d, &*a, &*e, acc);
 }
 
 // The inner product of the n elements of u from element p on with the n elements of v from element s on.
@@ -151,10 +146,8 @@ pub fn inner(d: usize, n: usize, u: &[i32], p: usize, v: &[i32], s: usize) -> [i
     let mut acc = [0u64; 64];
     let mut a = [0u64; 64];
     let mut e = [0u64; 129];
-    let mut k = 0;
-    while k < n {
+    for k in 0..n {
         add_product(d, u, p + k, v, s + k, &mut a, &mut e, &mut acc);
-        k += 1;
     }
     finish(d, &acc)
 }

@@ -6,7 +6,7 @@ ghost use Rattle.ring.specs.Product.{Residues, TwoColumns, Room, Added};
 ghost use Rattle.ring.specs.Short.{lifted, weight, short_column, short, Short, Raised, Narrow};
 
 use crate::product::ColumnPair;
-use residues::range::magnitude;
+use residues::range::all_between;
 
 // Whether all numbers of element p are below 2^22 in absolute value.
 pub fn is_short(d: usize, v: &[i32], p: usize) -> bool
@@ -15,13 +15,7 @@ pub fn is_short(d: usize, v: &[i32], p: usize) -> bool
     ensures { result ≡ short d v.now p }
 {
     let at = p * d;
-    let mut excess: u64 = 0;
-    let mut i = 0;
-    while i < d {
-        excess = excess + magnitude(v[at + i]) / 4194304;
-        i += 1;
-    }
-    excess == 0
+    all_between(-4194303, 4194303, &v[at..at + d])
 }
 
 // 2^22 + x.
@@ -41,12 +35,10 @@ pub fn raise(d: usize, v: &[i32], p: usize, e: &mut [u64; 129])
 {
     let last = p * d + (d - 1);
     e[0] = 0;
-    let mut i = 0;
-    while i < d {
+    for i in 0..d {
         let x = raised(v[last - i]);
         e[i + 1] = x;
         e[d + i + 1] = 8388608 - x;
-        i += 1;
     }
 }
 
@@ -56,16 +48,14 @@ pub fn raised_weight(d: usize, a: &[u64; 64]) -> u64
     ensures { result ≡ weight d a.now }
 {
     let mut sum: u64 = 0;
-    let mut i = 0;
-    while i < d {
-        sum = sum + a[i];
-        i += 1;
+    for i in 0..d {
+        sum += a[i];
     }
     4194304 * (274877900608 - sum)
 }
 
 // Two columns, which start at two places of e, each from c on.
-fn columns(
+pub fn columns(
     d: usize,
     start: usize,
     other: usize,
@@ -78,35 +68,15 @@ fn columns(
 {
     let mut sum = c;
     let mut sum2 = c;
-    let mut i = 0;
-    while i < d {
+    for i in 0..d {
         let x = a[i] % 4294967296;
         let y = e[start + i] % 4294967296;
         let z = e[other + i] % 4294967296;
-        sum = sum + x * y;
-        sum2 = sum2 + x * z;
-        i += 1;
+        sum += x * y;
+        sum2 += x * z;
     }
-    let first = sum % 4294967296 + 99 * (sum / 4294967296);
-    let second = sum2 % 4294967296 + 99 * (sum2 / 4294967296);
-    ColumnPair { first, second }
-}
-
-// Adds the columns of one product to an accumulator: column k and column half + k together. For odd d there is one column too many,
-// past those that count.
-pub fn add_pair(d: usize, c: u64, a: &[u64; 64], e: &[u64; 129], acc: &mut [u64; 64])
-    requires degree { Degree d }
-    requires room { Room acc.old × (c ≤ 1152921504606846976) × Narrow d e.now }
-    ensures { Added d (short_column d a.now e.now c) acc.old acc.new }
-{
-    let half = (d + 1) / 2;
-    let mut k = 0;
-    while k < half {
-        let found = columns(d, d - k, d - k - half, c, a, e);
-        let first = found.first;
-        let second = found.second;
-        acc[k] = acc[k] + first;
-        acc[half + k] = acc[half + k] + second;
-        k += 1;
+    ColumnPair {
+        first: sum % 4294967296 + 99 * (sum / 4294967296),
+        second: sum2 % 4294967296 + 99 * (sum2 / 4294967296),
     }
 }

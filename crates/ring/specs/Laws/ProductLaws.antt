@@ -1,5 +1,5 @@
 -- A column of an array product is a coefficient of the product in R, and an accumulator holds the sum of the products added to it.
-use Rattle.std.specs.Prelude.{◌≡◌, ℕ, ◌+◌, ◌-◌, ◌*◌, ◌%◌, ◌<◌, ◌≤◌, ◌⊎◌, List, length, replicate, ℤ, pos, slice_index, slice_index_or, refl}
+use Rattle.std.specs.Prelude.{◌≡◌, ℕ, ◌+◌, ◌-◌, ◌%◌, ◌<◌, ◌≤◌, ◌⊎◌, List, replicate, ℤ, pos, slice_index, slice_index_or, refl}
 use Rattle.std.proofs.Math.Path.{sym, ap₂}
 use Rattle.std.proofs.Common.{ap, ◌∙◌, inl, inr, arith, ltb→lt}
 use Rattle.std.proofs.lemmas.List.{get_or-replicate}

@@ -1,6 +1,6 @@
 -- Laws of recomposition from digits, `joined`, and Horner's rule from the top digit down, as a loop runs it: when digits t - 1 down to e
 -- are taken in, the sum is `joined d b (t - e) (λ i. f (e + i))`.
-use Rattle.std.specs.Prelude.{◌≡◌, ℕ, suc, ◌+◌, ◌-◌, ◌*◌, ◌^◌, ◌<◌, ◌≤◌, List, ℤ, pos, ◌*ℤ◌}
+use Rattle.std.specs.Prelude.{◌≡◌, ℕ, suc, ◌+◌, ◌-◌, ◌^◌, ◌<◌, ◌≤◌, List, ℤ, pos, ◌*ℤ◌}
 use Rattle.std.proofs.Math.Path.{sym, ap, ap₂}
 use Rattle.std.proofs.Common.{◌∙◌, zero-add as nat-zero-add, arith}
 use Rattle.std.proofs.Math.Nat.{pow-zero, pow-succ'}

@@ -12,8 +12,8 @@ loop-k-init c = tested-start
 
 pub loop-k-preserved : goal.loop-k-preserved
 loop-k-preserved c =
-    let first = c.residue.ensures ∙ ap (λ z. emod z q) (bits32-small _ c.x-1.given) in
-    let second = c.residue-in-loop-k.ensures ∙ ap (λ z. emod z q) (bits32-small _ c.y-1.given) in
+    let first = c.residue.ensures ∙ ap (λ z. emod z q) (bits32-small _ c.residue-arg-1.given) in
+    let second = c.residue-in-loop-k.ensures ∙ ap (λ z. emod z q) (bits32-small _ c.residue-arg-in-loop-k-1.given) in
     tested-step c.loop-k.invariant (omega arith) (ap₂ eqb first second)
 
 pub returns : goal.returns

@@ -1,4 +1,4 @@
-use Rattle.std.proofs.Common.{◌-◌, eqb, get_or, pos}
+use Rattle.std.proofs.Common.{eqb, get_or, pos}
 use Rattle.integers.specs.Remainder.{emod}
 use Rattle.residues.specs.Modulus.{q}
 use Rattle.ring.specs.Laws.Loops.{Tested}
@@ -6,6 +6,3 @@ use Rattle.ring.proofs.coefficients.equal.Given as goal
 
 abbrev pub invariant-loop-k : goal.invariant-loop-k
 invariant-loop-k l = Tested l.d (λ i. eqb (emod (get_or l.a i (pos 0)) q) (emod (get_or l.b i (pos 0)) q)) l.k l.all
-
-abbrev pub decreases-loop-k : goal.decreases-loop-k
-decreases-loop-k l = l.d - l.k

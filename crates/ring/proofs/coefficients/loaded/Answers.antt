@@ -1,15 +1,10 @@
--- `ring::coefficients::loaded` meets its contract. The loop's invariant: the first k numbers of the element are in place, zeros follow.
-use Rattle.std.proofs.Common.{sym, ◌∙◌, arith}
-use Rattle.ring.specs.Laws.ElementSteps.{stored-number}
+-- `ring::coefficients::loaded` meets its contract.
+use Rattle.std.proofs.Common.{rules, ◌+◌, ◌*◌, get_or, pos, sym, ◌∙◌}
+use Rattle.residues.specs.Modulus.{centred}
 use Rattle.ring.specs.Laws.ElementArrays.{array-el}
-use Rattle.ring.specs.Laws.Loops.{filling_start, filling_step, filling_end}
 use Rattle.ring.proofs.coefficients.loaded.Goals as goal
 
-pub loop-k-init : goal.loop-k-init
-loop-k-init c = filling_start
-
-pub loop-k-preserved : goal.loop-k-preserved
-loop-k-preserved c = filling_step c.loop-k.invariant c.requires.degree.small (omega arith) (stored-number _ _ c.x-1.given c.add.ensures)
-
 pub returns : goal.returns
-returns c = filling_end c.loop-k.invariant c.loop-k-test.false ∙ sym (array-el _ _ _)
+returns c =
+    c.tabulated.ensures (λ k. centred (get_or c.args.xs.now (c.args.p * c.args.d + k) (pos 0))) (λ k x inside computes. search rules)
+    ∙ sym (array-el _ _ _)

@@ -1,7 +1,6 @@
 -- `ring::coefficients::recomposed` meets its contract. The loop's invariant: `sum` is recomposed from the digits from e up.
-use Rattle.std.proofs.Common.{◌≡◌, ℕ, ◌+◌, ◌-◌, ◌*◌, ◌<◌, ◌≤◌, length, sym, refl, ap, ◌∙◌, arith, w32}
+use Rattle.std.proofs.Common.{◌≡◌, ℕ, ◌+◌, ◌-◌, ◌*◌, ◌<◌, ◌≤◌, length, sym, ap, ◌∙◌, arith, w32}
 use mir.Facts.{to_z_pos}
-use Rattle.integers.specs.Laws.Bridge.{zarith}
 use Rattle.ring.specs.Element.{R, el, array}
 use Rattle.ring.specs.Laws.ElementPlaces.{element-below, digit-fits}
 use Rattle.ring.specs.Laws.Recomposition.{horner-start, horner-turn, horner-end}
@@ -19,14 +18,11 @@ below : (c : goal.In-loop-e) → let a = c.args in
     a.p + (c.loop-e.e - 1) * a.stride < length a.xs.now
 below c = element-below c.args.d _ c.requires.degree.positive (fits c)
 
-pub overflow_cast-factor : goal.overflow_cast-factor
-overflow_cast-factor c = omega zarith
-
 pub overflow_mul-top : goal.overflow_mul-top
 overflow_mul-top c = omega (arith, top c)
 
-pub overflow_add-top : goal.overflow_add-top
-overflow_add-top c = omega (arith, top c)
+pub overflow_add-p : goal.overflow_add-p
+overflow_add-p c = omega (arith, top c)
 
 pub loaded-sum-requires : goal.loaded-sum-requires
 loaded-sum-requires c = record { degree = c.requires.degree; d_in_bounds = c.requires.d_in_bounds }
@@ -34,26 +30,11 @@ loaded-sum-requires c = record { degree = c.requires.degree; d_in_bounds = c.req
 pub loop-e-init : goal.loop-e-init
 loop-e-init c =
     let a = c.args in
-    let digits : ℕ → (R a.d).Carrier = λ i. el a.d a.xs.now (a.p + i * a.stride) in (
-      omega arith,
-      c.loaded-sum.ensures ∙ ap (array a.d) (sym (horner-start a.d a.base a.t digits (omega arith))),
-      refl,
-    )
-
-pub overflow_mul-place : goal.overflow_mul-place
-overflow_mul-place c = omega (arith, below c)
-
-pub overflow_add-place : goal.overflow_add-place
-overflow_add-place c = omega (arith, below c)
+    let digits : ℕ → (R a.d).Carrier = λ i. el a.d a.xs.now (a.p + i * a.stride) in
+    c.loaded-sum.ensures ∙ ap (array a.d) (sym (horner-start a.d a.base a.t digits (omega arith)))
 
 pub loaded-digit-requires : goal.loaded-digit-requires
 loaded-digit-requires c = record { degree = c.requires.degree; d_in_bounds = fits c }
-
-pub scaled-high-requires : goal.scaled-high-requires
-scaled-high-requires c = c.requires.degree
-
-pub added-sum-requires : goal.added-sum-requires
-added-sum-requires c = c.requires.degree
 
 pub loop-e-preserved : goal.loop-e-preserved
 loop-e-preserved c =
@@ -61,16 +42,13 @@ loop-e-preserved c =
     let digits : ℕ → (R a.d).Carrier = λ i. el a.d a.xs.now (a.p + i * a.stride) in
     let base = to_z_pos w32 {n = a.base} (omega (arith, c.requires.base.most)) in
     let digit = c.loaded-digit in
-    let high = c.scaled-high in (
-      omega arith,
-      horner-turn a.d a.base a.t c.loop-e.e digits c.loop-e.sum high.result digit.result c.added-sum.result
-          c.requires.degree.small (omega arith) (omega arith) c.loop-e.invariant.1 digit.ensures (rw base at high.ensures) c.added-sum.ensures,
-      c.loop-e.invariant.2,
-    )
+    let high = c.scaled-high in
+    horner-turn a.d a.base a.t c.loop-e.e digits c.loop-e.sum high.result digit.result c.added-sum.result
+    c.requires.degree.small (omega arith) (omega arith) c.loop-e.invariant digit.ensures (rw base at high.ensures) c.added-sum.ensures
 
 pub returns : goal.returns
 returns c =
     let a = c.args in
     let digits : ℕ → (R a.d).Carrier = λ i. el a.d a.xs.now (a.p + i * a.stride) in
     let end : c.loop-e.e ≡ 0 = omega arith in
-    c.loop-e.invariant.1 ∙ rw end (ap (array a.d) (horner-end a.d a.base a.t digits))
+    c.loop-e.invariant ∙ rw end (ap (array a.d) (horner-end a.d a.base a.t digits))

@@ -1,10 +1,7 @@
-use Rattle.std.proofs.Common.{◌≡◌, ◌+◌, ◌-◌, ◌*◌, ◌<◌, w32, to_z}
+use Rattle.std.proofs.Common.{◌≡◌, ◌+◌, ◌-◌, ◌*◌}
 use Rattle.ring.specs.Element.{el, array}
 use Rattle.ring.specs.Joined.{joined}
 use Rattle.ring.proofs.coefficients.recomposed.Given as goal
 
 abbrev pub invariant-loop-e : goal.invariant-loop-e
-invariant-loop-e l = (l.e < l.t) × (l.sum ≡ array l.d (joined l.d l.base (l.t - l.e) (λ i. el l.d l.xs (l.p + (l.e + i) * l.stride)))) × (l.factor ≡ to_z w32 l.base)
-
-abbrev pub decreases-loop-e : goal.decreases-loop-e
-decreases-loop-e l = l.e
+invariant-loop-e l = l.sum ≡ array l.d (joined l.d l.base (l.t - l.e) (λ i. el l.d l.xs (l.p + (l.e + i) * l.stride)))

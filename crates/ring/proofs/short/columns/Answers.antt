@@ -1,9 +1,7 @@
 -- `ring::short::columns` meets its contract. For each column the loop keeps c and the sum of the products so far.
-use Rattle.std.proofs.Common.{arith}
 use Rattle.ring.specs.Product.{summand}
-use Rattle.ring.specs.Laws.ColumnLaws.{product-fits}
 use Rattle.ring.specs.Short.{short_column}
-use Rattle.ring.specs.Laws.ShortLaws.{narrow-summand, sized-start, sized-step, sized-most, sized-fits, sized-end}
+use Rattle.ring.specs.Laws.ShortLaws.{narrow-summand, sized-start, sized-step, sized-fits, sized-end}
 use Rattle.ring.proofs.short.columns.Goals as goal
 
 pub loop-i-init : goal.loop-i-init
@@ -13,15 +11,9 @@ loop-i-init c =
       sized-start _ _ _ (λ j h. narrow-summand _ _ _ _ j narrow other≤d h),
     )
 
-pub overflow_mul-sum : goal.overflow_mul-sum
-overflow_mul-sum c = product-fits _ _
-
 pub overflow_add-sum : goal.overflow_add-sum
 unfolding summand
 overflow_add-sum c = sized-fits c.loop-i.invariant.0 c.requires.0 c.requires.3 c.loop-i-test.true
-
-pub overflow_mul-sum2 : goal.overflow_mul-sum2
-overflow_mul-sum2 c = product-fits _ _
 
 pub overflow_add-sum2 : goal.overflow_add-sum2
 unfolding summand
@@ -34,18 +26,6 @@ loop-i-preserved c =
       sized-step c.loop-i.invariant.0 c.requires.0 c.requires.3 t,
       sized-step c.loop-i.invariant.1 c.requires.0 c.requires.3 t,
     )
-
-pub overflow_mul-first : goal.overflow_mul-first
-overflow_mul-first c = omega (arith, sized-most c.loop-i.invariant.0 c.requires.0 c.requires.3)
-
-pub overflow_add-first : goal.overflow_add-first
-overflow_add-first c = omega (arith, sized-most c.loop-i.invariant.0 c.requires.0 c.requires.3)
-
-pub overflow_mul-second : goal.overflow_mul-second
-overflow_mul-second c = omega (arith, sized-most c.loop-i.invariant.1 c.requires.0 c.requires.3)
-
-pub overflow_add-second : goal.overflow_add-second
-overflow_add-second c = omega (arith, sized-most c.loop-i.invariant.1 c.requires.0 c.requires.3)
 
 pub returns : goal.returns
 unfolding short_column

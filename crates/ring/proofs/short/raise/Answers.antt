@@ -2,15 +2,9 @@
 use Rattle.std.proofs.Common.{ℕ, ◌+◌, ◌-◌, ◌*◌, get_or, pos, refl, ap, ◌∙◌, arith}
 use Rattle.residues.proofs.Laws.Words.{word}
 use Rattle.ring.specs.Short.{lifted}
-use Rattle.ring.specs.Laws.ShortOperand.{raised-start, raised-step, raised-limit, short-at}
-use Rattle.ring.specs.Laws.Loops.{counted_start, counted_step, counted-end}
+use Rattle.ring.specs.Laws.ShortOperand.{raised-step, raised-limit, short-at}
+use Rattle.ring.specs.Laws.Loops.{counted_step}
 use Rattle.ring.proofs.short.raise.Goals as goal
-
-pub overflow_sub-last : goal.overflow_sub-last
-overflow_sub-last c = c.requires.degree.positive
-
-pub loop-i-init : goal.loop-i-init
-loop-i-init c = counted_start (raised-start _ _ _ c.args.e.now c.requires.d_in_bounds.1)
 
 pub raised-x-requires : goal.raised-x-requires
 raised-x-requires c = rw (word _ c.raised-arg-1.given) (short-at c.loop-i.i _ c.requires.d_in_bounds.2 c.loop-i-test.true (omega arith))
@@ -28,6 +22,3 @@ loop-i-preserved c =
     counted_step c.loop-i-test.true (
     raised-step c.requires.degree c.loop-i-test.true c.loop-i.invariant.held
     (c.raised-x.ensures ∙ ap lifted (word _ c.raised-arg-1.given ∙ ap (λ (k : ℕ). get_or c.args.v.now k (pos 0)) (omega arith))) refl)
-
-pub returns : goal.returns
-returns c = counted-end c.loop-i.invariant c.loop-i-test.false
