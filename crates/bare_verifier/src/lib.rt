@@ -9,7 +9,7 @@ ghost use Rattle.bare.specs.Arguments.{bare_statement_of, bare_transcript_of, ba
 
 use bare::{BareCheck, BareSizes};
 use bare_refusals::bare_verify_refusal;
-use fold::answers::{Refusal, Verdict};
+use fold::answers::{Answer, Verdict};
 
 pub mod aggregate;
 pub mod folded;
@@ -31,7 +31,7 @@ pub fn bare_verify(
     delta: &[i32],
     c: &[i32],
     opening: &[i32],
-) -> Result<Verdict<BareCheck>, Refusal>
+) -> Answer<Verdict<BareCheck>>
     ensures { judgement_of bare_check_number result ≡ bare_verification (bare_statement_of sizes a_matrix.now whole.now constant_terms.now)
         (draws_of projections.now psi.now omega.now alpha.now delta.now c.now)
         (bare_transcript_of p.now second_b.now) opening.now }

@@ -5,7 +5,7 @@ ghost use Rattle.sheet.specs.SheetAnswer.{read_of};
 ghost use Rattle.lizkarg.specs.Calls.{product_in};
 ghost use Rattle.capi.specs.Codes.{c_answer, product_code, header_code, sheet_code};
 
-use fold::answers::{Code, Refusal};
+use fold::answers::{Answer, Code};
 use ring::element::Element;
 use sheet::header::SheetSizes;
 
@@ -76,7 +76,7 @@ pub fn code(answer: Code) -> CAnswer
     }
 }
 
-pub fn product_code(product: Result<Element, Refusal>) -> CProduct
+pub fn product_code(product: Answer<Element>) -> CProduct
     ensures { result ≡ product_code (product_in product) }
 {
     match product {
@@ -153,7 +153,7 @@ fn empty_header() -> CHeader
     }
 }
 
-pub fn sheet_code(answer: Result<SheetSizes, Refusal>) -> CSheet
+pub fn sheet_code(answer: Answer<SheetSizes>) -> CSheet
     ensures { result ≡ sheet_code (read_of answer) }
 {
     match answer {

@@ -6,7 +6,7 @@ ghost use Rattle.capi.specs.Codes.{sheet_sizes_from, text_code, TextCoded};
 
 use crate::sizes::CSizes;
 use fold::Sizes;
-use fold::answers::Refusal;
+use fold::answers::Answer;
 use sheet::header::SheetSizes;
 
 // An answer and the text's length in bytes, which is 0 where the call is refused.
@@ -18,7 +18,7 @@ pub struct CText {
     pub length: usize,
 }
 
-fn text_code(answer: Result<usize, Refusal>) -> CText
+fn text_code(answer: Answer<usize>) -> CText
     ensures { result ≡ text_code (wrote_of answer) }
 {
     match answer {

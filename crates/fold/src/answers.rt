@@ -75,6 +75,9 @@ impl Refusal {
 // A judgement: accepted with the margin of the last check, or failed with the first check that fails.
 pub type Verdict<E = Check> = Result<u64, E>;
 
+// What a call answers: a refusal, or what it was asked for. The verifier's answer carries the verdict.
+pub type Answer<T> = Result<T, Refusal>;
+
 // A test that has to pass, or what else the answer is.
 pub fn require<E: Copy>(passes: bool, otherwise: E) -> Result<(), E>
     ensures value { result ≡ (if passes then Ok tt else Err otherwise) }

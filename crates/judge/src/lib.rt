@@ -8,7 +8,7 @@ ghost use Rattle.judge.specs.Judging.{judged_text, verdict_line};
 ghost use Rattle.judge.specs.Known.Read.{Into};
 ghost use Rattle.judge.specs.Room.{lent_count};
 
-use fold::answers::{Refusal, Verdict};
+use fold::answers::{Answer, Refusal, Verdict};
 
 // The numbers that a text of 65536 bytes can hold: each takes 16 columns.
 const MOST_NUMBERS: usize = 4096;
@@ -19,7 +19,7 @@ mod lists;
 mod numbers;
 
 // Reads a text into a slice for its numbers, and answers to them.
-fn judge_into(text: &[u8], numbers: &mut [i32]) -> Result<Verdict, Refusal>
+fn judge_into(text: &[u8], numbers: &mut [i32]) -> Answer<Verdict>
     ensures { Into text.now numbers.old (judgement_of check_number result) numbers.new }
 {
     let s = sheet::reader::read_sheet(text, numbers)?;
@@ -35,7 +35,7 @@ fn lent_count(text: &[u8]) -> usize
 
 // The answer to a text: "at most 65536 bytes (longer: 12, before all else)". The verifier tests the reader's numbers once more, as it does for
 // every caller, and refuses them by row 15 only: `after-reading` (specs/Laws/PassLaws.antt).
-pub fn judge_sheet(text: &[u8]) -> Result<Verdict, Refusal>
+pub fn judge_sheet(text: &[u8]) -> Answer<Verdict>
     ensures { judgement_of check_number result ≡ judged_text text.now }
 {
     if 65536 < text.len() {

@@ -5,9 +5,9 @@ ghost use Rattle.fold.specs.Answers.{judgement_of};
 ghost use Rattle.judge.specs.Judging.{verdict_line};
 
 use fields::write::write_laid;
-use fold::answers::{Code, Refusal, Verdict};
+use fold::answers::{Answer, Code, Verdict};
 
-pub fn verdict_line(answer: Result<Verdict, Refusal>) -> [u8; 33]
+pub fn verdict_line(answer: Answer<Verdict>) -> [u8; 33]
     ensures { result ≡ verdict_line (judgement_of check_number answer) }
 {
     let code = Code::from(answer);

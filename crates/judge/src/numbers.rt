@@ -10,7 +10,7 @@ ghost use Rattle.judge.specs.Stages.{last_stage, number_stage, constraint_stage}
 use crate::lengths;
 use crate::lists::{front, rest};
 use fold::Sizes;
-use fold::answers::{Refusal, Verdict};
+use fold::answers::{Answer, Verdict};
 use limits::sizes::list_length;
 
 // α, δ, u2, c and the opening.
@@ -29,7 +29,7 @@ fn judge_last(
     omega: &[i32],
     second_b: &[i32],
     xs: &[i32],
-) -> Result<Verdict, Refusal>
+) -> Answer<Verdict>
     requires { VerifySized s }
     ensures { judgement_of check_number result ≡ last_stage s a_matrix.now b_matrix.now c_matrix.now d_matrix.now
         whole.now constant_terms.now u1.now projections.now p.now psi.now
@@ -79,7 +79,7 @@ fn judge_numbers(
     u1: &[i32],
     projections: &[i32],
     xs: &[i32],
-) -> Result<Verdict, Refusal>
+) -> Answer<Verdict>
     requires { VerifySized s }
     ensures { judgement_of check_number result ≡ number_stage s a_matrix.now b_matrix.now c_matrix.now d_matrix.now
         whole.now constant_terms.now u1.now projections.now xs.now }
@@ -118,7 +118,7 @@ fn judge_constraints(
     c_matrix: &[i32],
     d_matrix: &[i32],
     xs: &[i32],
-) -> Result<Verdict, Refusal>
+) -> Answer<Verdict>
     requires { VerifySized s }
     ensures { judgement_of check_number result ≡ constraint_stage s a_matrix.now b_matrix.now c_matrix.now d_matrix.now
         xs.now }
@@ -146,7 +146,7 @@ fn judge_constraints(
 }
 
 // A, B, C and D. The answer to all numbers of a sheet.
-pub fn judge_sheet_numbers(s: Sizes, xs: &[i32]) -> Result<Verdict, Refusal>
+pub fn judge_sheet_numbers(s: Sizes, xs: &[i32]) -> Answer<Verdict>
     requires { VerifySized s }
     ensures { judgement_of check_number result ≡ judged_numbers s xs.now }
 {

@@ -8,7 +8,7 @@ ghost use Rattle.bare.specs.Calls.{BareCommitted, BarePhiFormed, BareTurned};
 ghost use Rattle.lizkarg.specs.Calls.{product_in, product_of, Committed, Projected, Aggregated, GarbageCommitted, Amortized};
 
 pub use bare_verifier::bare_verify;
-use fold::answers::Refusal;
+use fold::answers::Answer;
 use fold::{CommitSizes, ConstraintSizes, GarbageSizes, Shape, ZDigits};
 pub use judge::judge_sheet;
 pub use next_instance::next_instance;
@@ -20,7 +20,7 @@ pub use verifier::verify;
 pub use writer::{sheet_bytes, write_sheet};
 
 // The product of two ring elements in Z_q[X]/(X^d+1).
-pub fn multiply(d: usize, x: Element, y: Element) -> Result<Element, Refusal>
+pub fn multiply(d: usize, x: Element, y: Element) -> Answer<Element>
     ensures { product_in result ≡ product_of d x.coefficients y.coefficients }
 {
     refusals::product_refusal(d, x, y)?;
@@ -37,7 +37,7 @@ pub fn commit(
     t: &mut [i32],
     g: &mut [i32],
     u1: &mut [i32],
-) -> Result<(), Refusal>
+) -> Answer<()>
     ensures { Committed sizes a_matrix.now b_matrix.now c_matrix.now witness.now t.old
         g.old u1.old (written_of result) t.new g.new u1.new }
 {
@@ -55,7 +55,7 @@ pub fn project(
     projections: &[i32],
     witness: &[i32],
     p: &mut [i32],
-) -> Result<(), Refusal>
+) -> Answer<()>
     ensures { Projected shape w projections.now witness.now p.old (written_of result) p.new }
 {
     refusals::project_refusal(shape, w, projections, witness, p)?;
@@ -74,7 +74,7 @@ pub fn aggregate(
     omega: &[i32],
     witness: &[i32],
     second_b: &mut [i32],
-) -> Result<(), Refusal>
+) -> Answer<()>
     ensures { Aggregated shape l w constant_terms.now projections.now psi.now omega.now
         witness.now second_b.old (written_of result) second_b.new }
 {
@@ -117,7 +117,7 @@ pub fn commit_garbage(
     witness: &[i32],
     h: &mut [i32],
     u2: &mut [i32],
-) -> Result<(), Refusal>
+) -> Answer<()>
     ensures { GarbageCommitted sizes whole.now constant_terms.now projections.now psi.now omega.now
         alpha.now delta.now d_matrix.now witness.now h.old
         u2.old (written_of result) h.new u2.new }
@@ -159,7 +159,7 @@ pub fn amortize(
     c: &[i32],
     witness: &[i32],
     z: &mut [i32],
-) -> Result<(), Refusal>
+) -> Answer<()>
     ensures { Amortized shape digits c.now witness.now z.old (written_of result) z.new }
 {
     let tz = digits.count();
@@ -176,7 +176,7 @@ pub fn bare_commit(
     a_matrix: &[i32],
     witness: &[i32],
     t: &mut [i32],
-) -> Result<(), Refusal>
+) -> Answer<()>
     ensures { BareCommitted shape kappa a_matrix.now witness.now t.old (written_of result) t.new }
 {
     bare_refusals::bare_commit_refusal(shape, kappa, a_matrix, witness, t)?;
@@ -195,7 +195,7 @@ pub fn bare_phi(
     alpha: &[i32],
     delta: &[i32],
     phi: &mut [i32],
-) -> Result<(), Refusal>
+) -> Answer<()>
     ensures { BarePhiFormed sizes whole.now constant_terms.now projections.now psi.now omega.now
         alpha.now delta.now phi.old (written_of result) phi.new }
 {
@@ -232,7 +232,7 @@ pub fn bare_turn(
     c: &[i32],
     witness: &[i32],
     garbage: &mut [i32],
-) -> Result<(), Refusal>
+) -> Answer<()>
     ensures { BareTurned shape turn phi.now c.now witness.now garbage.old (written_of result) garbage.new }
 {
     bare_refusals::bare_turn_refusal(shape, turn, phi, c, witness, garbage)?;

@@ -7,7 +7,7 @@ ghost use Rattle.fold.specs.Arguments.{statement_of, draws_of, transcript_of};
 ghost use Rattle.next_instance.specs.Calls.{NextCalled};
 
 use fold::StatementSizes;
-use fold::answers::{Check, Refusal};
+use fold::answers::{Answer, Check};
 use refusals::next::next_refusal;
 use verifier::judgement::message_checks;
 use writer::write_instance;
@@ -37,7 +37,7 @@ pub fn next_instance(
     u2: &[i32],
     c: &[i32],
     out: &mut [i32],
-) -> Result<Result<(), Check>, Refusal>
+) -> Answer<Result<(), Check>>
     ensures { NextCalled (statement_of sizes a_matrix.now b_matrix.now c_matrix.now
         d_matrix.now whole.now constant_terms.now) (draws_of projections.now
         psi.now omega.now alpha.now delta.now c.now)

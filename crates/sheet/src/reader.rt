@@ -14,7 +14,7 @@ use crate::header::{SheetSizes, header_refusal, sheet_sizes};
 use fields::sizes::{HEADER_BYTES, challenges_from, projections_from, sections_of, total_numbers};
 use fields::walk::{all_within, are_challenges, fill, laid_end, place_after};
 use fold::Sizes;
-use fold::answers::{Refusal, require};
+use fold::answers::{Answer, Refusal, require};
 use limits::sizes::projection_length;
 
 // Row 9.
@@ -117,7 +117,7 @@ fn store(s: Sizes, text: &[u8], numbers: &mut [i32])
 
 // Reads a sheet: the sizes, and in `numbers` all numbers after the header, which it must have room for exactly. On a refusal they are
 // left as they are.
-pub fn read_sheet(text: &[u8], numbers: &mut [i32]) -> Result<SheetSizes, Refusal>
+pub fn read_sheet(text: &[u8], numbers: &mut [i32]) -> Answer<SheetSizes>
     ensures { SheetRead text.now numbers.old (read_of result) numbers.new }
 {
     sheet_refusal(text, numbers.len())?;

@@ -8,7 +8,7 @@ ghost use Rattle.fold.specs.Arguments.{statement_of, draws_of, transcript_of};
 ghost use Rattle.fold.specs.Verification.{verification};
 
 use fold::StatementSizes;
-use fold::answers::{Refusal, Verdict};
+use fold::answers::{Answer, Verdict};
 use refusals::verify_refusal;
 
 pub mod judgement;
@@ -33,7 +33,7 @@ pub fn verify(
     u2: &[i32],
     c: &[i32],
     opening: &[i32],
-) -> Result<Verdict, Refusal>
+) -> Answer<Verdict>
     ensures { judgement_of check_number result ≡ verification (statement_of sizes a_matrix.now b_matrix.now c_matrix.now
         d_matrix.now whole.now constant_terms.now)
         (draws_of projections.now psi.now omega.now alpha.now delta.now

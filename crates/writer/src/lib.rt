@@ -5,7 +5,7 @@ ghost use Rattle.std.specs.Prelude.{◌≡◌};
 ghost use Rattle.writer.specs.WriteAnswer.{wrote_of};
 ghost use Rattle.writer.specs.Writing.{sheet_bytes, SheetWritten};
 
-use fold::answers::Refusal;
+use fold::answers::Answer;
 use fold::counts::Z_DIGITS;
 use limits::next::next_bounds;
 use sheet::header::SheetSizes;
@@ -28,7 +28,7 @@ pub fn sheet_bytes(s: SheetSizes) -> usize
 
 // Writes a sheet: its header's numbers and the numbers after them, of which there must be as many as the sizes give, as text to the front of
 // `text`. What stands behind is left as it is; on a refusal all is.
-pub fn write_sheet(s: SheetSizes, numbers: &[i32], text: &mut [u8]) -> Result<usize, Refusal>
+pub fn write_sheet(s: SheetSizes, numbers: &[i32], text: &mut [u8]) -> Answer<usize>
     ensures { SheetWritten s numbers.now text.old (wrote_of result) text.new }
 {
     refusal::write_refusal(s, numbers, text.len())?;
