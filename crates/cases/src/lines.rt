@@ -14,6 +14,7 @@ fn run_all<F: FnMut(&[u8])>(stdout: Stdout, text: &[u8], mut run_line: F) -> usi
 {
     let mut rest = text;
     let mut count = 0;
+    // A while: a line is as long as its bytes say, and no iterator of std's cuts so.
     while !rest.is_empty() {
         let (line, after) = rest.split_at(line_length(rest));
         run_line(line);

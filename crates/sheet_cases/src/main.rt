@@ -89,5 +89,6 @@ fn main(rt: HostRuntime) {
     let stdout = rt.stdout();
     let mut text = [0; 131073];
     run_cases(stdin, stdout, &mut text);
-    writer_cases::run_writer(stdin, stdout, &mut text);
+    let written = read_number(stdin, CASES);
+    writer_cases::run_writer(stdin, stdout, &mut text, written);
 }

@@ -6,7 +6,7 @@ ghost use Rattle.std.specs.Prelude.{◌≤◌, ◌<◌, length};
 use crate::{CASES, NUMBERS, print_number};
 use capi::sizes::{CShape, CSizes};
 use capi::write::{CText, lizkarg_sheet_bytes, lizkarg_write_sheet};
-use cases::corpus::{read_case, read_number};
+use cases::corpus::read_case;
 use cases::numbers::word;
 use cases::printing::{print_bytes, print_decimal, print_line_end};
 use cases::reading::read_full;
@@ -121,13 +121,16 @@ fn run_case(
     true
 }
 
-// Runs cases until one fails.
-pub fn run_writer(stdin: Stdin, stdout: Stdout, text: &mut [u8]) {
+// Runs cases until one fails, and answers how many it ran.
+pub fn run_writer(stdin: Stdin, stdout: Stdout, text: &mut [u8], cases: usize) -> usize
+    ensures { result ≤ cases }
+{
     let mut numbers = [0; NUMBERS];
     let mut buffer = [0; BUFFER];
-    for _ in 0..read_number(stdin, CASES) {
+    for i in 0..cases {
         if !run_case(stdin, stdout, text, &mut numbers, &mut buffer) {
-            return;
+            return i;
         }
     }
+    cases
 }

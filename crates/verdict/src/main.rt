@@ -87,6 +87,7 @@ fn read_text<R: Read>(input: &mut R, text: &mut [u8]) -> usize
     ensures bytes { IfSome (R.remaining input.old) (λ xs. result < length text.old → take result text.new ≡ xs) }
 {
     let mut done = 0;
+    // A while: each step is as long as the read answered.
     while done < text.len() {
         let next = read_more(input, text, done);
         if next == done {
