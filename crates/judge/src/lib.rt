@@ -8,7 +8,7 @@ ghost use Rattle.judge.specs.Judging.{judged_text, verdict_line};
 ghost use Rattle.judge.specs.Known.Read.{Into};
 ghost use Rattle.judge.specs.Room.{lent_count};
 
-use fold::answers::{Answer, Refusal, Verdict};
+use fold::answers::{Answer, Code, Refusal, Verdict};
 
 // The numbers that a text of 65536 bytes can hold: each takes 16 columns.
 const MOST_NUMBERS: usize = 4096;
@@ -50,5 +50,5 @@ pub fn judge_sheet(text: &[u8]) -> Answer<Verdict>
 pub fn judged_line(text: &[u8]) -> [u8; 33]
     ensures { result ≡ verdict_line (judged_text text.now) }
 {
-    line::verdict_line(judge_sheet(text))
+    line::verdict_line(Code::from(judge_sheet(text)))
 }

@@ -4,6 +4,8 @@
 // many, and of one more; and what the judge answers. The cases of the writer follow: src/writer_cases.rt.
 #![tactic(auto)]
 
+ghost use Rattle.std.specs.Prelude.{◌≤◌};
+
 use capi::types::CHeader;
 use cases::corpus::{read_case, read_number};
 use cases::printing::{print_answer, print_decimal, print_line_end};
@@ -75,20 +77,24 @@ fn run_case(stdin: Stdin, stdout: Stdout, text: &mut [u8]) -> bool {
     }
 }
 
-// Runs cases until one fails.
-fn run_cases(stdin: Stdin, stdout: Stdout, text: &mut [u8]) {
-    for _ in 0..read_number(stdin, CASES) {
+// Runs cases until one fails, and answers how many it ran.
+fn run_cases(stdin: Stdin, stdout: Stdout, text: &mut [u8], cases: usize) -> usize
+    ensures { result ≤ cases }
+{
+    for i in 0..cases {
         if !run_case(stdin, stdout, text) {
-            return;
+            return i;
         }
     }
+    cases
 }
 
 fn main(rt: HostRuntime) {
     let stdin = rt.stdin();
     let stdout = rt.stdout();
     let mut text = [0; 131073];
-    run_cases(stdin, stdout, &mut text);
+    let cases = read_number(stdin, CASES);
+    run_cases(stdin, stdout, &mut text, cases);
     let written = read_number(stdin, CASES);
     writer_cases::run_writer(stdin, stdout, &mut text, written);
 }

@@ -1,7 +1,7 @@
--- `judge::judged_line` meets its contract. Assumes nothing.
-use mathlib.Core.Path.{ap, ◌∙◌}
-use Rattle.judge.specs.Judging.{verdict_line}
+-- `judge::judged_line` meets its contract.
+use Rattle.std.proofs.Common.{ap, ◌∙◌}
+use Rattle.fold.specs.Codes.{coded}
 use Rattle.judge.proofs.judged_line.Goals as goal
 
 pub returns : goal.returns
-returns c = c.verdict_line.ensures ∙ ap verdict_line c.judge_sheet.ensures
+returns c = c.verdict_line.ensures _ (c.from.ensures ∙ ap coded c.judge_sheet.ensures)

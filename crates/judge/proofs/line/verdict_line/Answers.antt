@@ -27,5 +27,5 @@ write_laid-requires-2 c =
 
 pub returns : goal.returns
 returns c =
-    line-written _ _ refl (ap (λ (code : Code). code.kind) c.from-code.ensures) (ap (λ (code : Code). code.number) c.from-code.ensures)
-    c.write_laid.ensures c.write_laid-2.ensures
+    λ a e.
+    line-written a _ refl (ap (λ (code : Code). code.kind) e) (ap (λ (code : Code). code.number) e) c.write_laid.ensures c.write_laid-2.ensures
