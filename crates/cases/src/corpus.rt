@@ -1,6 +1,6 @@
 // A corpus on standard input: a line with the number of its cases, and for each a line with its number of bytes, the bytes, and a line feed. These
 // numbers stand in 16 columns, as on a sheet.
-ghost use Rattle.std.specs.Prelude.{◌≤◌};
+ghost use Rattle.std.specs.Prelude.{◌≡◌, ◌≤◌, length, IfSome, IsNone};
 
 use crate::reading::read_full;
 use fields::walk::number_size;
@@ -16,7 +16,10 @@ pub fn read_number(mut stdin: Stdin, most: usize) -> usize
 }
 
 // Reads a case of `count` bytes and its line feed into `text`: the case, or None where `text` has no room for both or the input ends before.
-pub fn read_case(mut stdin: Stdin, text: &mut [u8], count: usize) -> Option<&[u8]> {
+pub fn read_case(mut stdin: Stdin, text: &mut [u8], count: usize) -> Option<&[u8]>
+    ensures whole { IfSome result (λ case. length case.now ≡ count) }
+    ensures no_room { length text.old ≤ count → IsNone result }
+{
     if count >= text.len() {
         return None;
     }
