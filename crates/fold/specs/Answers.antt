@@ -69,9 +69,9 @@ abbrev pub judgement_of : {E : Type 0} → (number : E → ℕ) → Result (Resu
 judgement_of number (Ok verdict) = Judged (verdict_of number verdict)
 judgement_of number (Err r) = Refused (row_of r)
 
--- of a call that writes
-abbrev pub written_of : Result Unit Refusal → Answer
-written_of (Ok u) = Written
+-- of a call that writes, or that answers what it was asked for
+abbrev pub written_of : {A : Type 0} → Result A Refusal → Answer
+written_of (Ok a) = Written
 written_of (Err r) = Refused (row_of r)
 
 -- of one that writes where no check fails

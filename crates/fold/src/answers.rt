@@ -4,6 +4,8 @@ ghost use Rattle.fold.specs.Rows.{row_of, check_number};
 ghost use Rattle.fold.specs.Answers.{Refused, Judged, Failed, verdict_of, judgement_of, written_of, next_of};
 ghost use Rattle.fold.specs.Codes.{coded};
 
+use ring::element::Element;
+
 // A row of SPECIFICATION 7, by its number: why a call is refused.
 #[derive(Clone, Copy, PartialEq, Eq, Debug)]
 pub enum Refusal {
@@ -147,6 +149,18 @@ impl From<Result<(), Refusal>> for Code {
     fn from(answer: Result<(), Refusal>) -> Code {
         match answer {
             Ok(()) => Code::WRITTEN,
+            Err(refusal) => Code::refused(refusal),
+        }
+    }
+}
+
+// The ring product's: the element is the caller's.
+impl From<Result<Element, Refusal>> for Code {
+    ghost from_gives = { λ answer code. code ≡ coded (written_of answer) };
+
+    fn from(answer: Result<Element, Refusal>) -> Code {
+        match answer {
+            Ok(_) => Code::WRITTEN,
             Err(refusal) => Code::refused(refusal),
         }
     }

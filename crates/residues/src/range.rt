@@ -16,6 +16,7 @@ pub fn magnitude(x: i32) -> u64
 }
 
 // Whether x lies from low to high.
+#[tactic(auto, unfolding(crate::specs::Range::between))]
 fn is_between(low: i32, high: i32, x: i32) -> bool
     ensures { result ≡ between low high x }
 {

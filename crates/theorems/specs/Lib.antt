@@ -1,3 +1,5 @@
+-- What a call's result is
+pub mod Results
 -- Demand 1
 pub mod Refusals
 pub mod NarrowDigits

@@ -1,9 +1,10 @@
--- `residues::range::is_between` meets its contract.
-use mathlib.Core.Path.{refl}
-use mir.Facts.{to_z-of_z}
-use Rattle.residues.specs.Range.{between}
-use Rattle.residues.proofs.range.is_between.Goals as goal
+-- `residues::range::is_between` is straight.
+use mathlib.Core.Path.{◌≡◌, refl}
+use mathlib.Core.Bool.{true}
+use Rattle.residues.specs.StraightLine.{straight}
+use Rattle.residues.proofs.range.is_between.Code.Mir as code
 
-pub returns : goal.returns
-unfolding between
-returns c = rw (to_z-of_z c.ranges.x, to_z-of_z c.ranges.low, to_z-of_z c.ranges.high) refl
+-- ---- SPECIFICATION 2.11
+pub is-between-straight : straight (code.function).body ≡ true
+unfolding straight
+is-between-straight = refl
