@@ -1,7 +1,10 @@
-// The calls that write messages. Each function makes room for the list that its call writes, makes the call on the case's lists, and prints its
-// answer and what it wrote.
+// The calls that write messages. For each: one function makes the call on the case's lists and prints its answer and the list that it
+// wrote, and one makes room for this.
 ghost use Rattle.std.specs.Prelude.{◌≡◌};
-ghost use Rattle.capi.specs.Codes.{code_of};
+ghost use Rattle.bare.specs.Arguments.{constraint_sizes_of};
+ghost use Rattle.bare.specs.Calls.{BareCommitted, BarePhiFormed, BareTurned};
+ghost use Rattle.capi.specs.Codes.{Coded, code_of, shape_from, bare_sizes_from};
+ghost use Rattle.cases.specs.Lists.{nth_list};
 ghost use Rattle.bare_cases.specs.Answers.{commit_answer, phi_answer, turn_answer};
 
 use crate::input::constraint_sizes;
@@ -15,11 +18,10 @@ use cases::printing::print_list;
 use std::io::Stdout;
 
 // Call 1: A, the witness; t.
-pub fn run_commit(stdout: Stdout, sizes: CBareSizes, lists: &[i32]) -> CAnswer
-    ensures { result ≡ code_of (commit_answer sizes lists.now) }
+fn commit(stdout: Stdout, sizes: CBareSizes, lists: &[i32], t: &mut [i32]) -> CAnswer
+    ensures { Coded (λ answer. BareCommitted (shape_from sizes.shape) sizes.kappa (nth_list 0 lists.now) (nth_list 1 lists.now)
+        t.old answer t.new) result }
 {
-    let mut room = [FILL; ROOM];
-    let t = &mut room[..count_at(past_lists(lists, 2), 0)];
     let answer = bare_level::lizkarg_bare_commit(
         sizes.shape,
         sizes.kappa,
@@ -32,12 +34,20 @@ pub fn run_commit(stdout: Stdout, sizes: CBareSizes, lists: &[i32]) -> CAnswer
     answer
 }
 
-// Call 2: the whole and the constant-term functions, the rows, psi, omega, alpha, delta; φ.
-pub fn run_phi(stdout: Stdout, sizes: CBareSizes, lists: &[i32]) -> CAnswer
-    ensures { result ≡ code_of (phi_answer sizes lists.now) }
+pub fn run_commit(stdout: Stdout, sizes: CBareSizes, lists: &[i32]) -> CAnswer
+    ensures { result ≡ code_of (commit_answer sizes lists.now) }
 {
     let mut room = [FILL; ROOM];
-    let phi = &mut room[..count_at(past_lists(lists, 7), 0)];
+    let t = &mut room[..count_at(past_lists(lists, 2), 0)];
+    commit(stdout, sizes, lists, t)
+}
+
+// Call 2: the whole and the constant-term functions, the rows, psi, omega, alpha, delta; φ.
+fn form_phi(stdout: Stdout, sizes: CBareSizes, lists: &[i32], phi: &mut [i32]) -> CAnswer
+    ensures { Coded (λ answer. BarePhiFormed (constraint_sizes_of (bare_sizes_from sizes)) (nth_list 0 lists.now) (nth_list 1 lists.now)
+        (nth_list 2 lists.now) (nth_list 3 lists.now) (nth_list 4 lists.now) (nth_list 5 lists.now)
+        (nth_list 6 lists.now) phi.old answer phi.new) result }
+{
     let answer = bare_level::lizkarg_bare_phi(
         constraint_sizes(sizes),
         nth_list(lists, 0),
@@ -54,12 +64,25 @@ pub fn run_phi(stdout: Stdout, sizes: CBareSizes, lists: &[i32]) -> CAnswer
     answer
 }
 
-// Call 3: φ, the earlier challenges, the witness; the turn's garbage.
-pub fn run_turn(stdout: Stdout, sizes: CBareSizes, turn: usize, lists: &[i32]) -> CAnswer
-    ensures { result ≡ code_of (turn_answer sizes turn lists.now) }
+pub fn run_phi(stdout: Stdout, sizes: CBareSizes, lists: &[i32]) -> CAnswer
+    ensures { result ≡ code_of (phi_answer sizes lists.now) }
 {
     let mut room = [FILL; ROOM];
-    let garbage = &mut room[..count_at(past_lists(lists, 3), 0)];
+    let phi = &mut room[..count_at(past_lists(lists, 7), 0)];
+    form_phi(stdout, sizes, lists, phi)
+}
+
+// Call 3: φ, the earlier challenges, the witness; the turn's garbage.
+fn take_turn(
+    stdout: Stdout,
+    sizes: CBareSizes,
+    turn: usize,
+    lists: &[i32],
+    garbage: &mut [i32],
+) -> CAnswer
+    ensures { Coded (λ answer. BareTurned (shape_from sizes.shape) turn (nth_list 0 lists.now) (nth_list 1 lists.now)
+        (nth_list 2 lists.now) garbage.old answer garbage.new) result }
+{
     let answer = bare_level::lizkarg_bare_turn(
         sizes.shape,
         turn,
@@ -71,4 +94,12 @@ pub fn run_turn(stdout: Stdout, sizes: CBareSizes, turn: usize, lists: &[i32]) -
     print_answer(stdout, answer);
     print_list(stdout, garbage);
     answer
+}
+
+pub fn run_turn(stdout: Stdout, sizes: CBareSizes, turn: usize, lists: &[i32]) -> CAnswer
+    ensures { result ≡ code_of (turn_answer sizes turn lists.now) }
+{
+    let mut room = [FILL; ROOM];
+    let garbage = &mut room[..count_at(past_lists(lists, 3), 0)];
+    take_turn(stdout, sizes, turn, lists, garbage)
 }

@@ -28,6 +28,13 @@ pub fn print_answer(stdout: Stdout, kind: u8, number: u64) -> u64
     number
 }
 
+fn print_word(stdout: Stdout, x: i32) -> u64
+    ensures { result ≡ nat_abs x }
+{
+    let _ = print!(stdout; "{x}");
+    u64::from(x.unsigned_abs())
+}
+
 // A blank between two results, and none before the first.
 pub fn print_gap(stdout: Stdout, place: usize) -> usize
     ensures { result ≡ min 1 place }
@@ -50,7 +57,7 @@ pub fn print_words(stdout: Stdout, xs: &[i32]) -> usize
 {
     for (i, x) in xs.iter().enumerate() {
         print_gap(stdout, i);
-        let _ = print!(stdout; "{x}");
+        print_word(stdout, *x);
     }
     xs.len()
 }

@@ -4,7 +4,7 @@
 // many, and of one more; and what the judge answers. The cases of the writer follow: src/writer_cases.rt.
 #![tactic(auto)]
 
-ghost use Rattle.std.specs.Prelude.{◌≤◌};
+ghost use Rattle.std.specs.Prelude.{◌≡◌, ◌≤◌};
 
 use capi::types::CHeader;
 use cases::corpus::{read_case, read_number};
@@ -24,11 +24,16 @@ const BYTES: usize = 65537;
 const NUMBERS: usize = 8192;
 
 // A number, with a blank before it.
-fn print_number(stdout: Stdout, x: u64) {
+fn print_number(stdout: Stdout, x: u64) -> u64
+    ensures { result ≡ x }
+{
     let _ = print!(stdout; " {x}");
+    x
 }
 
-fn print_header(stdout: Stdout, h: CHeader) {
+fn print_header(stdout: Stdout, h: CHeader) -> u64
+    ensures { result ≡ h.target }
+{
     let sizes = [
         h.d, h.n, h.r, h.k, h.l, h.w, h.kappa, h.kappa1, h.kappa2, h.b, h.b1, h.b2, h.t1, h.t2,
         h.nu, h.mu,
@@ -37,7 +42,7 @@ fn print_header(stdout: Stdout, h: CHeader) {
         print_number(stdout, size as u64);
     }
     print_number(stdout, h.bound);
-    print_number(stdout, h.target);
+    print_number(stdout, h.target)
 }
 
 // Reads a text into a slice of `count` numbers, each 77 before, and prints the answer, the header and the slice afterwards.

@@ -9,10 +9,5 @@ pub returns : goal.returns
 unfolding commit_answer
 returns c =
     let lists = c.args.lists.now in
-    let call = c.lizkarg_bare_commit-answer.ensures in
-    rw (
-      ← room-is 2 0 lists c.past_lists.ensures c.count_at.ensures.0,
-      ← c.nth_list.ensures,
-      ← c.nth_list-2.ensures,
-    )
-    (call.code_is ∙ ap code_of call.promised.answer-is)
+    rw (← room-is 2 0 lists c.past_lists.ensures c.count_at.ensures.0)
+    (c.commit.ensures.code_is ∙ ap code_of c.commit.ensures.promised.answer-is)

@@ -9,15 +9,5 @@ pub returns : goal.returns
 unfolding phi_answer
 returns c =
     let lists = c.args.lists.now in
-    let call = rw c.constraint_sizes.ensures at c.lizkarg_bare_phi-answer.ensures in
-    rw (
-      ← room-is 7 0 lists c.past_lists.ensures c.count_at.ensures.0,
-      ← c.nth_list.ensures,
-      ← c.nth_list-2.ensures,
-      ← c.nth_list-3.ensures,
-      ← c.nth_list-4.ensures,
-      ← c.nth_list-5.ensures,
-      ← c.nth_list-6.ensures,
-      ← c.nth_list-7.ensures,
-    )
-    (call.code_is ∙ ap code_of call.promised.answer-is)
+    rw (← room-is 7 0 lists c.past_lists.ensures c.count_at.ensures.0)
+    (c.form_phi.ensures.code_is ∙ ap code_of c.form_phi.ensures.promised.answer-is)

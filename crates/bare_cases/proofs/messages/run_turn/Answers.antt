@@ -9,11 +9,5 @@ pub returns : goal.returns
 unfolding turn_answer
 returns c =
     let lists = c.args.lists.now in
-    let call = c.lizkarg_bare_turn-answer.ensures in
-    rw (
-      ← room-is 3 0 lists c.past_lists.ensures c.count_at.ensures.0,
-      ← c.nth_list.ensures,
-      ← c.nth_list-2.ensures,
-      ← c.nth_list-3.ensures,
-    )
-    (call.code_is ∙ ap code_of call.promised.answer-is)
+    rw (← room-is 3 0 lists c.past_lists.ensures c.count_at.ensures.0)
+    (c.take_turn.ensures.code_is ∙ ap code_of c.take_turn.ensures.promised.answer-is)

@@ -9,13 +9,5 @@ pub returns : goal.returns
 unfolding aggregate_answer
 returns c =
     let lists = c.args.lists.now in
-    let call = c.lizkarg_aggregate-answer.ensures in
-    rw (
-      ← room-is 5 0 lists c.past_lists.ensures c.count_at.ensures.0,
-      ← c.nth_list.ensures,
-      ← c.nth_list-2.ensures,
-      ← c.nth_list-3.ensures,
-      ← c.nth_list-4.ensures,
-      ← c.nth_list-5.ensures,
-    )
-    (call.code_is ∙ ap code_of call.promised.answer-is)
+    rw (← room-is 5 0 lists c.past_lists.ensures c.count_at.ensures.0)
+    (c.aggregate.ensures.code_is ∙ ap code_of c.aggregate.ensures.promised.answer-is)

@@ -9,14 +9,9 @@ pub returns : goal.returns
 unfolding commit_answer
 returns c =
     let lists = c.args.lists.now in
-    let call = rw c.commit_sizes.ensures at c.lizkarg_commit-answer.ensures in
     rw (
       ← room-is 4 0 lists c.past_lists-lengths.ensures c.count_at.ensures.0,
       ← room-is 4 1 lists c.past_lists-lengths.ensures c.count_at-2.ensures.0,
       ← room-is 4 2 lists c.past_lists-lengths.ensures c.count_at-3.ensures.0,
-      ← c.nth_list.ensures,
-      ← c.nth_list-2.ensures,
-      ← c.nth_list-3.ensures,
-      ← c.nth_list-4.ensures,
     )
-    (call.code_is ∙ ap code_of call.promised.answer-is)
+    (c.commit.ensures.code_is ∙ ap code_of c.commit.ensures.promised.answer-is)

@@ -9,18 +9,8 @@ pub returns : goal.returns
 unfolding garbage_answer
 returns c =
     let lists = c.args.lists.now in
-    let call = rw c.garbage_sizes.ensures at c.lizkarg_commit_garbage-answer.ensures in
     rw (
       ← room-is 9 0 lists c.past_lists-lengths.ensures c.count_at.ensures.0,
       ← room-is 9 1 lists c.past_lists-lengths.ensures c.count_at-2.ensures.0,
-      ← c.nth_list.ensures,
-      ← c.nth_list-2.ensures,
-      ← c.nth_list-3.ensures,
-      ← c.nth_list-4.ensures,
-      ← c.nth_list-5.ensures,
-      ← c.nth_list-6.ensures,
-      ← c.nth_list-7.ensures,
-      ← c.nth_list-8.ensures,
-      ← c.nth_list-9.ensures,
     )
-    (call.code_is ∙ ap code_of call.promised.answer-is)
+    (c.commit_garbage.ensures.code_is ∙ ap code_of c.commit_garbage.ensures.promised.answer-is)

@@ -9,10 +9,5 @@ pub returns : goal.returns
 unfolding project_answer
 returns c =
     let lists = c.args.lists.now in
-    let call = c.lizkarg_project-answer.ensures in
-    rw (
-      ← room-is 2 0 lists c.past_lists.ensures c.count_at.ensures.0,
-      ← c.nth_list.ensures,
-      ← c.nth_list-2.ensures,
-    )
-    (call.code_is ∙ ap code_of call.promised.answer-is)
+    rw (← room-is 2 0 lists c.past_lists.ensures c.count_at.ensures.0)
+    (c.project.ensures.code_is ∙ ap code_of c.project.ensures.promised.answer-is)
