@@ -38,7 +38,9 @@ fn run_case(stdout: Stdout, wides: &[i64], words: &[i32]) -> CAnswer
 fn run_line(stdout: Stdout, line: &[u8]) -> CAnswer
     ensures { result ≡ code_of (line_answer line.now) }
 {
-    let (wides, words) = text::numbers_of::<16384>(line);
+    let mut wides = [0; 16384];
+    let mut words = [0; 16384];
+    text::numbers_of(line, &mut wides, &mut words);
     run_case(stdout, &wides, &words)
 }
 

@@ -58,15 +58,13 @@ pub fn scan(line: &[u8], numbers: &mut [i64])
 }
 
 // The first N numbers of a line, zeros after them, with all their bits and as numbers of 32 bits.
-pub fn numbers_of<const N: usize>(line: &[u8]) -> ([i64; N], [i32; N])
-    ensures wides { result.0 ≡ padded N (line_numbers line.now) }
-    ensures words { result.1 ≡ map word (padded N (line_numbers line.now)) }
+pub fn numbers_of<const N: usize>(line: &[u8], wides: &mut [i64; N], words: &mut [i32; N])
+    ensures wides { wides.new ≡ padded N (line_numbers line.now) }
+    ensures words { words.new ≡ map word (padded N (line_numbers line.now)) }
 {
-    let mut wides = [0; N];
-    let mut words = [0; N];
-    scan(line, &mut wides);
-    narrow(&wides, &mut words);
-    (wides, words)
+    wides.fill(0);
+    scan(line, wides);
+    narrow(wides, words);
 }
 
 // How many bytes the first line has, its line feed included.

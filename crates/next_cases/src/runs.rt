@@ -29,7 +29,9 @@ fn run_case(stdout: Stdout, kind: usize, one_digit: u8, wides: &[i64], xs: &[i32
 fn run_line(stdout: Stdout, line: &[u8]) -> u64
     ensures { LineRun line.now result }
 {
-    let (wides, words) = text::numbers_of::<NUMBERS>(line);
+    let mut wides = [0; NUMBERS];
+    let mut words = [0; NUMBERS];
+    text::numbers_of(line, &mut wides, &mut words);
     let number = numbers::size(&words, 0, 6);
     let kind = numbers::two_digits(input::LAST, input::ONE_DIGIT, number);
     let one_digit = numbers::one_digit(input::LAST, number);

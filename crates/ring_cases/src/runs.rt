@@ -32,7 +32,9 @@ fn run_line(line: &[u8], out: &mut [i32]) -> usize
     requires { length out.old ≡ 512 }
     ensures { Results (line_results line.now) out.old out.new result }
 {
-    let (wides, words) = text::numbers_of::<2048>(line);
+    let mut wides = [0; 2048];
+    let mut words = [0; 2048];
+    text::numbers_of(line, &mut wides, &mut words);
     let operation = numbers::size(&words, 0, 19);
     run(operation, &words, &wides, out)
 }
