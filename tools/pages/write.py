@@ -143,7 +143,7 @@ def crates():
 
 def functions(crate):
     sources = (HERE / "crates" / crate / "src").rglob("*.rt")
-    return sum(len(re.findall(r'^\s*(?:pub )?(?:extern "C" )?fn ', source.read_text(), re.MULTILINE)) for source in sources)
+    return sum(len(re.findall(r'^\s*(?:pub(?:\(crate\))? )?(?:extern "C" )?fn ', source.read_text(), re.MULTILINE)) for source in sources)
 
 
 def counts(*_):
