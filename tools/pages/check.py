@@ -19,8 +19,8 @@ OF_CRATE = r"[a-z_]+/(?:specs|src|proofs|must-fail)"
 FILES = subprocess.run(["git", "ls-files", "-co", "--exclude-standard"], cwd=HERE, capture_output=True, text=True, check=True).stdout.split("\n")
 FILES = [name for name in FILES if name and (HERE / name).is_file()]
 NAMES = {Path(name).name for name in FILES}
-# these two name what was there before, too
-PAGES = [name for name in FILES if name.endswith(".md") and name not in ("docs/PORT.md", "docs/DESIGN-PASS.md")]
+# these three name what was there before, too
+PAGES = [name for name in FILES if name.endswith(".md") and name not in ("docs/PORT.md", "docs/DESIGN-PASS.md", "docs/LOOK-BACK.md")]
 # commands and words of the kit or of the system; names that stand for others
 FOREIGN = {"rt", "cargo", "rustfmt", "clippy", "parallel", "nonnull", "dereferenceable"}
 PLACEHOLDER = re.compile(r"[A-Z]+(\.\w+)?")

@@ -2,7 +2,8 @@
 --     row-fixes, check_fixes, bare_check_fixes     a refusal, a check, a check of the bare level, by its number
 --     failure-fixes                                the result of a test, by the number of its failure, which is not 0
 --     written-fixes                                a message's, by the answer that it is
---     verdict-fixes, judgement_fixes, next-fixes   a verdict, a verifier's result, the next instance's
+--     verdict-fixes, judgement_fixes, next-fixes   a verdict, a verifier's result, the next instance's, for checks that their number fixes
+--     judged-fixes, called-fixes, bare-judged-fixes     those of `verify`, `next_instance` and `bare_verify`
 --     product-fixes, read-fixes, wrote_fixes       the ring product's, the reader's, the writer's
 use Rattle.std.specs.Prelude.{◌≡◌, refl, Bool, cond, ℕ, zero, suc, eqb, Result, Ok, Err}
 use Rattle.std.proofs.Common.{arith, sym, ap, ◌∙◌}
@@ -135,6 +136,15 @@ module _ {E : Type 0} (number : E → ℕ) (fixes : (k l : E) → number k ≡ n
   next-fixes (Err r) (Ok (Ok v)) e = let f : ◌≡◌ {A = ℕ} 2 3 = ap kind_of e in absurd (omega arith)
   next-fixes (Err r) (Ok (Err l)) e = let f : ◌≡◌ {A = ℕ} 2 1 = ap kind_of e in absurd (omega arith)
   next-fixes (Err r) (Err s) e = ap Err (row-fixes r s (ap number_of e))
+
+pub judged-fixes : (r s : Result (Result ℕ Check) Refusal) → judgement_of check_number r ≡ judgement_of check_number s → r ≡ s
+judged-fixes = judgement_fixes check_number check_fixes
+
+pub called-fixes : (r s : Result (Result Unit Check) Refusal) → next_of check_number r ≡ next_of check_number s → r ≡ s
+called-fixes = next-fixes check_number check_fixes
+
+pub bare-judged-fixes : (r s : Result (Result ℕ BareCheck) Refusal) → judgement_of bare_check_number r ≡ judgement_of bare_check_number s → r ≡ s
+bare-judged-fixes = judgement_fixes bare_check_number bare_check_fixes
 
 pub product-fixes : (r s : Result Element Refusal) → product_in r ≡ product_in s → r ≡ s
 product-fixes (Ok x) (Ok y) e = ap Ok (ap (λ p. p.element) e)
