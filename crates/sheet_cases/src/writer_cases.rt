@@ -121,7 +121,8 @@ fn run_case(
     true
 }
 
-// Runs cases until one fails, and answers how many it ran.
+// Runs cases until one fails, and answers how many it ran. It has a frame of its own, so that no sheet is read beside its buffer.
+#[inline(never)]
 pub fn run_writer(stdin: Stdin, stdout: Stdout, text: &mut [u8], cases: usize) -> usize
     ensures { result ≤ cases }
 {
